@@ -1,0 +1,5 @@
+pub mod Bytes
+pub mod Labels
+pub mod Lines
+pub mod TokenAt
+pub mod Tokens
