@@ -1,4 +1,5 @@
 pub mod Bytes
+pub mod Fronts
 pub mod Labels
 pub mod Lines
 pub mod TokenAt

@@ -46,9 +46,13 @@ abbrev pub is_plain_word : List ℕ → Bool
 is_plain_word [] = false
 is_plain_word (b ∷ bs) = begins_word b && list_all in_word bs
 
--- `...`
-abbrev pub is_ellipsis : List ℕ → Bool
-is_ellipsis = first_then dot (first_then dot (first_then dot is_nothing))
+-- `..`, the end of `...`
+abbrev pub is_ellipsis_end : List ℕ → Bool
+is_ellipsis_end bs = first_then dot (first_then dot is_nothing) bs
+
+-- a name or digits, the end of a token that begins with `!`
+abbrev pub is_bang_end : List ℕ → Bool
+is_bang_end bs = is_name bs || are_digits bs
 
 abbrev pub is_punct : List ℕ → Bool
 is_punct [] = false
@@ -56,13 +60,13 @@ is_punct (b ∷ bs) = is_mark b && is_nothing bs
 
 -- the bytes are a token of the kind
 abbrev pub is_token : Kind → List ℕ → Bool
-is_token Word bs = is_plain_word bs || is_ellipsis bs
+is_token Word bs = is_plain_word bs || first_then dot is_ellipsis_end bs
 is_token Local bs = first_then percent is_name bs
 is_token Global bs = first_then at_sign is_name bs
 is_token Number bs = are_digits bs || first_then minus are_digits bs
 is_token Quoted bs = first_then quote ends_quote bs
 is_token Hash bs = first_then hash are_digits bs
-is_token Bang bs = first_then bang is_name bs || first_then bang are_digits bs
+is_token Bang bs = first_then bang is_bang_end bs
 is_token Punct bs = is_punct bs
 
 abbrev pub kinds : List Kind

@@ -1,10 +1,97 @@
-ghost use Rattle.std.specs.Prelude.{◌≡◌, ◌≤◌, length, drop};
+ghost use Rattle.std.specs.Prelude.{◌≡◌, ◌+◌, ◌^◌, ◌<◌, ◌≤◌, ◌∷◌, length, drop, MatchOption};
 ghost use Rattle.std.specs.List.{prefix_len};
+ghost use Rattle.std.specs.Option.{option_map, ForSome};
 ghost use Rattle.std.specs.Char.{is_ascii_digit};
 ghost use Rattle.sp_text.specs.Bytes.{is_blank, begins_name, begins_word, in_name, in_word};
-ghost use Rattle.sp_text.specs.Tokens.{front_of};
+ghost use Rattle.sp_text.specs.Fronts.{IsLongestFront, HasNoFront};
+ghost use Rattle.sp_text.specs.Tokens.{front_of, are_digits, ends_quote, is_bang_end, is_ellipsis_end, is_name};
 
 use crate::tokens::Kind;
+
+// The longest token that begins with the byte `first`: its kind and its length.
+pub(crate) fn front(first: u8, rest: &[u8]) -> Option<(Kind, usize)>
+    ensures { result ≡ front_of (first ∷ rest.now) }
+{
+    match first {
+        b'%' => of_kind(Kind::Local, name_front(rest)),
+        b'@' => of_kind(Kind::Global, name_front(rest)),
+        b'-' => of_kind(Kind::Number, digits_front(rest)),
+        b'#' => of_kind(Kind::Hash, digits_front(rest)),
+        b'"' => of_kind(Kind::Quoted, quote_front(rest)),
+        b'!' => of_kind(Kind::Bang, bang_front(rest)),
+        b'.' => of_kind(Kind::Word, ellipsis_front(rest)),
+        b'(' | b')' | b'{' | b'}' | b'[' | b']' | b',' | b'=' | b':' | b'*' => {
+            Some((Kind::Punct, 1))
+        }
+        b'0'..=b'9' => Some((Kind::Number, 1 + digits_len(rest))),
+        _ if begins_word(first) => Some((Kind::Word, 1 + word_len(rest))),
+        _ => None,
+    }
+}
+
+// A token of one byte and what follows it.
+fn of_kind(kind: Kind, rest: Option<usize>) -> Option<(Kind, usize)>
+    requires { ForSome rest (λ len. len + 1 < 2 ^ 64) }
+    ensures { result ≡ option_map (λ len. (kind, 1 + len)) rest }
+{
+    match rest {
+        Some(len) => Some((kind, 1 + len)),
+        None => None,
+    }
+}
+
+// A name or a number without leading zeros.
+fn name_front(bytes: &[u8]) -> Option<usize>
+    ensures { MatchOption result (HasNoFront is_name bytes.now) (IsLongestFront is_name bytes.now) }
+{
+    match bytes {
+        [b'0', ..] => Some(1),
+        [b'1'..=b'9', digits @ ..] => Some(1 + digits_len(digits)),
+        [b, more @ ..] if begins_name(*b) => Some(1 + name_len(more)),
+        _ => None,
+    }
+}
+
+// One or more digits.
+fn digits_front(bytes: &[u8]) -> Option<usize>
+    ensures { MatchOption result (HasNoFront are_digits bytes.now) (IsLongestFront are_digits bytes.now) }
+{
+    match digits_len(bytes) {
+        0 => None,
+        len => Some(len),
+    }
+}
+
+// A name, or digits with or without leading zeros.
+fn bang_front(bytes: &[u8]) -> Option<usize>
+    ensures { MatchOption result (HasNoFront is_bang_end bytes.now) (IsLongestFront is_bang_end bytes.now) }
+{
+    match bytes {
+        [b'0'..=b'9', digits @ ..] => Some(1 + digits_len(digits)),
+        [b, more @ ..] if begins_name(*b) => Some(1 + name_len(more)),
+        _ => None,
+    }
+}
+
+// All bytes up to a quote, and the quote.
+fn quote_front(bytes: &[u8]) -> Option<usize>
+    ensures { MatchOption result (HasNoFront ends_quote bytes.now) (IsLongestFront ends_quote bytes.now) }
+{
+    match bytes.iter().position(|b| *b == b'"') {
+        Some(len) => Some(len + 1),
+        None => None,
+    }
+}
+
+// Two dots.
+fn ellipsis_front(bytes: &[u8]) -> Option<usize>
+    ensures { MatchOption result (HasNoFront is_ellipsis_end bytes.now) (IsLongestFront is_ellipsis_end bytes.now) }
+{
+    match bytes {
+        [b'.', b'.', ..] => Some(2),
+        _ => None,
+    }
+}
 
 // What stands at and after a place.
 pub(crate) fn after(bytes: &[u8], place: usize) -> &[u8]
@@ -23,6 +110,7 @@ pub(crate) fn blanks_len(bytes: &[u8]) -> usize
     bytes.iter().take_while(|b| is_blank(**b)).count()
 }
 
+// How many digits stand first.
 pub(crate) fn digits_len(bytes: &[u8]) -> usize
     ensures len { result ≡ prefix_len is_ascii_digit bytes.now }
     ensures within { result ≤ length bytes.now }
@@ -30,13 +118,15 @@ pub(crate) fn digits_len(bytes: &[u8]) -> usize
     bytes.iter().take_while(|b| b.is_ascii_digit()).count()
 }
 
-fn word_len(bytes: &[u8]) -> usize
+// How many bytes stand first that a word may have after its first.
+pub(crate) fn word_len(bytes: &[u8]) -> usize
     ensures len { result ≡ prefix_len in_word bytes.now }
     ensures within { result ≤ length bytes.now }
 {
     bytes.iter().take_while(|b| is_in_word(**b)).count()
 }
 
+// How many bytes stand first that a name may have after its first.
 pub(crate) fn name_len(bytes: &[u8]) -> usize
     ensures len { result ≡ prefix_len in_name bytes.now }
     ensures within { result ≤ length bytes.now }
@@ -44,7 +134,7 @@ pub(crate) fn name_len(bytes: &[u8]) -> usize
     bytes.iter().take_while(|b| is_in_name(**b)).count()
 }
 
-pub(crate) fn is_blank(b: u8) -> bool
+fn is_blank(b: u8) -> bool
     ensures { result ≡ is_blank b }
 {
     b == b' ' || b == b'\t'
@@ -72,59 +162,4 @@ fn is_in_name(b: u8) -> bool
     ensures { result ≡ in_name b }
 {
     begins_name(b) || b.is_ascii_digit()
-}
-
-// The longest token with which the bytes begin: its kind and its length.
-pub(crate) fn front(bytes: &[u8]) -> Option<(Kind, usize)>
-    ensures { result ≡ front_of bytes.now }
-{
-    let (first, rest) = bytes.split_first()?;
-    match *first {
-        b'.' => {
-            if rest.starts_with(b"..") {
-                Some((Kind::Word, 3))
-            } else {
-                None
-            }
-        }
-        b'%' => named(Kind::Local, rest),
-        b'@' => named(Kind::Global, rest),
-        b'-' => numbered(Kind::Number, rest),
-        b'#' => numbered(Kind::Hash, rest),
-        b'"' => quoted(rest),
-        b'!' => match rest {
-            [b'0'..=b'9', ..] => Some((Kind::Bang, 1 + digits_len(rest))),
-            _ => named(Kind::Bang, rest),
-        },
-        b'(' | b')' | b'{' | b'}' | b'[' | b']' | b',' | b'=' | b':' | b'*' => {
-            Some((Kind::Punct, 1))
-        }
-        b if b.is_ascii_digit() => Some((Kind::Number, 1 + digits_len(rest))),
-        b if begins_word(b) => Some((Kind::Word, 1 + word_len(rest))),
-        _ => None,
-    }
-}
-
-// A token of one byte and a name.
-fn named(kind: Kind, rest: &[u8]) -> Option<(Kind, usize)> {
-    match rest {
-        [b'0', ..] => Some((kind, 2)),
-        [b'1'..=b'9', ..] => Some((kind, 1 + digits_len(rest))),
-        [b, ..] if begins_name(*b) => Some((kind, 1 + name_len(rest))),
-        _ => None,
-    }
-}
-
-// A token of one byte and digits.
-fn numbered(kind: Kind, rest: &[u8]) -> Option<(Kind, usize)> {
-    match digits_len(rest) {
-        0 => None,
-        len => Some((kind, 1 + len)),
-    }
-}
-
-// A quoted text after its first quote.
-fn quoted(rest: &[u8]) -> Option<(Kind, usize)> {
-    let end = rest.iter().position(|b| *b == b'"')?;
-    Some((Kind::Quoted, end + 2))
 }

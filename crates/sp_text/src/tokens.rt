@@ -64,7 +64,7 @@ impl<'a> Line<'a> {
         let rest = after(bytes, at);
         match rest {
             [] | [b';', ..] => Ok(None),
-            _ => match front(rest) {
+            [first, more @ ..] => match front(*first, more) {
                 Some((kind, len)) => {
                     let to = at + len;
                     Ok(Some(Token {
