@@ -1,0 +1,9 @@
+pub mod Drops
+pub mod Forms
+pub mod Gives
+pub mod Lists
+pub mod Marks
+pub mod Numbers
+pub mod Parts
+pub mod Seen
+pub mod Slots

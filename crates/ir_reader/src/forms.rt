@@ -1,0 +1,53 @@
+//! The forms of lines, and the places where they may stand.
+
+use crate::words::{Binary, Cast, Conversion};
+
+/// A form of a line that is made of tokens.
+#[derive(Clone, Copy, Debug, PartialEq, Eq)]
+pub enum Form {
+    SourceFilename,
+    DataLayout,
+    Triple,
+    Attributes,
+    Layout,
+    Declare,
+    Define,
+    Close,
+    Binary(Binary),
+    Compare,
+    Convert(Conversion),
+    Select,
+    Phi,
+    /// A `getelementptr` over integers or pointers.
+    ScalarElement,
+    /// A `getelementptr` over a layout.
+    LayoutElement,
+    Load,
+    Store,
+    ValueCall,
+    VoidCall,
+    Jump,
+    Branch,
+    Switch,
+    Case,
+    SwitchEnd,
+    ReturnVoid,
+    Return,
+    Unreachable,
+    Cast(Cast),
+}
+
+/// Where a line stands.
+#[derive(Clone, Copy, Debug, PartialEq, Eq)]
+pub enum Place {
+    /// Outside functions.
+    Top,
+    /// Directly after the head of a definition.
+    Entry,
+    /// In a block, before its terminator.
+    Block,
+    /// After a terminator.
+    Closed,
+    /// Among the cases of a `switch`.
+    Cases,
+}

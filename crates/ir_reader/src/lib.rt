@@ -1,0 +1,19 @@
+//! Readings of the lines of a module's text (LLVM Language Reference, in this project's profile): what each line
+//! says, or the first line that has no reading or passes a limit.
+#![tactic(auto)]
+
+mod cursor;
+mod drops;
+mod faults;
+mod forms;
+mod lines;
+mod numbers;
+mod readings;
+mod tokens;
+mod words;
+
+pub use faults::ReadFault;
+pub use readings::{
+    Argument, Element, Entry, Literal, Passed, Reading, TypeWord, Value,
+};
+pub use words::{Binary, Cast, Conversion, Pred};
