@@ -162,8 +162,11 @@ unfoldable pub strategy_at : List Tok → Found (Option (List ℕ))
 strategy_at ts = if begins (is_word (codes "gc")) ts then after (word_at (codes "gc") ts) (λ _ ts. after (one_at quoted_of ts) (λ name ts. Some (Some name, ts)))
     else Some (None, ts)
 
+-- whether the last token is `}`, where that is known of the token before these
+unfoldable pub ends_with_brace : Bool → List Tok → Bool
+ends_with_brace before [] = before
+ends_with_brace before (t ∷ ts) = ends_with_brace (is_mark (codes "}") t) ts
+
 -- any tokens, the last of them `}`
-unfoldable pub to_brace_at : List Tok → Found (Unit {0})
-to_brace_at [] = None
-to_brace_at (t ∷ []) = if is_mark (codes "}") t then Some (tt, []) else None
-to_brace_at (t ∷ u ∷ ts) = to_brace_at (u ∷ ts)
+abbrev pub to_brace_at : List Tok → Found (Unit {0})
+to_brace_at ts = if ends_with_brace false ts then Some (tt, []) else None

@@ -8,7 +8,10 @@ mod faults;
 mod forms;
 mod lines;
 mod numbers;
+mod parts;
 mod readings;
+mod choices;
+mod types;
 mod tokens;
 mod words;
 
