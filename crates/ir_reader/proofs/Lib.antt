@@ -1,3 +1,4 @@
 pub mod Decimals
 pub mod TokenCount
 pub mod Dropping
+pub mod Listing

@@ -24,11 +24,15 @@ unfoldable pub one_at : {A : Type 0} → (Tok → Option A) → List Tok → Fou
 one_at says [] = None
 one_at says (t ∷ ts) = with_rest ts (says t)
 
+-- Why nothing was returned: the tokens say nothing, or memory ran out.
+abbrev pub Stops : {Y : Type 0} → Stop → Found Y → Type 0
+Stops stops.NoReading found = found ≡ None
+Stops stops.Memory found = Unit {0}
+
 -- What a function returned, seen by view, with the tokens that it left, is what the tokens say, unless memory ran out.
 abbrev pub Gives : {X Y : Type 0} → (X → Y) → Result X Stop → List Tok → Found Y → Type 0
 Gives view (Ok x) rest found = found ≡ Some (view x, rest)
-Gives view (Err stops.NoReading) rest found = found ≡ None
-Gives view (Err stops.Memory) rest found = Unit {0}
+Gives view (Err stop) rest found = Stops stop found
 
 -- the list begins with this token
 abbrev pub BeginsWith : Kind → List ℕ → List Tok → Type 0

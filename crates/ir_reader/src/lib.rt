@@ -7,6 +7,7 @@ mod drops;
 mod faults;
 mod forms;
 mod lines;
+mod lists;
 mod numbers;
 mod parts;
 mod readings;
