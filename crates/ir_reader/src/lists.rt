@@ -65,6 +65,43 @@ impl<'a> Cursor<'a> {
         Ok(Argument { ty, name })
     }
 
+    #[tactic(auto, unfolding(crate::specs::Lists::list_to))]
+    fn arguments(&mut self, alloc: Global, plain: bool) -> Result<Arguments<'a>, Stop>
+        ensures { Gives (λ arguments. map seen_argument arguments.items) result self.new (arguments_at plain self.old) }
+    {
+        if self.begins_mark(b")") {
+            return Ok(SmallVec::new(alloc));
+        }
+        self.some_arguments(alloc, plain)
+    }
+
+    fn some_arguments(&mut self, alloc: Global, plain: bool) -> Result<Arguments<'a>, Stop>
+        ensures { Gives (λ arguments. map seen_argument arguments.items) result self.new (listed_at (argument_at plain) comma self.old) }
+    {
+        let mut arguments = SmallVec::new(alloc);
+        loop {
+            let argument = self.argument(plain)?;
+            arguments.push(argument)?;
+            if !self.begins_mark(b",") {
+                return Ok(arguments);
+            }
+            self.pass_comma();
+        }
+    }
+
+    /// The name and the arguments of a declaration or definition.
+    #[tactic(auto, unfolding(crate::specs::Lists::head_at, crate::specs::Gives::after))]
+    pub fn head(&mut self, alloc: Global, declared: bool) -> Result<(&'a [u8], Arguments<'a>), Stop>
+        ensures { Gives (λ head. (head.0.now, map seen_argument head.1.items)) result self.new (head_at declared self.old) }
+    {
+        let name = self.global()?;
+        self.mark(b"(")?;
+        let plain = declared && is_text(name, b"task_start");
+        let arguments = self.arguments(alloc, plain)?;
+        self.mark(b")")?;
+        Ok((name, arguments))
+    }
+
     // ---- what a call passes
 
     #[tactic(auto, unfolding(crate::specs::Lists::passed_at, crate::specs::Gives::after))]
@@ -81,7 +118,58 @@ impl<'a> Cursor<'a> {
         Ok(Passed::Value(ty, value))
     }
 
+    #[tactic(auto, unfolding(crate::specs::Lists::list_to))]
+    fn all_passed(&mut self, alloc: Global, plain: bool) -> Result<AllPassed<'a>, Stop>
+        ensures { Gives (λ passed. map seen_passed passed.items) result self.new (all_passed_at plain self.old) }
+    {
+        if self.begins_mark(b")") {
+            return Ok(SmallVec::new(alloc));
+        }
+        self.some_passed(alloc, plain)
+    }
+
+    fn some_passed(&mut self, alloc: Global, plain: bool) -> Result<AllPassed<'a>, Stop>
+        ensures { Gives (λ passed. map seen_passed passed.items) result self.new (listed_at (passed_at plain) comma self.old) }
+    {
+        let mut all = SmallVec::new(alloc);
+        loop {
+            let passed = self.passed(plain)?;
+            all.push(passed)?;
+            if !self.begins_mark(b",") {
+                return Ok(all);
+            }
+            self.pass_comma();
+        }
+    }
+
+    /// The function that a call names, and what it passes.
+    #[tactic(auto, unfolding(crate::specs::Lists::called_at, crate::specs::Gives::after))]
+    pub fn called(&mut self, alloc: Global) -> Result<(&'a [u8], AllPassed<'a>), Stop>
+        ensures { Gives (λ call. (call.0.now, map seen_passed call.1.items)) result self.new (called_at self.old) }
+    {
+        let name = self.global()?;
+        self.mark(b"(")?;
+        let passed = self.all_passed(alloc, is_text(name, b"task_start"))?;
+        self.mark(b")")?;
+        Ok((name, passed))
+    }
+
     // ---- entries of a phi
+
+    /// The entries of a phi.
+    pub fn entries(&mut self, alloc: Global) -> Result<Entries<'a>, Stop>
+        ensures { Gives (λ entries. map seen_entry entries.items) result self.new (entries_at self.old) }
+    {
+        let mut entries = SmallVec::new(alloc);
+        loop {
+            let entry = self.entry()?;
+            entries.push(entry)?;
+            if !self.begins_entry() {
+                return Ok(entries);
+            }
+            self.pass_comma();
+        }
+    }
 
     #[tactic(auto, unfolding(crate::specs::Lists::entry_at, crate::specs::Gives::after))]
     fn entry(&mut self) -> Result<Entry<'a>, Stop>

@@ -22,16 +22,17 @@ pub struct Literal {
 }
 
 /// A value that an instruction uses. Names stand without their mark.
-#[derive(Clone, Copy, Debug)]
+#[derive(Clone, Copy, Debug, Default)]
 pub enum Value<'a> {
     Local(&'a [u8]),
     Number(Literal),
     Truth(bool),
+    #[default]
     Null,
 }
 
 /// An argument of a definition, with its name where the line gives one.
-#[derive(Clone, Copy, Debug)]
+#[derive(Clone, Copy, Debug, Default)]
 pub struct Argument<'a> {
     pub ty: TypeWord,
     pub name: Option<&'a [u8]>,
@@ -45,11 +46,26 @@ pub enum Passed<'a> {
     Function(&'a [u8]),
 }
 
+impl Default for Passed<'_> {
+    fn default() -> Self {
+        Passed::Value(TypeWord::Void, Value::Null)
+    }
+}
+
 /// An entry of a phi: the value where control comes from the label.
 #[derive(Clone, Copy, Debug)]
 pub struct Entry<'a> {
     pub value: Value<'a>,
     pub label: &'a [u8],
+}
+
+impl Default for Entry<'_> {
+    fn default() -> Self {
+        Entry {
+            value: Value::Null,
+            label: &[],
+        }
+    }
 }
 
 /// The source element of a `getelementptr`.
