@@ -10,15 +10,16 @@ use Rattle.ir_reader.specs.declared.readings.Argument.{Argument}
 use Rattle.ir_reader.specs.declared.readings.Passed.{Passed}
 use Rattle.ir_reader.specs.declared.readings.Passed.TheVariants as all_passed
 use Rattle.ir_reader.specs.declared.readings.Entry.{Entry}
-use Rattle.ir_reader.specs.declared.readings.Element.{Element}
-use Rattle.ir_reader.specs.declared.readings.Element.TheVariants as elements
 use Rattle.ir_reader.specs.declared.readings.TypeWord.{TypeWord}
 use Rattle.ir_reader.specs.declared.readings.Literal.{Literal}
 use Rattle.ir_reader.specs.declared.readings.TypeWord.TheVariants as types
 use Rattle.std.specs.Option.{option_copied}
+use Rattle.sp_text.specs.Tokens.{Tok}
+use Rattle.ir_reader.specs.Gives.{Found, after}
+use Rattle.ir_reader.specs.Forms.{slots}
 use Rattle.ir_reader.specs.Parts.{Val, local, number, truth, null}
 use Rattle.ir_reader.specs.Lists.{Named, Given, given, function}
-use Rattle.ir_reader.specs.Slots.{Item, name, layout_name, width, ty, value, pred, scalar, layout, place, fields, entries, declared, defined, called, strategy}
+use Rattle.ir_reader.specs.Slots.{Item, parse, name, layout_name, width, ty, value, pred, scalar, layout, place, fields, entries, declared, defined, called, strategy}
 
 abbrev pub seen_value : Value → Val
 seen_value (values.Local bytes) = local bytes.now
@@ -36,21 +37,6 @@ seen_passed (all_passed.Function bytes) = function bytes.now
 abbrev pub seen_entry : Entry → Val × List ℕ
 seen_entry e = (seen_value e.value, e.label.now)
 
-abbrev pub seen_element : Element → Item
-seen_element (elements.Int n) = scalar (types.Int n)
-seen_element elements.Managed = scalar types.Managed
-seen_element (elements.Layout bytes) = layout bytes.now
-
--- the form that a layout's element calls for, where a line may name a field
-abbrev pub element_form : Element → Form
-element_form (elements.Layout bytes) = forms.LayoutElement
-element_form _ = forms.ScalarElement
-
--- a line has a place after its index where its element is a layout
-abbrev pub place_items : Element → Option Literal → List Item
-place_items (elements.Layout bytes) field = place field ∷ []
-place_items _ field = []
-
 -- a line that is made of tokens: its form, and what it says at the form's slots
 pub record Line : Type 0 where
   pub form : Form
@@ -61,7 +47,7 @@ pub data Said : Type 0 where
   label : List ℕ → Said
   line : Line → Said
 
-abbrev of_form : Form → List Item → Said
+abbrev pub of_form : Form → List Item → Said
 of_form f is = line (record { form = f; items = is })
 
 abbrev pub seen : Reading → Said
@@ -75,7 +61,8 @@ seen (readings.Compare x p t l r) = of_form forms.Compare (name x.now ∷ pred p
 seen (readings.Convert x op n v to) = of_form (forms.Convert op) (name x.now ∷ width n ∷ value (seen_value v) ∷ width to ∷ [])
 seen (readings.Select x c lt l rt r) = of_form forms.Select (name x.now ∷ value (seen_value c) ∷ ty lt ∷ value (seen_value l) ∷ ty rt ∷ value (seen_value r) ∷ [])
 seen (readings.Phi x t es) = of_form forms.Phi (name x.now ∷ ty t ∷ entries (map seen_entry es.items) ∷ [])
-seen (readings.Element x e a n i p) = of_form (element_form e) (name x.now ∷ seen_element e ∷ value (seen_value a) ∷ width n ∷ value (seen_value i) ∷ place_items e p)
+seen (readings.ScalarElement x e a n i) = of_form forms.ScalarElement (name x.now ∷ scalar e ∷ value (seen_value a) ∷ width n ∷ value (seen_value i) ∷ [])
+seen (readings.LayoutElement x l a n i p) = of_form forms.LayoutElement (name x.now ∷ layout l.now ∷ value (seen_value a) ∷ width n ∷ value (seen_value i) ∷ place p ∷ [])
 seen (readings.Load x t a) = of_form forms.Load (name x.now ∷ ty t ∷ value (seen_value a) ∷ [])
 seen (readings.Store t v a) = of_form forms.Store (ty t ∷ value (seen_value v) ∷ value (seen_value a) ∷ [])
 seen (readings.ValueCall x t f ps) = of_form forms.ValueCall (name x.now ∷ ty t ∷ called f.now (map seen_passed ps.items) ∷ [])
@@ -89,3 +76,7 @@ seen readings.ReturnVoid = of_form forms.ReturnVoid []
 seen (readings.Return t v) = of_form forms.Return (ty t ∷ value (seen_value v) ∷ [])
 seen readings.Unreachable = of_form forms.Unreachable []
 seen (readings.Cast x op t v u) = of_form (forms.Cast op) (name x.now ∷ ty t ∷ value (seen_value v) ∷ ty u ∷ [])
+
+-- a front of this form
+unfoldable pub line_at : Form → List Tok → Found Said
+line_at form ts = after (parse (slots form) ts) (λ items rest. Some (of_form form items, rest))

@@ -6,7 +6,10 @@ mod cursor;
 mod drops;
 mod faults;
 mod forms;
-mod lines;
+mod accesses;
+mod computing;
+mod control;
+mod heads;
 mod lists;
 mod numbers;
 mod parts;
@@ -18,6 +21,6 @@ mod words;
 
 pub use faults::ReadFault;
 pub use readings::{
-    Argument, Element, Entry, Literal, Passed, Reading, TypeWord, Value,
+    Argument, Entry, Literal, Passed, Reading, TypeWord, Value,
 };
 pub use words::{Binary, Cast, Conversion, Pred};

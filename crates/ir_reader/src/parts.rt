@@ -109,6 +109,20 @@ impl<'a> Cursor<'a> {
         }
     }
 
+    /// Passes a quoted text.
+    #[tactic(auto, unfolding(crate::specs::Gives::one_at))]
+    pub fn quoted_text(&mut self) -> Result<(), Stop>
+        ensures { Gives (λ _. tt) result self.new (one_at (stands is_quoted) self.old) }
+    {
+        let Some(token) = self.token() else {
+            return Err(Stop::NoReading);
+        };
+        match token.kind {
+            Kind::Quoted => Ok(()),
+            _ => Err(Stop::NoReading),
+        }
+    }
+
     /// Passes a `#` and its digits.
     #[tactic(auto, unfolding(crate::specs::Gives::one_at))]
     pub fn hash(&mut self) -> Result<(), Stop>

@@ -68,15 +68,6 @@ impl Default for Entry<'_> {
     }
 }
 
-/// The source element of a `getelementptr`.
-#[derive(Clone, Copy, Debug)]
-pub enum Element<'a> {
-    /// `i8`, `i16`, `i32` or `i64`.
-    Int(u32),
-    Managed,
-    Layout(&'a [u8]),
-}
-
 /// The fields of a layout.
 pub type Fields = SmallVec<TypeWord, 4>;
 /// The arguments of a head.
@@ -147,10 +138,18 @@ pub enum Reading<'a> {
         ty: TypeWord,
         entries: Entries<'a>,
     },
-    /// `%x = getelementptr E, P V, iN V`, and behind a layout maybe `, i32 C`
-    Element {
+    /// `%x = getelementptr E, P V, iN V`, where E is `i8`, `i16`, `i32`, `i64` or `ptr addrspace(1)`
+    ScalarElement {
         result: &'a [u8],
-        element: Element<'a>,
+        element: TypeWord,
+        address: Value<'a>,
+        width: u32,
+        index: Value<'a>,
+    },
+    /// `%x = getelementptr %T, P V, iN V`, and maybe `, i32 C`, the place of a field
+    LayoutElement {
+        result: &'a [u8],
+        layout: &'a [u8],
         address: Value<'a>,
         width: u32,
         index: Value<'a>,
