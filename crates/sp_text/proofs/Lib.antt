@@ -1,3 +1,4 @@
 pub mod Examples
+pub mod FrontLemmas
 pub mod KindLemmas
 pub mod Runs

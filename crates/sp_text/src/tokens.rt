@@ -61,10 +61,9 @@ impl<'a> Line<'a> {
     {
         let bytes = self.bytes;
         let at = from + blanks_len(after(bytes, from));
-        let rest = after(bytes, at);
-        match rest {
-            [] | [b';', ..] => Ok(None),
-            [first, more @ ..] => match front(*first, more) {
+        match after(bytes, at).split_first() {
+            None | Some((b';', _)) => Ok(None),
+            Some((first, rest)) => match front(*first, rest) {
                 Some((kind, len)) => {
                     let to = at + len;
                     Ok(Some(Token {
