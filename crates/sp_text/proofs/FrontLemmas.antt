@@ -1,10 +1,10 @@
 -- The longest fronts that the scanning of a token finds.
-use Rattle.std.proofs.Common.{◌≡◌, refl, ap, sym, ◌∙◌, ℕ, zero, suc, ◌+◌, ◌<◌, ◌≤◌, ◌≢◌, Bool, true, false, not, ◌&&◌, ◌||◌, List, [], ◌∷◌, length, take, arith, cond, Option, None, Some, subst, inl, inr, Fits, w8, get_or}
+use Rattle.std.proofs.Common.{◌≡◌, refl, ◌∙◌, ℕ, zero, suc, ◌+◌, ◌<◌, ◌≤◌, ◌≢◌, Bool, true, false, ◌||◌, List, [], ◌∷◌, length, take, arith, cond, Option, None, Some, inl, inr, Fits, w8, get_or}
 use Rattle.std.specs.Prelude.{◌==◌, MatchOption, position}
 use Rattle.std.specs.List.{list_all, prefix_len, position_or_len}
 use Rattle.std.specs.Char.{is_ascii_digit}
 use Rattle.std.proofs.Math.Bool.{or-false}
-use Rattle.std.proofs.lemmas.Bool.{cases_Bool, cond-true, cond-false, ltb-true, ltb-false, eqb-true}
+use Rattle.std.proofs.lemmas.Bool.{cases_Bool, eqb-true}
 use Rattle.std.proofs.lemmas.Bool.Decides.{nat_tests}
 use Rattle.std.proofs.lemmas.List.Sums.{prefix_len-le-length}
 use Rattle.sp_text.specs.Bytes.{quote, zero_digit, begins_name, in_name}

@@ -1,15 +1,14 @@
 -- The kind of a token by its first byte, and the longest token with which a list begins.
-use Rattle.std.proofs.Common.{◌≡◌, refl, ap, sym, ◌∙◌, ℕ, zero, suc, ◌+◌, ◌<◌, ◌≤◌, ◌≢◌, Bool, true, false, ◌&&◌, ◌||◌, List, [], ◌∷◌, length, take, arith, cond, Option, None, Some, inl, inr, ◌⊎◌, nat_eq, get_or, lit<}
+use Rattle.std.proofs.Common.{◌≡◌, refl, sym, ◌∙◌, ℕ, zero, suc, ◌+◌, ◌<◌, ◌≤◌, ◌≢◌, Bool, true, false, ◌&&◌, List, [], ◌∷◌, length, take, arith, cond, Option, None, Some, inl, inr}
 use Rattle.std.specs.Prelude.{◌==◌, MatchOption}
 use Rattle.std.specs.Option.{option_map}
-use Rattle.std.specs.List.{list_all, find}
+use Rattle.std.specs.List.{list_all}
 use Rattle.std.specs.Char.{is_ascii_digit}
 use Rattle.std.proofs.lemmas.Bool.{cases_eq, agree_below, agree_below_at, ne_eqb, cond-true, cond-false}
 use Rattle.std.proofs.Math.Bool.{or-false}
-use Rattle.std.proofs.lemmas.Option.{none-some}
 use Rattle.sp_text.specs.Bytes.{bang, quote, hash, percent, minus, dot, at_sign, begins_word, in_word, is_mark}
 use Rattle.sp_text.specs.Fronts.{IsLongestFront, HasNoFront}
-use Rattle.sp_text.specs.Tokens.{is_token, is_nothing, are_digits, is_name, ends_quote, is_bang_end, is_ellipsis_end, kinds, kind_of, longest_front, or_shorter, front_of}
+use Rattle.sp_text.specs.Tokens.{is_nothing, are_digits, is_name, ends_quote, is_bang_end, is_ellipsis_end, kind_of, longest_front, front_of}
 use Rattle.sp_text.specs.declared.tokens.Kind.{Kind}
 use Rattle.sp_text.specs.declared.tokens.Kind.TheVariants.{Word, Local, Global, Number, Quoted, Hash, Bang, Punct}
 

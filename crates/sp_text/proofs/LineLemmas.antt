@@ -1,5 +1,5 @@
 -- The first line of a text, and label lines.
-use Rattle.std.proofs.Common.{◌≡◌, refl, ap, sym, ◌∙◌, ℕ, zero, suc, ◌+◌, ◌<◌, ◌≤◌, ◌⊎◌, Bool, true, false, List, [], ◌∷◌, length, take, drop, arith, Option, None, Some, inl, inr, cond}
+use Rattle.std.proofs.Common.{◌≡◌, refl, ap, sym, ◌∙◌, ℕ, suc, ◌+◌, ◌<◌, ◌≤◌, Bool, true, false, List, [], ◌∷◌, length, take, drop, arith, None, Some, inl, inr, cond}
 use Rattle.std.specs.Prelude.{◌==◌, ◌&&◌}
 use Rattle.std.specs.List.{list_any, position_or_len, before_first, after_first, slice_split, All}
 use Rattle.std.specs.Str.Lines.{lines, lines_of_parts, strip_carriage_return}
@@ -10,7 +10,7 @@ use Rattle.std.proofs.lemmas.List.Splits.{slice_split_first, slice_split_none, l
 use Rattle.std.proofs.lemmas.List.Sums.{fails_before_first}
 use Rattle.sp_text.specs.Fronts.{IsLongestFront, HasNoFront}
 use Rattle.sp_text.specs.Labels.{is_colon, label_in}
-use Rattle.sp_text.specs.Lines.{NumberedLine, LineStart, lines_left, numbered}
+use Rattle.sp_text.specs.Lines.{lines_left}
 use Rattle.sp_text.specs.Tokens.{is_name, says_nothing}
 
 -- the first line

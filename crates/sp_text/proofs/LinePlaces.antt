@@ -1,17 +1,17 @@
 -- What stands in a line at the first byte from a place on that is no blank.
-use Rattle.std.proofs.Common.{◌≡◌, refl, ap, sym, ◌∙◌, ℕ, zero, suc, ◌+◌, ◌-◌, ◌<◌, ◌≤◌, ◌≢◌, Bool, true, false, List, [], ◌∷◌, length, take, drop, arith, Option, None, Some, inl, inr, length-drop, length-take}
-use Rattle.std.specs.Prelude.{◌==◌, slice_range, IsTrue}
-use Rattle.std.specs.List.{list_all, prefix_len}
+use Rattle.std.proofs.Common.{◌≡◌, refl, ap, sym, ◌∙◌, ℕ, zero, suc, ◌+◌, ◌-◌, ◌<◌, ◌≤◌, ◌≢◌, true, false, List, [], ◌∷◌, length, take, drop, arith, None, Some, inl, inr, length-drop}
+use Rattle.std.specs.Prelude.{slice_range}
+use Rattle.std.specs.List.{prefix_len}
 use Rattle.std.proofs.lemmas.Bool.{ne_eqb, true≢false, cases_lt}
 use Rattle.std.proofs.lemmas.List.{drop-drop, take_all, nil_from_length}
 use Rattle.sp_text.specs.Bytes.{is_blank, after_blanks, semicolon}
 use Rattle.sp_text.specs.TokenAt.{IsFirstToken, BeginsNoToken}
-use Rattle.sp_text.specs.Tokens.{is_token, kind_of, front_of, Tok, tok, bad, tokens}
+use Rattle.sp_text.specs.Tokens.{is_token, kind_of, front_of, tok, bad, tokens}
 use Rattle.sp_text.specs.declared.tokens.Kind.{Kind}
 use Rattle.sp_text.specs.declared.tokens.Kind.TheVariants.{Word, Local, Global, Number, Quoted, Hash, Bang, Punct}
 use Rattle.sp_text.specs.declared.tokens.Token.{Token}
 use Rattle.sp_text.proofs.Runs.{list_all-prefix}
-use Rattle.sp_text.proofs.TokenLemmas.{FrontIs, front_of-some, front_of-none, kind_of-some, kind_of-none, tokens-after_blanks, after_blanks-first, tokens-nil, tokens-comment, tokens-some, tokens-none}
+use Rattle.sp_text.proofs.TokenLemmas.{front_of-some, front_of-none, kind_of-some, kind_of-none, tokens-after_blanks, after_blanks-first, tokens-nil, tokens-comment, tokens-some, tokens-none}
 
 -- `blanks` blanks stand at `from`, and what follows them begins with this byte
 pub record StartsAt (line : List ℕ) (from blanks first : ℕ) (rest : List ℕ) : Type 0 where

@@ -1,12 +1,11 @@
 -- The tokens of a line from a place on.
-use Rattle.std.proofs.Common.{◌≡◌, refl, ap, sym, ◌∙◌, ℕ, zero, suc, ◌+◌, ◌-◌, ◌<◌, ◌≤◌, ◌≢◌, Bool, true, false, List, [], ◌∷◌, length, take, drop, arith, cond, Option, None, Some, inl, inr, subst, length-drop, get_or}
+use Rattle.std.proofs.Common.{◌≡◌, refl, sym, ℕ, zero, suc, ◌+◌, ◌-◌, ◌<◌, ◌≤◌, ◌≢◌, Bool, true, false, List, [], ◌∷◌, length, take, drop, arith, cond, Option, None, Some, inl, inr, subst, get_or}
 use Rattle.std.specs.Prelude.{◌==◌, MatchOption}
-use Rattle.std.specs.List.{list_all, find, prefix_len}
-use Rattle.std.proofs.lemmas.Bool.{cases_Bool, cases_eq, ne_eqb, cond-false}
-use Rattle.std.proofs.lemmas.List.{drop-drop, take_all}
+use Rattle.std.specs.List.{find, prefix_len}
+use Rattle.std.proofs.lemmas.Bool.{cases_eq, ne_eqb}
 use Rattle.std.proofs.lemmas.Option.{none-some}
 use Rattle.sp_text.specs.Bytes.{is_blank, after_blanks, semicolon}
-use Rattle.sp_text.specs.Tokens.{is_token, kinds, kind_of, longest_front, or_shorter, front_of, front_and_more, Tok, tok, bad, tokens_after, tokens}
+use Rattle.sp_text.specs.Tokens.{is_token, kinds, kind_of, longest_front, or_shorter, front_of, front_and_more, tok, bad, tokens_after, tokens}
 use Rattle.sp_text.specs.declared.tokens.Kind.{Kind}
 use Rattle.sp_text.specs.declared.tokens.Kind.TheVariants.{Word, Local, Global, Number, Quoted, Hash, Bang, Punct}
 use Rattle.sp_text.proofs.KindLemmas.{one_more}

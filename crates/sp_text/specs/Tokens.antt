@@ -1,5 +1,5 @@
 -- What a token is, and the tokens of a line.
-use Rattle.std.specs.Prelude.{◌≡◌, ℕ, zero, suc, ◌-◌, ◌≤◌, Bool, true, false, ◌==◌, ◌&&◌, ◌||◌, List, [], ◌∷◌, length, take, Option, None, Some, codes, if◌then◌else◌}
+use Rattle.std.specs.Prelude.{ℕ, zero, suc, ◌-◌, Bool, true, false, ◌==◌, ◌&&◌, ◌||◌, List, [], ◌∷◌, length, take, Option, None, Some, if◌then◌else◌}
 use Rattle.std.specs.List.{list_all, find}
 use Rattle.std.specs.Char.{is_ascii_digit}
 use Rattle.sp_text.specs.Bytes.{bang, quote, hash, percent, minus, dot, zero_digit, semicolon, at_sign, is_blank, after_blanks, begins_word, in_word, begins_name, in_name, is_mark}

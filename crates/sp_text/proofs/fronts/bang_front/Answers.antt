@@ -1,4 +1,4 @@
-use Rattle.std.proofs.Common.{◌≡◌, ◌∙◌, sym}
+use Rattle.std.proofs.Common.{sym}
 use Rattle.sp_text.proofs.FrontLemmas.{bang-digits, bang-plain, bang-none, not_zero, first_small}
 use Rattle.sp_text.proofs.fronts.bang_front.Goals as goal
 

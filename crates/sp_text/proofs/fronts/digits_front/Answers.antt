@@ -1,4 +1,4 @@
-use Rattle.std.proofs.Common.{◌≡◌, ◌∙◌, sym, arith}
+use Rattle.std.proofs.Common.{arith}
 use Rattle.sp_text.proofs.FrontLemmas.{digits-all}
 use Rattle.sp_text.proofs.fronts.digits_front.Goals as goal
 

@@ -1,6 +1,6 @@
-use Rattle.std.proofs.Common.{◌≡◌, ◌∙◌, sym, refl, arith}
+use Rattle.std.proofs.Common.{sym, arith}
 use Rattle.sp_text.specs.Tokens.{are_digits, is_name, ends_quote, is_bang_end, is_ellipsis_end}
-use Rattle.sp_text.specs.declared.tokens.Kind.TheVariants.{Word, Local, Global, Number, Quoted, Hash, Bang, Punct}
+use Rattle.sp_text.specs.declared.tokens.Kind.TheVariants.{Word, Local, Global, Number, Quoted, Hash, Bang}
 use Rattle.sp_text.proofs.KindLemmas.{front-from, front-by, local_kind, global_kind, signed_kind, quoted_kind, hash_kind, bang_kind, ellipsis_kind, front-mark, digit_kind, word_kind, no_kind, front-never, one_more}
 use Rattle.sp_text.proofs.Runs.{run_is_longest}
 use Rattle.sp_text.proofs.fronts.front.Goals as goal

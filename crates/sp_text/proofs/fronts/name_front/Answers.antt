@@ -1,4 +1,4 @@
-use Rattle.std.proofs.Common.{◌≡◌, ◌∙◌, sym}
+use Rattle.std.proofs.Common.{sym}
 use Rattle.std.proofs.lemmas.Bool.{ne_eqb}
 use Rattle.sp_text.proofs.FrontLemmas.{name-zero, name-digits, name-plain, name-none, not_zero, first_small}
 use Rattle.sp_text.proofs.fronts.name_front.Goals as goal

@@ -1,4 +1,4 @@
-use Rattle.std.proofs.Common.{◌≡◌, ◌∙◌, sym, add_comm}
+use Rattle.std.proofs.Common.{◌∙◌, sym, add_comm}
 use Rattle.sp_text.proofs.FrontLemmas.{quote-first, quote-none, position-tells, is_quote}
 use Rattle.sp_text.proofs.fronts.quote_front.Goals as goal
 

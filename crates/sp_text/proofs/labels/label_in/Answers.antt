@@ -1,5 +1,4 @@
-use Rattle.std.proofs.Common.{◌≡◌, ◌∙◌, sym, refl, ap}
-use Rattle.std.specs.Option.{option_copied}
+use Rattle.std.proofs.Common.{◌∙◌, sym, ap}
 use Rattle.sp_text.specs.Labels.{is_colon}
 use Rattle.sp_text.specs.Tokens.{is_name, says_nothing}
 use Rattle.sp_text.proofs.FrontLemmas.{position-tells}

@@ -1,4 +1,4 @@
-use Rattle.std.proofs.Common.{◌≡◌, ◌∙◌, sym, refl, ap}
+use Rattle.std.proofs.Common.{◌∙◌, sym}
 use Rattle.sp_text.proofs.FrontLemmas.{position-tells}
 use Rattle.sp_text.proofs.LineLemmas.{is_newline, lines-first, lines-last}
 use Rattle.sp_text.proofs.lines.first_line.Goals as goal

@@ -1,5 +1,5 @@
-use Rattle.std.proofs.Common.{◌≡◌, ◌∙◌, sym, refl, ap, rules, drop, length, ◌+◌, arith, false, true}
-use Rattle.sp_text.proofs.LinePlaces.{StartsAt, starts_at, tokens-here, front-fits, first_token, no_bad_byte, tokens-bad, bad_byte, tokens-end, tokens-stop}
+use Rattle.std.proofs.Common.{sym, refl, rules}
+use Rattle.sp_text.proofs.LinePlaces.{starts_at, tokens-here, front-fits, first_token, no_bad_byte, tokens-bad, bad_byte, tokens-end, tokens-stop}
 use Rattle.sp_text.proofs.lines.Line.token_at.Goals as goal
 
 pub overflow_add-to : goal.overflow_add-to

@@ -1,4 +1,4 @@
-use Rattle.std.proofs.Common.{◌≡◌, ◌∙◌, sym, refl, ap, length, arith}
+use Rattle.std.proofs.Common.{◌∙◌, sym, refl, ap, length}
 use Rattle.std.proofs.lemmas.Bool.{eqb-true}
 use Rattle.sp_text.specs.Lines.{lines_left}
 use Rattle.sp_text.proofs.LineLemmas.{left-more, left-none}
