@@ -1,9 +1,8 @@
-use Rattle.std.proofs.Common.{◌≡◌, refl, List, [], ◌∷◌, ◌++◌}
-use Rattle.std.specs.Prelude.{codes, Option, Some, None}
-use Rattle.sp_text.specs.Tokens.{tokens, tokens_after, front_of, longest_front, kind_of, Tok, tok, bad}
+use Rattle.std.proofs.Common.{◌≡◌, refl, [], ◌∷◌}
+use Rattle.std.specs.Prelude.{codes, Some, None}
+use Rattle.sp_text.specs.Tokens.{tokens, tokens_after, front_of, longest_front, kind_of, tok, bad}
 use Rattle.sp_text.specs.Labels.{label_of}
-use Rattle.sp_text.specs.declared.tokens.Kind.{Kind}
-use Rattle.sp_text.specs.declared.tokens.Kind.TheVariants.{Word, Local, Global, Number, Quoted, Hash, Bang, Punct}
+use Rattle.sp_text.specs.declared.tokens.Kind.TheVariants.{Word, Local, Number, Quoted, Hash, Bang, Punct}
 
 pub ex1 : tokens (codes "%a = add i64 -5, %01 ; c") ≡ tok Local (codes "%a") ∷ tok Punct (codes "=") ∷ tok Word (codes "add") ∷ tok Word (codes "i64") ∷ tok Number (codes "-5") ∷ tok Punct (codes ",") ∷ tok Local (codes "%0") ∷ tok Number (codes "1") ∷ []
 unfolding tokens tokens_after front_of longest_front kind_of

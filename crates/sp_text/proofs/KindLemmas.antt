@@ -1,15 +1,14 @@
 -- The kind of a token by its first byte, and the longest token with which a list begins.
-use Rattle.std.proofs.Common.{◌≡◌, refl, ap, sym, ◌∙◌, ℕ, zero, suc, ◌+◌, ◌<◌, ◌≤◌, Bool, true, false, ◌&&◌, ◌||◌, List, [], ◌∷◌, length, take, arith, cond, Option, None, Some, inl, inr, ◌⊎◌, nat_eq, get_or, lit<}
+use Rattle.std.proofs.Common.{◌≡◌, refl, sym, ◌∙◌, ℕ, zero, suc, ◌+◌, ◌<◌, ◌≤◌, ◌≢◌, Bool, true, false, ◌&&◌, List, [], ◌∷◌, length, take, arith, cond, Option, None, Some, inl, inr}
 use Rattle.std.specs.Prelude.{◌==◌, MatchOption}
 use Rattle.std.specs.Option.{option_map}
-use Rattle.std.specs.List.{list_all, find}
+use Rattle.std.specs.List.{list_all}
 use Rattle.std.specs.Char.{is_ascii_digit}
-use Rattle.std.proofs.lemmas.Bool.{cases_eq, agree_below, agree_below_at, or_parts, and_cases, cond-true, cond-false, cases_Bool}
+use Rattle.std.proofs.lemmas.Bool.{cases_eq, agree_below, agree_below_at, ne_eqb, cond-true, cond-false}
 use Rattle.std.proofs.Math.Bool.{or-false}
-use Rattle.std.proofs.lemmas.Option.{none-some}
 use Rattle.sp_text.specs.Bytes.{bang, quote, hash, percent, minus, dot, at_sign, begins_word, in_word, is_mark}
 use Rattle.sp_text.specs.Fronts.{IsLongestFront, HasNoFront}
-use Rattle.sp_text.specs.Tokens.{is_token, is_nothing, kinds, kind_of, longest_front, or_shorter, front_of}
+use Rattle.sp_text.specs.Tokens.{is_nothing, are_digits, is_name, ends_quote, is_bang_end, is_ellipsis_end, kind_of, longest_front, front_of}
 use Rattle.sp_text.specs.declared.tokens.Kind.{Kind}
 use Rattle.sp_text.specs.declared.tokens.Kind.TheVariants.{Word, Local, Global, Number, Quoted, Hash, Bang, Punct}
 
@@ -18,7 +17,7 @@ abbrev pub BeginsKind : ℕ → Kind → (List ℕ → Bool) → Type 0
 BeginsKind first kind rest = (cs : List ℕ) → kind_of (first ∷ cs) ≡ cond (rest cs) (Some kind) None
 
 -- no byte of the first set is in the second
-apart : (p f : ℕ → Bool) (b : ℕ) → agree_below (λ n. p n && f n) (λ _. false) 256 ≡ true → b < 256 → p b ≡ true → f b ≡ false
+pub apart : (p f : ℕ → Bool) (b : ℕ) → agree_below (λ n. p n && f n) (λ _. false) 256 ≡ true → b < 256 → p b ≡ true → f b ≡ false
 apart p f b table small passes =
     let none : (p b && f b) ≡ false = agree_below_at (λ n. p n && f n) (λ _. false) 256 b table small in
     rw passes at none
@@ -52,31 +51,16 @@ word_kind b small word cs =
     simp (word, dots, local_name, global_name, sign, quoted, group, meta, mark, digit) (simp or-false)
 
 -- any other byte begins no token
-abbrev pub begins_token : ℕ → Bool
-begins_token b = begins_word b || (is_ascii_digit b || (is_mark b || (b == dot || (b == percent || (b == at_sign || (b == minus || (b == quote || (b == hash || b == bang))))))))
-
-pub no_kind : (b : ℕ) → begins_token b ≡ false → (cs : List ℕ) → kind_of (b ∷ cs) ≡ None
+pub no_kind : (b : ℕ) → begins_word b ≡ false → is_ascii_digit b ≡ false → is_mark b ≡ false → b ≢ percent → b ≢ at_sign → b ≢ minus → b ≢ hash → b ≢ quote → b ≢ bang → b ≢ dot → (cs : List ℕ) → kind_of (b ∷ cs) ≡ None
 unfolding kind_of
-no_kind b none cs =
-    let not_word = or_parts (begins_word b) _ none in
-    let not_digit = or_parts (is_ascii_digit b) _ not_word.1 in
-    let not_mark = or_parts (is_mark b) _ not_digit.1 in
-    let not_dot = or_parts (b == dot) _ not_mark.1 in
-    let not_local = or_parts (b == percent) _ not_dot.1 in
-    let not_global = or_parts (b == at_sign) _ not_local.1 in
-    let not_sign = or_parts (b == minus) _ not_global.1 in
-    let not_quote = or_parts (b == quote) (b == hash || b == bang) not_sign.1 in
-    let not_hash = or_parts (b == hash) (b == bang) not_quote.1 in
-    let word : begins_word b ≡ false = not_word.0 in
-    let digit : is_ascii_digit b ≡ false = not_digit.0 in
-    let mark : is_mark b ≡ false = not_mark.0 in
-    let dots : (b == dot) ≡ false = not_dot.0 in
-    let local_name : (b == percent) ≡ false = not_local.0 in
-    let global_name : (b == at_sign) ≡ false = not_global.0 in
-    let sign : (b == minus) ≡ false = not_sign.0 in
-    let quoted : (b == quote) ≡ false = not_quote.0 in
-    let group : (b == hash) ≡ false = not_hash.0 in
-    let meta : (b == bang) ≡ false = not_hash.1 in
+no_kind b word digit mark no_local no_global no_sign no_hash no_quote no_bang no_dot cs =
+    let local_name : (b == percent) ≡ false = ne_eqb b percent no_local in
+    let global_name : (b == at_sign) ≡ false = ne_eqb b at_sign no_global in
+    let sign : (b == minus) ≡ false = ne_eqb b minus no_sign in
+    let group : (b == hash) ≡ false = ne_eqb b hash no_hash in
+    let quoted : (b == quote) ≡ false = ne_eqb b quote no_quote in
+    let meta : (b == bang) ≡ false = ne_eqb b bang no_bang in
+    let dots : (b == dot) ≡ false = ne_eqb b dot no_dot in
     simp (word, dots, local_name, global_name, sign, quoted, group, meta, mark, digit)
 
 -- the longest front, from what is known of its kinds
@@ -133,3 +117,64 @@ front-from first kind rest bs None begins front = sym (front-none first kind res
 front-from first kind rest bs (Some len) begins front =
     let e : 1 + len ≡ suc len = omega arith in
     rw e (sym (front-by first kind rest bs len begins front))
+
+-- the bytes that begin one kind alone
+
+pub local_kind : BeginsKind percent Local is_name
+unfolding kind_of
+local_kind cs = refl
+
+pub global_kind : BeginsKind at_sign Global is_name
+unfolding kind_of
+global_kind cs = refl
+
+pub signed_kind : BeginsKind minus Number are_digits
+unfolding kind_of
+signed_kind cs = refl
+
+pub quoted_kind : BeginsKind quote Quoted ends_quote
+unfolding kind_of
+quoted_kind cs = refl
+
+pub hash_kind : BeginsKind hash Hash are_digits
+unfolding kind_of
+hash_kind cs = refl
+
+pub bang_kind : BeginsKind bang Bang is_bang_end
+unfolding kind_of
+bang_kind cs = refl
+
+pub ellipsis_kind : BeginsKind dot Word is_ellipsis_end
+unfolding kind_of
+ellipsis_kind cs = refl
+
+-- a mark is a token alone
+pub mark_kind : (b : ℕ) → b < 256 → is_mark b ≡ true → BeginsKind b Punct is_nothing
+unfolding kind_of
+mark_kind b small mark cs =
+    let word : begins_word b ≡ false = apart is_mark begins_word b refl small mark in
+    let digit : is_ascii_digit b ≡ false = apart is_mark is_ascii_digit b refl small mark in
+    let dots : (b == dot) ≡ false = apart is_mark (λ n. n == dot) b refl small mark in
+    let local_name : (b == percent) ≡ false = apart is_mark (λ n. n == percent) b refl small mark in
+    let global_name : (b == at_sign) ≡ false = apart is_mark (λ n. n == at_sign) b refl small mark in
+    let sign : (b == minus) ≡ false = apart is_mark (λ n. n == minus) b refl small mark in
+    let quoted : (b == quote) ≡ false = apart is_mark (λ n. n == quote) b refl small mark in
+    let group : (b == hash) ≡ false = apart is_mark (λ n. n == hash) b refl small mark in
+    let meta : (b == bang) ≡ false = apart is_mark (λ n. n == bang) b refl small mark in
+    simp (word, dots, local_name, global_name, sign, quoted, group, meta, mark, digit)
+
+-- nothing is the longest front that is nothing
+pub nothing_is_longest : (bs : List ℕ) → IsLongestFront is_nothing bs 0
+nothing_is_longest bs = record { within = omega arith; passes = refl; longest = longer bs }
+  where
+    longer : (bs : List ℕ) (more : ℕ) → 0 < more → more ≤ length bs → is_nothing (take more bs) ≡ false
+    longer bs zero some fits = absurd (omega arith)
+    longer [] (suc more) some fits = absurd (omega arith)
+    longer (b ∷ bs) (suc more) some fits = refl
+
+-- a token of its kind by the bytes that follow its first one
+pub front-mark : (b : ℕ) (bs : List ℕ) → b < 256 → is_mark b ≡ true → Some (Punct, 1) ≡ front_of (b ∷ bs)
+front-mark b bs small mark = sym (front-by b Punct is_nothing bs 0 (mark_kind b small mark) (nothing_is_longest bs))
+
+pub one_more : (len : ℕ) → 1 + len ≡ suc len
+one_more len = omega arith

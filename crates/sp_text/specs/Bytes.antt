@@ -1,6 +1,6 @@
 -- The bytes that lines and tokens are made of (LLVM Language Reference, "Identifiers").
-use Rattle.std.specs.Prelude.{ℕ, Bool, ◌==◌, ◌||◌, codes}
-use Rattle.std.specs.List.{list_any}
+use Rattle.std.specs.Prelude.{ℕ, Bool, ◌==◌, ◌||◌, List, drop, codes}
+use Rattle.std.specs.List.{list_any, prefix_len}
 use Rattle.std.specs.Char.{is_ascii_alphabetic, is_ascii_digit}
 
 -- the marks with a meaning of their own
@@ -43,6 +43,10 @@ underscore = 95
 -- a space or a tab
 abbrev pub is_blank : ℕ → Bool
 is_blank b = b == 32 || b == 9
+
+-- what follows the blanks
+abbrev pub after_blanks : List ℕ → List ℕ
+after_blanks bs = drop (prefix_len is_blank bs) bs
 
 -- a letter or `_`
 abbrev pub begins_word : ℕ → Bool

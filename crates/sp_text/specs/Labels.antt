@@ -1,12 +1,8 @@
 -- Lines that are recognised by their bytes, before their tokens are read.
-use Rattle.std.specs.Prelude.{ℕ, Bool, false, ◌==◌, ◌&&◌, List, [], ◌∷◌, Option, None, Some, drop, if◌then◌else◌}
-use Rattle.std.specs.List.{list_any, before_first, after_first, prefix_len}
-use Rattle.sp_text.specs.Bytes.{bang, colon, is_blank}
-use Rattle.sp_text.specs.Tokens.{first_then, is_name, says_nothing}
-
--- what follows the blanks
-abbrev pub after_blanks : List ℕ → List ℕ
-after_blanks bs = drop (prefix_len is_blank bs) bs
+use Rattle.std.specs.Prelude.{ℕ, Bool, false, ◌==◌, ◌&&◌, List, [], ◌∷◌, Option, None, Some, if◌then◌else◌}
+use Rattle.std.specs.List.{list_any, before_first, after_first}
+use Rattle.sp_text.specs.Bytes.{bang, colon, after_blanks}
+use Rattle.sp_text.specs.Tokens.{is_name, says_nothing}
 
 abbrev pub is_colon : ℕ → Bool
 is_colon b = b == colon
@@ -15,11 +11,19 @@ is_colon b = b == colon
 abbrev pub is_label : List ℕ → Bool
 is_label bs = list_any is_colon bs && is_name (before_first is_colon bs) && says_nothing (after_first is_colon bs)
 
--- the name that a label line gives, if the line is one
+-- the name that such a line gives
+abbrev pub label_in : List ℕ → Option (List ℕ)
+label_in bs = if is_label bs then Some (before_first is_colon bs) else None
+
+-- the name that a label line gives, with blanks before it or not
 abbrev pub label_of : List ℕ → Option (List ℕ)
-label_of line = if is_label (after_blanks line) then Some (before_first is_colon (after_blanks line)) else None
+label_of line = label_in (after_blanks line)
+
+-- the first byte is this one
+abbrev pub begins_with : ℕ → List ℕ → Bool
+begins_with first [] = false
+begins_with first (b ∷ bs) = b == first
 
 -- a metadata line: its first byte after blanks is `!`
 abbrev pub is_metadata : List ℕ → Bool
-is_metadata [] = false
-is_metadata (b ∷ bs) = if is_blank b then is_metadata bs else b == bang
+is_metadata line = begins_with bang (after_blanks line)

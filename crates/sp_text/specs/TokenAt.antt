@@ -1,8 +1,7 @@
 -- What is found first from a place of a line on.
-use Rattle.std.specs.Prelude.{◌≡◌, ℕ, ◌+◌, ◌<◌, ◌≤◌, ◌≢◌, false, IsTrue, List, [], ◌∷◌, length, drop, take, slice_range, Option, None, Some, Result, Ok, Err}
+use Rattle.std.specs.Prelude.{◌≡◌, ℕ, ◌+◌, ◌<◌, ◌≤◌, false, IsTrue, List, [], ◌∷◌, length, drop, take, slice_range, Option, None, Some, Result, Ok, Err}
 use Rattle.std.specs.List.{list_all, prefix_len}
-use Rattle.sp_text.specs.Bytes.{is_blank}
-use Rattle.sp_text.specs.Labels.{after_blanks}
+use Rattle.sp_text.specs.Bytes.{is_blank, after_blanks}
 use Rattle.sp_text.specs.Tokens.{is_token, says_nothing, Tok, tok, bad, tokens}
 use Rattle.sp_text.specs.declared.tokens.Kind.{Kind}
 use Rattle.sp_text.specs.declared.tokens.Token.{Token}

@@ -1,8 +1,8 @@
 -- What a token is, and the tokens of a line.
-use Rattle.std.specs.Prelude.{◌≡◌, ℕ, zero, suc, ◌-◌, ◌≤◌, Bool, true, false, ◌==◌, ◌&&◌, ◌||◌, List, [], ◌∷◌, length, take, Option, None, Some, codes, if◌then◌else◌}
+use Rattle.std.specs.Prelude.{ℕ, zero, suc, ◌-◌, Bool, true, false, ◌==◌, ◌&&◌, ◌||◌, List, [], ◌∷◌, length, take, Option, None, Some, if◌then◌else◌}
 use Rattle.std.specs.List.{list_all, find}
 use Rattle.std.specs.Char.{is_ascii_digit}
-use Rattle.sp_text.specs.Bytes.{bang, quote, hash, percent, minus, dot, zero_digit, semicolon, at_sign, is_blank, begins_word, in_word, begins_name, in_name, is_mark}
+use Rattle.sp_text.specs.Bytes.{bang, quote, hash, percent, minus, dot, zero_digit, semicolon, at_sign, is_blank, after_blanks, begins_word, in_word, begins_name, in_name, is_mark}
 use Rattle.sp_text.specs.declared.tokens.Kind.{Kind}
 use Rattle.sp_text.specs.declared.tokens.Kind.TheVariants.{Word, Local, Global, Number, Quoted, Hash, Bang, Punct}
 
@@ -117,7 +117,11 @@ tokens_after (suc skip) (b ∷ bs) = tokens_after skip bs
 unfoldable pub tokens : List ℕ → List Tok
 tokens bs = tokens_after 0 bs
 
+-- the end of a line, or a comment
+abbrev pub is_end : List ℕ → Bool
+is_end [] = true
+is_end (b ∷ bs) = b == semicolon
+
 -- nothing but blanks and at most a comment
 abbrev pub says_nothing : List ℕ → Bool
-says_nothing [] = true
-says_nothing (b ∷ bs) = if is_blank b then says_nothing bs else b == semicolon
+says_nothing bs = is_end (after_blanks bs)

@@ -1,8 +1,8 @@
-ghost use Rattle.std.specs.Prelude.{◌≡◌, ◌+◌, ◌^◌, ◌<◌, ◌≤◌, ◌∷◌, length, drop, MatchOption};
+ghost use Rattle.std.specs.Prelude.{◌≡◌, ◌+◌, ◌^◌, ◌<◌, ◌≤◌, ◌∷◌, ◌==◌, length, drop, position, MatchOption};
 ghost use Rattle.std.specs.List.{prefix_len};
 ghost use Rattle.std.specs.Option.{option_map, ForSome};
 ghost use Rattle.std.specs.Char.{is_ascii_digit};
-ghost use Rattle.sp_text.specs.Bytes.{is_blank, begins_name, begins_word, in_name, in_word};
+ghost use Rattle.sp_text.specs.Bytes.{is_blank, after_blanks, begins_name, begins_word, in_name, in_word, is_mark};
 ghost use Rattle.sp_text.specs.Fronts.{IsLongestFront, HasNoFront};
 ghost use Rattle.sp_text.specs.Tokens.{front_of, are_digits, ends_quote, is_bang_end, is_ellipsis_end, is_name};
 
@@ -20,10 +20,8 @@ pub(crate) fn front(first: u8, rest: &[u8]) -> Option<(Kind, usize)>
         b'"' => of_kind(Kind::Quoted, quote_front(rest)),
         b'!' => of_kind(Kind::Bang, bang_front(rest)),
         b'.' => of_kind(Kind::Word, ellipsis_front(rest)),
-        b'(' | b')' | b'{' | b'}' | b'[' | b']' | b',' | b'=' | b':' | b'*' => {
-            Some((Kind::Punct, 1))
-        }
-        b'0'..=b'9' => Some((Kind::Number, 1 + digits_len(rest))),
+        _ if is_mark(first) => Some((Kind::Punct, 1)),
+        _ if first.is_ascii_digit() => Some((Kind::Number, 1 + digits_len(rest))),
         _ if begins_word(first) => Some((Kind::Word, 1 + word_len(rest))),
         _ => None,
     }
@@ -41,14 +39,18 @@ fn of_kind(kind: Kind, rest: Option<usize>) -> Option<(Kind, usize)>
 }
 
 // A name or a number without leading zeros.
-fn name_front(bytes: &[u8]) -> Option<usize>
+pub(crate) fn name_front(bytes: &[u8]) -> Option<usize>
     ensures { MatchOption result (HasNoFront is_name bytes.now) (IsLongestFront is_name bytes.now) }
 {
-    match bytes {
-        [b'0', ..] => Some(1),
-        [b'1'..=b'9', digits @ ..] => Some(1 + digits_len(digits)),
-        [b, more @ ..] if begins_name(*b) => Some(1 + name_len(more)),
-        _ => None,
+    let (first, rest) = bytes.split_first()?;
+    if *first == b'0' {
+        Some(1)
+    } else if first.is_ascii_digit() {
+        Some(1 + digits_len(rest))
+    } else if begins_name(*first) {
+        Some(1 + name_len(rest))
+    } else {
+        None
     }
 }
 
@@ -66,10 +68,13 @@ fn digits_front(bytes: &[u8]) -> Option<usize>
 fn bang_front(bytes: &[u8]) -> Option<usize>
     ensures { MatchOption result (HasNoFront is_bang_end bytes.now) (IsLongestFront is_bang_end bytes.now) }
 {
-    match bytes {
-        [b'0'..=b'9', digits @ ..] => Some(1 + digits_len(digits)),
-        [b, more @ ..] if begins_name(*b) => Some(1 + name_len(more)),
-        _ => None,
+    let (first, rest) = bytes.split_first()?;
+    if first.is_ascii_digit() {
+        Some(1 + digits_len(rest))
+    } else if begins_name(*first) {
+        Some(1 + name_len(rest))
+    } else {
+        None
     }
 }
 
@@ -77,7 +82,7 @@ fn bang_front(bytes: &[u8]) -> Option<usize>
 fn quote_front(bytes: &[u8]) -> Option<usize>
     ensures { MatchOption result (HasNoFront ends_quote bytes.now) (IsLongestFront ends_quote bytes.now) }
 {
-    match bytes.iter().position(|b| *b == b'"') {
+    match find(bytes, b'"') {
         Some(len) => Some(len + 1),
         None => None,
     }
@@ -102,6 +107,20 @@ pub(crate) fn after(bytes: &[u8], place: usize) -> &[u8]
     rest
 }
 
+// What follows the blanks.
+pub(crate) fn after_blanks(bytes: &[u8]) -> &[u8]
+    ensures { result.now ≡ after_blanks bytes.now }
+{
+    after(bytes, blanks_len(bytes))
+}
+
+// The place of the first byte that is this one.
+pub(crate) fn find(bytes: &[u8], byte: u8) -> Option<usize>
+    ensures { result ≡ position (λ b. b == byte) bytes.now }
+{
+    bytes.iter().position(|b| *b == byte)
+}
+
 // How many blanks stand first.
 pub(crate) fn blanks_len(bytes: &[u8]) -> usize
     ensures len { result ≡ prefix_len is_blank bytes.now }
@@ -111,7 +130,7 @@ pub(crate) fn blanks_len(bytes: &[u8]) -> usize
 }
 
 // How many digits stand first.
-pub(crate) fn digits_len(bytes: &[u8]) -> usize
+fn digits_len(bytes: &[u8]) -> usize
     ensures len { result ≡ prefix_len is_ascii_digit bytes.now }
     ensures within { result ≤ length bytes.now }
 {
@@ -119,7 +138,7 @@ pub(crate) fn digits_len(bytes: &[u8]) -> usize
 }
 
 // How many bytes stand first that a word may have after its first.
-pub(crate) fn word_len(bytes: &[u8]) -> usize
+fn word_len(bytes: &[u8]) -> usize
     ensures len { result ≡ prefix_len in_word bytes.now }
     ensures within { result ≤ length bytes.now }
 {
@@ -127,7 +146,7 @@ pub(crate) fn word_len(bytes: &[u8]) -> usize
 }
 
 // How many bytes stand first that a name may have after its first.
-pub(crate) fn name_len(bytes: &[u8]) -> usize
+fn name_len(bytes: &[u8]) -> usize
     ensures len { result ≡ prefix_len in_name bytes.now }
     ensures within { result ≤ length bytes.now }
 {
@@ -152,10 +171,19 @@ fn is_in_word(b: u8) -> bool
     begins_word(b) || b.is_ascii_digit() || b == b'.'
 }
 
-pub(crate) fn begins_name(b: u8) -> bool
+fn begins_name(b: u8) -> bool
     ensures { result ≡ begins_name b }
 {
     b.is_ascii_alphabetic() || matches!(b, b'-' | b'$' | b'.' | b'_')
+}
+
+fn is_mark(b: u8) -> bool
+    ensures { result ≡ is_mark b }
+{
+    matches!(
+        b,
+        b'(' | b')' | b'{' | b'}' | b'[' | b']' | b',' | b'=' | b':' | b'*'
+    )
 }
 
 fn is_in_name(b: u8) -> bool

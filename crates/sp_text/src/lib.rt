@@ -8,3 +8,6 @@ mod tokens;
 
 pub use lines::{Line, Lines};
 pub use tokens::{BadByte, Kind, Token};
+
+#[cfg(test)]
+mod tests;

@@ -1,6 +1,7 @@
 ghost use Rattle.std.specs.Prelude.{◌≡◌, ◌+◌, ◌<◌, ◌≤◌, ◌↔◌, [], ◌∷◌, length, take, drop, IsNone, IfSome, IfNone, OnSome};
 ghost use Rattle.std.specs.Str.Lines.{lines, strip_carriage_return};
 
+use crate::fronts::find;
 use sp_ids::limits::FILE_BYTES;
 use std::marker::Model;
 
@@ -90,7 +91,7 @@ fn first_line(text: &[u8]) -> (&[u8], usize)
     ensures some { 0 < result.1 }
     ensures within { result.1 ≤ length text.now }
 {
-    match text.iter().position(|b| *b == b'\n') {
+    match find(text, b'\n') {
         Some(end) => (without_carriage_return(&text[..end]), end + 1),
         None => (text, text.len()),
     }

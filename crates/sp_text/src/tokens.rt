@@ -61,24 +61,26 @@ impl<'a> Line<'a> {
     {
         let bytes = self.bytes;
         let at = from + blanks_len(after(bytes, from));
-        let rest = after(bytes, at);
-        match rest {
-            [] | [b';', ..] => Ok(None),
-            [first, more @ ..] => match front(*first, more) {
-                Some((kind, len)) => {
-                    let to = at + len;
-                    Ok(Some(Token {
-                        kind,
-                        bytes: &bytes[at..to],
-                        from: at,
-                        to,
-                    }))
-                }
-                None => Err(BadByte {
-                    line: self.number,
-                    at,
-                }),
-            },
+        let Some((first, rest)) = after(bytes, at).split_first() else {
+            return Ok(None);
+        };
+        if *first == b';' {
+            return Ok(None);
+        }
+        match front(*first, rest) {
+            Some((kind, len)) => {
+                let to = at + len;
+                Ok(Some(Token {
+                    kind,
+                    bytes: &bytes[at..to],
+                    from: at,
+                    to,
+                }))
+            }
+            None => Err(BadByte {
+                line: self.number,
+                at,
+            }),
         }
     }
 }
