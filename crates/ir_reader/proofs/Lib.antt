@@ -2,3 +2,4 @@ pub mod Decimals
 pub mod TokenCount
 pub mod Dropping
 pub mod Listing
+pub mod Stopping
