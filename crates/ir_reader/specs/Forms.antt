@@ -150,16 +150,19 @@ or_else (Some x) other = Some x
 or_else None other = other
 
 -- behind `%x =`
-unfoldable pub result_form : List Tok → Option Form
-result_form (tok kinds.Word bytes ∷ ts) =
+unfoldable pub named_form : List ℕ → List Tok → Option Form
+named_form bytes ts =
     or_else (option_map (λ op. forms.Binary op) (spelled_by binary_word all_binaries bytes)) (
     or_else (option_map (λ op. forms.Convert op) (spelled_by conversion_word all_conversions bytes)) (
     or_else (option_map (λ op. forms.Cast op) (spelled_by cast_word all_casts bytes))
     (single_result_form bytes ts)))
+
+abbrev pub result_form : List Tok → Option Form
+result_form (tok kinds.Word bytes ∷ ts) = named_form bytes ts
 result_form _ = None
 
-abbrev pub target_form : List Tok → Option Form
-target_form ts = if begins (is_word (codes "datalayout")) ts then Some forms.DataLayout else Some forms.Triple
+abbrev pub target_form : List Tok → Form
+target_form ts = if begins (is_word (codes "datalayout")) ts then forms.DataLayout else forms.Triple
 
 abbrev pub top_form : List ℕ → List Tok → Option Form
 top_form bytes ts =
@@ -167,18 +170,24 @@ top_form bytes ts =
     if bytes_eq bytes (codes "define") then Some forms.Define else
     if bytes_eq bytes (codes "attributes") then Some forms.Attributes else
     if bytes_eq bytes (codes "source_filename") then Some forms.SourceFilename else
-    if bytes_eq bytes (codes "target") then target_form ts else None
+    if bytes_eq bytes (codes "target") then Some (target_form ts) else None
 
 abbrev pub case_form : Tok → Option Form
 case_form t = if is_some (width_of t) then Some forms.Case else None
+
+abbrev pub branch_form : List Tok → Form
+branch_form ts = if begins (is_word (codes "label")) ts then forms.Jump else forms.Branch
+
+abbrev pub return_form : List Tok → Form
+return_form ts = if begins (is_word (codes "void")) ts then forms.ReturnVoid else forms.Return
 
 abbrev pub instruction_form : List ℕ → List Tok → Option Form
 instruction_form bytes ts =
     if bytes_eq bytes (codes "store") then Some forms.Store else
     if is_calling_word bytes then Some forms.VoidCall else
-    if bytes_eq bytes (codes "br") then Some (if begins (is_word (codes "label")) ts then forms.Jump else forms.Branch) else
+    if bytes_eq bytes (codes "br") then Some (branch_form ts) else
     if bytes_eq bytes (codes "switch") then Some forms.Switch else
-    if bytes_eq bytes (codes "ret") then Some (if begins (is_word (codes "void")) ts then forms.ReturnVoid else forms.Return) else
+    if bytes_eq bytes (codes "ret") then Some (return_form ts) else
     if bytes_eq bytes (codes "unreachable") then Some forms.Unreachable else None
 
 unfoldable pub word_form : List ℕ → List Tok → Option Form
@@ -187,9 +196,13 @@ word_form bytes ts = or_else (instruction_form bytes ts) (or_else (top_form byte
 abbrev pub mark_form : List ℕ → Option Form
 mark_form bytes = if bytes_eq bytes (codes "}") then Some forms.Close else if bytes_eq bytes (codes "]") then Some forms.SwitchEnd else None
 
+abbrev pub local_form : List Tok → Option Form
+local_form [] = None
+local_form (t ∷ ts) = if is_mark (codes "=") t then result_form ts else None
+
 -- the form of a line
 unfoldable pub form_of : List Tok → Option Form
-form_of (tok kinds.Local bytes ∷ t ∷ ts) = if is_mark (codes "=") t then result_form ts else None
+form_of (tok kinds.Local bytes ∷ ts) = local_form ts
 form_of (tok kinds.Word bytes ∷ ts) = word_form bytes ts
 form_of (tok kinds.Punct bytes ∷ ts) = mark_form bytes
 form_of _ = None

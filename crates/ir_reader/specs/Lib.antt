@@ -5,5 +5,6 @@ pub mod Lists
 pub mod Marks
 pub mod Numbers
 pub mod Parts
+pub mod Places
 pub mod Seen
 pub mod Slots

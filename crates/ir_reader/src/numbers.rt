@@ -77,7 +77,7 @@ pub fn width(token: &Token) -> Option<u32>
     }
 }
 
-fn width_in(bytes: &[u8]) -> Option<u32>
+pub fn width_in(bytes: &[u8]) -> Option<u32>
     ensures { result ≡ width_of (tok Kind.Word bytes.now) }
 {
     match bytes {
