@@ -8,3 +8,6 @@ pub mod Parts
 pub mod Places
 pub mod Seen
 pub mod Slots
+pub mod Limits
+pub mod Text
+pub mod Outcomes

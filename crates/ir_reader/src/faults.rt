@@ -36,3 +36,26 @@ impl<T: Drop> From<AllocFailed<T>> for Stop {
         Stop::Memory
     }
 }
+
+/// Why a line in its place isn't read.
+#[derive(Clone, Copy, Debug, PartialEq, Eq)]
+pub enum LineFault {
+    NoReading,
+    OverLimit,
+    Memory,
+}
+
+impl From<Stop> for LineFault {
+    fn from(stop: Stop) -> LineFault {
+        match stop {
+            Stop::NoReading => LineFault::NoReading,
+            Stop::Memory => LineFault::Memory,
+        }
+    }
+}
+
+impl<T: Drop> From<AllocFailed<T>> for ReadFault {
+    fn from(_failed: AllocFailed<T>) -> ReadFault {
+        ReadFault::Memory
+    }
+}

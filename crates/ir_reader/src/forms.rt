@@ -51,3 +51,20 @@ pub enum Place {
     /// Among the cases of a `switch`.
     Cases,
 }
+
+/// How much of a module was read so far.
+#[derive(Clone, Copy, Debug, PartialEq, Eq)]
+pub struct Counts {
+    pub layouts: u32,
+    pub functions: u32,
+    /// Arguments and instructions of the function.
+    pub values: u32,
+    pub instructions: u32,
+}
+
+/// What is known behind a line.
+#[derive(Clone, Copy, Debug, PartialEq, Eq)]
+pub struct State {
+    pub place: Place,
+    pub counts: Counts,
+}

@@ -2,27 +2,37 @@
 //! says, or the first line that has no reading or passes a limit.
 #![tactic(auto)]
 
+mod accesses;
+mod choices;
+mod computing;
+mod control;
 mod cursor;
 mod drops;
 mod faults;
 mod forms;
-mod accesses;
-mod computing;
-mod control;
 mod heads;
+mod limits;
+mod line;
 mod lists;
 mod numbers;
 mod opening;
 mod parts;
 mod places;
+mod raw;
 mod readings;
-mod choices;
-mod types;
+mod text;
 mod tokens;
+mod types;
 mod words;
 
 pub use faults::ReadFault;
+pub use raw::{NumberedReading, Raw};
 pub use readings::{
-    Argument, Entry, Literal, Passed, Reading, TypeWord, Value,
+    AllPassed, Argument, Arguments, Entries, Entry, Fields, Literal, Passed, Reading, TypeWord,
+    Value,
 };
+pub use text::read;
 pub use words::{Binary, Cast, Conversion, Pred};
+
+#[cfg(test)]
+mod tests;
