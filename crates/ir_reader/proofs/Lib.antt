@@ -3,3 +3,4 @@ pub mod TokenCount
 pub mod Dropping
 pub mod Listing
 pub mod Stopping
+pub mod AllOf

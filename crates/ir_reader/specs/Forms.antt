@@ -15,6 +15,8 @@ use Rattle.ir_reader.specs.declared.words.Flags.{Flags}
 use Rattle.ir_reader.specs.declared.words.Flags.TheVariants as flags
 use Rattle.ir_reader.specs.declared.forms.Form.{Form}
 use Rattle.ir_reader.specs.declared.forms.Form.TheVariants as forms
+use Rattle.ir_reader.specs.declared.forms.DroppedLine.{DroppedLine}
+use Rattle.ir_reader.specs.declared.forms.DroppedLine.TheVariants as drop_lines
 use Rattle.ir_reader.specs.Marks.{is_word, is_mark, is_local, begins}
 use Rattle.ir_reader.specs.Numbers.{width_of}
 use Rattle.ir_reader.specs.Drops.{past_all}
@@ -98,10 +100,10 @@ abbrev ended : List Slot
 ended = dropped drops.Attachments ∷ []
 
 abbrev pub slots : Form → List Slot
-slots forms.SourceFilename = w (codes "source_filename") ∷ blank ∷ m (codes "=") ∷ blank ∷ a_quoted ∷ []
-slots forms.DataLayout = w (codes "target") ∷ blank ∷ w (codes "datalayout") ∷ blank ∷ m (codes "=") ∷ blank ∷ a_quoted ∷ []
-slots forms.Triple = w (codes "target") ∷ blank ∷ w (codes "triple") ∷ blank ∷ m (codes "=") ∷ blank ∷ a_quoted ∷ []
-slots forms.Attributes = w (codes "attributes") ∷ blank ∷ a_hash ∷ blank ∷ m (codes "=") ∷ blank ∷ m (codes "{") ∷ to_brace ∷ []
+slots (forms.Dropped drop_lines.SourceFilename) = w (codes "source_filename") ∷ blank ∷ m (codes "=") ∷ blank ∷ a_quoted ∷ []
+slots (forms.Dropped drop_lines.DataLayout) = w (codes "target") ∷ blank ∷ w (codes "datalayout") ∷ blank ∷ m (codes "=") ∷ blank ∷ a_quoted ∷ []
+slots (forms.Dropped drop_lines.Triple) = w (codes "target") ∷ blank ∷ w (codes "triple") ∷ blank ∷ m (codes "=") ∷ blank ∷ a_quoted ∷ []
+slots (forms.Dropped drop_lines.Attributes) = w (codes "attributes") ∷ blank ∷ a_hash ∷ blank ∷ m (codes "=") ∷ blank ∷ m (codes "{") ∷ to_brace ∷ []
 slots forms.Layout = a_layout_name ∷ blank ∷ m (codes "=") ∷ blank ∷ w (codes "type") ∷ blank ∷ m (codes "{") ∷ blank ∷ some_fields ∷ blank ∷ m (codes "}") ∷ []
 slots forms.Declare = w (codes "declare") ∷ dropped drops.HeadAttachments ∷ dropped drops.Groups ∷ blank ∷ an_answer ∷ blank ∷ a_declared ∷ dropped drops.Groups ∷ []
 slots forms.Define = w (codes "define") ∷ dropped drops.Groups ∷ blank ∷ an_answer ∷ blank ∷ a_defined ∷ dropped drops.Groups ∷ a_strategy ∷ dropped drops.HeadAttachments ∷ blank ∷ m (codes "{") ∷ []
@@ -162,14 +164,14 @@ result_form (tok kinds.Word bytes ∷ ts) = named_form bytes ts
 result_form _ = None
 
 abbrev pub target_form : List Tok → Form
-target_form ts = if begins (is_word (codes "datalayout")) ts then forms.DataLayout else forms.Triple
+target_form ts = if begins (is_word (codes "datalayout")) ts then forms.Dropped drop_lines.DataLayout else forms.Dropped drop_lines.Triple
 
 abbrev pub top_form : List ℕ → List Tok → Option Form
 top_form bytes ts =
     if bytes_eq bytes (codes "declare") then Some forms.Declare else
     if bytes_eq bytes (codes "define") then Some forms.Define else
-    if bytes_eq bytes (codes "attributes") then Some forms.Attributes else
-    if bytes_eq bytes (codes "source_filename") then Some forms.SourceFilename else
+    if bytes_eq bytes (codes "attributes") then Some (forms.Dropped drop_lines.Attributes) else
+    if bytes_eq bytes (codes "source_filename") then Some (forms.Dropped drop_lines.SourceFilename) else
     if bytes_eq bytes (codes "target") then Some (target_form ts) else None
 
 abbrev pub case_form : Tok → Option Form

@@ -1,5 +1,5 @@
 -- Reading a front of a list of tokens: what it says and the tokens after it, or nothing.
-use Rattle.std.specs.Prelude.{◌≡◌, ℕ, List, [], ◌∷◌, Option, Some, None, Result, Ok, Err, option_map}
+use Rattle.std.specs.Prelude.{◌≡◌, ℕ, Bool, true, false, List, [], ◌∷◌, Option, Some, None, Result, Ok, Err, option_map}
 use Rattle.sp_text.specs.Tokens.{Tok, tok}
 use Rattle.sp_text.specs.declared.tokens.Kind.{Kind}
 use Rattle.ir_reader.specs.declared.faults.Stop.{Stop}
@@ -33,6 +33,10 @@ Stops stops.Memory found = Unit {0}
 abbrev pub Gives : {X Y : Type 0} → (X → Y) → Result X Stop → List Tok → Found Y → Type 0
 Gives view (Ok x) rest found = found ≡ Some (view x, rest)
 Gives view (Err stop) rest found = Stops stop found
+
+abbrev pub is_nil : List Tok → Bool
+is_nil [] = true
+is_nil (t ∷ ts) = false
 
 -- the list begins with this token
 abbrev pub BeginsWith : Kind → List ℕ → List Tok → Type 0

@@ -4,6 +4,8 @@ use Rattle.std.specs.List.{list_all}
 use Rattle.ir_reader.specs.declared.forms.Form.{Form}
 use Rattle.ir_reader.specs.declared.forms.Form.TheVariants as forms
 use Rattle.ir_reader.specs.declared.forms.Counts.{Counts}
+use Rattle.ir_reader.specs.declared.forms.Counted.{Counted}
+use Rattle.ir_reader.specs.declared.forms.Counted.TheVariants as kinds
 use Rattle.ir_reader.specs.declared.readings.TypeWord.{TypeWord}
 use Rattle.ir_reader.specs.declared.readings.TypeWord.TheVariants as types
 use Rattle.ir_reader.specs.declared.readings.Literal.{Literal}
@@ -41,6 +43,9 @@ abbrev pub given_fits : Given → Bool
 given_fits (given of_type v) = type_fits of_type && value_fits v
 given_fits (function f) = true
 
+abbrev pub entry_value_fits : Val × List ℕ → Bool
+entry_value_fits e = value_fits e.0
+
 -- the name of a layout or of a defined function
 abbrev pub name_fits : List ℕ → Bool
 name_fits bytes = nat_le (length bytes) 4096
@@ -52,7 +57,7 @@ item_fits (value v) = value_fits v
 item_fits (place p) = place_fits p
 item_fits (layout_name n) = name_fits n
 item_fits (fields fs) = nat_le (length fs) 64 && list_all type_fits fs
-item_fits (entries es) = list_all (λ e. value_fits e.0) es
+item_fits (entries es) = list_all entry_value_fits es
 item_fits (declared n ps) = list_all argument_fits ps
 item_fits (defined n ps) = name_fits n && nat_le (length ps) 64 && list_all argument_fits ps
 item_fits (called n ps) = list_all given_fits ps
@@ -64,46 +69,32 @@ said_fits (line l) = list_all item_fits l.items
 
 -- ---- how much a function and the module have
 
--- an instruction; the cases and the end of a `switch` belong to it
-abbrev pub is_instruction : Form → Bool
-is_instruction (forms.Binary op) = true
-is_instruction forms.Compare = true
-is_instruction (forms.Convert op) = true
-is_instruction (forms.Cast op) = true
-is_instruction forms.Select = true
-is_instruction forms.Phi = true
-is_instruction forms.ScalarElement = true
-is_instruction forms.LayoutElement = true
-is_instruction forms.Load = true
-is_instruction forms.Store = true
-is_instruction forms.ValueCall = true
-is_instruction forms.VoidCall = true
-is_instruction forms.Jump = true
-is_instruction forms.Branch = true
-is_instruction forms.Switch = true
-is_instruction forms.ReturnVoid = true
-is_instruction forms.Return = true
-is_instruction forms.Unreachable = true
-is_instruction _ = false
-
 -- the number of arguments of a head
 abbrev pub arguments_of : List Item → ℕ
 arguments_of (ty t ∷ defined n ps ∷ more) = length ps
 arguments_of _ = 0
 
-abbrev counted_instruction : Bool → Counts → Counts
-counted_instruction true c = record c { values = c.values + 1; instructions = c.instructions + 1 }
-counted_instruction false c = c
+-- what a line counts as; the cases and the end of a `switch` belong to its instruction
+abbrev pub counts_as : Form → List Item → Counted
+counts_as forms.Layout is = kinds.Layout
+counts_as forms.Define is = kinds.Function (arguments_of is)
+counts_as (forms.Dropped which) is = kinds.Nothing
+counts_as forms.Declare is = kinds.Nothing
+counts_as forms.Close is = kinds.Nothing
+counts_as forms.Case is = kinds.Nothing
+counts_as forms.SwitchEnd is = kinds.Nothing
+counts_as _ is = kinds.Instruction
 
--- with one more line of this form
-abbrev pub counted_form : Form → ℕ → Counts → Counts
-counted_form forms.Layout arguments c = record c { layouts = c.layouts + 1 }
-counted_form forms.Define arguments c = record c { functions = c.functions + 1; values = arguments }
-counted_form form arguments c = counted_instruction (is_instruction form) c
+abbrev pub said_counts_as : Said → Counted
+said_counts_as (label n) = kinds.Nothing
+said_counts_as (line l) = counts_as l.form l.items
 
-abbrev pub counted : Said → Counts → Counts
-counted (label n) c = c
-counted (line l) c = counted_form l.form (arguments_of l.items) c
+-- with one more line
+abbrev pub counted : Counted → Counts → Counts
+counted kinds.Layout c = record c { layouts = c.layouts + 1 }
+counted (kinds.Function arguments) c = record c { functions = c.functions + 1; values = arguments }
+counted kinds.Instruction c = record c { values = c.values + 1; instructions = c.instructions + 1 }
+counted kinds.Nothing c = c
 
 -- layouts, functions, arguments and instructions of the function, instructions of the module
 abbrev pub counts_fit : Counts → Bool

@@ -7,18 +7,12 @@ use Rattle.ir_reader.specs.declared.forms.Place.TheVariants as places
 
 -- lines that are read and say nothing
 abbrev pub is_dropped_form : Form → Bool
-is_dropped_form forms.SourceFilename = true
-is_dropped_form forms.DataLayout = true
-is_dropped_form forms.Triple = true
-is_dropped_form forms.Attributes = true
+is_dropped_form (forms.Dropped which) = true
 is_dropped_form _ = false
 
 -- the place behind a line outside functions
 abbrev pub behind_top : Form → Option Place
-behind_top forms.SourceFilename = Some places.Top
-behind_top forms.DataLayout = Some places.Top
-behind_top forms.Triple = Some places.Top
-behind_top forms.Attributes = Some places.Top
+behind_top (forms.Dropped which) = Some places.Top
 behind_top forms.Layout = Some places.Top
 behind_top forms.Declare = Some places.Top
 behind_top forms.Define = Some places.Entry

@@ -1,8 +1,8 @@
 //! A place in a line: the tokens from there on.
 
-ghost use Rattle.std.specs.Prelude.{◌≡◌, ◌≤◌, ◌<◌, ◌^◌, ◌⊎◌, ◌↔◌, List, [], ◌∷◌, length, MatchOption, IsTrue};
+ghost use Rattle.std.specs.Prelude.{◌≡◌, ◌≤◌, ◌<◌, ◌^◌, ◌⊎◌, List, [], ◌∷◌, length, MatchOption};
 ghost use Rattle.sp_text.specs.Tokens.{tok, bad, tokens};
-ghost use Rattle.ir_reader.specs.Gives.{BeginsWith};
+ghost use Rattle.ir_reader.specs.Gives.{BeginsWith, is_nil};
 
 use crate::faults::Stop;
 use sp_text::{Line, Token};
@@ -62,7 +62,7 @@ impl<'a> Cursor<'a> {
 
     /// Whether the line ends there, but for a comment.
     pub fn is_at_end(&self) -> bool
-        ensures { IsTrue result ↔ (self.now ≡ []) }
+        ensures { result ≡ is_nil self.now }
     {
         match self.line.token_at(self.at) {
             Ok(None) => true,

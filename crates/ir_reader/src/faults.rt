@@ -46,16 +46,14 @@ pub enum LineFault {
 }
 
 impl From<Stop> for LineFault {
+    ghost use Rattle.ir_reader.specs.LineFaults.{line_fault};
+
+    ghost from_gives = { λ stop fault. fault ≡ line_fault stop };
+
     fn from(stop: Stop) -> LineFault {
         match stop {
             Stop::NoReading => LineFault::NoReading,
             Stop::Memory => LineFault::Memory,
         }
-    }
-}
-
-impl<T: Drop> From<AllocFailed<T>> for ReadFault {
-    fn from(_failed: AllocFailed<T>) -> ReadFault {
-        ReadFault::Memory
     }
 }

@@ -2,13 +2,19 @@
 
 use crate::words::{Binary, Cast, Conversion};
 
-/// A form of a line that is made of tokens.
+/// A line outside functions that is read and says nothing.
 #[derive(Clone, Copy, Debug, PartialEq, Eq)]
-pub enum Form {
+pub enum DroppedLine {
     SourceFilename,
     DataLayout,
     Triple,
     Attributes,
+}
+
+/// A form of a line that is made of tokens.
+#[derive(Clone, Copy, Debug, PartialEq, Eq)]
+pub enum Form {
+    Dropped(DroppedLine),
     Layout,
     Declare,
     Define,
@@ -52,13 +58,23 @@ pub enum Place {
     Cases,
 }
 
+/// What a line counts as.
+#[derive(Clone, Copy, Debug, PartialEq, Eq)]
+pub enum Counted {
+    Layout,
+    /// A definition, with its number of arguments.
+    Function(usize),
+    Instruction,
+    Nothing,
+}
+
 /// How much of a module was read so far.
 #[derive(Clone, Copy, Debug, PartialEq, Eq)]
 pub struct Counts {
     pub layouts: u32,
     pub functions: u32,
     /// Arguments and instructions of the function.
-    pub values: u32,
+    pub values: usize,
     pub instructions: u32,
 }
 

@@ -7,7 +7,7 @@ ghost use Rattle.ir_reader.specs.Seen.{seen, of_form, line_at};
 
 use crate::cursor::Cursor;
 use crate::faults::Stop;
-use crate::forms::Form;
+use crate::forms::{DroppedLine, Form};
 use crate::readings::Reading;
 use crate::words::Dropped;
 use std::alloc::Global;
@@ -69,8 +69,20 @@ impl<'a> Cursor<'a> {
 
     // ---- lines that are dropped
 
-    pub fn source_filename(&mut self) -> Result<(), Stop>
-        ensures { Gives (λ _. of_form Form.SourceFilename []) result self.new (line_at Form.SourceFilename self.old) }
+    /// Passes a line that is dropped.
+    pub fn dropped_line(&mut self, which: DroppedLine) -> Result<(), Stop>
+        ensures { Gives (λ _. of_form (Form.Dropped which) []) result self.new (line_at (Form.Dropped which) self.old) }
+    {
+        match which {
+            DroppedLine::SourceFilename => self.source_filename(),
+            DroppedLine::DataLayout => self.data_layout(),
+            DroppedLine::Triple => self.triple(),
+            DroppedLine::Attributes => self.attributes(),
+        }
+    }
+
+    fn source_filename(&mut self) -> Result<(), Stop>
+        ensures { Gives (λ _. of_form (Form.Dropped DroppedLine.SourceFilename) []) result self.new (line_at (Form.Dropped DroppedLine.SourceFilename) self.old) }
     {
         self.word(b"source_filename")?;
         self.mark(b"=")?;
@@ -78,8 +90,8 @@ impl<'a> Cursor<'a> {
         Ok(())
     }
 
-    pub fn data_layout(&mut self) -> Result<(), Stop>
-        ensures { Gives (λ _. of_form Form.DataLayout []) result self.new (line_at Form.DataLayout self.old) }
+    fn data_layout(&mut self) -> Result<(), Stop>
+        ensures { Gives (λ _. of_form (Form.Dropped DroppedLine.DataLayout) []) result self.new (line_at (Form.Dropped DroppedLine.DataLayout) self.old) }
     {
         self.word(b"target")?;
         self.word(b"datalayout")?;
@@ -88,8 +100,8 @@ impl<'a> Cursor<'a> {
         Ok(())
     }
 
-    pub fn triple(&mut self) -> Result<(), Stop>
-        ensures { Gives (λ _. of_form Form.Triple []) result self.new (line_at Form.Triple self.old) }
+    fn triple(&mut self) -> Result<(), Stop>
+        ensures { Gives (λ _. of_form (Form.Dropped DroppedLine.Triple) []) result self.new (line_at (Form.Dropped DroppedLine.Triple) self.old) }
     {
         self.word(b"target")?;
         self.word(b"triple")?;
@@ -98,8 +110,8 @@ impl<'a> Cursor<'a> {
         Ok(())
     }
 
-    pub fn attributes(&mut self) -> Result<(), Stop>
-        ensures { Gives (λ _. of_form Form.Attributes []) result self.new (line_at Form.Attributes self.old) }
+    fn attributes(&mut self) -> Result<(), Stop>
+        ensures { Gives (λ _. of_form (Form.Dropped DroppedLine.Attributes) []) result self.new (line_at (Form.Dropped DroppedLine.Attributes) self.old) }
     {
         self.word(b"attributes")?;
         self.hash()?;

@@ -2,10 +2,11 @@
 
 ghost use Rattle.std.specs.Prelude.{◌≡◌, IsTrue, map, length, nat_le, ◌&&◌};
 ghost use Rattle.std.specs.List.{list_all};
-ghost use Rattle.ir_reader.specs.Limits.{width_fits, type_fits, literal_fits, value_fits, place_fits, argument_fits, given_fits, name_fits, said_fits, is_instruction, counted_form, arguments_of, counts_fit, counted};
+ghost use Rattle.ir_reader.specs.Limits.{width_fits, type_fits, literal_fits, value_fits, place_fits, argument_fits, given_fits, entry_value_fits, name_fits, item_fits, said_fits, said_counts_as, counts_fit, counted};
+ghost use Rattle.ir_reader.specs.Slots.{defined};
 ghost use Rattle.ir_reader.specs.Seen.{seen, seen_value, seen_argument, seen_passed, seen_entry};
 
-use crate::forms::{Counts, Form};
+use crate::forms::{Counted, Counts};
 use crate::readings::{Argument, Entry, Literal, Passed, Reading, TypeWord, Value};
 use sp_ids::limits::{
     ARGUMENTS, FIELDS, FUNCTION_VALUES, FUNCTIONS, LAYOUTS, MODULE_INSTRUCTIONS, NAME_BYTES,
@@ -56,16 +57,40 @@ fn name_fits(name: &[u8]) -> bool
     name.len() <= NAME_BYTES as usize
 }
 
+fn types_fit(types: &[TypeWord]) -> bool
+    ensures { result ≡ list_all type_fits types.now }
+{
+    types.iter().all(|ty| type_fits(*ty))
+}
+
 fn fields_fit(fields: &[TypeWord]) -> bool
     ensures { result ≡ (nat_le (length fields.now) 64 && list_all type_fits fields.now) }
 {
-    fields.len() <= FIELDS as usize && fields.iter().all(|field| type_fits(*field))
+    fields.len() <= FIELDS as usize && types_fit(fields)
+}
+
+// The name and the arguments of a definition.
+fn head_fits(name: &[u8], arguments: &[Argument]) -> bool
+    ensures { result ≡ item_fits (defined name.now (map seen_argument arguments.now)) }
+{
+    name_fits(name) && arguments.len() <= ARGUMENTS as usize && arguments_fit(arguments)
+}
+
+fn argument_fits(argument: &Argument) -> bool
+    ensures { result ≡ argument_fits (seen_argument argument.now) }
+{
+    type_fits(argument.ty)
 }
 
 fn arguments_fit(arguments: &[Argument]) -> bool
     ensures { result ≡ list_all argument_fits (map seen_argument arguments.now) }
 {
-    arguments.iter().all(|argument| type_fits(argument.ty))
+    for argument in arguments {
+        if !argument_fits(argument) {
+            return false;
+        }
+    }
+    true
 }
 
 fn given_fits(passed: &Passed) -> bool
@@ -80,13 +105,29 @@ fn given_fits(passed: &Passed) -> bool
 fn passed_fit(passed: &[Passed]) -> bool
     ensures { result ≡ list_all given_fits (map seen_passed passed.now) }
 {
-    passed.iter().all(|one| given_fits(one))
+    for one in passed {
+        if !given_fits(one) {
+            return false;
+        }
+    }
+    true
+}
+
+fn entry_fits(entry: &Entry) -> bool
+    ensures { result ≡ entry_value_fits (seen_entry entry.now) }
+{
+    value_fits(&entry.value)
 }
 
 fn entries_fit(entries: &[Entry]) -> bool
-    ensures { result ≡ list_all (λ e. value_fits e.0) (map seen_entry entries.now) }
+    ensures { result ≡ list_all entry_value_fits (map seen_entry entries.now) }
 {
-    entries.iter().all(|entry| value_fits(&entry.value))
+    for entry in entries {
+        if !entry_fits(entry) {
+            return false;
+        }
+    }
+    true
 }
 
 impl Reading<'_> {
@@ -104,12 +145,7 @@ impl Reading<'_> {
                 name,
                 arguments,
                 ..
-            } => {
-                type_fits(*answer)
-                    && name_fits(name)
-                    && arguments.len() <= ARGUMENTS as usize
-                    && arguments_fit(arguments.as_slice())
-            }
+            } => type_fits(*answer) && head_fits(name, arguments.as_slice()),
             Reading::Phi { ty, entries, .. } => {
                 type_fits(*ty) && entries_fit(entries.as_slice())
             }
@@ -117,12 +153,6 @@ impl Reading<'_> {
                 type_fits(*answer) && passed_fit(passed.as_slice())
             }
             Reading::VoidCall { passed, .. } => passed_fit(passed.as_slice()),
-            _ => self.values_fit(),
-        }
-    }
-
-    fn values_fit(&self) -> bool {
-        match self {
             Reading::Binary {
                 width, left, right, ..
             } => width_fits(*width) && value_fits(left) && value_fits(right),
@@ -159,7 +189,10 @@ impl Reading<'_> {
                 place,
                 ..
             } => {
-                value_fits(address) && width_fits(*width) && value_fits(index) && place_fits(*place)
+                value_fits(address)
+                    && width_fits(*width)
+                    && value_fits(index)
+                    && place_fits(*place)
             }
             Reading::Load { ty, address, .. } => type_fits(*ty) && value_fits(address),
             Reading::Store { ty, value, address } => {
@@ -172,70 +205,71 @@ impl Reading<'_> {
             Reading::Cast {
                 from, value, to, ..
             } => type_fits(*from) && value_fits(value) && type_fits(*to),
-            _ => true,
+            Reading::Close => true,
+            Reading::Label { .. } => true,
+            Reading::Jump { .. } => true,
+            Reading::SwitchEnd => true,
+            Reading::ReturnVoid => true,
+            Reading::Unreachable => true,
         }
     }
 
-    /// How many arguments a definition has.
-    pub(crate) fn arguments(&self) -> u32 {
-        match self {
-            Reading::Define { arguments, .. } => arguments.len() as u32,
-            _ => 0,
-        }
-    }
-}
-
-impl Form {
-    fn is_instruction(self) -> bool
-        ensures { result ≡ is_instruction self }
+    // What the line counts as.
+    fn counts_as(&self) -> Counted
+        ensures { result ≡ said_counts_as (seen self.now) }
     {
         match self {
-            Form::SourceFilename
-            | Form::DataLayout
-            | Form::Triple
-            | Form::Attributes
-            | Form::Layout
-            | Form::Declare
-            | Form::Define
-            | Form::Close
-            | Form::Case
-            | Form::SwitchEnd => false,
-            _ => true,
+            Reading::Layout { .. } => Counted::Layout,
+            Reading::Define { arguments, .. } => Counted::Function(arguments.len()),
+            Reading::Declare { .. } => Counted::Nothing,
+            Reading::Close => Counted::Nothing,
+            Reading::Label { .. } => Counted::Nothing,
+            Reading::Case { .. } => Counted::Nothing,
+            Reading::SwitchEnd => Counted::Nothing,
+            Reading::Phi { .. } => Counted::Instruction,
+            Reading::ValueCall { .. } => Counted::Instruction,
+            Reading::VoidCall { .. } => Counted::Instruction,
+            Reading::Binary { .. } => Counted::Instruction,
+            Reading::Compare { .. } => Counted::Instruction,
+            Reading::Convert { .. } => Counted::Instruction,
+            Reading::Select { .. } => Counted::Instruction,
+            Reading::ScalarElement { .. } => Counted::Instruction,
+            Reading::LayoutElement { .. } => Counted::Instruction,
+            Reading::Load { .. } => Counted::Instruction,
+            Reading::Store { .. } => Counted::Instruction,
+            Reading::Jump { .. } => Counted::Instruction,
+            Reading::Branch { .. } => Counted::Instruction,
+            Reading::Switch { .. } => Counted::Instruction,
+            Reading::ReturnVoid => Counted::Instruction,
+            Reading::Return { .. } => Counted::Instruction,
+            Reading::Unreachable => Counted::Instruction,
+            Reading::Cast { .. } => Counted::Instruction,
         }
     }
 }
 
 impl Counts {
-    /// With one more line of this form, which has so many arguments if it is a definition.
-    pub fn with(self, form: Form, arguments: u32) -> Counts
+    /// With one more line.
+    pub fn with(self, reading: &Reading) -> Counts
         requires { IsTrue (counts_fit self) }
-        ensures { result ≡ counted_form form arguments self }
+        ensures { result ≡ counted (said_counts_as (seen reading.now)) self }
     {
-        match form {
-            Form::Layout => Counts {
+        match reading.counts_as() {
+            Counted::Layout => Counts {
                 layouts: self.layouts + 1,
                 ..self
             },
-            Form::Define => Counts {
+            Counted::Function(arguments) => Counts {
                 functions: self.functions + 1,
                 values: arguments,
                 ..self
             },
-            _ => self.with_instruction(form),
-        }
-    }
-
-    fn with_instruction(self, form: Form) -> Counts
-        requires { IsTrue (counts_fit self) }
-    {
-        if form.is_instruction() {
-            Counts {
+            Counted::Instruction => Counts {
                 values: self.values + 1,
                 instructions: self.instructions + 1,
                 ..self
-            }
-        } else {
-            self
+            },
+            Counted::Nothing => self,
         }
     }
 
@@ -245,7 +279,7 @@ impl Counts {
     {
         self.layouts <= LAYOUTS
             && self.functions <= FUNCTIONS
-            && self.values <= FUNCTION_VALUES
+            && self.values <= FUNCTION_VALUES as usize
             && self.instructions <= MODULE_INSTRUCTIONS
     }
 }

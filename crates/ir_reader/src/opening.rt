@@ -6,7 +6,7 @@ ghost use Rattle.ir_reader.specs.Marks.{begins, is_local};
 ghost use Rattle.ir_reader.specs.Forms.{is_calling_word, element_form, single_result_form, named_form, result_form, local_form, target_form, top_form, case_form, branch_form, return_form, instruction_form, word_form, mark_form, form_of};
 
 use crate::cursor::Cursor;
-use crate::forms::Form;
+use crate::forms::{DroppedLine, Form};
 use crate::numbers::width_in;
 use crate::tokens::{is_mark, is_text};
 use crate::words::{Binary, Cast, Conversion, Dropped, Flags};
@@ -198,9 +198,9 @@ impl<'a> Cursor<'a> {
         } else if is_text(word, b"define") {
             Some(Form::Define)
         } else if is_text(word, b"attributes") {
-            Some(Form::Attributes)
+            Some(Form::Dropped(DroppedLine::Attributes))
         } else if is_text(word, b"source_filename") {
-            Some(Form::SourceFilename)
+            Some(Form::Dropped(DroppedLine::SourceFilename))
         } else if is_text(word, b"target") {
             Some(self.target_form())
         } else {
@@ -212,9 +212,9 @@ impl<'a> Cursor<'a> {
         ensures { result ≡ target_form self.now }
     {
         if self.begins_word(b"datalayout") {
-            Form::DataLayout
+            Form::Dropped(DroppedLine::DataLayout)
         } else {
-            Form::Triple
+            Form::Dropped(DroppedLine::Triple)
         }
     }
 }

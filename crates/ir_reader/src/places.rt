@@ -41,12 +41,7 @@ fn behind_top(form: Form) -> Option<Place>
 {
     match form {
         Form::Define => Some(Place::Entry),
-        Form::SourceFilename
-        | Form::DataLayout
-        | Form::Triple
-        | Form::Attributes
-        | Form::Layout
-        | Form::Declare => Some(Place::Top),
+        Form::Dropped(_) | Form::Layout | Form::Declare => Some(Place::Top),
         _ => None,
     }
 }

@@ -2,7 +2,7 @@
 
 use crate::faults::{LineFault, ReadFault};
 use crate::forms::{Counts, Place, State};
-use crate::line::step;
+use crate::line::Step;
 use crate::raw::{NumberedReading, Raw};
 use sp_text::Lines;
 use std::alloc::Global;
@@ -26,13 +26,14 @@ pub fn read(alloc: Global, text: &[u8]) -> Result<Raw<'_>, ReadFault> {
     let mut number = 1;
     let mut readings = Vec::new(alloc);
     while let Some(line) = lines.next_line() {
-        match step(alloc, state, line) {
+        match Step::of(alloc, state, line) {
             Ok(None) => {}
             Ok(Some(next)) => {
                 readings.push(NumberedReading {
                     line: line.number,
                     reading: next.reading,
-                })?;
+                })
+                .map_err(|_| ReadFault::Memory)?;
                 state = next.state;
             }
             Err(LineFault::NoReading) => return Err(ReadFault::Syntax { line: line.number }),

@@ -2,7 +2,7 @@
 
 use super::*;
 
-const CALLS_READ: [&str; 25] = [
+const CALLS_READ: [&str; 26] = [
     "call void @f()",
     "%x = call i64 @f()",
     "%x = call ptr addrspace(1) @gc_new.T(i64 1)",
@@ -28,8 +28,9 @@ const CALLS_READ: [&str; 25] = [
     "call void @f(i64 align (8) 1)",
     "call void @f() foo(bar(baz), \"(\", {})",
     "call i void @f()",
+    "call tail void @f()",
 ];
-const CALLS_REFUSED: [&str; 37] = [
+const CALLS_REFUSED: [&str; 36] = [
     "call i64 @f()",
     "%x = call void @f()",
     "call void @f(",
@@ -40,7 +41,6 @@ const CALLS_REFUSED: [&str; 37] = [
     "call void @f(,)",
     "call void @f(i64 align 5)",
     "musttail call void @f()",
-    "call tail void @f()",
     "call void @f(ptr @g)",
     "call void @f(ptr %p)",
     "call void @task_start(ptr %g)",
