@@ -106,7 +106,7 @@ impl<'a> Step<'a> {
         reading: Reading<'a>,
     ) -> Result<Option<Step<'a>>, LineFault>
         requires { IsTrue (counts_fit state.counts) }
-        ensures came { Came result (within state place (seen reading)) }
+        ensures came { Came result (within state place (seen reading.entry)) }
         ensures counts { IfOk result (λ found. IfSome found (λ step. IsTrue (counts_fit step.state.counts))) }
     {
         let counts = state.counts.with(&reading);
