@@ -4,3 +4,4 @@ pub mod Dropping
 pub mod Listing
 pub mod Stopping
 pub mod AllOf
+pub mod LineByLine

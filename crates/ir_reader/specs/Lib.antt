@@ -12,3 +12,5 @@ pub mod Places
 pub mod Seen
 pub mod Slots
 pub mod Text
+pub mod Raws
+pub mod Reads

@@ -26,7 +26,7 @@ mod types;
 mod words;
 
 pub use faults::ReadFault;
-pub use raw::{NumberedReading, Raw};
+pub use raw::{NumberedReading, Raw, TextForm};
 pub use readings::{
     AllPassed, Argument, Arguments, Entries, Entry, Fields, Literal, Passed, Reading, TypeWord,
     Value,

@@ -6,7 +6,7 @@ use super::*;
 fn outcome(rt: &impl Abort, alloc: Global, text: &[u8]) -> (u32, u32) {
     assert!(rt; text.len() <= 16_777_216);
     match read(alloc, text) {
-        Ok(raw) => (0, raw.readings().len().min(1_000_000_000) as u32),
+        Ok(raw) => (0, raw.lines().len().min(1_000_000_000) as u32),
         Err(ReadFault::Syntax { line }) => (1, line),
         Err(ReadFault::Limit { line }) => (2, line),
         Err(ReadFault::Memory) => (3, 0),
@@ -124,7 +124,7 @@ fn readings(rt: HostRuntime) -> Result<(), Fail> {
     assert!(rt; text.len() <= 16_777_216);
     let raw = read(rt.alloc(), text).ok().ok_or("the text has a reading")?;
     let mut told = 0;
-    for numbered in raw.readings() {
+    for numbered in raw.lines() {
         match &numbered.reading {
             Reading::Layout { name, fields } => {
                 assert_eq!(rt; numbered.line, 1);
