@@ -167,7 +167,7 @@ none_read element more (suc n) ts e = no_turn element more n ts e
 
 pub reached_first : {A : Type 0} (element : List Tok → Found A) (more : List Tok → Bool) (all : List Tok) → Reached element more all [] all
 unfolding listed_at
-reached_first {A = A} element more all = 
+reached_first {A = A} element more all =
     let fuel : length all - length {A = A} [] ≡ length all = omega arith in
     record { rest_is = rw fuel (front_nil (at_most_at element more (length all) all)); within = omega arith }
 

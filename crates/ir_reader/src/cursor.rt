@@ -76,6 +76,9 @@ impl<'a> Cursor<'a> {
         ensures same { result ≡ self.now }
         ensures small { length result < 2 ^ 63 }
     {
-        Cursor { line: self.line, at: self.at }
+        Cursor {
+            line: self.line,
+            at: self.at,
+        }
     }
 }

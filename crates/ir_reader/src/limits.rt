@@ -138,7 +138,9 @@ impl Reading<'_> {
         match self {
             Reading::Layout { name, fields } => name_fits(name) && fields_fit(fields.as_slice()),
             Reading::Declare {
-                answer, parameters, ..
+                answer,
+                parameters,
+                ..
             } => type_fits(*answer) && arguments_fit(parameters.as_slice()),
             Reading::Define {
                 answer,
@@ -154,13 +156,22 @@ impl Reading<'_> {
             }
             Reading::VoidCall { passed, .. } => passed_fit(passed.as_slice()),
             Reading::Binary {
-                width, left, right, ..
+                width,
+                left,
+                right,
+                ..
             } => width_fits(*width) && value_fits(left) && value_fits(right),
             Reading::Compare {
-                ty, left, right, ..
+                ty,
+                left,
+                right,
+                ..
             } => type_fits(*ty) && value_fits(left) && value_fits(right),
             Reading::Convert {
-                width, value, to, ..
+                width,
+                value,
+                to,
+                ..
             } => width_fits(*width) && value_fits(value) && width_fits(*to),
             Reading::Select {
                 condition,
@@ -189,10 +200,7 @@ impl Reading<'_> {
                 place,
                 ..
             } => {
-                value_fits(address)
-                    && width_fits(*width)
-                    && value_fits(index)
-                    && place_fits(*place)
+                value_fits(address) && width_fits(*width) && value_fits(index) && place_fits(*place)
             }
             Reading::Load { ty, address, .. } => type_fits(*ty) && value_fits(address),
             Reading::Store { ty, value, address } => {
@@ -203,7 +211,10 @@ impl Reading<'_> {
             Reading::Case { width, value, .. } => width_fits(*width) && value_fits(value),
             Reading::Return { ty, value } => type_fits(*ty) && value_fits(value),
             Reading::Cast {
-                from, value, to, ..
+                from,
+                value,
+                to,
+                ..
             } => type_fits(*from) && value_fits(value) && type_fits(*to),
             Reading::Close => true,
             Reading::Label { .. } => true,

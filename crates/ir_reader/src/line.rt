@@ -122,11 +122,7 @@ impl<'a> Step<'a> {
 
     // A line of tokens.
     #[tactic(auto, unfolding(crate::specs::Text::tokens_outcome))]
-    fn of_tokens(
-        alloc: Global,
-        state: State,
-        line: Line<'a>,
-    ) -> Result<Option<Step<'a>>, LineFault>
+    fn of_tokens(alloc: Global, state: State, line: Line<'a>) -> Result<Option<Step<'a>>, LineFault>
         requires { IsTrue (counts_fit state.counts) }
         ensures came { Came result (tokens_outcome state (tokens line.entry.bytes.now)) }
         ensures counts { IfOk result (λ found. IfSome found (λ step. IsTrue (counts_fit step.state.counts))) }

@@ -81,7 +81,10 @@ pub type Entries<'a> = SmallVec<Entry<'a>, 2>;
 #[derive(Drop)]
 pub enum Reading<'a> {
     /// `%T = type { F, F, .. }`
-    Layout { name: &'a [u8], fields: Fields },
+    Layout {
+        name: &'a [u8],
+        fields: Fields,
+    },
     /// `declare R @name(A, A, ..)`. Names that the line gives its parameters mean nothing.
     Declare {
         answer: TypeWord,
@@ -98,7 +101,9 @@ pub enum Reading<'a> {
     /// `}`, the end of a definition.
     Close,
     /// `name:`, the head of a block.
-    Label { name: &'a [u8] },
+    Label {
+        name: &'a [u8],
+    },
     /// `%x = OP iN V, V`
     Binary {
         result: &'a [u8],
@@ -180,7 +185,9 @@ pub enum Reading<'a> {
         passed: AllPassed<'a>,
     },
     /// `br label %l`
-    Jump { label: &'a [u8] },
+    Jump {
+        label: &'a [u8],
+    },
     /// `br i1 V, label %l, label %m`
     Branch {
         condition: Value<'a>,
@@ -204,7 +211,10 @@ pub enum Reading<'a> {
     /// `ret void`
     ReturnVoid,
     /// `ret T V`
-    Return { ty: TypeWord, value: Value<'a> },
+    Return {
+        ty: TypeWord,
+        value: Value<'a>,
+    },
     /// `unreachable`
     Unreachable,
     /// `%x = CAST T V to U`

@@ -18,6 +18,7 @@ const TERMINATORS_READ: [&str; 14] = [
     "unreachable, !dbg !1",
     "  unreachable",
 ];
+
 const TERMINATORS_REFUSED: [&str; 21] = [
     "br %a",
     "br label a",
@@ -48,7 +49,10 @@ fn terminators(rt: HostRuntime) -> Result<(), Fail> {
         assert!(rt; ends_block(&rt, rt.alloc(), line)?, "{line} has a reading");
     }
     for line in TERMINATORS_REFUSED {
-        assert!(rt; !ends_block(&rt, rt.alloc(), line)?, "{line} has no reading");
+        assert!(rt;
+            !ends_block(&rt, rt.alloc(), line)?,
+            "{line} has no reading"
+        );
     }
     Ok(())
 }
@@ -67,6 +71,7 @@ i8 2, label %a
 ; no
 i8 3, label %a",
 ];
+
 const CASES_REFUSED: [&str; 14] = [
     "i8 %x, label %a",
     "i8 null, label %a",
@@ -107,6 +112,7 @@ i1 true, label %b
     "switch i8 %x, label %a [
 ], !a !1, !b !2",
 ];
+
 const SWITCHES_REFUSED: [&str; 12] = [
     "switch i8 %x, label %a [ ]",
     "switch i8 %x, label %a [",
@@ -137,7 +143,10 @@ fn switches(rt: HostRuntime) -> Result<(), Fail> {
         assert!(rt; ends_block(&rt, rt.alloc(), line)?, "{line} has a reading");
     }
     for line in SWITCHES_REFUSED {
-        assert!(rt; !ends_block(&rt, rt.alloc(), line)?, "{line} has no reading");
+        assert!(rt;
+            !ends_block(&rt, rt.alloc(), line)?,
+            "{line} has no reading"
+        );
     }
     Ok(())
 }
@@ -168,6 +177,7 @@ ret void
 7:
 br label %7",
 ];
+
 const LABELS_REFUSED: [&str; 20] = [
     "a :
 ret void",
@@ -213,7 +223,10 @@ fn labels(rt: HostRuntime) -> Result<(), Fail> {
         assert!(rt; ends_block(&rt, rt.alloc(), line)?, "{line} has a reading");
     }
     for line in LABELS_REFUSED {
-        assert!(rt; !ends_block(&rt, rt.alloc(), line)?, "{line} has no reading");
+        assert!(rt;
+            !ends_block(&rt, rt.alloc(), line)?,
+            "{line} has no reading"
+        );
     }
     Ok(())
 }

@@ -30,6 +30,7 @@ const CALLS_READ: [&str; 26] = [
     "call i void @f()",
     "call tail void @f()",
 ];
+
 const CALLS_REFUSED: [&str; 36] = [
     "call i64 @f()",
     "%x = call void @f()",

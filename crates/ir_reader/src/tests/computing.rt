@@ -24,6 +24,7 @@ const BINARIES_READ: [&str; 20] = [
     "%x = add i64 true, false",
     "%x = add i1 0, 1, !dbg !0",
 ];
+
 const BINARIES_REFUSED: [&str; 27] = [
     "%x = add i64 %a",
     "%x = add i64 %a, 1,",
@@ -78,6 +79,7 @@ const COMPARES_READ: [&str; 11] = [
     "%c = icmp slt i8 1, 2",
     "%c = icmp eq ptr addrspace ( 1 ) %p, %q",
 ];
+
 const COMPARES_REFUSED: [&str; 12] = [
     "%c = icmp eqq i64 1, 2",
     "%c = icmp i64 1, 2",
@@ -115,6 +117,7 @@ const CONVERSIONS_READ: [&str; 9] = [
     "%x = sext i8 %a to i64, !a !1",
     "%x = sext i8 null to i8",
 ];
+
 const CONVERSIONS_REFUSED: [&str; 11] = [
     "%x = trunc nneg i64 %a to i8",
     "%x = trunc i64 %a, i8",
@@ -151,6 +154,7 @@ const CASTS_READ: [&str; 9] = [
     "%x = bitcast i64 %a to i64",
     "%x = bitcast ptr null to i1",
 ];
+
 const CASTS_REFUSED: [&str; 10] = [
     "%x = ptrtoint ptr addrspace(2) %p to i64",
     "%x = ptrtoint ptr addrspace %p to i64",
@@ -181,6 +185,7 @@ const SELECTS_READ: [&str; 4] = [
     "%x = select i1 %c, i64 1, i32 2, !dbg !1",
     "%x=select i1 7,i64 1,i64 2",
 ];
+
 const SELECTS_REFUSED: [&str; 6] = [
     "%x = select i8 %c, i64 1, i64 2",
     "%x = select i1 %c, i64 1",
@@ -207,6 +212,7 @@ const PHIS_READ: [&str; 4] = [
     "%x = phi ptr addrspace(1) [ null, %a ], [ %p, %0 ], [ %q, %c ], !dbg !1",
     "%x=phi i1[true,%a],[false,%b]",
 ];
+
 const PHIS_REFUSED: [&str; 12] = [
     "%x = phi i64",
     "%x = phi i64 [ 0, %a ],",

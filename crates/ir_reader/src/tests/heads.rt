@@ -11,6 +11,7 @@ const LAYOUTS_READ: [&str; 7] = [
     "%T = type { i32, ptr addrspace ( 1 ) } ; comment",
     "%T-1 = type { i1 }",
 ];
+
 const LAYOUTS_REFUSED: [&str; 15] = [
     "%T = type { i64, }",
     "%T = type { ptr }",
@@ -57,6 +58,7 @@ const DECLARATIONS_READ: [&str; 15] = [
     "declare #3 void @f()",
     "declare \"s\" void @f()",
 ];
+
 const DECLARATIONS_REFUSED: [&str; 22] = [
     "declare @f()",
     "declare void @f(ptr)",
@@ -107,6 +109,7 @@ const DEFINITIONS_READ: [&str; 12] = [
     "define \"a\" #1 void @f() {",
     "define void @f(i64 range(i8 1, 2) %a) gc \"s\" {",
 ];
+
 const DEFINITIONS_REFUSED: [&str; 22] = [
     "define void @f()",
     "define void @f() gc {",
@@ -164,6 +167,7 @@ const DROPPED_READ: [&str; 19] = [
     "\t; `\\",
     "source_filename = \"\"",
 ];
+
 const DROPPED_REFUSED: [&str; 27] = [
     "source_filename = a",
     "source_filename \"a\"",
@@ -190,8 +194,7 @@ const DROPPED_REFUSED: [&str; 27] = [
     "source_filename = \"a",
     "attributes # = { }",
     "%x = add i64 1, 2",
-    "
-",
+    "\r ",
     "a",
 ];
 

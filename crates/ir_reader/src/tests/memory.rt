@@ -17,6 +17,7 @@ const ELEMENTS_READ: [&str; 13] = [
     "%x = getelementptr %T, ptr addrspace(1) %p, i64 1, i32 -1",
     "%x = getelementptr %T, ptr addrspace(1) %p, i64 1, !a !1",
 ];
+
 const ELEMENTS_REFUSED: [&str; 16] = [
     "%x = getelementptr i7, ptr addrspace(1) %p, i64 1",
     "%x = getelementptr i8, ptr %p, i64 1",
@@ -54,6 +55,7 @@ const LOADS_READ: [&str; 5] = [
     "%x = load i32, ptr addrspace(1) null",
     "%x = load i64, ptr addrspace(1) %p, !dbg !1",
 ];
+
 const LOADS_REFUSED: [&str; 10] = [
     "%x = load i64, ptr %p",
     "%x = load i64 %p",
@@ -84,6 +86,7 @@ const STORES_READ: [&str; 4] = [
     "store i32 %v, ptr addrspace(1) %p, align 4, !dbg !1",
     "store i64 true, ptr addrspace(1) %p, !a !1",
 ];
+
 const STORES_REFUSED: [&str; 9] = [
     "store i64 1, ptr %p",
     "store i64, ptr addrspace(1) %p",

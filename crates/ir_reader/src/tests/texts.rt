@@ -21,15 +21,41 @@ fn whole_texts(rt: HostRuntime) {
     assert_eq!(rt; outcome(&rt, alloc, b"%T = type { i64 }"), (0, 1));
     assert_eq!(rt; outcome(&rt, alloc, b"%T = type { i64 }\r\n"), (0, 1));
     assert_eq!(rt; outcome(&rt, alloc, b"%T = type { i64 }\r\r\n"), (1, 1));
-    assert_eq!(rt; outcome(&rt, alloc, b"define void @f() {\n\nret void\n; x\n}\n"), (0, 3));
-    assert_eq!(rt; outcome(&rt, alloc, b"define void @f() {\nret void\n"), (1, 3));
-    assert_eq!(rt; outcome(&rt, alloc, b"define void @f() {\nret void"), (1, 3));
+    assert_eq!(rt;
+        outcome(&rt, alloc, b"define void @f() {\n\nret void\n; x\n}\n"),
+        (0, 3)
+    );
+    assert_eq!(rt;
+        outcome(&rt, alloc, b"define void @f() {\nret void\n"),
+        (1, 3)
+    );
+    assert_eq!(rt;
+        outcome(&rt, alloc, b"define void @f() {\nret void"),
+        (1, 3)
+    );
     assert_eq!(rt; outcome(&rt, alloc, b"define void @f() {\n"), (1, 2));
     assert_eq!(rt; outcome(&rt, alloc, b"define void @f() {\n}\n"), (1, 2));
     assert_eq!(rt; outcome(&rt, alloc, b"define void @f() {\na:\n}\n"), (1, 3));
-    assert_eq!(rt; outcome(&rt, alloc, b"\ndefine void @f() {\nswitch i8 1, label %a [\n"), (1, 4));
-    assert_eq!(rt; outcome(&rt, alloc, b"define void @f() {\nret void\n}\n}\n"), (1, 4));
-    assert_eq!(rt; outcome(&rt, alloc, b"define void @f() {\nret void\ndefine void @g() {\n"), (1, 3));
+    assert_eq!(rt;
+        outcome(
+            &rt,
+            alloc,
+            b"\ndefine void @f() {\nswitch i8 1, label %a [\n"
+        ),
+        (1, 4)
+    );
+    assert_eq!(rt;
+        outcome(&rt, alloc, b"define void @f() {\nret void\n}\n}\n"),
+        (1, 4)
+    );
+    assert_eq!(rt;
+        outcome(
+            &rt,
+            alloc,
+            b"define void @f() {\nret void\ndefine void @g() {\n"
+        ),
+        (1, 3)
+    );
 }
 
 #[test]
@@ -37,22 +63,90 @@ fn limits_of_a_line(rt: HostRuntime) {
     let alloc = rt.alloc();
     assert_eq!(rt; outcome(&rt, alloc, b"%T = type { i64, i0 }"), (2, 1));
     assert_eq!(rt; outcome(&rt, alloc, b"%T = type { i64, i65 }"), (2, 1));
-    assert_eq!(rt; outcome(&rt, alloc, b"%T = type { i64, i99999999999999999999999 }"), (2, 1));
+    assert_eq!(rt;
+        outcome(&rt, alloc, b"%T = type { i64, i99999999999999999999999 }"),
+        (2, 1)
+    );
     assert_eq!(rt; outcome(&rt, alloc, b"%T = type { i64, i65 } x"), (1, 1));
     assert_eq!(rt; outcome(&rt, alloc, b"\ndeclare i65 @f()\nx"), (2, 2));
-    assert_eq!(rt; outcome(&rt, alloc, b"declare void @f(i64 range(i99 1, 2))"), (0, 1));
-    assert_eq!(rt; outcome(&rt, alloc, b"define void @f() {\nret i64 18446744073709551615\n}"), (0, 3));
-    assert_eq!(rt; outcome(&rt, alloc, b"define void @f() {\nret i64 18446744073709551616\n}"), (2, 2));
-    assert_eq!(rt; outcome(&rt, alloc, b"define void @f() {\nret i64 -9223372036854775808\n}"), (0, 3));
-    assert_eq!(rt; outcome(&rt, alloc, b"define void @f() {\nret i64 -9223372036854775809\n}"), (2, 2));
-    assert_eq!(rt; outcome(&rt, alloc, b"define void @f() {\nret i64 0000000000000000000000000000001\n}"), (0, 3));
-    assert_eq!(rt; outcome(&rt, alloc, b"define void @f() {\nret i64 99999999999999999999999999999\n}"), (2, 2));
-    assert_eq!(rt; outcome(&rt, alloc, b"define void @f() {\n%x = load i64, ptr addrspace(1) %p, align 99999999999999999999999\nret void\n}"), (0, 4));
-    assert_eq!(rt; outcome(&rt, alloc, b"define void @f() {\n%x = getelementptr %T, ptr addrspace(1) %p, i64 1, i32 18446744073709551616\nret void\n}"), (2, 2));
+    assert_eq!(rt;
+        outcome(&rt, alloc, b"declare void @f(i64 range(i99 1, 2))"),
+        (0, 1)
+    );
+    assert_eq!(rt;
+        outcome(
+            &rt,
+            alloc,
+            b"define void @f() {\nret i64 18446744073709551615\n}"
+        ),
+        (0, 3)
+    );
+    assert_eq!(rt;
+        outcome(
+            &rt,
+            alloc,
+            b"define void @f() {\nret i64 18446744073709551616\n}"
+        ),
+        (2, 2)
+    );
+    assert_eq!(rt;
+        outcome(
+            &rt,
+            alloc,
+            b"define void @f() {\nret i64 -9223372036854775808\n}"
+        ),
+        (0, 3)
+    );
+    assert_eq!(rt;
+        outcome(
+            &rt,
+            alloc,
+            b"define void @f() {\nret i64 -9223372036854775809\n}"
+        ),
+        (2, 2)
+    );
+    assert_eq!(rt;
+        outcome(
+            &rt,
+            alloc,
+            b"define void @f() {\nret i64 0000000000000000000000000000001\n}"
+        ),
+        (0, 3)
+    );
+    assert_eq!(rt;
+        outcome(
+            &rt,
+            alloc,
+            b"define void @f() {\nret i64 99999999999999999999999999999\n}"
+        ),
+        (2, 2)
+    );
+    assert_eq!(rt;
+        outcome(
+            &rt,
+            alloc,
+            b"define void @f() {\n%x = load i64, ptr addrspace(1) %p, align 99999999999999999999999\nret void\n}"
+        ),
+        (0, 4)
+    );
+    assert_eq!(rt;
+        outcome(
+            &rt,
+            alloc,
+            b"define void @f() {\n%x = getelementptr %T, ptr addrspace(1) %p, i64 1, i32 18446744073709551616\nret void\n}"
+        ),
+        (2, 2)
+    );
 }
 
 // A text of a line `count` times, between two others.
-fn repeated(alloc: Global, before: &str, line: &str, count: u32, after: &str) -> Result<Vec<u8>, Fail> {
+fn repeated(
+    alloc: Global,
+    before: &str,
+    line: &str,
+    count: u32,
+    after: &str,
+) -> Result<Vec<u8>, Fail> {
     let mut text = Vec::new(alloc);
     text.extend_from_slice(before.as_bytes())?;
     for _ in 0..count {
@@ -75,23 +169,59 @@ fn limits_of_a_module(rt: HostRuntime) -> Result<(), Fail> {
     assert_eq!(rt; outcome(&rt, alloc, &functions), (2, 12289));
     let declarations = repeated(alloc, "", "declare void @f()\n", 5000, "")?;
     assert_eq!(rt; outcome(&rt, alloc, &declarations), (0, 5000));
-    let instructions = repeated(alloc, "define void @f(i64) {\n", "%x = add i64 1, 2\n", 4094, "ret void\n}\n")?;
+    let instructions = repeated(
+        alloc,
+        "define void @f(i64) {\n",
+        "%x = add i64 1, 2\n",
+        4094,
+        "ret void\n}\n",
+    )?;
     assert_eq!(rt; outcome(&rt, alloc, &instructions), (0, 4097));
-    let instructions = repeated(alloc, "define void @f(i64) {\n", "%x = add i64 1, 2\n", 4095, "ret void\n}\n")?;
+    let instructions = repeated(
+        alloc,
+        "define void @f(i64) {\n",
+        "%x = add i64 1, 2\n",
+        4095,
+        "ret void\n}\n",
+    )?;
     assert_eq!(rt; outcome(&rt, alloc, &instructions), (2, 4097));
-    let cases = repeated(alloc, "define void @f() {\nswitch i8 1, label %a [\n", "i8 1, label %a\n", 5000, "]\na:\nret void\n}\n")?;
+    let cases = repeated(
+        alloc,
+        "define void @f() {\nswitch i8 1, label %a [\n",
+        "i8 1, label %a\n",
+        5000,
+        "]\na:\nret void\n}\n",
+    )?;
     assert_eq!(rt; outcome(&rt, alloc, &cases), (0, 5006));
     let fields = repeated(alloc, "%T = type { i64", ", i64", 63, " }\n")?;
     assert_eq!(rt; outcome(&rt, alloc, &fields), (0, 1));
     let fields = repeated(alloc, "%T = type { i64", ", i64", 64, " }\n")?;
     assert_eq!(rt; outcome(&rt, alloc, &fields), (2, 1));
-    let arguments = repeated(alloc, "define void @f(i64", ", i64", 63, ") {\nret void\n}\n")?;
+    let arguments = repeated(
+        alloc,
+        "define void @f(i64",
+        ", i64",
+        63,
+        ") {\nret void\n}\n",
+    )?;
     assert_eq!(rt; outcome(&rt, alloc, &arguments), (0, 3));
-    let arguments = repeated(alloc, "define void @f(i64", ", i64", 64, ") {\nret void\n}\n")?;
+    let arguments = repeated(
+        alloc,
+        "define void @f(i64",
+        ", i64",
+        64,
+        ") {\nret void\n}\n",
+    )?;
     assert_eq!(rt; outcome(&rt, alloc, &arguments), (2, 1));
     let parameters = repeated(alloc, "declare void @f(i64", ", i64", 64, ")\n")?;
     assert_eq!(rt; outcome(&rt, alloc, &parameters), (0, 1));
-    let passed = repeated(alloc, "define void @f() {\ncall void @f(i64 1", ", i64 2", 100, ")\nret void\n}\n")?;
+    let passed = repeated(
+        alloc,
+        "define void @f() {\ncall void @f(i64 1",
+        ", i64 2",
+        100,
+        ")\nret void\n}\n",
+    )?;
     assert_eq!(rt; outcome(&rt, alloc, &passed), (0, 4));
     let name = repeated(alloc, "%", "a", 4096, " = type { i64 }")?;
     assert_eq!(rt; outcome(&rt, alloc, &name), (0, 1));
@@ -107,7 +237,13 @@ fn limits_of_a_module(rt: HostRuntime) -> Result<(), Fail> {
 #[test]
 fn instructions_of_a_module(rt: HostRuntime) -> Result<(), Fail> {
     let alloc = rt.alloc();
-    let body = repeated(alloc, "define void @f() {\n", "%x = add i64 1, 2\n", 4095, "ret void\n}\n")?;
+    let body = repeated(
+        alloc,
+        "define void @f() {\n",
+        "%x = add i64 1, 2\n",
+        4095,
+        "ret void\n}\n",
+    )?;
     let mut text = Vec::new(alloc);
     for _ in 0..16 {
         text.extend_from_slice(&body)?;
@@ -120,7 +256,8 @@ fn instructions_of_a_module(rt: HostRuntime) -> Result<(), Fail> {
 
 #[test]
 fn readings(rt: HostRuntime) -> Result<(), Fail> {
-    let text = b"%P = type { i64, ptr addrspace(1) }\n\ndefine i64 @g(ptr addrspace(1), i64 %n) gc \"s\" {\n7:\n  ret i64 -3\n}\n";
+    let text =
+        b"%P = type { i64, ptr addrspace(1) }\n\ndefine i64 @g(ptr addrspace(1), i64 %n) gc \"s\" {\n7:\n  ret i64 -3\n}\n";
     assert!(rt; text.len() <= 16_777_216);
     let raw = read(rt.alloc(), text).ok().ok_or("the text has a reading")?;
     let mut told = 0;
@@ -129,7 +266,10 @@ fn readings(rt: HostRuntime) -> Result<(), Fail> {
             Reading::Layout { name, fields } => {
                 assert_eq!(rt; numbered.line, 1);
                 assert_eq!(rt; *name, b"P".as_slice());
-                assert_eq!(rt; fields.as_slice(), [TypeWord::Int(64), TypeWord::Managed].as_slice());
+                assert_eq!(rt;
+                    fields.as_slice(),
+                    [TypeWord::Int(64), TypeWord::Managed].as_slice()
+                );
                 told += 1;
             }
             Reading::Define {

@@ -15,16 +15,18 @@ pub returns-in_err-read_line : goal.returns-in_err-read_line
 returns-in_err-read_line c =
     let p = err_from_is_err_and c.from_residual.result c.from_residual.ensures.1 in
     let so_far : with_lines (map seen_numbered c.loop-line.readings.items) (readings c.loop-line.state c.loop-line.number (seen_line c.in-Some.line ∷ lines_left c.next_line.new.self)) ≡ text_readings c.args.text.now
-        = rw (← c.in-Some.ensures.next) c.loop-line.invariant.0 in
+    = rw (← c.in-Some.ensures.next) c.loop-line.invariant.0 in
     rw (p.1, p.2) (ends_at c.in_err-read_line.field-0.0 (seen_line c.in-Some.line) (lines_left c.next_line.new.self) c.loop-line.number c.loop-line.state (map seen_numbered c.loop-line.readings.items) (text_readings c.args.text.now)
-        so_far c.in_err-read_line.ensures.fault)
+    so_far c.in_err-read_line.ensures.fault)
 
 pub loop-line-preserved : goal.loop-line-preserved
 loop-line-preserved c =
     let so_far : with_lines (map seen_numbered c.loop-line.readings.items) (readings c.loop-line.state c.loop-line.number (seen_line c.in-Some.line ∷ lines_left c.next_line.new.self)) ≡ text_readings c.args.text.now
-        = rw (← c.in-Some.ensures.next) c.loop-line.invariant.0 in
-    (goes_on (seen_line c.in-Some.line) (lines_left c.next_line.new.self) c.loop-line.number c.loop-line.state c.read_line.new.state (map seen_numbered c.loop-line.readings.items)
-        (map seen_numbered c.read_line.new.readings.items) (text_readings c.args.text.now) so_far c.in_ok-read_line.ensures.ok, c.in_ok-read_line.ensures.counts)
+    = rw (← c.in-Some.ensures.next) c.loop-line.invariant.0 in (
+      goes_on (seen_line c.in-Some.line) (lines_left c.next_line.new.self) c.loop-line.number c.loop-line.state c.read_line.new.state (map seen_numbered c.loop-line.readings.items)
+          (map seen_numbered c.read_line.new.readings.items) (text_readings c.args.text.now) so_far c.in_ok-read_line.ensures.ok,
+      c.in_ok-read_line.ensures.counts,
+    )
 
 pub returns-then-is_top : goal.returns-then-is_top
 returns-then-is_top c =

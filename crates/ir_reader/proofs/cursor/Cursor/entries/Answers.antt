@@ -23,7 +23,7 @@ pub returns-then-not-begins_entry : goal.returns-then-not-begins_entry
 returns-then-not-begins_entry c =
     let lt = shorter_is _ (entry_at c.loop-entries.self) (seen_entry c.in_ok-entry.entry) c.entry.new.self (entry_at-shorter c.loop-entries.self) c.in_ok-entry.ensures in
     rw (c.in_ok-push.ensures.ok, map_push seen_entry c.loop-entries.entries.items c.in_ok-entry.entry) (reached_end entry_at begins_entry c.args.self.now (map seen_entry c.loop-entries.entries.items) c.loop-entries.self (seen_entry c.in_ok-entry.entry) c.entry.new.self
-        c.loop-entries.invariant c.in_ok-entry.ensures lt (sym c.begins_entry.ensures ∙ c.if-not-begins_entry.true))
+    c.loop-entries.invariant c.in_ok-entry.ensures lt (sym c.begins_entry.ensures ∙ c.if-not-begins_entry.true))
 
 pub loop-entries-smaller : goal.loop-entries-smaller
 loop-entries-smaller c =
@@ -34,4 +34,4 @@ pub loop-entries-preserved : goal.loop-entries-preserved
 loop-entries-preserved c =
     let lt = shorter_is _ (entry_at c.loop-entries.self) (seen_entry c.in_ok-entry.entry) c.entry.new.self (entry_at-shorter c.loop-entries.self) c.in_ok-entry.ensures in
     rw (c.pass_comma.ensures, c.in_ok-push.ensures.ok, map_push seen_entry c.loop-entries.entries.items c.in_ok-entry.entry) (reached_next entry_at begins_entry c.args.self.now (map seen_entry c.loop-entries.entries.items) c.loop-entries.self (seen_entry c.in_ok-entry.entry) c.entry.new.self
-        c.loop-entries.invariant c.in_ok-entry.ensures lt (sym c.begins_entry.ensures ∙ c.if-not-begins_entry.false))
+    c.loop-entries.invariant c.in_ok-entry.ensures lt (sym c.begins_entry.ensures ∙ c.if-not-begins_entry.false))

@@ -23,7 +23,7 @@ pub returns-then-not-begins_mark : goal.returns-then-not-begins_mark
 returns-then-not-begins_mark c =
     let lt = shorter_is _ (argument_at c.args.plain c.loop-arguments.self) (seen_argument c.in_ok-argument.argument) c.argument.new.self (argument_at-shorter c.args.plain c.loop-arguments.self) c.in_ok-argument.ensures in
     rw (c.in_ok-push.ensures.ok, map_push seen_argument c.loop-arguments.arguments.items c.in_ok-argument.argument) (reached_end (argument_at c.args.plain) comma c.args.self.now (map seen_argument c.loop-arguments.arguments.items) c.loop-arguments.self (seen_argument c.in_ok-argument.argument) c.argument.new.self
-        c.loop-arguments.invariant c.in_ok-argument.ensures lt (sym c.begins_mark.ensures ∙ c.if-not-begins_mark.true))
+    c.loop-arguments.invariant c.in_ok-argument.ensures lt (sym c.begins_mark.ensures ∙ c.if-not-begins_mark.true))
 
 pub loop-arguments-smaller : goal.loop-arguments-smaller
 loop-arguments-smaller c =
@@ -34,4 +34,4 @@ pub loop-arguments-preserved : goal.loop-arguments-preserved
 loop-arguments-preserved c =
     let lt = shorter_is _ (argument_at c.args.plain c.loop-arguments.self) (seen_argument c.in_ok-argument.argument) c.argument.new.self (argument_at-shorter c.args.plain c.loop-arguments.self) c.in_ok-argument.ensures in
     rw (c.pass_comma.ensures, c.in_ok-push.ensures.ok, map_push seen_argument c.loop-arguments.arguments.items c.in_ok-argument.argument) (reached_next (argument_at c.args.plain) comma c.args.self.now (map seen_argument c.loop-arguments.arguments.items) c.loop-arguments.self (seen_argument c.in_ok-argument.argument) c.argument.new.self
-        c.loop-arguments.invariant c.in_ok-argument.ensures lt (sym c.begins_mark.ensures ∙ c.if-not-begins_mark.false))
+    c.loop-arguments.invariant c.in_ok-argument.ensures lt (sym c.begins_mark.ensures ∙ c.if-not-begins_mark.false))

@@ -21,7 +21,7 @@ pub returns-then-not-begins_mark : goal.returns-then-not-begins_mark
 returns-then-not-begins_mark c =
     let lt = shorter_is _ (allowed_type_at is_value_type c.loop-fields.self) c.in_ok-field.field c.value_type.new.self (allowed_type_at-shorter is_value_type c.loop-fields.self) c.in_ok-field.ensures in
     rw c.in_ok-push.ensures.ok (reached_end (allowed_type_at is_value_type) comma c.args.self.now c.loop-fields.fields.items c.loop-fields.self c.in_ok-field.field c.value_type.new.self
-        c.loop-fields.invariant c.in_ok-field.ensures lt (sym c.begins_mark.ensures ∙ c.if-not-begins_mark.true))
+    c.loop-fields.invariant c.in_ok-field.ensures lt (sym c.begins_mark.ensures ∙ c.if-not-begins_mark.true))
 
 pub loop-fields-smaller : goal.loop-fields-smaller
 loop-fields-smaller c =
@@ -32,4 +32,4 @@ pub loop-fields-preserved : goal.loop-fields-preserved
 loop-fields-preserved c =
     let lt = shorter_is _ (allowed_type_at is_value_type c.loop-fields.self) c.in_ok-field.field c.value_type.new.self (allowed_type_at-shorter is_value_type c.loop-fields.self) c.in_ok-field.ensures in
     rw (c.pass_comma.ensures, c.in_ok-push.ensures.ok) (reached_next (allowed_type_at is_value_type) comma c.args.self.now c.loop-fields.fields.items c.loop-fields.self c.in_ok-field.field c.value_type.new.self
-        c.loop-fields.invariant c.in_ok-field.ensures lt (sym c.begins_mark.ensures ∙ c.if-not-begins_mark.false))
+    c.loop-fields.invariant c.in_ok-field.ensures lt (sym c.begins_mark.ensures ∙ c.if-not-begins_mark.false))

@@ -23,7 +23,7 @@ pub returns-then-not-begins_mark : goal.returns-then-not-begins_mark
 returns-then-not-begins_mark c =
     let lt = shorter_is _ (passed_at c.args.plain c.loop-all.self) (seen_passed c.in_ok-passed.passed) c.passed.new.self (passed_at-shorter c.args.plain c.loop-all.self) c.in_ok-passed.ensures in
     rw (c.in_ok-push.ensures.ok, map_push seen_passed c.loop-all.all.items c.in_ok-passed.passed) (reached_end (passed_at c.args.plain) comma c.args.self.now (map seen_passed c.loop-all.all.items) c.loop-all.self (seen_passed c.in_ok-passed.passed) c.passed.new.self
-        c.loop-all.invariant c.in_ok-passed.ensures lt (sym c.begins_mark.ensures ∙ c.if-not-begins_mark.true))
+    c.loop-all.invariant c.in_ok-passed.ensures lt (sym c.begins_mark.ensures ∙ c.if-not-begins_mark.true))
 
 pub loop-all-smaller : goal.loop-all-smaller
 loop-all-smaller c =
@@ -34,4 +34,4 @@ pub loop-all-preserved : goal.loop-all-preserved
 loop-all-preserved c =
     let lt = shorter_is _ (passed_at c.args.plain c.loop-all.self) (seen_passed c.in_ok-passed.passed) c.passed.new.self (passed_at-shorter c.args.plain c.loop-all.self) c.in_ok-passed.ensures in
     rw (c.pass_comma.ensures, c.in_ok-push.ensures.ok, map_push seen_passed c.loop-all.all.items c.in_ok-passed.passed) (reached_next (passed_at c.args.plain) comma c.args.self.now (map seen_passed c.loop-all.all.items) c.loop-all.self (seen_passed c.in_ok-passed.passed) c.passed.new.self
-        c.loop-all.invariant c.in_ok-passed.ensures lt (sym c.begins_mark.ensures ∙ c.if-not-begins_mark.false))
+    c.loop-all.invariant c.in_ok-passed.ensures lt (sym c.begins_mark.ensures ∙ c.if-not-begins_mark.false))

@@ -8,7 +8,6 @@ use Rattle.ir_reader.specs.Lists.{called_at}
 use Rattle.ir_reader.specs.Slots.{part, parse}
 use Rattle.ir_reader.specs.Seen.{line_at}
 use Rattle.ir_reader.proofs.Stopping.{stops_whole}
-
 use Rattle.ir_reader.proofs.cursor.Cursor.void_call.Goals as goal
 
 pub returns-in_err-word-2 : goal.returns-in_err-word-2
@@ -16,14 +15,14 @@ unfolding line_at parse part after
 returns-in_err-word-2 c =
     let p = err_from_is_err_and c.from_residual-in_err-word-2.result c.from_residual-in_err-word-2.ensures.1 in
     rw (p.1, p.2) (stops_whole c.in_err-word-2.field-0.0 (word_at (codes "void") c.skip-2.new.self) (line_at forms.VoidCall c.args.self.now)
-        (λ h. rw (← c.skip.ensures, c.in_ok-word.ensures, ← c.skip-2.ensures, h) refl) c.in_err-word-2.ensures)
+    (λ h. rw (← c.skip.ensures, c.in_ok-word.ensures, ← c.skip-2.ensures, h) refl) c.in_err-word-2.ensures)
 
 pub returns-in_err-callee : goal.returns-in_err-callee
 unfolding line_at parse part after
 returns-in_err-callee c =
     let p = err_from_is_err_and c.from_residual-in_err-callee.result c.from_residual-in_err-callee.ensures.1 in
     rw (p.1, p.2) (stops_whole c.in_err-callee.field-0.0 (called_at c.word-2.new.self) (line_at forms.VoidCall c.args.self.now)
-        (λ h. rw (← c.skip.ensures, c.in_ok-word.ensures, ← c.skip-2.ensures, c.in_ok-word-2.ensures, h) refl) c.in_err-callee.ensures)
+    (λ h. rw (← c.skip.ensures, c.in_ok-word.ensures, ← c.skip-2.ensures, c.in_ok-word-2.ensures, h) refl) c.in_err-callee.ensures)
 
 pub returns : goal.returns
 unfolding line_at parse part after
