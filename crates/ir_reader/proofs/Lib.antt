@@ -5,3 +5,4 @@ pub mod Listing
 pub mod Stopping
 pub mod AllOf
 pub mod LineByLine
+pub mod Openings

@@ -11,6 +11,7 @@ mod drops;
 mod faults;
 mod forms;
 mod heads;
+mod laws;
 mod limits;
 mod line;
 mod lists;
@@ -26,6 +27,7 @@ mod types;
 mod words;
 
 pub use faults::ReadFault;
+pub use laws::{one_form, one_reading};
 pub use raw::{NumberedReading, Raw, TextForm};
 pub use readings::{
     AllPassed, Argument, Arguments, Entries, Entry, Fields, Literal, Passed, Reading, TypeWord,
