@@ -1,0 +1,4 @@
+//! The command-line tool.
+#![tactic(auto)]
+
+mod thin;
