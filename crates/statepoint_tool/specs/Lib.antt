@@ -1,2 +1,4 @@
+pub mod ThinForms
 pub mod Thin
 pub mod ThinLines
+pub mod Source

@@ -1,7 +1,103 @@
--- Thin modules.
-use Rattle.std.specs.Prelude.{ℕ, List, Option, None, Some, length, take, drop, if◌then◌else◌}
+-- Thin modules: the texts of one function `@main` that adds, prints and returns numbers of 64 bits.
+use Rattle.std.specs.Prelude.{ℕ, ◌+◌, ◌-◌, ◌≡◌, ◌≤◌, ◌<◌, ◌==◌, Bool, true, false, not, if◌then◌else◌, List, [], ◌∷◌, ◌++◌, length, take, map, position, codes, Option, Some, None, option_map, option_and_then}
+use Rattle.std.specs.List.{list_any, AllPass, All}
+use Rattle.std.specs.Option.{option_map_or}
 use Rattle.std.specs.Str.{bytes_eq}
+use Rattle.ir_ast.specs.declared.types.Ty.TheVariants.{Void, Int as Integer}
+use Rattle.ir_ast.specs.declared.ops.Operand.{Operand}
+use Rattle.ir_ast.specs.declared.ops.Operand.TheVariants.{Value, Int}
+use Rattle.ir_ast.specs.declared.ops.Op.TheVariants as op
+use Rattle.ir_ast.specs.declared.ops.Callee.TheVariants as callee
+use Rattle.ir_ast.specs.declared.modules.Form.TheVariants.{Source}
+use Rattle.ir_ast.specs.Insts.{Instruction}
+use Rattle.ir_ast.specs.Modules.{ModuleContent}
+use Rattle.ir_ast.specs.Ops.{is_terminator}
+use Rattle.statepoint_tool.specs.ThinForms.{Term, Named, Number, Line, Add, Print, Return, IsLine, line_of, text_of_line}
 
--- what follows this front, where a text begins with it
-unfoldable pub stripped : List ℕ → List ℕ → Option (List ℕ)
-stripped front text = if bytes_eq (take (length front) text) front then Some (drop (length front) text) else None
+-- The instructions.
+
+-- a name stands for its place among the names that stand before
+unfoldable pub operand_of : List (List ℕ) → Term → Option Operand
+operand_of names (Named name) = option_map (λ place. Value (record { 0 = place })) (position (bytes_eq name) names)
+operand_of names (Number word) = Some (Int word)
+
+abbrev pub addition : List ℕ → Operand → Operand → Instruction
+addition name left right = record {
+    result = Some name; op = op.Add; ty = Integer 64; operands = left ∷ right ∷ []; labels = []; bundle = []
+  }
+
+abbrev pub printing : Operand → Instruction
+printing operand = record {
+    result = None; op = op.Call callee.Print (Integer 64 ∷ []); ty = Void; operands = operand ∷ []; labels = []; bundle = []
+  }
+
+abbrev pub returning : Operand → Instruction
+returning operand = record {
+    result = None; op = op.Ret; ty = Integer 64; operands = operand ∷ []; labels = []; bundle = []
+  }
+
+-- the instruction of a line after lines that define these names: it defines none of them again, and names no other
+unfoldable pub instruction_of : List (List ℕ) → Line → Option Instruction
+instruction_of names (Add name left right) =
+    if list_any (bytes_eq name) names then None
+    else option_and_then (λ first. option_map (λ second. addition name first second) (operand_of names right)) (operand_of names left)
+instruction_of names (Print term) = option_map printing (operand_of names term)
+instruction_of names (Return term) = option_map returning (operand_of names term)
+
+-- the names after an instruction
+abbrev pub names_after : List (List ℕ) → Instruction → List (List ℕ)
+names_after names inst = option_map_or (λ name. names ++ name ∷ []) inst.result names
+
+-- The text.
+
+abbrev pub head : List (List ℕ)
+head =
+    codes "declare void @print_i64(i64)" ∷ [] ∷ codes "define i64 @main() gc \"statepoint-example\" {" ∷ codes "entry:" ∷ []
+
+-- `@main` with these instructions
+abbrev pub module_of : List Instruction → ModuleContent
+module_of insts = record {
+    layouts = [];
+    funcs = record {
+      name = codes "main";
+      answer = Integer 64;
+      args = [];
+      blocks = record { name = codes "entry"; insts = insts } ∷ []
+    } ∷ [];
+    form = Source
+  }
+
+-- what lines stand for, or the number of the first line that cannot stand in its place
+pub data Reading (A : Type 0) : Type 0 where
+  Accepted : A → Reading A
+  Refused : ℕ → Reading A
+
+abbrev pub map_reading : {A B : Type 0} → (A → B) → Reading A → Reading B
+map_reading f (Accepted a) = Accepted (f a)
+map_reading f (Refused number) = Refused number
+
+-- after the `ret`, from line `number` on: a brace, and no line more
+unfoldable pub closing : Instruction → ℕ → List (List ℕ) → Reading (List Instruction)
+closing inst number [] = Refused number
+closing inst number (text ∷ texts) =
+    if bytes_eq text (codes "}") then (if length texts == 0 then Accepted (inst ∷ []) else Refused (number + 1)) else Refused number
+
+-- after lines that define these names, from line `number` on
+unfoldable pub body : List (List ℕ) → ℕ → List (List ℕ) → Reading (List Instruction)
+body names number [] = Refused number
+body names number (text ∷ texts) =
+    option_map_or (λ inst.
+      if is_terminator inst.op then closing inst (number + 1) texts
+      else map_reading (λ insts. inst ∷ insts) (body (names_after names inst) (number + 1) texts))
+    (option_and_then (instruction_of names) (line_of text)) (Refused number)
+
+-- where these lines of the head are still to come, from line `number` on
+unfoldable pub after_head : List (List ℕ) → ℕ → List (List ℕ) → Reading (List Instruction)
+after_head [] number texts = body [] number texts
+after_head (line ∷ lines) number [] = Refused number
+after_head (line ∷ lines) number (text ∷ texts) =
+    if bytes_eq text line then after_head lines (number + 1) texts else Refused number
+
+-- the module that the lines of a text stand for
+unfoldable pub thin_module : List (List ℕ) → Reading ModuleContent
+thin_module texts = map_reading module_of (after_head head 1 texts)

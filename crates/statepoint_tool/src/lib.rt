@@ -1,4 +1,5 @@
 //! The command-line tool.
 #![tactic(auto)]
 
+mod evaluate;
 mod thin;

@@ -1,6 +1,6 @@
 ghost use Rattle.std.specs.Prelude.{◌≡◌, ◌==◌, ◌≤◌, length, drop, option_map, position};
 ghost use Rattle.std.specs.List.{position_or_len, before_first, after_first};
-ghost use Rattle.statepoint_tool.specs.Thin.{stripped};
+ghost use Rattle.statepoint_tool.specs.ThinForms.{after_front};
 
 #[tactic(auto, using(crate::proofs::ThinBytes::position_rules))]
 /// The first place of `byte` in `text`, or the length of `text`.
@@ -42,9 +42,9 @@ pub fn from(text: &[u8], place: usize) -> &[u8]
 }
 
 /// What follows `front`, where `text` begins with it.
-#[tactic(auto, unfolding(crate::specs::Thin::stripped))]
+#[tactic(auto, unfolding(crate::specs::ThinForms::after_front))]
 pub fn strip<'a>(text: &'a [u8], front: &[u8]) -> Option<&'a [u8]>
-    ensures { option_map (λ rest. rest.now) result ≡ stripped front.now text.now }
+    ensures { option_map (λ rest. rest.now) result ≡ after_front front.now text.now }
 {
     text.strip_prefix(front)
 }
