@@ -1,0 +1,17 @@
+//! What a tool reads and writes: files that are taken whole, and sinks that bytes are put into.
+#![tactic(auto)]
+
+mod files;
+mod mem_files;
+mod mem_sink;
+mod named_file;
+mod sink;
+mod sure_files;
+mod sure_sink;
+
+pub use files::{Files, TakeFault};
+pub use mem_files::MemFiles;
+pub use mem_sink::MemSink;
+pub use sink::{Failed, Sink};
+pub use sure_files::SureFiles;
+pub use sure_sink::SureSink;
