@@ -1,1 +1,2 @@
 pub mod ThinBytes
+pub mod ThinReads

@@ -42,9 +42,9 @@ no_newline text none k d inside = fails_before_first (λ b. eqb b 10) text k d (
 -- a text without a newline is its own first line
 pub first_line_whole : (text : List ℕ) → 0 < length text → position_or_len (λ b. eqb b 10) text ≡ length text → IsFirstLine text text []
 first_line_whole text some none = record {
-    lines = ap lines_of_parts (slice_split_none (λ b. eqb b 10) text (no_newline text none)) ∙ cond-false (eqb (length text) 0) [] (text ∷ []) (grind (arith, nat_tests));
-    shorter = some
-  }
+  lines = ap lines_of_parts (slice_split_none (λ b. eqb b 10) text (no_newline text none)) ∙ cond-false (eqb (length text) 0) [] (text ∷ []) (grind (arith, nat_tests));
+  shorter = some;
+}
 
 -- the lines of the parts after a newline
 after_newline : (part : List ℕ) (rest : List ℕ) → lines_of_parts (part ∷ slice_split (λ b. eqb b 10) rest) ≡ strip_carriage_return part ∷ lines rest
@@ -58,6 +58,6 @@ after_newline part rest = by (slice_split (λ b. eqb b 10) rest) refl
 pub first_line_at : (text : List ℕ) → position_or_len (λ b. eqb b 10) text < length text
     → IsFirstLine text (strip_carriage_return (before_first (λ b. eqb b 10) text)) (after_first (λ b. eqb b 10) text)
 first_line_at text inside = record {
-    lines = ap lines_of_parts (slice_split_first (λ b. eqb b 10) text 0 inside) ∙ after_newline (before_first (λ b. eqb b 10) text) (after_first (λ b. eqb b 10) text);
-    shorter = grind (arith, common_steps)
-  }
+  lines = ap lines_of_parts (slice_split_first (λ b. eqb b 10) text 0 inside) ∙ after_newline (before_first (λ b. eqb b 10) text) (after_first (λ b. eqb b 10) text);
+  shorter = grind (arith, common_steps);
+}

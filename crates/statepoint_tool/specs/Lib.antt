@@ -1,4 +1,5 @@
 pub mod ThinForms
-pub mod Thin
 pub mod ThinLines
+pub mod Thin
+pub mod ThinCalls
 pub mod Source

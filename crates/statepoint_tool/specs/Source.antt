@@ -39,8 +39,8 @@ effect_of (Call callee types) argument other = effect_of_call callee argument
 effect_of Ret value other = Returns value
 effect_of _ left right = Nothing
 
-unfoldable pub effect : List ℕ → Instruction → Effect
-effect values inst = effect_of inst.op (word_at values inst.operands 0) (word_at values inst.operands 1)
+unfoldable pub effect_at : List ℕ → Instruction → Effect
+effect_at values inst = effect_of inst.op (word_at values inst.operands 0) (word_at values inst.operands 1)
 
 -- a run: the values of the function so far, the lines that are written, and its end
 pub record Run : Type 0 where
@@ -76,7 +76,7 @@ after_effect steps run Nothing = run
 
 -- one instruction, where the run hasn't ended
 unfoldable pub after_instruction : ℕ → Run → Instruction → Run
-after_instruction steps run inst = if is_some run.ended then run else after_effect steps run (effect run.values inst)
+after_instruction steps run inst = if is_some run.ended then run else after_effect steps run (effect_at run.values inst)
 
 -- the instructions of the first block of the first function
 unfoldable pub entry_of : ModuleContent → List Instruction

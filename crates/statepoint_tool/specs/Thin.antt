@@ -12,6 +12,7 @@ use Rattle.ir_ast.specs.declared.modules.Form.TheVariants.{Source}
 use Rattle.ir_ast.specs.Insts.{Instruction}
 use Rattle.ir_ast.specs.Modules.{ModuleContent}
 use Rattle.ir_ast.specs.Ops.{is_terminator}
+use Rattle.statepoint_tool.specs.ThinLines.{Left}
 use Rattle.statepoint_tool.specs.ThinForms.{Term, Named, Number, Line, Add, Print, Return, IsLine, line_of, text_of_line}
 
 -- The instructions.
@@ -23,18 +24,33 @@ operand_of names (Number word) = Some (Int word)
 
 abbrev pub addition : List ℕ → Operand → Operand → Instruction
 addition name left right = record {
-    result = Some name; op = op.Add; ty = Integer 64; operands = left ∷ right ∷ []; labels = []; bundle = []
-  }
+  result = Some name;
+  op = op.Add;
+  ty = Integer 64;
+  operands = left ∷ right ∷ [];
+  labels = [];
+  bundle = [];
+}
 
 abbrev pub printing : Operand → Instruction
 printing operand = record {
-    result = None; op = op.Call callee.Print (Integer 64 ∷ []); ty = Void; operands = operand ∷ []; labels = []; bundle = []
-  }
+  result = None;
+  op = op.Call callee.Print (Integer 64 ∷ []);
+  ty = Void;
+  operands = operand ∷ [];
+  labels = [];
+  bundle = [];
+}
 
 abbrev pub returning : Operand → Instruction
 returning operand = record {
-    result = None; op = op.Ret; ty = Integer 64; operands = operand ∷ []; labels = []; bundle = []
-  }
+  result = None;
+  op = op.Ret;
+  ty = Integer 64;
+  operands = operand ∷ [];
+  labels = [];
+  bundle = [];
+}
 
 -- the instruction of a line after lines that define these names: it defines none of them again, and names no other
 unfoldable pub instruction_of : List (List ℕ) → Line → Option Instruction
@@ -57,15 +73,15 @@ head =
 -- `@main` with these instructions
 abbrev pub module_of : List Instruction → ModuleContent
 module_of insts = record {
-    layouts = [];
-    funcs = record {
-      name = codes "main";
-      answer = Integer 64;
-      args = [];
-      blocks = record { name = codes "entry"; insts = insts } ∷ []
-    } ∷ [];
-    form = Source
-  }
+  layouts = [];
+  funcs = record {
+    name = codes "main";
+    answer = Integer 64;
+    args = [];
+    blocks = record { name = codes "entry"; insts = insts } ∷ [];
+  } ∷ [];
+  form = Source;
+}
 
 -- what lines stand for, or the number of the first line that cannot stand in its place
 pub data Reading (A : Type 0) : Type 0 where
@@ -76,28 +92,45 @@ abbrev pub map_reading : {A B : Type 0} → (A → B) → Reading A → Reading 
 map_reading f (Accepted a) = Accepted (f a)
 map_reading f (Refused number) = Refused number
 
--- after the `ret`, from line `number` on: a brace, and no line more
-unfoldable pub closing : Instruction → ℕ → List (List ℕ) → Reading (List Instruction)
-closing inst number [] = Refused number
-closing inst number (text ∷ texts) =
-    if bytes_eq text (codes "}") then (if length texts == 0 then Accepted (inst ∷ []) else Refused (number + 1)) else Refused number
+-- what the reading goes on with
+abbrev pub then_reading : {A B : Type 0} → Reading A → (A → Reading B) → Reading B
+then_reading (Accepted a) next = next a
+then_reading (Refused number) next = Refused number
 
--- after lines that define these names, from line `number` on
+-- this very line
+abbrev pub expected_at : List ℕ → ℕ → List (List ℕ) → Reading Left
+expected_at want number [] = Refused number
+expected_at want number (text ∷ texts) =
+    if bytes_eq text want then Accepted (record { number = number + 1; lines = texts }) else Refused number
+
+unfoldable pub expected : List ℕ → Left → Reading Left
+expected want left = expected_at want left.number left.lines
+
+-- these lines
+abbrev pub after_lines : List (List ℕ) → Left → Reading Left
+after_lines [] left = Accepted left
+after_lines (want ∷ more) left = then_reading (expected want left) (after_lines more)
+
+-- no line more
+abbrev pub ended_at : ℕ → List (List ℕ) → Reading Left
+ended_at number [] = Accepted (record { number = number; lines = [] })
+ended_at number (text ∷ texts) = Refused number
+
+unfoldable pub closed : Left → Reading Left
+closed left = then_reading (expected (codes "}") left) (λ rest. ended_at rest.number rest.lines)
+
+-- the instructions of these lines, from line `number` on, after lines that define these names
 unfoldable pub body : List (List ℕ) → ℕ → List (List ℕ) → Reading (List Instruction)
 body names number [] = Refused number
 body names number (text ∷ texts) =
     option_map_or (λ inst.
-      if is_terminator inst.op then closing inst (number + 1) texts
-      else map_reading (λ insts. inst ∷ insts) (body (names_after names inst) (number + 1) texts))
+    if is_terminator inst.op
+    then map_reading (λ _. inst ∷ []) (closed (record { number = number + 1; lines = texts }))
+    else map_reading (λ insts. inst ∷ insts) (body (names_after names inst) (number + 1) texts))
     (option_and_then (instruction_of names) (line_of text)) (Refused number)
-
--- where these lines of the head are still to come, from line `number` on
-unfoldable pub after_head : List (List ℕ) → ℕ → List (List ℕ) → Reading (List Instruction)
-after_head [] number texts = body [] number texts
-after_head (line ∷ lines) number [] = Refused number
-after_head (line ∷ lines) number (text ∷ texts) =
-    if bytes_eq text line then after_head lines (number + 1) texts else Refused number
 
 -- the module that the lines of a text stand for
 unfoldable pub thin_module : List (List ℕ) → Reading ModuleContent
-thin_module texts = map_reading module_of (after_head head 1 texts)
+thin_module texts =
+    then_reading (after_lines head (record { number = 1; lines = texts }))
+    (λ left. map_reading module_of (body [] left.number left.lines))

@@ -1,6 +1,6 @@
 ghost use Rattle.std.specs.Prelude.{◌≡◌, ◌==◌, ◌≤◌, length, drop, option_map, position};
 ghost use Rattle.std.specs.List.{position_or_len, before_first, after_first};
-ghost use Rattle.statepoint_tool.specs.ThinForms.{after_front};
+ghost use Rattle.statepoint_tool.specs.ThinForms.{after_front, before_end};
 
 #[tactic(auto, using(crate::proofs::ThinBytes::position_rules))]
 /// The first place of `byte` in `text`, or the length of `text`.
@@ -47,4 +47,12 @@ pub fn strip<'a>(text: &'a [u8], front: &[u8]) -> Option<&'a [u8]>
     ensures { option_map (λ rest. rest.now) result ≡ after_front front.now text.now }
 {
     text.strip_prefix(front)
+}
+
+/// What stands before `end`, where `text` ends with it.
+#[tactic(auto, unfolding(crate::specs::ThinForms::before_end))]
+pub fn strip_end<'a>(text: &'a [u8], end: &[u8]) -> Option<&'a [u8]>
+    ensures { option_map (λ rest. rest.now) result ≡ before_end end.now text.now }
+{
+    text.strip_suffix(end)
 }

@@ -2,9 +2,8 @@ ghost use Rattle.std.specs.Prelude.{◌≡◌, ◌+◌, [], ◌∷◌, MatchOpti
 ghost use Rattle.std.specs.Str.Lines.{lines, strip_carriage_return};
 ghost use Rattle.statepoint_tool.specs.ThinLines.{IsFirstLine};
 
-use std::marker::Model;
-
 use super::bytes::{from, place_of};
+use std::marker::Model;
 
 /// The lines of a text that are still to be read. A line ends at a newline; a carriage return
 /// directly before it is dropped.
@@ -46,17 +45,20 @@ impl<'a> Lines<'a> {
         self.number
     }
 
-    /// The next line, without its end.
-    pub fn next_line(&mut self) -> Option<&'a [u8]>
+    /// The number and the bytes of the next line, without its end.
+    pub fn next_line(&mut self) -> Option<(u32, &'a [u8])>
         ensures none { IfNone result (self.old.lines ≡ []) }
         ensures left { IfNone result (self.new ≡ self.old) }
-        ensures line { IfSome result (λ line. self.old.lines ≡ line.now ∷ self.new.lines) }
-        ensures number { IfSome result (λ _. self.new.number ≡ self.old.number + 1) }
+        ensures line { IfSome result (λ line. self.old.lines ≡ line.1.now ∷ self.new.lines) }
+        ensures number { IfSome result (λ line. line.0 ≡ self.old.number) }
+        ensures next { IfSome result (λ line. self.new.number ≡ self.old.number + 1) }
+        ensures few { IfSome result (λ line. line.0 ≤ 16777216) }
     {
         let (line, rest) = first_line(self.text)?;
+        let number = self.number;
         self.text = rest;
         self.number += 1;
-        Some(line)
+        Some((number, line))
     }
 }
 

@@ -17,7 +17,7 @@ returns-else-end-text c =
     let inside : position_or_len (λ b. eqb b 10) c.args.text.now < length c.args.text.now = omega arith in
     let first = first_line_at c.args.text.now inside in
     let line : c.without_carriage_return.result.now ≡ strip_carriage_return (before_first (λ b. eqb b 10) c.args.text.now)
-      = c.without_carriage_return.ensures ∙ ap (λ n. strip_carriage_return (take n c.args.text.now)) c.place_of-end.ensures.place in
+    = c.without_carriage_return.ensures ∙ ap (λ n. strip_carriage_return (take n c.args.text.now)) c.place_of-end.ensures.place in
     let rest : c.from-else-end-text.result.now ≡ after_first (λ b. eqb b 10) c.args.text.now
-      = c.from-else-end-text.ensures ∙ ap (λ n. drop (n + 1) c.args.text.now) c.place_of-end.ensures.place in
+    = c.from-else-end-text.ensures ∙ ap (λ n. drop (n + 1) c.args.text.now) c.place_of-end.ensures.place in
     rw (line, rest) first
