@@ -1,2 +1,4 @@
+pub mod ThinBody
 pub mod ThinBytes
+pub mod ThinNames
 pub mod ThinReads

@@ -89,6 +89,7 @@ pub fn evaluate<O: Sink>(
 }
 
 // The last line of a run.
+#[tactic(auto, unfolding(crate::specs::Source::last_line))]
 fn end<O: Sink>(steps: u64, value: u64, out: &mut O) -> Result<Ended, RunFault>
     ensures ok { IfOk result (λ ended. ended ≡ end_of steps) }
     ensures written { OnOk result (O.written out.new ≡ append_known (O.written out.old) (last_line steps value)) }

@@ -1,9 +1,10 @@
 //! Thin modules: one function `@main` that adds, prints and returns numbers of 64 bits.
 
-ghost use Rattle.std.specs.Prelude.{◌≡◌, ◌≤◌, ◌<◌, ◌+◌, ◌^◌, [], ◌∷◌, length, vec_len, IfOk, IfErr};
+ghost use Rattle.std.specs.Prelude.{◌≡◌, ◌≤◌, ◌<◌, ◌+◌, ◌^◌, [], ◌∷◌, length, vec_len, Some, None, option_and_then, IfOk, IfErr};
 ghost use Rattle.std.specs.Str.Lines.{lines};
 ghost use Rattle.ir_ast.specs.Blocks.{EndsAtTerminator};
-ghost use Rattle.statepoint_tool.specs.Thin.{Accepted, Refused, thin_module, module_of, body, head, after_lines, closed, expected};
+ghost use Rattle.statepoint_tool.specs.Thin.{Accepted, Refused, thin_module, module_of, body, head, after_lines, closed, expected, instruction_of, names_after};
+ghost use Rattle.statepoint_tool.specs.ThinForms.{line_of};
 ghost use Rattle.statepoint_tool.specs.ThinCalls.{AtLine, Reads};
 
 mod bytes;
@@ -68,16 +69,27 @@ pub fn read_thin(alloc: Global, text: &[u8]) -> Result<Module, ThinFault>
     let mut rest = Lines::of(text);
     read_head(&mut rest)?;
     let insts = read_body(alloc, &mut rest)?;
-    module(alloc, insts)
+    Ok(module(alloc, insts)?)
 }
 
+#[tactic(auto, using(crate::proofs::ThinReads::head_rules))]
 fn read_head(rest: &mut Lines) -> Result<(), ThinFault>
     ensures { Reads (λ _. rest.new) result (after_lines head rest.old) }
 {
-    expect(rest, b"declare void @print_i64(i64)")?;
-    expect(rest, b"")?;
-    expect(rest, b"define i64 @main() gc \"statepoint-example\" {")?;
-    expect(rest, b"entry:")
+    expect_both(rest, b"declare void @print_i64(i64)", b"")?;
+    expect_both(
+        rest,
+        b"define i64 @main() gc \"statepoint-example\" {",
+        b"entry:",
+    )
+}
+
+// The next two lines are these.
+fn expect_both(rest: &mut Lines, first: &[u8], second: &[u8]) -> Result<(), ThinFault>
+    ensures { Reads (λ _. rest.new) result (after_lines (first.now ∷ second.now ∷ []) rest.old) }
+{
+    expect(rest, first)?;
+    expect(rest, second)
 }
 
 // The next line is this one.
@@ -119,7 +131,7 @@ fn read_body(alloc: Global, rest: &mut Lines) -> Result<Vec<Inst>, ThinFault>
     let mut names = Names::new(alloc);
     let mut insts = Vec::new(alloc);
     while let Some((line, text)) = rest.next_line() {
-        let inst = read_inst(alloc, &mut names, text)?.ok_or(ThinFault::NotYet { line })?;
+        let inst = inst_at(alloc, &mut names, line, text)?;
         let ends = inst.op().is_terminator();
         insts.push(inst)?;
         if ends {
@@ -132,12 +144,30 @@ fn read_body(alloc: Global, rest: &mut Lines) -> Result<Vec<Inst>, ThinFault>
     })
 }
 
+// The instruction of the line of this number.
+fn inst_at<'a>(
+    alloc: Global,
+    names: &mut Names<'a>,
+    line: u32,
+    text: &'a [u8],
+) -> Result<Inst, ThinFault>
+    requires { length names.old < 2 ^ 32 }
+    ensures inst { IfOk result (λ inst. option_and_then (instruction_of names.old) (line_of text.now) ≡ Some inst) }
+    ensures names { IfOk result (λ inst. names.new ≡ names_after names.old inst) }
+    ensures line { IfErr result (λ fault. AtLine fault (λ at. at ≡ line)) }
+    ensures misfit { IfErr result (λ fault. AtLine fault (λ _. option_and_then (instruction_of names.old) (line_of text.now) ≡ None)) }
+{
+    match read_inst(alloc, names, text)? {
+        Some(inst) => Ok(inst),
+        None => Err(ThinFault::NotYet { line }),
+    }
+}
+
 // `@main` with these instructions.
-fn module(alloc: Global, insts: Vec<Inst>) -> Result<Module, ThinFault>
+fn module(alloc: Global, insts: Vec<Inst>) -> Result<Module, Memory>
     requires ends { EndsAtTerminator insts.items }
     requires few { vec_len insts < 2 ^ 30 }
-    ensures ok { IfOk result (λ made. made.content ≡ module_of insts.items) }
-    ensures err { IfErr result (λ fault. AtLine fault (λ _. ⊥)) }
+    ensures { IfOk result (λ made. made.content ≡ module_of insts.items) }
 {
     let entry = Block::of(name(alloc, b"entry")?, insts);
     let mut blocks = Vec::new(alloc);

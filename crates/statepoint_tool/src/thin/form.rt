@@ -1,4 +1,6 @@
 ghost use Rattle.std.specs.Prelude.{◌≡◌, option_map};
+ghost use Rattle.std.specs.Char.{is_ascii_alphanumeric};
+ghost use Rattle.std.specs.List.{list_all};
 ghost use Rattle.statepoint_tool.specs.ThinForms as forms;
 ghost use Rattle.statepoint_tool.specs.ThinCalls.{seen_term, seen_line};
 
@@ -98,8 +100,12 @@ fn is_name(text: &[u8]) -> bool
 {
     match text.split_first() {
         None => false,
-        Some((first, rest)) => {
-            first.is_ascii_alphabetic() && rest.iter().all(|byte| byte.is_ascii_alphanumeric())
-        }
+        Some((first, rest)) => first.is_ascii_alphabetic() && is_alphanumeric(rest),
     }
+}
+
+fn is_alphanumeric(text: &[u8]) -> bool
+    ensures { result ≡ list_all is_ascii_alphanumeric text.now }
+{
+    text.iter().all(|byte| byte.is_ascii_alphanumeric())
 }

@@ -24,8 +24,9 @@ fn word_of(text: &[u8]) -> u64
     ensures { result ≡ word_of text.now }
 {
     match text.split_first() {
+        None => 0,
         Some((b'-', digits)) => word_of_digits(digits).wrapping_neg(),
-        _ => word_of_digits(text),
+        Some(_) => word_of_digits(text),
     }
 }
 
