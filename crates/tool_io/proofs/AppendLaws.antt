@@ -1,5 +1,5 @@
 -- What several calls on a sink add together.
-use Rattle.std.proofs.Common.{◌≡◌, ℕ, List, [], ◌++◌, Option, Some, None, refl, sym, ◌∙◌, ap, append-nil, append_assoc}
+use Rattle.std.proofs.Common.{◌≡◌, ℕ, List, [], ◌++◌, Option, Some, None, refl, sym, ◌∙◌, ap, append-nil, append_assoc, take, drop, take-append-drop}
 use Rattle.tool_io.specs.Sink.{append_known, AppendsFront}
 
 -- nothing added
@@ -24,6 +24,11 @@ AppendsFront-nothing old bytes = record { front = []; rest = bytes; whole = refl
 -- all of the bytes are a front of them
 pub AppendsFront-all : (old new : Option (List ℕ)) (bytes : List ℕ) → new ≡ append_known old bytes → AppendsFront old new bytes
 AppendsFront-all old new bytes added = record { front = bytes; rest = []; whole = sym (append-nil bytes); added = added }
+
+-- the first bytes, whatever their number
+pub AppendsFront-take : (old new : Option (List ℕ)) (bytes : List ℕ) (count : ℕ) → new ≡ append_known old (take count bytes) → AppendsFront old new bytes
+AppendsFront-take old new bytes count added =
+    record { front = take count bytes; rest = drop count bytes; whole = sym (take-append-drop count bytes); added = added }
 
 -- a front of the first piece is a front of the whole
 pub AppendsFront-first : {old new : Option (List ℕ)} {first : List ℕ} → AppendsFront old new first → (second : List ℕ) → AppendsFront old new (first ++ second)

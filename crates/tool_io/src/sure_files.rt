@@ -1,7 +1,7 @@
 ghost use Rattle.std.specs.Prelude.{◌≡◌, ◌++◌, ◌∷◌, ◌≤◌, ◌<◌, ◌≢◌, [], length, vec_len, Err, IfOk, IfSome, IsErrOf, IsNone, OnOk, OnErr};
 ghost use Rattle.tool_io.specs.NamedFiles.{contents_of, sure_contents_of};
 
-use crate::named_file::{HeldFile, place};
+use crate::named_file::{HeldFile, contents, copy_within};
 use crate::{Files, TakeFault};
 use sp_ids::Memory;
 use std::alloc::Global;
@@ -51,12 +51,6 @@ impl Files for SureFiles {
     ghost faults = { λ _ _. 0 };
 
     fn take(&mut self, alloc: Global, name: &str, limit: u64) -> Result<Vec<u8>, TakeFault> {
-        match place(&self.files, name) {
-            None => Ok(Vec::new(alloc)),
-            Some(place) => {
-                let file = &self.files[place];
-                file.take(alloc, limit)
-            }
-        }
+        copy_within(alloc, contents(&self.files, name).unwrap_or(&[]), limit)
     }
 }

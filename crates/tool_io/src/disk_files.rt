@@ -1,0 +1,80 @@
+ghost use Rattle.std.specs.Prelude.{◌≡◌, ◌<◌, ◌≤◌, None, length, vec_len, IfOk, IfSome, IsErrOf};
+
+use crate::{Files, TakeFault};
+use std::alloc::Global;
+use std::fs::File;
+use std::io::Read;
+use std::marker::Model;
+use std::rt;
+
+/// The files of the system, by their paths. It is seen as its count of faults, one for all names,
+/// and tells no contents.
+#[derive(Drop)]
+pub struct DiskFiles<R> {
+    rt: R,
+    faults: u64,
+}
+
+impl<R> Model for DiskFiles<R> {
+    ghost use Rattle.std.specs.Prelude.{ℕ};
+
+    ghost Value = { ℕ };
+
+    ghost view = { λ files. files.faults };
+}
+
+impl<R: rt::Files> DiskFiles<R> {
+    /// The files that this runtime reaches.
+    pub fn new(rt: R) -> DiskFiles<R>
+        ensures { result ≡ 0 }
+    {
+        DiskFiles { rt, faults: 0 }
+    }
+
+    fn read(&self, alloc: Global, name: &str, limit: u64) -> Result<Vec<u8>, TakeFault>
+        ensures { IfOk result (λ bytes. vec_len bytes ≤ limit) }
+    {
+        let mut file = File::open(&self.rt, name).map_err(|_| TakeFault::Failed)?;
+        read_within(alloc, &mut file, limit)
+    }
+}
+
+impl<R: rt::Files> Files for DiskFiles<R> {
+    ghost contents = { λ _ _. None };
+
+    ghost faults = { λ count _. count };
+
+    fn take(&mut self, alloc: Global, name: &str, limit: u64) -> Result<Vec<u8>, TakeFault> {
+        let taken = self.read(alloc, name, limit);
+        if let Err(TakeFault::Failed) = taken {
+            self.faults = self.faults.saturating_add(1);
+        }
+        taken
+    }
+}
+
+// How many bytes are read at once.
+const TURN: u64 = 4_096;
+
+// All bytes that the reader has left, of which there may be at most `limit`. Each turn takes a byte
+// or is the last, and no byte past the first one above the limit is read.
+fn read_within<F: Read>(alloc: Global, file: &mut F, limit: u64) -> Result<Vec<u8>, TakeFault>
+    ensures bound { IfOk result (λ bytes. vec_len bytes ≤ limit) }
+    ensures whole { IfOk result (λ bytes. IfSome (F.remaining file.old) (λ told. bytes.items ≡ told)) }
+    ensures too_long { IsErrOf result TakeFault.TooLong → IfSome (F.remaining file.old) (λ told. limit < length told) }
+{
+    let mut bytes = Vec::new(alloc);
+    let mut buffer = [0; TURN as usize];
+    while bytes.len() as u64 <= limit {
+        let left = limit - bytes.len() as u64;
+        let part = &mut buffer[..left.min(TURN - 1) as usize + 1];
+        match file.read(part) {
+            Ok(0) => return Ok(bytes),
+            Ok(count) => bytes
+                .extend_from_slice(&part[..count])
+                .map_err(|_| TakeFault::Memory)?,
+            Err(_) => return Err(TakeFault::Failed),
+        }
+    }
+    Err(TakeFault::TooLong)
+}

@@ -1,0 +1,97 @@
+ghost use Rattle.std.specs.Prelude.{◌≡◌, None, OnOk, OnErr};
+ghost use Rattle.std.specs.Io.KnownBytes.{Appends};
+
+use crate::{Failed, Sink};
+use std::io;
+use std::io::Write;
+use std::marker::Model;
+
+/// Standard output. It is seen as its count of faults, and tells no bytes.
+#[derive(Drop)]
+pub struct OutSink<P> {
+    to: P,
+    faults: u64,
+}
+
+/// Standard error. It is seen as its count of faults, and tells no bytes.
+#[derive(Drop)]
+pub struct NoteSink<P> {
+    to: P,
+    faults: u64,
+}
+
+impl<P> Model for OutSink<P> {
+    ghost use Rattle.std.specs.Prelude.{ℕ};
+
+    ghost Value = { ℕ };
+
+    ghost view = { λ sink. sink.faults };
+}
+
+impl<P> Model for NoteSink<P> {
+    ghost use Rattle.std.specs.Prelude.{ℕ};
+
+    ghost Value = { ℕ };
+
+    ghost view = { λ sink. sink.faults };
+}
+
+impl<P: Print> OutSink<P> {
+    /// A sink that prints by `to`, which is the runtime or `&rt`.
+    pub fn new(to: P) -> OutSink<P>
+        ensures { result ≡ 0 }
+    {
+        OutSink { to, faults: 0 }
+    }
+}
+
+impl<P: Print> NoteSink<P> {
+    /// A sink that prints by `to`, which is `rt.stderr()`.
+    pub fn new(to: P) -> NoteSink<P>
+        ensures { result ≡ 0 }
+    {
+        NoteSink { to, faults: 0 }
+    }
+}
+
+impl<P: Print> Sink for OutSink<P> {
+    ghost written = { λ _. None };
+
+    ghost faults = { λ count. count };
+
+    fn put(&mut self, bytes: &[u8]) -> Result<(), Failed> {
+        let put = write_whole(&mut io::writer(&self.to), bytes);
+        if put.is_err() {
+            self.faults = self.faults.saturating_add(1);
+        }
+        put
+    }
+}
+
+impl<P: Print> Sink for NoteSink<P> {
+    ghost written = { λ _. None };
+
+    ghost faults = { λ count. count };
+
+    fn put(&mut self, bytes: &[u8]) -> Result<(), Failed> {
+        let put = write_whole(&mut io::writer(&self.to), bytes);
+        if put.is_err() {
+            self.faults = self.faults.saturating_add(1);
+        }
+        put
+    }
+}
+
+// Writes all of the bytes, whatever part of them a write takes. A write that takes none fails.
+fn write_whole<W: Write>(to: &mut W, bytes: &[u8]) -> Result<(), Failed>
+    ensures ok { OnOk result (Appends (W.contents to.old) (W.contents to.new) bytes.now) }
+{
+    let mut rest = bytes;
+    while !rest.is_empty() {
+        match to.write(rest) {
+            Ok(0) | Err(_) => return Err(Failed),
+            Ok(count) => rest = &rest[count..],
+        }
+    }
+    Ok(())
+}
