@@ -65,7 +65,7 @@ fn read_within<F: Read>(alloc: Global, file: &mut F, limit: u64) -> Result<Vec<u
 {
     let mut bytes = Vec::new(alloc);
     let mut buffer = [0; TURN as usize];
-    while bytes.len() as u64 <= limit {
+    'turns: while bytes.len() as u64 <= limit {
         let left = limit - bytes.len() as u64;
         let part = &mut buffer[..left.min(TURN - 1) as usize + 1];
         match file.read(part) {

@@ -1,5 +1,6 @@
 ghost use Rattle.std.specs.Prelude.{◌≡◌, None, OnOk, OnErr};
 ghost use Rattle.std.specs.Io.KnownBytes.{Appends};
+ghost use Rattle.tool_io.specs.Sink.{WritesFront};
 
 use crate::{Failed, Sink};
 use std::io;
@@ -85,6 +86,7 @@ impl<P: Print> Sink for NoteSink<P> {
 // Writes all of the bytes, whatever part of them a write takes. A write that takes none fails.
 fn write_whole<W: Write>(to: &mut W, bytes: &[u8]) -> Result<(), Failed>
     ensures ok { OnOk result (Appends (W.contents to.old) (W.contents to.new) bytes.now) }
+    ensures err { OnErr result (WritesFront (W.contents to.old) (W.contents to.new) bytes.now) }
 {
     let mut rest = bytes;
     while !rest.is_empty() {
