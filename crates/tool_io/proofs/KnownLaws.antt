@@ -13,7 +13,8 @@ Appends-append (Some held) (Some more) (Some most) first second one two =
 -- One write more: it took the first bytes of the rest.
 pub takes_more : (whole done rest : List ℕ) (count : ℕ) (old mid new : Option (List ℕ)) → whole ≡ done ++ rest → Appends old mid done → Appends mid new (take count rest) → (more : List ℕ) × (whole ≡ more ++ take (length rest - count) (drop count rest)) × Appends old new more
 takes_more whole done rest count old mid new split one two =
-    let left : take (length rest - count) (drop count rest) ≡ drop count rest = take_all (length rest - count) (drop count rest) (omega (arith, length-drop count rest)) in
-    (done ++ take count rest,
-    rw left (split ∙ ap (λ bytes. done ++ bytes) (sym (take-append-drop count rest)) ∙ sym (append_assoc done (take count rest) (drop count rest))),
-    Appends-append old mid new done (take count rest) one two)
+    let left : take (length rest - count) (drop count rest) ≡ drop count rest = take_all (length rest - count) (drop count rest) (omega (arith, length-drop count rest)) in (
+      done ++ take count rest,
+      rw left (split ∙ ap (λ bytes. done ++ bytes) (sym (take-append-drop count rest)) ∙ sym (append_assoc done (take count rest) (drop count rest))),
+      Appends-append old mid new done (take count rest) one two,
+    )

@@ -70,11 +70,64 @@ fn read_within<F: Read>(alloc: Global, file: &mut F, limit: u64) -> Result<Vec<u
         let part = &mut buffer[..left.min(TURN - 1) as usize + 1];
         match file.read(part) {
             Ok(0) => return Ok(bytes),
-            Ok(count) => bytes
-                .extend_from_slice(&part[..count])
-                .map_err(|_| TakeFault::Memory)?,
+            Ok(count) => bytes.extend_from_slice(&part[..count])?,
             Err(_) => return Err(TakeFault::Failed),
         }
     }
     Err(TakeFault::TooLong)
+}
+
+#[cfg(test)]
+mod tests {
+    use super::*;
+    use std::test::Fail;
+    use std::{env, fs, process};
+
+    #[test]
+    fn takes_whole(rt: HostRuntime) -> Result<(), Fail> {
+        let alloc = rt.alloc();
+        let folder = env::temp_dir(&rt)?;
+        let folder = folder.as_str();
+        let id = process::id(rt.process());
+        let name = format!(in alloc; "{folder}/tool_io takes é {id}")?;
+        let name = name.as_str();
+        let mut files = DiskFiles::new(&rt);
+        assert_eq!(rt; files.take(alloc, name, 9).err(), Some(TakeFault::Failed));
+        assert_eq!(rt; files.faults, 1);
+        fs::write(&rt, name, "ab\ncd")?;
+        let exact = files.take(alloc, name, 5);
+        let ample = files.take(alloc, name, u64::MAX);
+        let one_less = files.take(alloc, name, 4);
+        fs::remove_file(&rt, name)?;
+        assert_eq!(rt; exact?.as_slice(), b"ab\ncd".as_slice());
+        assert_eq!(rt; ample?.as_slice(), b"ab\ncd".as_slice());
+        assert_eq!(rt; one_less.err(), Some(TakeFault::TooLong));
+        assert_eq!(rt; files.faults, 1);
+        Ok(())
+    }
+
+    // A file without an end, and a folder, which opens and can't be read.
+    #[test]
+    fn ends_at_the_limit(rt: HostRuntime) {
+        let alloc = rt.alloc();
+        let mut files = DiskFiles::new(&rt);
+        for limit in [0, 4_095, 4_096, 10_000] {
+            assert_eq!(rt;
+                files.take(alloc, "/dev/zero", limit).err(),
+                Some(TakeFault::TooLong)
+            );
+        }
+        assert_eq!(rt; files.faults, 0);
+        assert_eq!(rt; files.take(alloc, "/", 9).err(), Some(TakeFault::Failed));
+        assert_eq!(rt; files.faults, 1);
+    }
+
+    // No byte past the first one above the limit is taken.
+    #[test]
+    fn leaves_the_rest(rt: HostRuntime) {
+        let mut left = b"abcdef".as_slice();
+        let taken = read_within(rt.alloc(), &mut left, 2);
+        assert_eq!(rt; taken.err(), Some(TakeFault::TooLong));
+        assert_eq!(rt; left, b"def".as_slice());
+    }
 }

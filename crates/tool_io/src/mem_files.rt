@@ -70,13 +70,7 @@ impl MemFiles {
     }
 
     // What the call of this number answers.
-    fn answer(
-        &self,
-        alloc: Global,
-        call: u64,
-        name: &str,
-        limit: u64,
-    ) -> Result<Vec<u8>, TakeFault>
+    fn answer(&self, alloc: Global, call: u64, name: &str, limit: u64) -> Result<Vec<u8>, TakeFault>
         ensures fails { IsErrOf result TakeFault.Failed ↔ IsTrue (fails_at self.now call name.now) }
         ensures told { IfOk result (λ bytes. IfSome (contents_of self.now.files name.now) (λ told. bytes.items ≡ told)) }
         ensures fits { IfOk result (λ _. IfSome (contents_of self.now.files name.now) (λ told. length told ≤ limit)) }
@@ -128,5 +122,31 @@ impl Files for MemFiles {
             _ => self.calls = call,
         }
         taken
+    }
+}
+
+#[cfg(test)]
+mod tests {
+    use super::*;
+    use std::test::Fail;
+
+    #[test]
+    fn fails_where_told(rt: HostRuntime) -> Result<(), Fail> {
+        let alloc = rt.alloc();
+        let mut files = MemFiles::new(alloc);
+        files.add("m.ll", b"abc")?;
+        files.add("input", b"")?;
+        files.fail_take(3)?;
+        assert_eq!(rt; files.take(alloc, "m.ll", 3)?.as_slice(), b"abc".as_slice());
+        assert_eq!(rt; files.take(alloc, "input", 0)?.as_slice(), b"".as_slice());
+        assert_eq!(rt; files.take(alloc, "m.ll", 3).err(), Some(TakeFault::Failed));
+        assert_eq!(rt;
+            files.take(alloc, "m.ll", 2).err(),
+            Some(TakeFault::TooLong)
+        );
+        assert_eq!(rt; files.take(alloc, "plan", 2).err(), Some(TakeFault::Failed));
+        assert_eq!(rt; files.faults.as_slice(), [1, 0].as_slice());
+        assert_eq!(rt; files.other_faults, 1);
+        Ok(())
     }
 }

@@ -73,5 +73,5 @@ pub(crate) fn copy_within(alloc: Global, bytes: &[u8], limit: u64) -> Result<Vec
     if limit < bytes.len() as u64 {
         return Err(TakeFault::TooLong);
     }
-    Vec::from_slice(alloc, bytes).map_err(|_| TakeFault::Memory)
+    Ok(Vec::from_slice(alloc, bytes)?)
 }

@@ -97,3 +97,71 @@ fn write_whole<W: Write>(to: &mut W, bytes: &[u8]) -> Result<(), Failed>
     }
     Ok(())
 }
+
+#[cfg(test)]
+mod tests {
+    use super::*;
+    use std::cell::Cell;
+    use std::fmt::Display;
+
+    // Takes two bytes at a time until its room is full, and then none.
+    #[derive(Drop)]
+    struct Narrow {
+        room: Cell<usize>,
+    }
+
+    impl Print for Narrow {
+        fn print<D: Display + Drop>(&self, _value: D) -> io::Result<()> {
+            Ok(())
+        }
+
+        fn println<D: Display + Drop>(&self, _value: D) -> io::Result<()> {
+            Ok(())
+        }
+
+        fn write_all(&self, _bytes: &[u8]) -> io::Result<()> {
+            Ok(())
+        }
+
+        fn write_some(&self, bytes: &[u8]) -> io::Result<usize> {
+            let room = self.room.get();
+            let taken = bytes.len().min(room).min(2);
+            self.room.set(room - taken);
+            Ok(taken)
+        }
+    }
+
+    #[test]
+    fn prints(rt: HostRuntime) {
+        let mut out = OutSink::new(&rt);
+        assert_eq!(rt; out.put(b"out\n"), Ok(()));
+        assert_eq!(rt; out.faults, 0);
+        let mut notes = NoteSink::new(rt.stderr());
+        assert_eq!(rt; notes.put(b"note\n"), Ok(()));
+        assert_eq!(rt; notes.faults, 0);
+    }
+
+    #[test]
+    fn continues_and_counts(rt: HostRuntime) {
+        let to = Narrow { room: Cell::new(7) };
+        let mut out = OutSink::new(&to);
+        assert_eq!(rt; out.put(b"abcde"), Ok(()));
+        assert_eq!(rt; to.room.get(), 2);
+        assert_eq!(rt; out.put(b"fgh"), Err(Failed));
+        assert_eq!(rt; out.put(b""), Ok(()));
+        assert_eq!(rt; out.put(b"h"), Err(Failed));
+        assert_eq!(rt; out.faults, 2);
+        let mut notes = NoteSink::new(&to);
+        assert_eq!(rt; notes.put(b"h"), Err(Failed));
+        assert_eq!(rt; notes.faults, 1);
+    }
+
+    #[test]
+    fn writes_in_order(rt: HostRuntime) {
+        let mut held = [0; 5];
+        let mut room = held.as_mut_slice();
+        assert_eq!(rt; write_whole(&mut room, b"abc"), Ok(()));
+        assert_eq!(rt; write_whole(&mut room, b"def"), Err(Failed));
+        assert_eq!(rt; held.as_slice(), b"abcde".as_slice());
+    }
+}

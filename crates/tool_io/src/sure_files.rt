@@ -54,3 +54,40 @@ impl Files for SureFiles {
         copy_within(alloc, contents(&self.files, name).unwrap_or(&[]), limit)
     }
 }
+
+#[cfg(test)]
+mod tests {
+    use super::*;
+    use crate::{Sink, SureSink};
+    use std::test::Fail;
+
+    // The forms that never fail, through their traits.
+    fn put_file<F: Files, O: Sink>(
+        alloc: Global,
+        files: &mut F,
+        name: &str,
+        limit: u64,
+        out: &mut O,
+    ) -> Result<usize, Fail> {
+        let bytes = files.take(alloc, name, limit)?;
+        out.put(&bytes)?;
+        Ok(bytes.len())
+    }
+
+    #[test]
+    fn never_fail(rt: HostRuntime) -> Result<(), Fail> {
+        let alloc = rt.alloc();
+        let mut files = SureFiles::new(alloc);
+        files.add("m.ll", b"abc")?;
+        files.add("plan", b"at 1\n")?;
+        let mut out = SureSink::new();
+        assert_eq!(rt; put_file(alloc, &mut files, "m.ll", 3, &mut out)?, 3);
+        assert_eq!(rt; put_file(alloc, &mut files, "plan", 5, &mut out)?, 5);
+        assert_eq!(rt; put_file(alloc, &mut files, "input", 0, &mut out)?, 0);
+        assert_eq!(rt;
+            files.take(alloc, "m.ll", 2).err(),
+            Some(TakeFault::TooLong)
+        );
+        Ok(())
+    }
+}
