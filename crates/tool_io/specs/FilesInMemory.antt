@@ -1,8 +1,8 @@
 -- Files in memory: names with contents, the calls that are to fail, and the counts of faults.
-use Rattle.std.specs.Prelude.{ℕ, ◌+◌, ◌==◌, ◌||◌, Bool, nat_lt, nat_le, if◌then◌else◌, List, [], ◌∷◌, ◌++◌, length, slice_index_or, slice_set, Result, Ok, Err}
+use Rattle.std.specs.Prelude.{ℕ, ◌+◌, ◌==◌, ◌||◌, Bool, nat_lt, is_none, if◌then◌else◌, List, [], ◌∷◌, ◌++◌, length, slice_index_or, slice_set, Result, Ok, Err}
 use Rattle.std.specs.List.{list_any}
 use Rattle.tool_io.specs.Counts.{raised}
-use Rattle.tool_io.specs.NamedFiles.{NamedFile, place_of}
+use Rattle.tool_io.specs.NamedFiles.{NamedFile, contents_of, place_of}
 use Rattle.tool_io.specs.declared.files.TakeFault.{TakeFault}
 use Rattle.tool_io.specs.declared.files.TakeFault.TheVariants.{Failed, TooLong, Memory}
 
@@ -36,10 +36,9 @@ with_fault held name =
     then record held { faults = slice_set held.faults (place_of held.files name) (raised (faults_of held name)) }
     else record held { other_faults = raised held.other_faults }
 
--- whether the next call fails: by its number, or since no file has this name
-abbrev pub fails_next : FilesInMemory → List ℕ → Bool
-fails_next held name =
-    list_any (λ call. call == raised held.calls) held.failing || nat_le (length held.files) (place_of held.files name)
+-- whether the call of this number fails: by its number, or since no file has this name
+abbrev pub fails_at : FilesInMemory → ℕ → List ℕ → Bool
+fails_at held call name = list_any (λ number. number == call) held.failing || is_none (contents_of held.files name)
 
 -- what a call leaves: after want of memory the files as they were, and else one call more, with a
 -- fault counted where it failed

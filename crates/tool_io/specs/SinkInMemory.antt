@@ -1,5 +1,6 @@
 -- A sink in memory: its bytes, the room that they may fill, and the calls that are to fail.
-use Rattle.std.specs.Prelude.{◌≡◌, ℕ, ◌+◌, ◌==◌, nat_lt, if◌then◌else◌, List, [], ◌∷◌, ◌++◌, length, take, Option, Some, None, Result, Ok, Err}
+use Rattle.std.specs.Prelude.{◌≡◌, ℕ, ◌+◌, ◌==◌, nat_lt, if◌then◌else◌, List, [], ◌∷◌, ◌++◌, find, length, take, Option, Some, None, Result, Ok, Err}
+use Rattle.std.specs.Option.{option_map}
 use Rattle.tool_io.specs.Counts.{raised}
 use Rattle.tool_io.specs.declared.mem_sink.FailingPut.{FailingPut}
 
@@ -16,8 +17,7 @@ empty_sink room = record { bytes = []; room = room; failing = []; calls = 0; fau
 
 -- how many bytes the call of this number still adds, where it is to fail
 abbrev pub adds_of : List FailingPut → ℕ → Option ℕ
-adds_of [] call = None
-adds_of (put ∷ failing) call = if put.call == call then Some put.adds else adds_of failing call
+adds_of failing call = option_map (λ put. put.adds) (find (λ put. put.call == call) failing)
 
 -- how many bytes of a piece the next call adds where it fails: none where the piece doesn't fit in the
 -- room, and else what the call was to add

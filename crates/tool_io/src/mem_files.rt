@@ -1,9 +1,9 @@
 ghost use Rattle.std.specs.Prelude.{◌≡◌, ◌++◌, ◌∷◌, ◌≤◌, ◌<◌, ◌↔◌, [], length, vec_len, IfOk, IfSome, IsErrOf, IsNone, IsTrue, OnOk, OnErr};
-ghost use Rattle.tool_io.specs.Counts.{Rose, NoneFell};
+ghost use Rattle.tool_io.specs.Counts.{raised, Rose, NoneFell};
 ghost use Rattle.tool_io.specs.NamedFiles.{contents_of};
-ghost use Rattle.tool_io.specs.FilesInMemory.{no_files, with_file, faults_of, fails_next, after_take};
+ghost use Rattle.tool_io.specs.FilesInMemory.{no_files, with_fault, with_file, faults_of, fails_at, after_take};
 
-use crate::named_file::{HeldFile, place};
+use crate::named_file::{HeldFile, contents, copy_within, place};
 use crate::{Files, TakeFault};
 use sp_ids::Memory;
 use std::alloc::Global;
@@ -68,6 +68,31 @@ impl MemFiles {
         self.failing.push(call)?;
         Ok(())
     }
+
+    // What the call of this number answers.
+    fn answer(&self, alloc: Global, call: u64, name: &str, limit: u64) -> Result<Vec<u8>, TakeFault>
+        ensures fails { IsErrOf result TakeFault.Failed ↔ IsTrue (fails_at self.now call name.now) }
+        ensures told { IfOk result (λ bytes. IfSome (contents_of self.now.files name.now) (λ told. bytes.items ≡ told)) }
+        ensures fits { IfOk result (λ _. IfSome (contents_of self.now.files name.now) (λ told. length told ≤ limit)) }
+        ensures bound { IfOk result (λ bytes. vec_len bytes ≤ limit) }
+        ensures too_long { IsErrOf result TakeFault.TooLong → IfSome (contents_of self.now.files name.now) (λ told. limit < length told) }
+    {
+        match contents(&self.files, name) {
+            Some(contents) if !self.failing.contains(&call) => copy_within(alloc, contents, limit),
+            _ => Err(TakeFault::Failed),
+        }
+    }
+
+    fn count_fault(&mut self, name: &str)
+        ensures counted { self.new ≡ with_fault self.old name.now }
+        ensures counts { NoneFell (faults_of self.old) (faults_of self.new) }
+        ensures rose { faults_of self.new name.now ≡ raised (faults_of self.old name.now) }
+    {
+        match place(&self.files, name) {
+            Some(place) => self.faults[place] = self.faults[place].saturating_add(1),
+            None => self.other_faults = self.other_faults.saturating_add(1),
+        }
+    }
 }
 
 impl Files for MemFiles {
@@ -76,7 +101,7 @@ impl Files for MemFiles {
     ghost faults = { faults_of };
 
     fn take(&mut self, alloc: Global, name: &str, limit: u64) -> Result<Vec<u8>, TakeFault>
-        ensures fails { IsErrOf result TakeFault.Failed ↔ IsTrue (fails_next self.old name.now) }
+        ensures fails { IsErrOf result TakeFault.Failed ↔ IsTrue (fails_at self.old (raised self.old.calls) name.now) }
         ensures after { self.new ≡ after_take self.old name.now result }
         ensures kept { contents_of self.new.files ≡ contents_of self.old.files }
         ensures counts { NoneFell (faults_of self.old) (faults_of self.new) }
@@ -87,26 +112,41 @@ impl Files for MemFiles {
         ensures failed { IsErrOf result TakeFault.Failed → Rose (faults_of self.old name.now) (faults_of self.new name.now) }
     {
         let call = self.calls.saturating_add(1);
-        let is_to_fail = self.failing.contains(&call);
-        match place(&self.files, name) {
-            None => {
+        let taken = self.answer(alloc, call, name, limit);
+        match &taken {
+            Err(TakeFault::Memory) => {}
+            Err(TakeFault::Failed) => {
                 self.calls = call;
-                self.other_faults = self.other_faults.saturating_add(1);
-                Err(TakeFault::Failed)
+                self.count_fault(name);
             }
-            Some(place) if is_to_fail => {
-                self.calls = call;
-                self.faults[place] = self.faults[place].saturating_add(1);
-                Err(TakeFault::Failed)
-            }
-            Some(place) => {
-                let file = &self.files[place];
-                let taken = file.take(alloc, limit);
-                if taken != Err(TakeFault::Memory) {
-                    self.calls = call;
-                }
-                taken
-            }
+            _ => self.calls = call,
         }
+        taken
+    }
+}
+
+#[cfg(test)]
+mod tests {
+    use super::*;
+    use std::test::Fail;
+
+    #[test]
+    fn fails_where_told(rt: HostRuntime) -> Result<(), Fail> {
+        let alloc = rt.alloc();
+        let mut files = MemFiles::new(alloc);
+        files.add("m.ll", b"abc")?;
+        files.add("input", b"")?;
+        files.fail_take(3)?;
+        assert_eq!(rt; files.take(alloc, "m.ll", 3)?.as_slice(), b"abc".as_slice());
+        assert_eq!(rt; files.take(alloc, "input", 0)?.as_slice(), b"".as_slice());
+        assert_eq!(rt; files.take(alloc, "m.ll", 3).err(), Some(TakeFault::Failed));
+        assert_eq!(rt;
+            files.take(alloc, "m.ll", 2).err(),
+            Some(TakeFault::TooLong)
+        );
+        assert_eq!(rt; files.take(alloc, "plan", 2).err(), Some(TakeFault::Failed));
+        assert_eq!(rt; files.faults.as_slice(), [1, 0].as_slice());
+        assert_eq!(rt; files.other_faults, 1);
+        Ok(())
     }
 }

@@ -1,6 +1,6 @@
-ghost use Rattle.std.specs.Prelude.{◌≡◌, ◌<◌, ◌≤◌, ◌≢◌, ◌↔◌, length, IfOk, OnOk, IsErrOf, IsTrue, MatchOption, slice_index_or};
+ghost use Rattle.std.specs.Prelude.{◌≡◌, ◌<◌, ◌≤◌, ◌≢◌, length, position, option_copied, Err, IfOk, OnOk, IsErrOf};
 ghost use Rattle.std.specs.Str.{bytes_eq};
-ghost use Rattle.tool_io.specs.NamedFiles.{place_of};
+ghost use Rattle.tool_io.specs.NamedFiles.{contents_of};
 
 use crate::TakeFault;
 use sp_ids::Memory;
@@ -39,23 +39,39 @@ impl HeldFile {
         self.name.as_str() == name
     }
 
-    // The contents, which may have at most `limit` bytes.
-    pub(crate) fn take(&self, alloc: Global, limit: u64) -> Result<Vec<u8>, TakeFault>
-        ensures contents { IfOk result (λ bytes. bytes.items ≡ self.now.contents) }
-        ensures fits { OnOk result (length self.now.contents ≤ limit) }
-        ensures too_long { IsErrOf result TakeFault.TooLong → limit < length self.now.contents }
-        ensures sure { result ≢ Err TakeFault.Failed }
+    fn contents(&self) -> &[u8]
+        ensures { result.now ≡ self.now.contents }
     {
-        if limit < self.contents.len() as u64 {
-            return Err(TakeFault::TooLong);
-        }
-        Vec::from_slice(alloc, &self.contents).map_err(|_| TakeFault::Memory)
+        &self.contents
     }
+}
+
+// The contents of the first file of this name.
+pub(crate) fn contents<'a>(files: &'a [HeldFile], name: &str) -> Option<&'a [u8]>
+    ensures { option_copied result ≡ contents_of files.now name.now }
+{
+    files
+        .iter()
+        .find(|file| file.is_named(name))
+        .map(|file| file.contents())
 }
 
 // The place of the first file of this name.
 pub(crate) fn place(files: &[HeldFile], name: &str) -> Option<usize>
-    ensures { MatchOption result (place_of files.now name.now ≡ length files.now) (λ place. (place ≡ place_of files.now name.now) × (place < length files.now)) }
+    ensures { result ≡ position (λ file. bytes_eq file.name name.now) files.now }
 {
     files.iter().position(|file| file.is_named(name))
+}
+
+// A copy of the bytes, which may be at most `limit`.
+pub(crate) fn copy_within(alloc: Global, bytes: &[u8], limit: u64) -> Result<Vec<u8>, TakeFault>
+    ensures copy { IfOk result (λ copy. copy.items ≡ bytes.now) }
+    ensures fits { OnOk result (length bytes.now ≤ limit) }
+    ensures too_long { IsErrOf result TakeFault.TooLong → limit < length bytes.now }
+    ensures sure { result ≢ Err TakeFault.Failed }
+{
+    if limit < bytes.len() as u64 {
+        return Err(TakeFault::TooLong);
+    }
+    Ok(Vec::from_slice(alloc, bytes)?)
 }

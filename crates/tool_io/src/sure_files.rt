@@ -1,7 +1,7 @@
 ghost use Rattle.std.specs.Prelude.{◌≡◌, ◌++◌, ◌∷◌, ◌≤◌, ◌<◌, ◌≢◌, [], length, vec_len, Err, IfOk, IfSome, IsErrOf, IsNone, OnOk, OnErr};
 ghost use Rattle.tool_io.specs.NamedFiles.{contents_of, sure_contents_of};
 
-use crate::named_file::{HeldFile, place};
+use crate::named_file::{HeldFile, contents, copy_within};
 use crate::{Files, TakeFault};
 use sp_ids::Memory;
 use std::alloc::Global;
@@ -51,12 +51,43 @@ impl Files for SureFiles {
     ghost faults = { λ _ _. 0 };
 
     fn take(&mut self, alloc: Global, name: &str, limit: u64) -> Result<Vec<u8>, TakeFault> {
-        match place(&self.files, name) {
-            None => Ok(Vec::new(alloc)),
-            Some(place) => {
-                let file = &self.files[place];
-                file.take(alloc, limit)
-            }
-        }
+        copy_within(alloc, contents(&self.files, name).unwrap_or(&[]), limit)
+    }
+}
+
+#[cfg(test)]
+mod tests {
+    use super::*;
+    use crate::{Sink, SureSink};
+    use std::test::Fail;
+
+    // The forms that never fail, through their traits.
+    fn put_file<F: Files, O: Sink>(
+        alloc: Global,
+        files: &mut F,
+        name: &str,
+        limit: u64,
+        out: &mut O,
+    ) -> Result<usize, Fail> {
+        let bytes = files.take(alloc, name, limit)?;
+        out.put(&bytes)?;
+        Ok(bytes.len())
+    }
+
+    #[test]
+    fn never_fail(rt: HostRuntime) -> Result<(), Fail> {
+        let alloc = rt.alloc();
+        let mut files = SureFiles::new(alloc);
+        files.add("m.ll", b"abc")?;
+        files.add("plan", b"at 1\n")?;
+        let mut out = SureSink::new();
+        assert_eq!(rt; put_file(alloc, &mut files, "m.ll", 3, &mut out)?, 3);
+        assert_eq!(rt; put_file(alloc, &mut files, "plan", 5, &mut out)?, 5);
+        assert_eq!(rt; put_file(alloc, &mut files, "input", 0, &mut out)?, 0);
+        assert_eq!(rt;
+            files.take(alloc, "m.ll", 2).err(),
+            Some(TakeFault::TooLong)
+        );
+        Ok(())
     }
 }
