@@ -1,3 +1,4 @@
+pub mod SourceRuns
 pub mod ThinBody
 pub mod ThinBytes
 pub mod ThinNames

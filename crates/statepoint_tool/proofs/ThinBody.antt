@@ -1,5 +1,5 @@
 -- The reading of the body, line by line.
-use Rattle.std.proofs.Common.{◌≡◌, ℕ, ◌+◌, ◌≤◌, Bool, true, false, not, List, [], ◌∷◌, ◌++◌, length, Option, Some, None, option_and_then, refl, ap, sym, ◌∙◌, if◌then◌else◌, append_assoc, append-nil, length-append, arith}
+use Rattle.std.proofs.Common.{◌≡◌, ℕ, ◌+◌, ◌≤◌, true, false, not, List, [], ◌∷◌, ◌++◌, length, Option, Some, None, option_and_then, refl, ap, sym, ◌∙◌, if◌then◌else◌, append_assoc, length-append, arith}
 use Rattle.std.specs.List.{AllPass}
 use Rattle.std.specs.Option.{option_map_or}
 use Rattle.std.proofs.lemmas.List.Elements.{All-push}
@@ -71,9 +71,9 @@ pub Going-more : {start left next : Left} {insts : List Instruction} {names : Li
 Going-more {start} {left} {next} {insts} {names} {text} going next_is inst read goes_on =
     record {
       reads =
-        going.reads
-        ∙ ap (behind insts) (body-at names left next text inst next_is.first next_is.number read ∙ ap (λ ends. if ends then map_reading (λ _. inst ∷ []) (closed next) else map_reading (λ more. inst ∷ more) (body (names_after names inst) next.number next.lines)) goes_on)
-        ∙ behind-inst insts inst (body (names_after names inst) next.number next.lines);
+          going.reads
+          ∙ ap (behind insts) (body-at names left next text inst next_is.first next_is.number read ∙ ap (λ ends. if ends then map_reading (λ _. inst ∷ []) (closed next) else map_reading (λ more. inst ∷ more) (body (names_after names inst) next.number next.lines)) goes_on)
+          ∙ behind-inst insts inst (body (names_after names inst) next.number next.lines);
       inside = All-push (λ i. not (is_terminator i.op) ≡ true) insts inst going.inside (ap not goes_on);
       counted = let a : length insts + start.number ≡ left.number = going.counted in let b : next.number ≡ left.number + 1 = next_is.number in omega (arith, length-append insts (inst ∷ []));
       named = named inst.result;

@@ -1,5 +1,5 @@
 -- Names that are kept as slices: where one stands, and whether it stands there.
-use Rattle.std.proofs.Common.{◌≡◌, ℕ, ◌+◌, Bool, true, false, not, cond, ltb, ◌||◌, List, [], ◌∷◌, length, map, Option, Some, None, position, refl, ap, sym, ◌∙◌}
+use Rattle.std.proofs.Common.{◌≡◌, ◌+◌, Bool, not, cond, ltb, ◌||◌, List, [], ◌∷◌, length, map, Some, None, position, refl, ap, ◌∙◌}
 use Rattle.std.specs.List.{prefix_len, list_any}
 use Rattle.std.proofs.lemmas.List.{length-map}
 

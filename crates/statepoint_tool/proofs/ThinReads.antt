@@ -1,12 +1,12 @@
 -- What the steps of the reading answer.
-use Rattle.std.proofs.Common.{◌≡◌, ℕ, ◌+◌, Bool, true, false, List, [], ◌∷◌, ◌++◌, codes, refl, ap, ◌∙◌, sym, if◌then◌else◌, Result, Ok, Err, arith}
+use Rattle.std.proofs.Common.{◌≡◌, ℕ, ◌+◌, true, false, List, [], ◌∷◌, ◌++◌, codes, refl, ap, ◌∙◌, sym, Result, Ok, Err}
 use Rattle.std.proofs.Math.Path.{fun_ext}
 use Rattle.std.specs.Str.{bytes_eq}
 use Rattle.statepoint_tool.specs.declared.thin.ThinFault.{ThinFault}
 use Rattle.statepoint_tool.specs.declared.thin.ThinFault.TheVariants.{NotYet, Memory}
 use Rattle.statepoint_tool.specs.ThinCalls.{Reads, AtLine}
 use Rattle.statepoint_tool.specs.ThinLines.{Left}
-use Rattle.statepoint_tool.specs.Thin.{Reading, Accepted, Refused, expected, expected_at, closed, then_reading, ended_at, after_lines, head, body, map_reading, module_of, thin_module}
+use Rattle.statepoint_tool.specs.Thin.{Reading, Accepted, Refused, expected, closed, then_reading, ended_at, after_lines, head, body, map_reading, module_of, thin_module}
 
 pub expected-yes : (want : List ℕ) (left next : Left) (text : List ℕ) → left.lines ≡ text ∷ next.lines → next.number ≡ left.number + 1 → bytes_eq text want ≡ true → expected want left ≡ Accepted next
 unfolding expected

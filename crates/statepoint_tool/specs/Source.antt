@@ -1,5 +1,5 @@
 -- The source meaning of a module whose `@main` adds, prints and returns: what its run prints, and how it ends.
-use Rattle.std.specs.Prelude.{ℕ, ◌+◌, ◌^◌, Bool, nat_lt, if◌then◌else◌, List, [], ◌∷◌, ◌++◌, fold, codes, slice_get, slice_index, Option, Some, None, is_some, unwrap_or}
+use Rattle.std.specs.Prelude.{ℕ, ◌+◌, nat_lt, if◌then◌else◌, List, [], ◌∷◌, ◌++◌, fold, codes, slice_get, slice_index, Option, Some, None, is_some, unwrap_or}
 use Rattle.std.specs.List.{concat}
 use Rattle.std.specs.Option.{option_map_or}
 use Rattle.sp_ids.specs.Numbers.{wrapped}

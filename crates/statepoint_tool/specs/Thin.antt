@@ -1,6 +1,6 @@
 -- Thin modules: the texts of one function `@main` that adds, prints and returns numbers of 64 bits.
-use Rattle.std.specs.Prelude.{ℕ, ◌+◌, ◌-◌, ◌≡◌, ◌≤◌, ◌<◌, ◌==◌, Bool, true, false, not, if◌then◌else◌, List, [], ◌∷◌, ◌++◌, length, take, map, position, codes, Option, Some, None, option_map, option_and_then}
-use Rattle.std.specs.List.{list_any, AllPass, All}
+use Rattle.std.specs.Prelude.{ℕ, ◌+◌, if◌then◌else◌, List, [], ◌∷◌, ◌++◌, position, codes, Option, Some, None, option_map, option_and_then}
+use Rattle.std.specs.List.{list_any}
 use Rattle.std.specs.Option.{option_map_or}
 use Rattle.std.specs.Str.{bytes_eq}
 use Rattle.ir_ast.specs.declared.types.Ty.TheVariants.{Void, Int as Integer}
@@ -13,7 +13,7 @@ use Rattle.ir_ast.specs.Insts.{Instruction}
 use Rattle.ir_ast.specs.Modules.{ModuleContent}
 use Rattle.ir_ast.specs.Ops.{is_terminator}
 use Rattle.statepoint_tool.specs.ThinLines.{Left}
-use Rattle.statepoint_tool.specs.ThinForms.{Term, Named, Number, Line, Add, Print, Return, IsLine, line_of, text_of_line}
+use Rattle.statepoint_tool.specs.ThinForms.{Term, Named, Number, Line, Add, Print, Return, line_of}
 
 -- The instructions.
 

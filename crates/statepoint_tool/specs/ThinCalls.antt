@@ -1,6 +1,5 @@
 -- What the reader's calls answer.
-use Rattle.std.specs.Prelude.{◌≡◌, ℕ, List, Option, Some, None, Result, Ok, Err, ⊤}
-use Rattle.std.specs.Borrow.{Bor}
+use Rattle.std.specs.Prelude.{◌≡◌, ℕ, Result, Ok, Err, ⊤}
 use Rattle.statepoint_tool.specs.declared.thin.ThinFault.{ThinFault}
 use Rattle.statepoint_tool.specs.declared.thin.ThinFault.TheVariants.{NotYet, Memory}
 use Rattle.statepoint_tool.specs.declared.thin.form.Term.{Term as TermRead}

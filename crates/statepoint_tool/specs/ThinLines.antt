@@ -1,5 +1,5 @@
 -- What is left of a text that is read line by line.
-use Rattle.std.specs.Prelude.{◌≡◌, ℕ, ◌+◌, ◌<◌, List, [], ◌∷◌, length}
+use Rattle.std.specs.Prelude.{◌≡◌, ℕ, ◌<◌, List, ◌∷◌, length}
 use Rattle.std.specs.Str.Lines.{lines}
 
 -- the number of the next line, and the lines from there on

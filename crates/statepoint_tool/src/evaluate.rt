@@ -76,8 +76,9 @@ pub fn evaluate<O: Sink>(
     ensures failed { result ≡ Err RunFault.Write → Rose (O.faults out.old) (O.faults out.new) }
     ensures count { O.faults out.old ≤ O.faults out.new }
 {
-    let mut values = Vec::with_capacity(alloc, entry(module).len())?;
-    for inst in entry(module) {
+    let insts = entry(module);
+    let mut values = Vec::with_capacity(alloc, insts.len())?;
+    for inst in insts {
         match effect_of(values.as_slice(), inst) {
             Effect::Defines(value) => values.push(value)?,
             Effect::Prints(value) => out.put(printed(value).as_slice())?,

@@ -1,4 +1,4 @@
-use Rattle.std.proofs.Common.{◌≡◌, ◌∙◌, sym, ap, rules, refl, true, false, List, [], ◌∷◌, ◌++◌}
+use Rattle.std.proofs.Common.{◌≡◌, ◌∙◌, sym, ap, true, false, [], ◌∷◌, ◌++◌}
 use Rattle.std.proofs.lemmas.Result.{err_from_is_err_and}
 use Rattle.ir_ast.specs.Ops.{is_terminator}
 use Rattle.statepoint_tool.specs.ThinLines.{Left}
@@ -13,8 +13,8 @@ returns-in_err-inst-clause-reads c =
     let p = err_from_is_err_and c.from_residual.result c.from_residual.ensures.1 in
     rw (p.1, p.2)
     (AtLine-by c.in_err-inst.field-0.0 (λ line. body [] c.args.rest.now.number c.args.rest.now.lines ≡ Refused line)
-      (λ line at none. Going-misfit c.loop-line.invariant next none ∙ ap Refused (sym (at ∙ c.in-Some.ensures.number)))
-      c.in_err-inst.ensures.line c.in_err-inst.ensures.misfit)
+    (λ line at none. Going-misfit c.loop-line.invariant next none ∙ ap Refused (sym (at ∙ c.in-Some.ensures.number)))
+    c.in_err-inst.ensures.line c.in_err-inst.ensures.misfit)
 
 pub returns-in_err-close-clause-reads : goal.returns-in_err-close-clause-reads
 returns-in_err-close-clause-reads c =
@@ -23,8 +23,8 @@ returns-in_err-close-clause-reads c =
     let p = err_from_is_err_and c.from_residual-in_err-close.result c.from_residual-in_err-close.ensures.1 in
     rw (p.1, p.2)
     (AtLine-by c.in_err-close.field-0.0 (λ line. body [] c.args.rest.now.number c.args.rest.now.lines ≡ Refused line)
-      (λ line stops _. Going-ends c.loop-line.invariant next c.in_ok-inst.inst c.in_ok-inst.ensures.inst ends ∙ ap (map_reading (λ _. c.loop-line.insts.items ++ c.in_ok-inst.inst ∷ [])) stops)
-      c.in_err-close.ensures c.in_err-close.ensures)
+    (λ line stops _. Going-ends c.loop-line.invariant next c.in_ok-inst.inst c.in_ok-inst.ensures.inst ends ∙ ap (map_reading (λ _. c.loop-line.insts.items ++ c.in_ok-inst.inst ∷ [])) stops)
+    c.in_err-close.ensures c.in_err-close.ensures)
 
 pub returns-then-ends-clause-reads : goal.returns-then-ends-clause-reads
 returns-then-ends-clause-reads c =

@@ -1,4 +1,4 @@
-use Rattle.std.proofs.Common.{◌≡◌, ◌+◌, ◌≤◌, length, vec_len}
+use Rattle.std.proofs.Common.{length}
 use Rattle.statepoint_tool.proofs.ThinBody.{Going}
 use Rattle.statepoint_tool.proofs.thin.read_body.Given as goal
 

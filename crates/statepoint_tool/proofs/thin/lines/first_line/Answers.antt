@@ -1,10 +1,9 @@
-use Rattle.std.proofs.Common.{◌≡◌, ◌+◌, ◌-◌, ◌<◌, ◌≤◌, ℕ, List, [], length, drop, take, ◌∙◌, sym, ap, eqb, arith, rules}
+use Rattle.std.proofs.Common.{◌≡◌, ◌+◌, ◌<◌, [], length, drop, take, ◌∙◌, sym, ap, eqb, arith}
 use Rattle.std.specs.List.{position_or_len, before_first, after_first}
 use Rattle.std.specs.Str.Lines.{strip_carriage_return}
 use Rattle.std.proofs.lemmas.Bool.Decides.{nat_tests}
 use Rattle.std.proofs.lemmas.Grind.{common_steps}
-use Rattle.statepoint_tool.proofs.ThinBytes.{first_line_whole, first_line_at, after_first-none}
-use Rattle.statepoint_tool.specs.ThinLines.{IsFirstLine}
+use Rattle.statepoint_tool.proofs.ThinBytes.{first_line_whole, first_line_at}
 use Rattle.statepoint_tool.proofs.thin.lines.first_line.Goals as goal
 
 pub returns-then-end-text : goal.returns-then-end-text
