@@ -1,5 +1,9 @@
 pub mod SourceRuns
 pub mod ThinBody
 pub mod ThinBytes
+pub mod ThinCuts
+pub mod ThinLaws
 pub mod ThinNames
+pub mod ThinNumbers
 pub mod ThinReads
+pub mod ThinSpelling

@@ -1,5 +1,6 @@
 pub mod ThinForms
 pub mod ThinLines
 pub mod Thin
+pub mod ThinText
 pub mod ThinCalls
 pub mod Source

@@ -10,6 +10,7 @@ ghost use Rattle.statepoint_tool.specs.ThinCalls.{AtLine, Reads};
 mod bytes;
 mod form;
 mod insts;
+mod law;
 mod lines;
 mod names;
 mod number;
