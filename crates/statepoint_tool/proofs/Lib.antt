@@ -7,3 +7,4 @@ pub mod ThinNames
 pub mod ThinNumbers
 pub mod ThinReads
 pub mod ThinSpelling
+pub mod ThinTexts
