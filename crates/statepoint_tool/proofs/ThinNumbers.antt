@@ -1,16 +1,16 @@
 -- A number and its spelling.
-use Rattle.std.proofs.Common.{◌≡◌, ℕ, suc, ◌+◌, ◌-◌, ◌*◌, ◌/◌, ◌%◌, ◌^◌, ◌<◌, ◌≤◌, ◌⊎◌, inl, inr, Bool, true, false, not, cond, eqb, ltb, List, [], ◌∷◌, ◌++◌, length, fold, Option, Some, None, ℤ, pos, negsuc, ◌-ℤ◌, refl, sym, ap, subst, ◌∙◌, ◌&&◌, if◌then◌else◌, arith}
+use Rattle.std.proofs.Common.{◌≡◌, ℕ, suc, ◌+◌, ◌-◌, ◌*◌, ◌/◌, ◌%◌, ◌^◌, ◌<◌, ◌≤◌, ◌⊎◌, inl, inr, Bool, true, false, not, eqb, ltb, List, [], ◌∷◌, ◌++◌, length, fold, Some, pos, negsuc, ◌-ℤ◌, refl, sym, ap, subst, ◌∙◌, if◌then◌else◌, arith}
 use Rattle.std.specs.List.{list_all}
 use Rattle.std.specs.Char.{is_ascii_digit}
 use Rattle.std.specs.Str.{bytes_eq}
 use Rattle.std.specs.Fmt.{decimal, signed_decimal}
-use Rattle.std.proofs.lemmas.Bool.{eqb-true, eq-eqb, lt-ltb, le-ltb, ltb-true, ltb-false}
+use Rattle.std.proofs.lemmas.Bool.{ltb-true, ltb-false}
 use Rattle.std.proofs.lemmas.Bool.Decides.{nat_tests}
 use Rattle.std.proofs.lemmas.Fmt.{decimal_by_steps, decimal_nonempty}
 use Rattle.std.proofs.lemmas.Int.{ints}
 use Rattle.std.proofs.lemmas.List.Folds.{list_all-append}
 use Rattle.std.proofs.lemmas.List.Sums.{fold-append}
-use Rattle.sp_ids.specs.Numbers.{wrapped, signed}
+use Rattle.sp_ids.specs.Numbers.{wrapped}
 use Rattle.statepoint_tool.specs.ThinForms.{spelled, word_of, word_of_digits, number_of}
 use Rattle.statepoint_tool.proofs.ThinCuts.{if-Some, bytes_eq-same, bytes_eq-yes, and-both}
 
@@ -77,12 +77,16 @@ spelled-shape word below = by (ltb (2 * wrapped 64 word) (2 ^ 64)) refl
   where
     is_word : wrapped 64 word ≡ word
     is_word = omega arith
+
     last : suc (2 ^ 64 - suc word) ≡ 2 ^ 64 - word
     last = omega arith
+
     by : (b : Bool) → ltb (2 * wrapped 64 word) (2 ^ 64) ≡ b → ((word < 2 ^ 63) × (signed_decimal (if b then pos (wrapped 64 word) else pos (wrapped 64 word) -ℤ pos (2 ^ 64)) ≡ decimal word)) ⊎ ((2 ^ 63 ≤ word) × (signed_decimal (if b then pos (wrapped 64 word) else pos (wrapped 64 word) -ℤ pos (2 ^ 64)) ≡ 45 ∷ decimal (2 ^ 64 - word)))
     by true e = inl (omega (arith, ltb-true (2 * wrapped 64 word) (2 ^ 64) e), ap decimal is_word)
-    by false e = inr (omega (arith, ltb-false (2 * wrapped 64 word) (2 ^ 64) e),
-      ap (λ n. signed_decimal (pos n -ℤ pos (2 ^ 64))) is_word ∙ (ap signed_decimal (below_zero word (2 ^ 64) below) ∙ ap (λ n. 45 ∷ decimal n) last))
+    by false e = inr (
+      omega (arith, ltb-false (2 * wrapped 64 word) (2 ^ 64) e),
+      ap (λ n. signed_decimal (pos n -ℤ pos (2 ^ 64))) is_word ∙ (ap signed_decimal (below_zero word (2 ^ 64) below) ∙ ap (λ n. 45 ∷ decimal n) last),
+    )
 
 -- the first digit of a decimal, and the digits after it
 record IsHeaded (digits : List ℕ) : Type 0 where

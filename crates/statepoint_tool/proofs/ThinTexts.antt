@@ -1,5 +1,5 @@
 -- A text is accepted exactly where it is thin.
-use Rattle.std.proofs.Common.{◌≡◌, ℕ, ◌+◌, ◌^◌, ◌<◌, ◌≤◌, ◌⊎◌, inl, inr, Bool, true, false, not, List, [], ◌∷◌, ◌++◌, length, map, codes, Option, Some, None, option_map, option_and_then, IsTrue, refl, sym, ap, subst, ◌∙◌, if◌then◌else◌, arith}
+use Rattle.std.proofs.Common.{◌≡◌, ℕ, ◌+◌, ◌⊎◌, inl, inr, Bool, true, false, List, [], ◌∷◌, ◌++◌, map, codes, Option, Some, None, option_map, option_and_then, refl, sym, ap, subst, ◌∙◌, if◌then◌else◌}
 use Rattle.std.specs.List.{AllByRecursion, list_any}
 use Rattle.std.specs.Option.{option_map_or}
 use Rattle.std.specs.Str.{bytes_eq}
@@ -7,14 +7,14 @@ use Rattle.ir_ast.specs.Insts.{Instruction}
 use Rattle.ir_ast.specs.Modules.{ModuleContent}
 use Rattle.ir_ast.specs.Ops.{is_terminator}
 use Rattle.statepoint_tool.specs.ThinLines.{Left}
-use Rattle.statepoint_tool.specs.ThinForms.{Term, Named, Number, Line, Add, Print, Return, line_of}
+use Rattle.statepoint_tool.specs.ThinForms.{Term, Line, Add, Print, Return, line_of}
 use Rattle.statepoint_tool.specs.Thin.{Reading, Accepted, Refused, map_reading, then_reading, expected, expected_at, after_lines, head, closed, ended_at, body, operand_of, instruction_of, addition, printing, returning, names_after, module_of, thin_module}
-use Rattle.statepoint_tool.specs.ThinText.{text_of_line, IsTerm, IsLine, IsStep, instructions_of, IsThinText}
+use Rattle.statepoint_tool.specs.ThinText.{text_of_line, IsLine, IsStep, instructions_of, IsThinText}
 use Rattle.statepoint_tool.proofs.ThinCuts.{bytes_eq-same, bytes_eq-yes}
 use Rattle.statepoint_tool.proofs.ThinSpelling.{and_then-Some, map-Some}
 use Rattle.statepoint_tool.proofs.ThinLaws.{line_of-Some, line_of-text}
 
-map-Accepted : {A B : Type 0} (f : A → B) (r : Reading A) (b : B) → map_reading f r ≡ Accepted b → (a : A) × (r ≡ Accepted a) × (f a ≡ b)
+pub map-Accepted : {A B : Type 0} (f : A → B) (r : Reading A) (b : B) → map_reading f r ≡ Accepted b → (a : A) × (r ≡ Accepted a) × (f a ≡ b)
 map-Accepted f (Accepted a) b e = (a, refl, cc)
 map-Accepted f (Refused n) b e = absurd cc
 
@@ -37,7 +37,7 @@ expected-Accepted : (want : List ℕ) (left next : Left) → expected want left 
 unfolding expected
 expected-Accepted want left next e = expected_at-Accepted want left.number left.lines next e
 
-expected-first : (want : List ℕ) (number : ℕ) (texts : List (List ℕ)) → expected want (record { number = number; lines = want ∷ texts }) ≡ Accepted (record { number = number + 1; lines = texts })
+pub expected-first : (want : List ℕ) (number : ℕ) (texts : List (List ℕ)) → expected want (record { number = number; lines = want ∷ texts }) ≡ Accepted (record { number = number + 1; lines = texts })
 unfolding expected
 expected-first want number texts = rw (bytes_eq-yes want want refl) refl
 
@@ -64,7 +64,7 @@ closed-Accepted left mid e =
     let p = then-Accepted (λ rest. ended_at rest.number rest.lines) (expected (codes "}") left) mid e in
     expected-Accepted (codes "}") left p.0 p.1 ∙ ap (λ lines. codes "}" ∷ lines) (ended_at-Accepted p.0.number p.0.lines mid p.2)
 
-closed-brace : (number : ℕ) → closed (record { number = number; lines = codes "}" ∷ [] }) ≡ Accepted (record { number = number + 1; lines = [] })
+pub closed-brace : (number : ℕ) → closed (record { number = number; lines = codes "}" ∷ [] }) ≡ Accepted (record { number = number + 1; lines = [] })
 unfolding closed
 closed-brace number = ap (λ r. then_reading r (λ (rest : Left). ended_at rest.number rest.lines)) (expected-first (codes "}") number [])
 
@@ -99,17 +99,17 @@ record IsBody (names : List (List ℕ)) (texts : List (List ℕ)) (insts : List 
   in_scope : instructions_of names (steps ++ Return last ∷ []) ≡ Some insts
 
 -- one line of the reading
-abbrev body_rest : List (List ℕ) → ℕ → List (List ℕ) → Instruction → Reading (List Instruction)
+abbrev pub body_rest : List (List ℕ) → ℕ → List (List ℕ) → Instruction → Reading (List Instruction)
 body_rest names number texts inst =
     if is_terminator inst.op
     then map_reading (λ _. inst ∷ []) (closed (record { number = number + 1; lines = texts }))
     else map_reading (λ insts. inst ∷ insts) (body (names_after names inst) (number + 1) texts)
 
-body_rest-goes : (names : List (List ℕ)) (number : ℕ) (texts : List (List ℕ)) (inst : Instruction) → is_terminator inst.op ≡ false → body_rest names number texts inst ≡ map_reading (λ insts. inst ∷ insts) (body (names_after names inst) (number + 1) texts)
+pub body_rest-goes : (names : List (List ℕ)) (number : ℕ) (texts : List (List ℕ)) (inst : Instruction) → is_terminator inst.op ≡ false → body_rest names number texts inst ≡ map_reading (λ insts. inst ∷ insts) (body (names_after names inst) (number + 1) texts)
 body_rest-goes names number texts inst goes =
     ap (λ b. if b then map_reading (λ _. inst ∷ []) (closed (record { number = number + 1; lines = texts })) else map_reading (λ (insts : List Instruction). inst ∷ insts) (body (names_after names inst) (number + 1) texts)) goes
 
-body_rest-ends : (names : List (List ℕ)) (number : ℕ) (texts : List (List ℕ)) (inst : Instruction) → is_terminator inst.op ≡ true → body_rest names number texts inst ≡ map_reading (λ _. inst ∷ []) (closed (record { number = number + 1; lines = texts }))
+pub body_rest-ends : (names : List (List ℕ)) (number : ℕ) (texts : List (List ℕ)) (inst : Instruction) → is_terminator inst.op ≡ true → body_rest names number texts inst ≡ map_reading (λ _. inst ∷ []) (closed (record { number = number + 1; lines = texts }))
 body_rest-ends names number texts inst ends =
     ap (λ b. if b then map_reading (λ _. inst ∷ []) (closed (record { number = number + 1; lines = texts })) else map_reading (λ (insts : List Instruction). inst ∷ insts) (body (names_after names inst) (number + 1) texts)) ends
 
@@ -117,27 +117,28 @@ body-line : (names : List (List ℕ)) (number : ℕ) (text : List ℕ) (texts : 
 unfolding body
 body-line names number text texts = refl
 
-body-inst : (names : List (List ℕ)) (number : ℕ) (text : List ℕ) (texts : List (List ℕ)) (line : Line) (inst : Instruction) → line_of text ≡ Some line → instruction_of names line ≡ Some inst
+pub body-inst : (names : List (List ℕ)) (number : ℕ) (text : List ℕ) (texts : List (List ℕ)) (line : Line) (inst : Instruction) → line_of text ≡ Some line → instruction_of names line ≡ Some inst
     → body names number (text ∷ texts) ≡ body_rest names number texts inst
 body-inst names number text texts line inst read stands =
     body-line names number text texts
     ∙ (ap (λ o. option_map_or (body_rest names number texts) (option_and_then (instruction_of names) o) (Refused number)) read
     ∙ ap (λ o. option_map_or (body_rest names number texts) o (Refused number)) stands)
 
-body-unread : (names : List (List ℕ)) (number : ℕ) (text : List ℕ) (texts : List (List ℕ)) → option_and_then (instruction_of names) (line_of text) ≡ None → body names number (text ∷ texts) ≡ Refused number
+pub body-unread : (names : List (List ℕ)) (number : ℕ) (text : List ℕ) (texts : List (List ℕ)) → option_and_then (instruction_of names) (line_of text) ≡ None → body names number (text ∷ texts) ≡ Refused number
 body-unread names number text texts none = body-line names number text texts ∙ ap (λ o. option_map_or (body_rest names number texts) o (Refused number)) none
 
 -- the reading of a line, or none
-data LineRead (names : List (List ℕ)) (text : List ℕ) : Type 0 where
+pub data LineRead (names : List (List ℕ)) (text : List ℕ) : Type 0 where
   Unread : option_and_then (instruction_of names) (line_of text) ≡ None → LineRead names text
   Stands : (line : Line) (inst : Instruction) → line_of text ≡ Some line → instruction_of names line ≡ Some inst → LineRead names text
 
-read_line : (names : List (List ℕ)) (text : List ℕ) → LineRead names text
+pub read_line : (names : List (List ℕ)) (text : List ℕ) → LineRead names text
 read_line names text = by_line (line_of text) refl
   where
     by_inst : (line : Line) → line_of text ≡ Some line → (o : Option Instruction) → instruction_of names line ≡ o → LineRead names text
     by_inst line read None none = Unread (ap (option_and_then (instruction_of names)) read ∙ none)
     by_inst line read (Some inst) stands = Stands line inst read stands
+
     by_line : (o : Option Line) → line_of text ≡ o → LineRead names text
     by_line None none = Unread (ap (option_and_then (instruction_of names)) none)
     by_line (Some line) read = by_inst line read (instruction_of names line) refl
@@ -152,7 +153,7 @@ instructions_of-nothing : (names : List (List ℕ)) → instructions_of names []
 unfolding instructions_of
 instructions_of-nothing names = refl
 
-body-none : (names : List (List ℕ)) (number : ℕ) → body names number [] ≡ Refused number
+pub body-none : (names : List (List ℕ)) (number : ℕ) → body names number [] ≡ Refused number
 unfolding body
 body-none names number = refl
 
@@ -161,8 +162,8 @@ body-Accepted [] names number insts e = absurd (let f : Refused number ≡ Accep
 body-Accepted (text ∷ texts) names number insts e = by_read (read_line names text) (λ inst more. body-Accepted texts (names_after names inst) (number + 1) more)
   where
     by_kind : (line : Line) (inst : Instruction) → line_of text ≡ Some line → instruction_of names line ≡ Some inst
-      → ((i : Instruction) (more : List Instruction) → body (names_after names i) (number + 1) texts ≡ Accepted more → IsBody (names_after names i) texts more)
-      → Kind line inst → body_rest names number texts inst ≡ Accepted insts → IsBody names (text ∷ texts) insts
+        → ((i : Instruction) (more : List Instruction) → body (names_after names i) (number + 1) texts ≡ Accepted more → IsBody (names_after names i) texts more)
+        → Kind line inst → body_rest names number texts inst ≡ Accepted insts → IsBody names (text ∷ texts) insts
     by_kind line inst read stands again (inl p) rest =
         let more = map-Accepted (λ (is : List Instruction). inst ∷ is) (body (names_after names inst) (number + 1) texts) insts (sym (body_rest-goes names number texts inst p.1) ∙ rest) in
         let spelling = line_of-Some text line read in
@@ -186,6 +187,7 @@ body-Accepted (text ∷ texts) names number insts e = by_read (read_line names t
           are_lines = (spelling.1, tt);
           in_scope = instructions_of-more names (Return p.0) [] inst [] (sym (ap (instruction_of names) p.1) ∙ stands) (instructions_of-nothing (names_after names inst)) ∙ ap Some more.2;
         }
+
     by_read : LineRead names text → ((i : Instruction) (more : List Instruction) → body (names_after names i) (number + 1) texts ≡ Accepted more → IsBody (names_after names i) texts more) → IsBody names (text ∷ texts) insts
     by_read (Unread none) again = absurd (let f : Refused number ≡ Accepted insts = sym (body-unread names number text texts none) ∙ e in cc)
     by_read (Stands line inst read stands) again = by_kind line inst read stands again (kind_of names line inst stands) (sym (body-inst names number text texts line inst read stands) ∙ e)
@@ -223,7 +225,7 @@ body-text (line ∷ steps) last names number insts are_steps are_lines scope =
     by parts.inst parts.more parts.stands (body-text steps last (names_after names parts.inst) (number + 1) parts.more are_steps.1 are_lines.1 parts.rest) (kind_of names line parts.inst parts.stands) ∙ ap Accepted parts.whole
   where
     by : (inst : Instruction) (more : List Instruction) → instruction_of names line ≡ Some inst → body (names_after names inst) (number + 1) (map text_of_line (steps ++ Return last ∷ []) ++ codes "}" ∷ []) ≡ Accepted more
-      → Kind line inst → body names number (text_of_line line ∷ (map text_of_line (steps ++ Return last ∷ []) ++ codes "}" ∷ [])) ≡ Accepted (inst ∷ more)
+        → Kind line inst → body names number (text_of_line line ∷ (map text_of_line (steps ++ Return last ∷ []) ++ codes "}" ∷ [])) ≡ Accepted (inst ∷ more)
     by inst more stands rest (inl p) =
         body-inst names number (text_of_line line) (map text_of_line (steps ++ Return last ∷ []) ++ codes "}" ∷ []) line inst (line_of-text line are_lines.0) stands
         ∙ (body_rest-goes names number (map text_of_line (steps ++ Return last ∷ []) ++ codes "}" ∷ []) inst p.1
@@ -231,7 +233,7 @@ body-text (line ∷ steps) last names number insts are_steps are_lines scope =
     by inst more stands rest (inr p) = absurd (subst IsStep p.1 are_steps.0)
 
 -- the law
-thin_module-steps : (texts : List (List ℕ)) → thin_module texts ≡ then_reading (after_lines head (record { number = 1; lines = texts })) (λ left. map_reading module_of (body [] left.number left.lines))
+pub thin_module-steps : (texts : List (List ℕ)) → thin_module texts ≡ then_reading (after_lines head (record { number = 1; lines = texts })) (λ left. map_reading module_of (body [] left.number left.lines))
 unfolding thin_module
 thin_module-steps texts = refl
 
@@ -251,8 +253,10 @@ thin_module-Accepted texts content e =
           in_scope = is.in_scope;
           stands_for = sym made;
         }
+
     from_insts : (left : Left) → texts ≡ head ++ left.lines → (insts : List Instruction) × (body [] left.number left.lines ≡ Accepted insts) × (module_of insts ≡ content) → IsThinText texts content
     from_insts left starts p = from_body left starts p.0 p.2 (body-Accepted left.lines [] left.number p.0 p.1)
+
     from_left : (left : Left) × (after_lines head (record { number = 1; lines = texts }) ≡ Accepted left) × (map_reading module_of (body [] left.number left.lines) ≡ Accepted content) → IsThinText texts content
     from_left p = from_insts p.0 (after_lines-Accepted head (record { number = 1; lines = texts }) p.0 p.1) (map-Accepted module_of (body [] p.0.number p.0.lines) content p.2)
 
