@@ -1,1 +1,4 @@
 pub mod StepBounds
+pub mod GivenLaws
+pub mod ReadsLaws
+pub mod WorksLaws

@@ -1,2 +1,9 @@
 pub mod Status
 pub mod Words
+pub mod Steps
+pub mod Taken
+pub mod Thin
+pub mod Source
+pub mod Work
+pub mod Answers
+pub mod Notes

@@ -3,7 +3,7 @@ use Rattle.std.specs.Prelude.{ℕ, List, [], ◌∷◌, Option, Some, None}
 use Rattle.ir_ast.specs.Modules.{ModuleContent}
 use Rattle.statepoint_tool.specs.Source.{Outcome, source, text_of_lines}
 use Rattle.statepoint_tool.specs.Steps.{Step, Go, Stop, and_then}
-use Rattle.statepoint_tool.specs.Taken.{Taken, file_phase}
+use Rattle.statepoint_tool.specs.Taken.{Taken, FilesSeen, MayGive, file_phase}
 use Rattle.statepoint_tool.specs.Thin.{Thin, Accepted, Refused, thin_module}
 use Rattle.statepoint_tool.specs.Words.{command_of}
 use Rattle.statepoint_tool.specs.declared.refusal.Cause.TheVariants.{Words, Module, Input, Plan}
@@ -26,6 +26,14 @@ pub record Given : Type 0 where
   pub module_file : Taken
   pub input : Taken
   pub plan : Taken
+
+-- the files of these names may have given this
+abbrev pub MayGiveBoth : FilesSeen → (input plan : List ℕ) → Taken × Taken → Type 0
+MayGiveBoth files input plan given = MayGive files input given.0 × MayGive files plan given.1
+
+abbrev pub MayGiveAll : FilesSeen → (module_file input plan : List ℕ) → Given → Type 0
+MayGiveAll files module_file input plan given =
+    MayGive files module_file given.module_file × MayGiveBoth files input plan (given.input, given.plan)
 
 -- reading a module: the text is a thin module, or has a first line that can't stand in its place
 abbrev pub module_read : Thin → Step ModuleContent

@@ -1,8 +1,14 @@
 //! The top call of `statepoint`: words to a command, files to a run, and a status for each way to end.
 #![tactic(auto)]
 
+mod evaluate;
+mod notes;
+mod phases;
+mod refusal;
 mod request;
+mod run;
 mod status;
+mod thin;
 mod words;
 
 pub use request::FileName;
