@@ -2,3 +2,4 @@ pub mod StepBounds
 pub mod GivenLaws
 pub mod ReadsLaws
 pub mod WorksLaws
+pub mod NamedLaws

@@ -1,14 +1,17 @@
 -- What a call answers and writes, over what the files gave.
-use Rattle.std.specs.Prelude.{◌≡◌, ℕ, ⊤, List, [], Option, Result, Ok, Err}
+use Rattle.std.specs.Prelude.{◌≡◌, ℕ, ⊤, ◌⊎◌, List, [], Option, Result, Ok, Err}
 use Rattle.tool_io.specs.Counts.{Rose}
 use Rattle.tool_io.specs.Sink.{AppendsFront, append_known}
 use Rattle.statepoint_tool.specs.Steps.{Step, Go, Stop}
 use Rattle.statepoint_tool.specs.Taken.{Taken, FilesSeen, MayGive, file_phase}
-use Rattle.statepoint_tool.specs.Work.{Output, Given}
+use Rattle.statepoint_tool.specs.Notes.{refusal_line, status_of_refusal}
+use Rattle.statepoint_tool.specs.Words.{command_of}
+use Rattle.statepoint_tool.specs.Work.{Output, Given, MayGiveNamed, work}
 use Rattle.statepoint_tool.specs.declared.refusal.Cause.{Cause}
 use Rattle.statepoint_tool.specs.declared.refusal.Refusal.{Refusal}
 use Rattle.statepoint_tool.specs.declared.refusal.Refusal.TheVariants.{Defined, WriteFault, Memory}
 use Rattle.statepoint_tool.specs.declared.status.Status.{Status}
+use Rattle.statepoint_tool.specs.declared.status.Status.TheVariants as ending
 
 -- what a call sees of a sink: the list that was written, where it is told, and the count of faults,
 -- before the call and after it
@@ -78,3 +81,25 @@ pub record Works {G : Type 0} (may_give : G → Type 0) (steps : G → Step Outp
   pub given : G
   pub may : may_give given
   pub came : Came result (steps given) out
+
+-- what is said of a refusal: its line, with its status; or standard error failed after a front of it
+pub record IsSaid (refusal : Refusal) (status : Status) (notes : SinkSeen) : Type 0 where
+  pub status_is : status ≡ status_of_refusal refusal
+  pub line : Gained notes (refusal_line refusal)
+
+pub record IsSaidInPart (refusal : Refusal) (status : Status) (notes : SinkSeen) : Type 0 where
+  pub status_is : status ≡ ending.WriteFault
+  pub failed : Failed notes
+  pub front : GainedFront notes (refusal_line refusal)
+
+-- where the work came to its end nothing is said
+abbrev pub IsTold : Result Status Refusal → Status → SinkSeen → Type 0
+IsTold (Ok ended) status notes = (status ≡ ended) × Gained notes []
+IsTold (Err refusal) status notes = IsSaid refusal status notes ⊎ IsSaidInPart refusal status notes
+
+-- the whole of what a call answers: the work ended in some way over something that the files may have
+-- given, and the status and the notes tell how
+pub record IsAnswer (words : List (List ℕ)) (files : FilesSeen) (out notes : SinkSeen) (status : Status) : Type 0 where
+  pub ended : Result Status Refusal
+  pub works : Works (MayGiveNamed files (command_of words)) (work words) ended out
+  pub told : IsTold ended status notes

@@ -1,10 +1,11 @@
 -- The order of work: the words, then for `run` the module, the input, the plan, and the run.
-use Rattle.std.specs.Prelude.{ℕ, List, [], ◌∷◌, Option, Some, None}
+use Rattle.std.specs.Prelude.{ℕ, ⊤, List, [], ◌∷◌, Option, Some, None}
+use Rattle.std.specs.Str.Lines.{lines}
 use Rattle.ir_ast.specs.Modules.{ModuleContent}
 use Rattle.statepoint_tool.specs.Source.{Outcome, source, text_of_lines}
 use Rattle.statepoint_tool.specs.Steps.{Step, Go, Stop, and_then}
 use Rattle.statepoint_tool.specs.Taken.{Taken, FilesSeen, MayGive, file_phase}
-use Rattle.statepoint_tool.specs.Thin.{Thin, Accepted, Refused, thin_module}
+use Rattle.statepoint_tool.specs.Thin.{Reading, Accepted, Refused, thin_module}
 use Rattle.statepoint_tool.specs.Words.{command_of}
 use Rattle.statepoint_tool.specs.declared.refusal.Cause.TheVariants.{Words, Module, Input, Plan}
 use Rattle.statepoint_tool.specs.declared.refusal.ModuleFault.TheVariants.{NotYet as ModuleNotYet}
@@ -36,12 +37,12 @@ MayGiveAll files module_file input plan given =
     MayGive files module_file given.module_file × MayGiveBoth files input plan (given.input, given.plan)
 
 -- reading a module: the text is a thin module, or has a first line that can't stand in its place
-abbrev pub module_read : Thin → Step ModuleContent
+abbrev pub module_read : Reading ModuleContent → Step ModuleContent
 module_read (Accepted content) = Go content
 module_read (Refused line) = Stop (Module (ModuleNotYet line))
 
 abbrev pub module_phase : List ℕ → Step ModuleContent
-module_phase text = module_read (thin_module text)
+module_phase text = module_read (thin_module (lines text))
 
 -- an input is empty so far
 abbrev pub input_phase : List ℕ → Step (Unit {0})
@@ -84,3 +85,8 @@ command_work (Some (Run module_file input plan steps)) given = run_work module_f
 
 abbrev pub work : List (List ℕ) → Given → Step Output
 work words given = command_work (command_of words) given
+
+-- what the files that a command names may have given
+abbrev pub MayGiveNamed : FilesSeen → Option Command → Given → Type 0
+MayGiveNamed files None given = ⊤
+MayGiveNamed files (Some (Run module_file input plan _)) given = MayGiveAll files module_file input plan given

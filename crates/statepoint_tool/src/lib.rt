@@ -9,6 +9,7 @@ mod request;
 mod run;
 mod status;
 mod thin;
+mod top;
 mod words;
 
 pub use request::FileName;
