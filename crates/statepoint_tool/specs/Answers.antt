@@ -31,8 +31,8 @@ Gained sink bytes = sink.new ≡ append_known sink.old bytes
 abbrev pub GainedFront : SinkSeen → List ℕ → Type 0
 GainedFront sink bytes = AppendsFront sink.old sink.new bytes
 
-abbrev pub Failed : SinkSeen → Type 0
-Failed sink = Rose sink.faults_before sink.faults_after
+abbrev pub SinkFailed : SinkSeen → Type 0
+SinkFailed sink = Rose sink.faults_before sink.faults_after
 
 -- the bytes that the work would write
 abbrev pub text_of_step : Step Output → List ℕ
@@ -66,7 +66,7 @@ pub record IsRefused (cause : Cause) (step : Step Output) (out : SinkSeen) : Typ
 
 -- standard output failed in this call after a front of the step's text
 pub record IsCut (step : Step Output) (out : SinkSeen) : Type 0 where
-  pub failed : Failed out
+  pub failed : SinkFailed out
   pub front : GainedFront out (text_of_step step)
 
 -- how a call of the work ends
@@ -89,7 +89,7 @@ pub record IsSaid (refusal : Refusal) (status : Status) (notes : SinkSeen) : Typ
 
 pub record IsSaidInPart (refusal : Refusal) (status : Status) (notes : SinkSeen) : Type 0 where
   pub status_is : status ≡ ending.WriteFault
-  pub failed : Failed notes
+  pub failed : SinkFailed notes
   pub front : GainedFront notes (refusal_line refusal)
 
 -- where the work came to its end nothing is said

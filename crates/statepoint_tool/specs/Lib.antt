@@ -7,3 +7,6 @@ pub mod Source
 pub mod Work
 pub mod Answers
 pub mod Notes
+pub mod Causes
+pub mod Statuses
+pub mod Complete

@@ -14,3 +14,4 @@ mod words;
 
 pub use request::FileName;
 pub use status::Status;
+pub use top::statepoint;
