@@ -1,0 +1,5 @@
+pub mod Counts
+pub mod FilesInMemory
+pub mod NamedFiles
+pub mod Sink
+pub mod SinkInMemory
