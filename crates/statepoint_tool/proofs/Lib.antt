@@ -6,3 +6,8 @@ pub mod NamedLaws
 pub mod CauseLaws
 pub mod AnswerLaws
 pub mod CompleteLaws
+pub mod SourceRuns
+pub mod ThinBody
+pub mod ThinBytes
+pub mod ThinNames
+pub mod ThinReads
