@@ -8,6 +8,8 @@ mod refusal;
 mod request;
 mod run;
 mod status;
+#[cfg(test)]
+mod tests;
 mod thin;
 mod top;
 mod words;
