@@ -1,5 +1,5 @@
 -- How counts of faults compose over several calls.
-use Rattle.std.proofs.Common.{◌≡◌, ℕ, ◌+◌, ◌-◌, ◌^◌, ◌<◌, ◌≤◌, min, List, arith}
+use Rattle.std.proofs.Common.{ℕ, ◌-◌, ◌^◌, ◌<◌, ◌≤◌, List, arith}
 use Rattle.tool_io.specs.Counts.{raised, Rose, NoneFell}
 
 -- one fault more

@@ -1,5 +1,5 @@
 -- The bytes so far are those that the reader had first.
-use Rattle.std.proofs.Common.{◌≡◌, ℕ, ◌+◌, ◌-◌, ◌≤◌, List, ◌++◌, vec_len}
+use Rattle.std.proofs.Common.{◌+◌, ◌-◌, vec_len}
 use Rattle.std.specs.Io.KnownBytes.{Consumes}
 use Rattle.tool_io.proofs.disk_files.read_within.Given as goal
 
