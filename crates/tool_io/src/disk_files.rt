@@ -1,4 +1,5 @@
-ghost use Rattle.std.specs.Prelude.{◌≡◌, ◌<◌, ◌≤◌, ◌≢◌, None, Err, length, vec_len, IfOk, IfSome, IsErrOf};
+ghost use Rattle.std.specs.Prelude.{◌≡◌, ◌+◌, ◌<◌, ◌≤◌, ◌≢◌, None, Err, length, vec_len, IfOk, IfSome, IsErrOf};
+ghost use Rattle.tool_io.specs.Adapters.{GivesCount};
 ghost use Rattle.tool_io.specs.Counts.{Rose};
 
 use crate::{Files, TakeFault};
@@ -68,6 +69,7 @@ fn read_within<F: Read>(alloc: Global, file: &mut F, limit: u64) -> Result<Vec<u
     ensures bound { IfOk result (λ bytes. vec_len bytes ≤ limit) }
     ensures whole { IfOk result (λ bytes. IfSome (F.remaining file.old) (λ told. bytes.items ≡ told)) }
     ensures too_long { IsErrOf result TakeFault.TooLong → IfSome (F.remaining file.old) (λ told. limit < length told) }
+    ensures ends { IsErrOf result TakeFault.TooLong → GivesCount (F.remaining file.old) (F.remaining file.new) (limit + 1) }
 {
     let mut bytes = Vec::new(alloc);
     let mut buffer = [0; TURN as usize];
