@@ -1,0 +1,56 @@
+ghost use Rattle.std.specs.Prelude.{◌≡◌};
+ghost use Rattle.ir_ast.specs.Blocks.{EndsAtTerminator};
+
+use crate::insts::Inst;
+use crate::names::Name;
+use std::marker::Model;
+
+/// A basic block: its name and its instructions, of which the last and no other is a terminator (LLVM
+/// Language Reference, "Functions"). Contracts see a `BasicBlock`.
+#[derive(Drop)]
+pub struct Block {
+    name: Name,
+    insts: Vec<Inst>,
+}
+
+impl Model for Block {
+    ghost use Rattle.ir_ast.specs.Blocks.{BasicBlock, EndsAtTerminator};
+
+    ghost Value = { BasicBlock };
+
+    ghost view = { λ block. record { name = block.name; insts = block.insts.items } };
+
+    ghost invariant = { λ block. EndsAtTerminator block.insts.items };
+}
+
+impl Block {
+    /// The block with this name and these instructions.
+    pub fn of(name: Name, insts: Vec<Inst>) -> Block
+        requires { EndsAtTerminator insts.items }
+        ensures { result ≡ record { name = name; insts = insts.items } }
+    {
+        Block { name, insts }
+    }
+
+    /// Gives its name and its instructions back.
+    pub fn into_parts(self) -> (Name, Vec<Inst>)
+        ensures name { result.0 ≡ self.name }
+        ensures insts { result.1.items ≡ self.insts }
+        ensures ends { EndsAtTerminator self.insts }
+    {
+        (self.name, self.insts)
+    }
+
+    pub fn name(&self) -> &Name
+        ensures { result.now ≡ self.now.name }
+    {
+        &self.name
+    }
+
+    pub fn insts(&self) -> &[Inst]
+        ensures value { result.now ≡ self.now.insts }
+        ensures ends { EndsAtTerminator self.now.insts }
+    {
+        self.insts.as_slice()
+    }
+}

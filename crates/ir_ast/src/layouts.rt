@@ -1,0 +1,50 @@
+ghost use Rattle.std.specs.Prelude.{◌≡◌};
+
+use crate::cells::Cell;
+use crate::names::Name;
+use std::marker::Model;
+
+/// A layout `%T = type { .. }`: its name and its cells, one per field (LLVM Language Reference,
+/// "Structure Type"). Contracts see an `ObjectLayout`.
+#[derive(Debug, Drop)]
+pub struct Layout {
+    name: Name,
+    fields: Vec<Cell>,
+}
+
+impl Model for Layout {
+    ghost use Rattle.ir_ast.specs.Layouts.{ObjectLayout};
+
+    ghost Value = { ObjectLayout };
+
+    ghost view = { λ layout. record { name = layout.name; fields = layout.fields.items } };
+}
+
+impl Layout {
+    /// The layout with this name and these fields.
+    pub fn of(name: Name, fields: Vec<Cell>) -> Layout
+        ensures { result ≡ record { name = name; fields = fields.items } }
+    {
+        Layout { name, fields }
+    }
+
+    /// Gives its name and its fields back.
+    pub fn into_parts(self) -> (Name, Vec<Cell>)
+        ensures name { result.0 ≡ self.name }
+        ensures fields { result.1.items ≡ self.fields }
+    {
+        (self.name, self.fields)
+    }
+
+    pub fn name(&self) -> &Name
+        ensures { result.now ≡ self.now.name }
+    {
+        &self.name
+    }
+
+    pub fn fields(&self) -> &[Cell]
+        ensures { result.now ≡ self.now.fields }
+    {
+        self.fields.as_slice()
+    }
+}

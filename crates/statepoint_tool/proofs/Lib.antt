@@ -1,0 +1,13 @@
+pub mod StepBounds
+pub mod GivenLaws
+pub mod ReadsLaws
+pub mod WorksLaws
+pub mod NamedLaws
+pub mod CauseLaws
+pub mod AnswerLaws
+pub mod CompleteLaws
+pub mod SourceRuns
+pub mod ThinBody
+pub mod ThinBytes
+pub mod ThinNames
+pub mod ThinReads
