@@ -4,17 +4,18 @@ ghost use Rattle.tool_io.specs.Counts.{raised, Rose};
 ghost use Rattle.tool_io.specs.Sink.{WritesFront};
 
 use crate::{Failed, Sink};
-use std::io::Write;
+use std::io;
+use std::io::{Printer, Write};
 use std::marker::Model;
 
-/// Standard output as a sink, over `io::writer(&rt)`. It tells no bytes.
+/// Standard output as a sink. It tells no bytes.
 #[derive(Drop)]
 pub struct OutSink<W: Write> {
     to: W,
     faults: u64,
 }
 
-/// Standard error as a sink, over `rt.stderr()`. It tells no bytes.
+/// Standard error as a sink. It tells no bytes.
 #[derive(Drop)]
 pub struct NoteSink<W: Write> {
     to: W,
@@ -37,17 +38,20 @@ impl<W: Write> Model for NoteSink<W> {
     ghost view = { λ sink. record { known = W.contents sink.to; faults = sink.faults } };
 }
 
-impl<W: Write> OutSink<W> {
-    /// A sink that no call was made on.
-    pub fn new(to: W) -> OutSink<W>
-        ensures { result ≡ record { known = W.contents to; faults = 0 } }
+impl<'a, P: Print> OutSink<Printer<'a, P>> {
+    /// The standard output of this runtime. No call was made on it.
+    pub fn new(rt: &'a P) -> OutSink<Printer<'a, P>>
+        ensures { result ≡ record { known = None; faults = 0 } }
     {
-        OutSink { to, faults: 0 }
+        OutSink {
+            to: io::writer(rt),
+            faults: 0,
+        }
     }
 }
 
 impl<W: Write> NoteSink<W> {
-    /// A sink that no call was made on.
+    /// Standard error, as `rt.stderr()` gives it. No call was made on it.
     pub fn new(to: W) -> NoteSink<W>
         ensures { result ≡ record { known = W.contents to; faults = 0 } }
     {
@@ -120,11 +124,10 @@ fn write_whole<W: Write>(to: &mut W, bytes: &[u8]) -> Result<(), Failed>
 #[cfg(test)]
 mod tests {
     use super::*;
-    use std::io;
 
     #[test]
     fn prints(rt: HostRuntime) {
-        let mut out = OutSink::new(io::writer(&rt));
+        let mut out = OutSink::new(&rt);
         assert_eq!(rt; out.put(b"out\n"), Ok(()));
         assert_eq!(rt; out.faults, 0);
         let mut notes = NoteSink::new(rt.stderr());
@@ -152,7 +155,10 @@ mod tests {
 
     #[test]
     fn continues_and_counts(rt: HostRuntime) {
-        let mut out = OutSink::new(Narrow { room: 7 });
+        let mut out = OutSink {
+            to: Narrow { room: 7 },
+            faults: 0,
+        };
         assert_eq!(rt; out.put(b"abcde"), Ok(()));
         assert_eq!(rt; out.to.room, 2);
         assert_eq!(rt; out.put(b"fgh"), Err(Failed));
