@@ -1,7 +1,10 @@
 ghost use Rattle.std.specs.Prelude.{◌≡◌};
 
 use crate::cells::Cell;
+use crate::clones::TryClone;
 use crate::names::Name;
+use sp_ids::Memory;
+use std::alloc::Global;
 use std::marker::Model;
 
 /// A layout `%T = type { .. }`: its name and its cells, one per field (LLVM Language Reference,
@@ -46,5 +49,14 @@ impl Layout {
         ensures { result.now ≡ self.now.fields }
     {
         self.fields.as_slice()
+    }
+}
+
+impl TryClone for Layout {
+    fn try_clone_in(&self, alloc: Global) -> Result<Layout, Memory> {
+        Ok(Layout {
+            name: self.name.try_clone_in(alloc)?,
+            fields: Vec::from_slice(alloc, self.fields.as_slice())?,
+        })
     }
 }

@@ -5,7 +5,7 @@ use sp_ids::ValueId;
 use std::marker::Model;
 
 /// The base of each value of a function. Contracts see a list of operands, by the value's number.
-#[derive(Drop)]
+#[derive(Debug, Drop)]
 pub struct BaseTable {
     bases: Vec<Operand>,
 }
@@ -43,7 +43,7 @@ impl BaseTable {
 
 /// The values that are live across each call that isn't a leaf, in text order. Contracts see a list of
 /// lists.
-#[derive(Drop)]
+#[derive(Debug, Drop)]
 pub struct LiveTable {
     lists: Vec<Vec<ValueId>>,
 }
