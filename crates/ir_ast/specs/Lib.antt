@@ -5,3 +5,13 @@ pub mod Insts
 pub mod Blocks
 pub mod Funcs
 pub mod Modules
+pub mod Values
+pub mod Types
+pub mod Operands
+pub mod Edges
+pub mod Widths
+pub mod Lines
+pub mod Lists
+pub mod Scope
+pub mod Faults
+pub mod Formed
