@@ -3,3 +3,10 @@ pub mod TypeClash
 pub mod PhiEdges
 pub mod EntryHasPred
 pub mod BadLayout
+pub mod NameTwice
+pub mod DerivedEscapes
+pub mod NoMain
+pub mod Reserved
+pub mod PointerOrder
+pub mod UnknownName
+pub mod GroupShape

@@ -15,3 +15,8 @@ pub mod Lists
 pub mod Scope
 pub mod Faults
 pub mod Formed
+pub mod Derived
+pub mod Bases
+pub mod Faultless
+pub mod Callees
+pub mod Bundles

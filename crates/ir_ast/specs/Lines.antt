@@ -1,19 +1,20 @@
 -- The line forms of the source and of the rewritten form: which parts an instruction has, by its operator.
 -- T is an integer type or `ptr addrspace(1)`, which P stands for; V is a value, a number or `null`.
-use Rattle.std.specs.Prelude.{◌≡◌, ℕ, ◌+◌, ◌<◌, Bool, true, false, not, ◌==◌, ◌&&◌, ◌||◌, if◌then◌else◌, List, [], ◌∷◌, length, take, drop, Option, is_some, is_none}
+use Rattle.std.specs.Prelude.{◌≡◌, ℕ, ◌<◌, Bool, true, false, not, ◌==◌, ◌&&◌, ◌||◌, if◌then◌else◌, List, [], ◌∷◌, length, take, drop, Option, is_some, is_none}
 use Rattle.std.specs.List.{list_all, AllZip}
 use Rattle.sp_ids.specs.declared.ids.ValueId.{ValueId}
 use Rattle.ir_ast.specs.declared.types.Ty.{Ty}
 use Rattle.ir_ast.specs.declared.ops.Operand.{Operand}
 use Rattle.ir_ast.specs.declared.ops.Operand.TheVariants.{Value, Int, Fun}
 use Rattle.ir_ast.specs.declared.ops.Callee.{Callee}
-use Rattle.ir_ast.specs.declared.ops.Callee.TheVariants.{TaskStart, Poll, Check, Same}
+use Rattle.ir_ast.specs.declared.ops.Callee.TheVariants.{TaskStart}
 use Rattle.ir_ast.specs.declared.ops.Elem.{Elem}
 use Rattle.ir_ast.specs.declared.ops.Elem.TheVariants.{Int as Integer, Ptr, Layout}
 use Rattle.ir_ast.specs.declared.ops.Op.{Op}
 use Rattle.ir_ast.specs.declared.ops.Op.TheVariants.{Add, Sub, Mul, Udiv, Sdiv, Urem, Srem, And, Or, Xor, Shl, Lshr, Ashr, Icmp, Trunc, Zext, Sext, Select, Phi, Gep, Load, Store, Call, Statepoint, GcResult, GcRelocate, Br, CondBr, Switch, Ret, Unreachable}
 use Rattle.ir_ast.specs.Insts.{Instruction}
 use Rattle.ir_ast.specs.Types.{is_void, is_integer, is_condition, is_pointer, is_first_class, is_answer}
+use Rattle.ir_ast.specs.Callees.{is_leaf, is_helper}
 use Rattle.ir_ast.specs.Operands.{is_value, is_literal}
 
 -- a line with a result or without one, with a type of a class, and with so many operands and labels
@@ -50,6 +51,7 @@ pub record IsCall (callee : Callee) (types : List Ty) (inst : Instruction) : Typ
   pub arguments : Arguments callee inst.operands types
   pub no_labels : inst.labels ≡ []
   pub bundle : is_bundle inst.bundle ≡ true
+  pub leaf : is_leaf callee ≡ true → inst.bundle ≡ []
 
 -- `%t = call token (..) @llvm.experimental.gc.statepoint.p0(.. @f, .. ARGS ..) [ "gc-live"(P V, ..) ]`
 pub record IsStatepoint (callee : Callee) (types : List Ty) (inst : Instruction) : Type 0 where
@@ -120,13 +122,6 @@ LineOf Unreachable inst = Has false is_void 0 0 inst
 -- the instruction has the parts of a line form
 abbrev pub IsLine : Instruction → Type 0
 IsLine inst = LineOf inst.op inst
-
--- a poll or a helper, which only the rewritten form calls
-abbrev pub is_helper : Callee → Bool
-is_helper Poll = true
-is_helper Check = true
-is_helper Same = true
-is_helper _ = false
 
 -- the operator stands only in the rewritten form
 abbrev pub is_rewritten : Op → Bool

@@ -2,10 +2,9 @@
 use Rattle.std.specs.Prelude.{ℕ, Bool, true, false, List, [], ◌∷◌, ◌++◌, map, Option, Some, None}
 use Rattle.std.specs.List.{filter_map}
 use Rattle.ir_ast.specs.declared.ops.Operand.{Operand}
-use Rattle.ir_ast.specs.declared.ops.Operand.TheVariants.{Value, Int, Null, Fun}
+use Rattle.ir_ast.specs.declared.ops.Operand.TheVariants.{Value, Int, Fun}
 use Rattle.ir_ast.specs.declared.ops.Callee.{Callee}
 use Rattle.ir_ast.specs.declared.ops.Callee.TheVariants.{Fun as Defined, New}
-use Rattle.ir_ast.specs.declared.ops.Elem.{Elem}
 use Rattle.ir_ast.specs.declared.ops.Elem.TheVariants.{Layout}
 use Rattle.ir_ast.specs.declared.ops.Op.{Op}
 use Rattle.ir_ast.specs.declared.ops.Op.TheVariants.{Gep, Call, Statepoint}
@@ -24,7 +23,7 @@ is_literal _ = false
 abbrev pub operands_of : Instruction → List Operand
 operands_of inst = inst.operands ++ map (λ entry. entry.1) inst.bundle
 
-abbrev value_in : Operand → Option ℕ
+abbrev pub value_in : Operand → Option ℕ
 value_in (Value value) = Some value.0
 value_in _ = None
 

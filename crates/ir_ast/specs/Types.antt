@@ -1,5 +1,5 @@
 -- Classes of types.
-use Rattle.std.specs.Prelude.{ℕ, Bool, true, false, ◌==◌}
+use Rattle.std.specs.Prelude.{Bool, true, false, ◌==◌}
 use Rattle.ir_ast.specs.declared.types.Ty.{Ty}
 use Rattle.ir_ast.specs.declared.types.Ty.TheVariants.{Void, Int, Ptr, Token}
 

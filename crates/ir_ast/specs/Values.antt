@@ -1,5 +1,5 @@
 -- The values of a function: its arguments first, and then the results of its instructions in text order.
-use Rattle.std.specs.Prelude.{◌≡◌, ℕ, List, [], ◌++◌, map, filter, Option, Some, is_some, slice_get, unwrap_or}
+use Rattle.std.specs.Prelude.{◌≡◌, ℕ, List, [], ◌++◌, map, filter, Some, is_some, slice_get, unwrap_or}
 use Rattle.ir_ast.specs.declared.types.Ty.{Ty}
 use Rattle.ir_ast.specs.declared.types.Ty.TheVariants.{Int, Token}
 use Rattle.ir_ast.specs.declared.funcs.Arg.{Arg}

@@ -16,7 +16,7 @@ is_phi _ = false
 pub record EntriesAreEdges (func : Function) (block : ℕ) (phi : Instruction) : Type 0 where
   pub counted : (from : ℕ) → count_of from phi.labels ≡ edges func from block
   pub agree : (j k : ℕ) → slice_get phi.labels j ≡ slice_get phi.labels k
-    → slice_get phi.operands j ≡ slice_get phi.operands k
+      → slice_get phi.operands j ≡ slice_get phi.operands k
 
 -- before a phi stand phis alone
 abbrev pub PhisComeFirst : List Instruction → Type 0

@@ -1,5 +1,5 @@
 -- Types: what has no fault of code 5.
-use Rattle.std.specs.Prelude.{◌≡◌, ◌≢◌, ⊤, ℕ, ◌-◌, ◌^◌, ◌<◌, true, List, [], ◌∷◌, ◌++◌, length, drop, replicate, Option, Some, None, IfSome, slice_get}
+use Rattle.std.specs.Prelude.{◌≡◌, ⊤, ℕ, ◌-◌, ◌^◌, ◌<◌, true, List, [], ◌∷◌, ◌++◌, length, drop, replicate, Option, Some, IfSome, slice_get}
 use Rattle.std.specs.List.{All, AllZip}
 use Rattle.sp_ids.specs.declared.ids.FuncId.{FuncId}
 use Rattle.ir_ast.specs.declared.types.Ty.{Ty}

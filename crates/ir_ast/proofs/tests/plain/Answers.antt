@@ -1,4 +1,4 @@
-use Rattle.std.proofs.Common.{[], ◌∷◌, rules}
+use Rattle.std.proofs.Common.{[], rules}
 use Rattle.ir_ast.proofs.tests.plain.Goals as goal
 
 pub of-block-requires : goal.of-block-requires
