@@ -1,0 +1,99 @@
+-- Small functions at which the definitions are tried: what holds of a right line, and what fails at a wrong one.
+use Rattle.std.proofs.Common.{◌≡◌, ℕ, true, false, Bool, List, [], ◌∷◌, ◌+◌, Option, Some, None, refl, codes, arith, rules}
+use Rattle.sp_ids.specs.declared.ids.BlockId.{BlockId}
+use Rattle.sp_ids.specs.declared.ids.ValueId.{ValueId}
+use Rattle.ir_ast.specs.declared.types.Ty.{Ty}
+use Rattle.ir_ast.specs.declared.types.Ty.TheVariants.{Void, Int, Ptr, Token}
+use Rattle.ir_ast.specs.declared.funcs.Arg.{Arg}
+use Rattle.ir_ast.specs.declared.ops.Operand.{Operand}
+use Rattle.ir_ast.specs.declared.ops.Operand.TheVariants.{Value, Int as Literal, Null}
+use Rattle.ir_ast.specs.declared.ops.Pred.TheVariants.{Ult}
+use Rattle.ir_ast.specs.declared.ops.Elem.TheVariants.{Layout}
+use Rattle.ir_ast.specs.declared.ops.Op.{Op}
+use Rattle.ir_ast.specs.declared.ops.Op.TheVariants.{Icmp, Phi, Gep, Load, Store, Br, CondBr, Ret, Trunc, Switch}
+use Rattle.ir_ast.specs.Insts.{Instruction}
+use Rattle.ir_ast.specs.Blocks.{BasicBlock}
+use Rattle.ir_ast.specs.Funcs.{Function}
+use Rattle.ir_ast.specs.Values.{value_types, Gives}
+use Rattle.ir_ast.specs.Edges.{edges, count_of}
+use Rattle.ir_ast.specs.Widths.{widths_of}
+use Rattle.ir_ast.specs.Lines.{IsLine}
+use Rattle.ir_ast.specs.Derived.{Derived, by_step, by_merge}
+use Rattle.ir_ast.specs.Bases.{Base, of_itself, of_step, of_merge}
+
+abbrev block : ℕ → BlockId
+block number = record { 0 = number }
+
+abbrev value : ℕ → Operand
+value number = Value (record { 0 = number })
+
+abbrev line : Option (List ℕ) → Op → Ty → List Operand → List BlockId → Instruction
+line result op ty operands labels =
+    record { result = result; op = op; ty = ty; operands = operands; labels = labels; bundle = [] }
+
+-- %c = icmp ult i64 %x, 4
+abbrev compare : Instruction
+compare = line (Some (codes "c")) (Icmp Ult) (Int 64) (value 1 ∷ Literal 4 ∷ []) []
+
+-- br i1 %c, label %l, label %m
+abbrev branch : Instruction
+branch = line None CondBr (Int 1) (value 2 ∷ []) (block 1 ∷ block 2 ∷ [])
+
+-- %p = getelementptr %N, ptr addrspace(1) %o, i64 0, i32 1
+abbrev step : Instruction
+step = line (Some (codes "p")) (Gep (Layout 0) 64 (Some 1)) Ptr (value 0 ∷ Literal 0 ∷ []) []
+
+-- br label %m
+abbrev jump : Instruction
+jump = line None Br Void [] (block 2 ∷ [])
+
+-- %q = phi ptr addrspace(1) [ %o, %entry ], [ %p, %l ]
+abbrev merge : Instruction
+merge = line (Some (codes "q")) Phi Ptr (value 0 ∷ value 3 ∷ []) (block 0 ∷ block 1 ∷ [])
+
+-- %v = load i64, ptr addrspace(1) %q
+abbrev load : Instruction
+load = line (Some (codes "v")) Load (Int 64) (value 4 ∷ []) []
+
+-- ret i64 %v
+abbrev finish : Instruction
+finish = line None Ret (Int 64) (value 5 ∷ []) []
+
+-- define i64 @f(ptr addrspace(1) %o, i64 %x)
+abbrev sample : Function
+sample = record {
+  name = codes "f";
+  answer = Int 64;
+  args = record { name = codes "o"; ty = Ptr } ∷ record { name = codes "x"; ty = Int 64 } ∷ [];
+  blocks = record { name = codes "entry"; insts = compare ∷ branch ∷ [] }
+    ∷ record { name = codes "l"; insts = step ∷ jump ∷ [] }
+    ∷ record { name = codes "m"; insts = merge ∷ load ∷ finish ∷ [] } ∷ [];
+}
+
+types_of_sample : value_types sample ≡ Ptr ∷ Int 64 ∷ Int 1 ∷ Ptr ∷ Ptr ∷ Int 64 ∷ []
+types_of_sample = refl
+
+edges_of_sample : (edges sample 0 1 ∷ edges sample 0 2 ∷ edges sample 1 2 ∷ edges sample 1 1 ∷ edges sample 2 0 ∷ edges sample 7 2 ∷ [])
+  ≡ 1 ∷ 1 ∷ 1 ∷ 0 ∷ 0 ∷ 0 ∷ []
+edges_of_sample = refl
+
+widths_of_sample : widths_of sample ≡ 64 ∷ 64 ∷ 64 ∷ 1 ∷ 64 ∷ 64 ∷ 64 ∷ []
+widths_of_sample = refl
+
+line_compare : IsLine compare
+line_compare = record { result = refl; type = refl; operand_count = refl; values = refl; label_count = refl; no_bundle = refl }
+
+line_branch : IsLine branch
+line_branch = record { result = refl; type = refl; operand_count = refl; values = refl; label_count = refl; no_bundle = refl }
+
+line_finish : IsLine finish
+line_finish = record { result = refl; type = refl; operand_count = refl; values = refl; label_count = refl; no_bundle = refl }
+
+step_is_derived : Derived sample 3
+step_is_derived = by_step 3 step refl refl
+
+merge_is_derived : Derived sample 4
+merge_is_derived = by_merge 4 3 merge refl refl (1, search rules, refl) step_is_derived
+
+base_of_step : ¬ Derived sample 0 → Base sample (λ number. record { 0 = number + 10 }) (value 3) (value 0)
+base_of_step own = of_step _ step (value 0) (value 0) refl refl refl (of_itself _ own)
