@@ -9,7 +9,7 @@ use Rattle.ir_ast.specs.Faults.NameTwice.{NamesAreDistinct}
 use Rattle.ir_ast.specs.Faults.UnknownName.{LocalNamesAreKnown, GlobalNamesAreKnown}
 use Rattle.ir_ast.specs.Faults.TypeClash.{ModuleIsTyped}
 use Rattle.ir_ast.specs.Faults.EntryHasPred.{EntryHasNoPred}
-use Rattle.ir_ast.specs.Faults.PhiEdges.{AllPhisAreRight}
+use Rattle.ir_ast.specs.Faults.PhiEdges.{PhisAreRight}
 use Rattle.ir_ast.specs.Faults.DerivedEscapes.{DerivedStay}
 use Rattle.ir_ast.specs.Faults.NoMain.{HasMain}
 use Rattle.ir_ast.specs.Faults.BadLayout.{LayoutsHaveFields}
@@ -26,7 +26,7 @@ pub record FunctionHasNoFault (content : ModuleContent) (func : Function) : Type
   pub local : LocalNamesAreKnown func
   pub global : GlobalNamesAreKnown content func
   pub entry : EntryHasNoPred func
-  pub phis : AllPhisAreRight func
+  pub phis : PhisAreRight func
   pub pointers : PointersAreUnordered func
   pub form : OfForm content.form func
 

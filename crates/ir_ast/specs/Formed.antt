@@ -7,7 +7,7 @@ use Rattle.ir_ast.specs.Widths.{IsWidth, widths_of}
 use Rattle.ir_ast.specs.Lines.{IsLine}
 use Rattle.ir_ast.specs.Faults.UnknownName.{LocalNamesAreKnown, GlobalNamesAreKnown}
 use Rattle.ir_ast.specs.Faults.TypeClash.{ModuleIsTyped}
-use Rattle.ir_ast.specs.Faults.PhiEdges.{AllPhisAreRight}
+use Rattle.ir_ast.specs.Faults.PhiEdges.{PhisAreRight}
 use Rattle.ir_ast.specs.Faults.EntryHasPred.{EntryHasNoPred}
 use Rattle.ir_ast.specs.Faults.BadLayout.{LayoutsHaveFields}
 
@@ -16,7 +16,7 @@ pub record IsFormed (func : Function) : Type 0 where
   pub widths : All IsWidth (widths_of func)
   pub lines : All IsLine (instructions_of func.blocks)
   pub known : LocalNamesAreKnown func
-  pub phis : AllPhisAreRight func
+  pub phis : PhisAreRight func
   pub entry : EntryHasNoPred func
 
 pub record IsFormedModule (content : ModuleContent) : Type 0 where

@@ -44,12 +44,14 @@ impl Block {
         (self.name, self.insts)
     }
 
+    /// Its name, without the `:`.
     pub fn name(&self) -> &Name
         ensures { result.now ≡ self.now.name }
     {
         &self.name
     }
 
+    /// Its instructions, the terminator last.
     pub fn insts(&self) -> &[Inst]
         ensures value { result.now ≡ self.now.insts }
         ensures ends { EndsAtTerminator self.now.insts }

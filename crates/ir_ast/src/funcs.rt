@@ -85,18 +85,21 @@ impl Func {
         (self.name, self.answer, self.args, self.blocks)
     }
 
+    /// Its name, without the `@`.
     pub fn name(&self) -> &Name
         ensures { result.now ≡ self.now.content.name }
     {
         &self.name
     }
 
+    /// The type that it answers.
     pub fn answer(&self) -> &Ty
         ensures { result.now ≡ self.now.content.answer }
     {
         &self.answer
     }
 
+    /// Its arguments.
     pub fn args(&self) -> &[Arg]
         ensures value { result.now ≡ self.now.content.args }
         ensures small { IsSmall self.now.content.args self.now.content.blocks }
@@ -104,6 +107,7 @@ impl Func {
         self.args.as_slice()
     }
 
+    /// Its blocks, the entry first.
     pub fn blocks(&self) -> &[Block]
         ensures value { result.now ≡ self.now.content.blocks }
         ensures small { IsSmall self.now.content.args self.now.content.blocks }

@@ -98,36 +98,42 @@ impl Inst {
         )
     }
 
+    /// The name of its result, if it has one.
     pub fn result(&self) -> &Option<Name>
         ensures { result.now ≡ self.now.result }
     {
         &self.result
     }
 
+    /// Its operator.
     pub fn op(&self) -> &Op
         ensures { result.now ≡ self.now.op }
     {
         &self.op
     }
 
+    /// The type of its line.
     pub fn ty(&self) -> &Ty
         ensures { result.now ≡ self.now.ty }
     {
         &self.ty
     }
 
+    /// Its operands, in the order of its line.
     pub fn operands(&self) -> &[Operand]
         ensures { result.now ≡ self.now.operands }
     {
         self.operands.as_slice()
     }
 
+    /// Its labels, in the order of its line.
     pub fn labels(&self) -> &[BlockId]
         ensures { result.now ≡ self.now.labels }
     {
         self.labels.as_slice()
     }
 
+    /// The operands of its "deopt" bundle, with their types.
     pub fn bundle(&self) -> &[(Ty, Operand)]
         ensures { result.now ≡ self.now.bundle }
     {

@@ -39,12 +39,14 @@ impl Layout {
         (self.name, self.fields)
     }
 
+    /// Its name, without the `%`.
     pub fn name(&self) -> &Name
         ensures { result.now ≡ self.now.name }
     {
         &self.name
     }
 
+    /// Its cells, one per field.
     pub fn fields(&self) -> &[Cell]
         ensures { result.now ≡ self.now.fields }
     {

@@ -69,6 +69,7 @@ impl Module {
         (self.layouts, self.funcs, self.form)
     }
 
+    /// Its layouts.
     pub fn layouts(&self) -> &[Layout]
         ensures value { result.now ≡ self.now.content.layouts }
         ensures few { length result.now < 2 ^ 32 }
@@ -76,6 +77,7 @@ impl Module {
         self.layouts.as_slice()
     }
 
+    /// Its functions.
     pub fn funcs(&self) -> &[Func]
         ensures content { map content_of result.now ≡ self.now.content.funcs }
         ensures lines { map lines_of result.now ≡ self.now.lines }
@@ -84,6 +86,7 @@ impl Module {
         self.funcs.as_slice()
     }
 
+    /// Its form.
     pub fn form(&self) -> Form
         ensures { result ≡ self.now.content.form }
     {

@@ -35,6 +35,7 @@ impl Name {
         self.bytes
     }
 
+    /// Its bytes.
     pub fn bytes(&self) -> &[u8]
         ensures { result.now ≡ self.now }
     {

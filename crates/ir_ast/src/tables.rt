@@ -34,6 +34,7 @@ impl BaseTable {
         self.bases
     }
 
+    /// The bases, by the value's number.
     pub fn bases(&self) -> &[Operand]
         ensures { result.now ≡ self.now }
     {
@@ -72,6 +73,7 @@ impl LiveTable {
         self.lists
     }
 
+    /// The live values of each call.
     pub fn lists(&self) -> &[Vec<ValueId>]
         ensures { map (λ list. list.items) result.now ≡ self.now }
     {

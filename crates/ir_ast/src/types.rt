@@ -47,6 +47,7 @@ impl Types {
         self.list
     }
 
+    /// The types, in their order.
     pub fn list(&self) -> &[Ty]
         ensures { result.now ≡ self.now }
     {

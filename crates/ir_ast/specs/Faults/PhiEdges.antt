@@ -1,6 +1,6 @@
 -- Phis: what has no fault of code 7 (LLVM Language Reference, "'phi' Instruction").
-use Rattle.std.specs.Prelude.{◌≡◌, ℕ, ◌<◌, Bool, true, false, List, Some, IfSome, slice_get}
-use Rattle.std.specs.List.{All}
+use Rattle.std.specs.Prelude.{◌≡◌, ℕ, Bool, true, false, List, ◌∷◌, ◌++◌, Some, slice_get}
+use Rattle.std.specs.List.{list_all}
 use Rattle.ir_ast.specs.declared.ops.Op.{Op}
 use Rattle.ir_ast.specs.declared.ops.Op.TheVariants.{Phi}
 use Rattle.ir_ast.specs.Insts.{Instruction}
@@ -12,22 +12,17 @@ abbrev pub is_phi : Op → Bool
 is_phi Phi = true
 is_phi _ = false
 
--- the phi has, counted, one entry per edge into its block, and entries of one label are the same
-pub record EntriesAreEdges (func : Function) (block : ℕ) (phi : Instruction) : Type 0 where
+-- a phi of the block with this number, after these instructions of the block
+pub record PhiIsRight (func : Function) (block : ℕ) (before : List Instruction) (phi : Instruction) : Type 0 where
+  -- only phis stand before it
+  pub first : list_all (λ inst. is_phi inst.op) before ≡ true
+  -- counted, it has one entry per edge into its block
   pub counted : (from : ℕ) → count_of from phi.labels ≡ edges func from block
+  -- entries of one label are the same
   pub agree : (j k : ℕ) → slice_get phi.labels j ≡ slice_get phi.labels k
       → slice_get phi.operands j ≡ slice_get phi.operands k
 
--- before a phi stand phis alone
-abbrev pub PhisComeFirst : List Instruction → Type 0
-PhisComeFirst insts = (j k : ℕ) → j < k
-    → IfSome (slice_get insts k) (λ later. is_phi later.op ≡ true
-    → IfSome (slice_get insts j) (λ earlier. is_phi earlier.op ≡ true))
-
--- the phis of the block with this number
-pub record PhisAreRight (func : Function) (number : ℕ) (block : BasicBlock) : Type 0 where
-  pub first : PhisComeFirst block.insts
-  pub entries : All (λ inst. is_phi inst.op ≡ true → EntriesAreEdges func number inst) block.insts
-
-abbrev pub AllPhisAreRight : Function → Type 0
-AllPhisAreRight func = (number : ℕ) (block : BasicBlock) → slice_get func.blocks number ≡ Some block → PhisAreRight func number block
+abbrev pub PhisAreRight : Function → Type 0
+PhisAreRight func = (number : ℕ) (block : BasicBlock) (before after : List Instruction) (phi : Instruction)
+    → slice_get func.blocks number ≡ Some block → block.insts ≡ before ++ phi ∷ after
+    → is_phi phi.op ≡ true → PhiIsRight func number before phi
