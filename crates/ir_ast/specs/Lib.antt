@@ -20,3 +20,4 @@ pub mod Bases
 pub mod Faultless
 pub mod Callees
 pub mod Bundles
+pub mod Objects
