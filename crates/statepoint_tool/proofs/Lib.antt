@@ -9,5 +9,10 @@ pub mod CompleteLaws
 pub mod SourceRuns
 pub mod ThinBody
 pub mod ThinBytes
+pub mod ThinCuts
+pub mod ThinLaws
 pub mod ThinNames
+pub mod ThinNumbers
 pub mod ThinReads
+pub mod ThinSpelling
+pub mod ThinTexts

@@ -71,6 +71,7 @@ pub record Does (insts : List Instruction) (i : ℕ) (values : List ℕ) (effect
   pub does : effect_at values inst ≡ effect
 
 pub Reached-start : (insts : List Instruction) (steps : ℕ) (old : Option (List ℕ)) → Reached insts steps 0 [] old old
+unfolding text_of_lines
 Reached-start insts steps old = record { goes = refl; values_are = refl; written = sym (append_known-nil old) }
 
 module _ {insts : List Instruction} {steps i : ℕ} {values : List ℕ} {old now : Option (List ℕ)} (reached : Reached insts steps i values old now) (effect : Effect) (does : Does insts i values effect) where
@@ -82,7 +83,12 @@ module _ {insts : List Instruction} {steps i : ℕ} {values : List ℕ} {old now
   next_run : run_of steps (take (i + 1) insts) ≡ after_effect steps (run_of steps (take i insts)) effect
   next_run = fold_more (after_instruction steps) start insts i does.inst does.below ∙ step
 
+text-append : (first second : List (List ℕ)) → text_of_lines (first ++ second) ≡ text_of_lines first ++ text_of_lines second
+unfolding text_of_lines
+text-append first second = concat-append first second
+
 text-push : (lines : List (List ℕ)) (line : List ℕ) → text_of_lines (lines ++ line ∷ []) ≡ text_of_lines lines ++ line
+unfolding text_of_lines
 text-push lines line = concat-append lines (line ∷ []) ∙ ap (λ more. text_of_lines lines ++ more) (append-nil line)
 
 module _ {insts : List Instruction} {steps i : ℕ} {values : List ℕ} {old now : Option (List ℕ)} (reached : Reached insts steps i values old now) (value : ℕ) where
@@ -135,7 +141,7 @@ module _ {insts : List Instruction} {steps i : ℕ} {values : List ℕ} {old now
   Reached-front =
       let rest = grows_from steps i insts in
       AppendsFront-front (AppendsFront-all old now (text_of_lines (run_of steps (take i insts)).lines) reached.written) (text_of_lines rest.more) (text_of_lines (source content steps).lines)
-      (ap text_of_lines (source-lines content steps insts entry ∙ rest.lines) ∙ concat-append (run_of steps (take i insts)).lines rest.more)
+      (ap text_of_lines (source-lines content steps insts entry ∙ rest.lines) ∙ text-append (run_of steps (take i insts)).lines rest.more)
 
   -- so is a front of the next line behind it
   pub Reached-front_prints : {new : Option (List ℕ)} (value : ℕ) → Does insts i values (Prints value) → AppendsFront now new (printed value) → AppendsFront old new (text_of_lines (source content steps).lines)
@@ -144,7 +150,7 @@ module _ {insts : List Instruction} {steps i : ℕ} {values : List ℕ} {old now
       let before = (run_of steps (take i insts)).lines in
       AppendsFront-among old (text_of_lines before) (text_of_lines rest.more) (text_of_lines (source content steps).lines) reached.written front
       (ap text_of_lines (source-lines content steps insts entry ∙ (rest.lines ∙ ap (λ (run : Run). run.lines ++ rest.more) (next_run reached (Prints value) does)))
-      ∙ (concat-append (before ++ printed value ∷ []) rest.more
+      ∙ (text-append (before ++ printed value ∷ []) rest.more
       ∙ (ap (λ (bytes : List ℕ). bytes ++ text_of_lines rest.more) (text-push before (printed value))
       ∙ append_assoc (text_of_lines before) (printed value) (text_of_lines rest.more))))
 

@@ -1,5 +1,5 @@
 -- What the steps of the reading answer.
-use Rattle.std.proofs.Common.{◌≡◌, ℕ, ◌+◌, true, false, List, [], ◌∷◌, ◌++◌, codes, refl, ap, ◌∙◌, sym, Result, Ok, Err}
+use Rattle.std.proofs.Common.{◌≡◌, ℕ, ◌+◌, true, false, List, [], ◌∷◌, ◌++◌, codes, refl, subst, ap, ◌∙◌, sym, Result, Ok, Err}
 use Rattle.std.proofs.Math.Path.{fun_ext}
 use Rattle.std.specs.Str.{bytes_eq}
 use Rattle.statepoint_tool.specs.declared.thin.ThinFault.{ThinFault}
@@ -84,3 +84,7 @@ module _ (texts : List (List ℕ)) (start : Left) (numbered : start.number ≡ 1
 
   pub thin-body : (left : Left) → after_lines head start ≡ Accepted left → thin_module texts ≡ map_reading module_of (body [] left.number left.lines)
   thin-body left stands = thin_module-by ∙ ap (λ r. then_reading r (λ rest. map_reading module_of (body [] rest.number rest.lines))) stands
+
+-- what is said of the line, where the fault has it
+pub AtLine-at : (fault : ThinFault) (P : ℕ → Type 0) (line : ℕ) → fault ≡ NotYet line → AtLine fault P → P line
+AtLine-at fault P line same = subst (λ f. AtLine f P → P line) (sym same) (λ p. p)

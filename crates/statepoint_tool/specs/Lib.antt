@@ -5,6 +5,7 @@ pub mod Taken
 pub mod ThinForms
 pub mod ThinLines
 pub mod Thin
+pub mod ThinText
 pub mod ThinCalls
 pub mod Source
 pub mod Work

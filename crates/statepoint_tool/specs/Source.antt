@@ -96,5 +96,5 @@ unfoldable pub source : ModuleContent → ℕ → Outcome
 source content steps = outcome_of (fold (after_instruction steps) start (entry_of content))
 
 -- the bytes of these lines
-abbrev pub text_of_lines : List (List ℕ) → List ℕ
+unfoldable pub text_of_lines : List (List ℕ) → List ℕ
 text_of_lines lines = concat lines

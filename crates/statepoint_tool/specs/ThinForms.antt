@@ -1,4 +1,4 @@
--- The lines of a thin text: how each form is spelled, and how a line is read.
+-- The lines of a thin text after its head, and how one is read.
 use Rattle.std.specs.Prelude.{ℕ, ◌+◌, ◌*◌, ◌-◌, ◌^◌, ◌<◌, Bool, false, IsTrue, ◌==◌, ◌&&◌, if◌then◌else◌, List, [], ◌∷◌, ◌++◌, length, take, drop, fold, codes, Option, Some, None, option_map, option_and_then}
 use Rattle.std.specs.List.{before_first, after_first, list_all}
 use Rattle.std.specs.Char.{is_ascii_alphabetic, is_ascii_alphanumeric}
@@ -20,16 +20,6 @@ pub data Line : Type 0 where
 -- a word is spelled as the signed decimal of its value
 unfoldable pub spelled : ℕ → List ℕ
 spelled word = signed_decimal (signed 64 word)
-
-unfoldable pub text_of_term : Term → List ℕ
-text_of_term (Named name) = 37 ∷ name
-text_of_term (Number word) = spelled word
-
-unfoldable pub text_of_line : Line → List ℕ
-text_of_line (Add name left right) =
-    codes "  %" ++ name ++ codes " = add i64 " ++ text_of_term left ++ codes ", " ++ text_of_term right
-text_of_line (Print term) = codes "  call void @print_i64(i64 " ++ text_of_term term ++ codes ")"
-text_of_line (Return term) = codes "  ret i64 " ++ text_of_term term
 
 -- a letter, then letters and digits
 unfoldable pub is_name : List ℕ → Bool
@@ -99,13 +89,3 @@ or_else (Some x) other = Some x
 -- the reading of a line
 unfoldable pub line_of : List ℕ → Option Line
 line_of text = or_else (add_of text) (or_else (print_of text) (return_of text))
-
--- each name is a name, and each number is a word
-abbrev pub IsTerm : Term → Type 0
-IsTerm (Named name) = IsTrue (is_name name)
-IsTerm (Number word) = word < 2 ^ 64
-
-abbrev pub IsLine : Line → Type 0
-IsLine (Add name left right) = IsTrue (is_name name) × IsTerm left × IsTerm right
-IsLine (Print term) = IsTerm term
-IsLine (Return term) = IsTerm term

@@ -1,6 +1,6 @@
 //! The run of a thin module.
 
-ghost use Rattle.std.specs.Prelude.{◌≡◌, ◌≤◌, ◌+◌, ◌++◌, length, OnOk, OnErr, IfOk, IfErr};
+ghost use Rattle.std.specs.Prelude.{◌≡◌, ◌≤◌, ◌+◌, ◌++◌, length, OnOk, OnErr, IfOk, IfErr, IsErrOf};
 ghost use Rattle.arrayvec.specs.ArrayVec.{array_vec_len};
 ghost use Rattle.tool_io.specs.Counts.{Rose};
 ghost use Rattle.tool_io.specs.Sink.{append_known, AppendsFront};
@@ -66,17 +66,17 @@ impl From<Failed> for RunFault {
 /// last line, each line by one `put`.
 pub fn evaluate<O: Sink>(
     alloc: Global,
-    module: &Module,
+    run: &Module,
     steps: u64,
     out: &mut O,
 ) -> Result<Ended, RunFault>
-    ensures ok { IfOk result (λ ended. ended ≡ (source «module».now.content steps).ended) }
-    ensures written { OnOk result (O.written out.new ≡ append_known (O.written out.old) (text_of_lines (source «module».now.content steps).lines)) }
-    ensures front { OnErr result (AppendsFront (O.written out.old) (O.written out.new) (text_of_lines (source «module».now.content steps).lines)) }
-    ensures failed { result ≡ Err RunFault.Write → Rose (O.faults out.old) (O.faults out.new) }
+    ensures ok { IfOk result (λ ended. ended ≡ (source run.now.content steps).ended) }
+    ensures written { OnOk result (O.written out.new ≡ append_known (O.written out.old) (text_of_lines (source run.now.content steps).lines)) }
+    ensures front { OnErr result (AppendsFront (O.written out.old) (O.written out.new) (text_of_lines (source run.now.content steps).lines)) }
+    ensures failed { IsErrOf result RunFault.Write → Rose (O.faults out.old) (O.faults out.new) }
     ensures count { O.faults out.old ≤ O.faults out.new }
 {
-    let insts = entry(module);
+    let insts = entry(run);
     let mut values = Vec::with_capacity(alloc, insts.len())?;
     for inst in insts {
         match effect_of(values.as_slice(), inst) {

@@ -1,6 +1,6 @@
 //! Thin modules: one function `@main` that adds, prints and returns numbers of 64 bits.
 
-ghost use Rattle.std.specs.Prelude.{◌≡◌, ◌≤◌, ◌<◌, ◌+◌, ◌^◌, [], ◌∷◌, length, vec_len, Some, None, option_and_then, IfOk, IfErr};
+ghost use Rattle.std.specs.Prelude.{◌≡◌, ℕ, ◌≤◌, ◌<◌, ◌+◌, ◌^◌, [], ◌∷◌, length, vec_len, Some, None, option_and_then, IfOk, IfErr};
 ghost use Rattle.std.specs.Str.Lines.{lines};
 ghost use Rattle.ir_ast.specs.Blocks.{EndsAtTerminator};
 ghost use Rattle.statepoint_tool.specs.Thin.{Accepted, Refused, thin_module, module_of, body, head, after_lines, closed, expected, instruction_of, names_after};
@@ -10,9 +10,12 @@ ghost use Rattle.statepoint_tool.specs.ThinCalls.{AtLine, Reads};
 mod bytes;
 mod form;
 mod insts;
+mod law;
 mod lines;
 mod names;
 mod number;
+#[cfg(test)]
+mod tests;
 
 use insts::read_inst;
 use ir_ast::{Block, Form, Func, Inst, Module, Name, Ty};
@@ -63,8 +66,8 @@ impl From<Memory> for ThinFault {
 /// Reads a thin text.
 pub fn read_thin(alloc: Global, text: &[u8]) -> Result<Module, ThinFault>
     requires { length text.now ≤ 16777216 }
-    ensures ok { IfOk result (λ read. thin_module (lines text.now) ≡ Accepted read.content) }
-    ensures not_yet { IfErr result (λ fault. AtLine fault (λ line. thin_module (lines text.now) ≡ Refused line)) }
+    ensures accepted { IfOk result (λ read. thin_module (lines text.now) ≡ Accepted read.content) }
+    ensures refused { (line : ℕ) → result ≡ Err (ThinFault.NotYet line) → thin_module (lines text.now) ≡ Refused line }
 {
     let mut rest = Lines::of(text);
     read_head(&mut rest)?;

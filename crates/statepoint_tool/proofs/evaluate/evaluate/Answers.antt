@@ -2,14 +2,14 @@ use Rattle.std.proofs.Common.{◌≡◌, ◌∙◌, ℕ, List, sym, ap, arith}
 use Rattle.std.proofs.lemmas.Result.{err_from_is_err_and, IfOk-weaker, on_ok_weaker, on_err_weaker}
 use Rattle.statepoint_tool.specs.Source.{effect_at, end_of, source}
 use Rattle.statepoint_tool.specs.declared.evaluate.Effect.TheVariants.{Defines, Prints, Returns, Nothing}
-use Rattle.statepoint_tool.proofs.SourceRuns.{Does, Reached-defines, Reached-prints, Reached-nothing, Reached-front, Reached-front_prints, Reached-all, Reached-ended, Reached-last, Reached-front_last}
+use Rattle.statepoint_tool.proofs.SourceRuns.{Reached-start, Does, Reached-defines, Reached-prints, Reached-nothing, Reached-front, Reached-front_prints, Reached-all, Reached-ended, Reached-last, Reached-front_last}
 use Rattle.statepoint_tool.proofs.evaluate.evaluate.Goals as goal
 use Rattle.statepoint_tool.proofs.evaluate.evaluate.Goals.{in-Defines+in_ok-push-in-Defines, in-Prints+in_ok-put-in-Prints, in-Nothing}
 
 pub returns-in_err-push-in-Defines-clause-front : goal.returns-in_err-push-in-Defines-clause-front
 returns-in_err-push-in-Defines-clause-front g c =
     let p = err_from_is_err_and c.from_residual-in_err-push-in-Defines.result c.from_residual-in_err-push-in-Defines.ensures.1 in
-    rw p.1 (Reached-front c.loop-inst.invariant.reached c.args.module.now.content c.entry-insts.ensures)
+    rw p.1 (Reached-front c.loop-inst.invariant.reached c.args.run.now.content c.entry-insts.ensures)
 
 pub returns-in_err-put-in-Prints-clause-front : goal.returns-in_err-put-in-Prints-clause-front
 returns-in_err-put-in-Prints-clause-front g c =
@@ -21,7 +21,7 @@ returns-in_err-put-in-Prints-clause-front g c =
     } in
     let line = c.as_slice-in-Prints.ensures.value ∙ c.printed.ensures in
     let p = err_from_is_err_and c.from_residual-in_err-put-in-Prints.result c.from_residual-in_err-put-in-Prints.ensures.1 in
-    rw p.1 (Reached-front_prints c.loop-inst.invariant.reached c.args.module.now.content c.entry-insts.ensures c.in-Prints.value does (rw line at c.in_err-put-in-Prints.ensures.err))
+    rw p.1 (Reached-front_prints c.loop-inst.invariant.reached c.args.run.now.content c.entry-insts.ensures c.in-Prints.value does (rw line at c.in_err-put-in-Prints.ensures.err))
 
 pub returns-in-Returns-clause-ok : goal.returns-in-Returns-clause-ok
 returns-in-Returns-clause-ok g c =
@@ -31,8 +31,8 @@ returns-in-Returns-clause-ok g c =
       here = c.inst-item.is;
       does = sym (c.in-Returns.ensures ∙ ap (λ (values : List ℕ). effect_at values c.inst-item.result) c.as_slice.ensures.value);
     } in
-    IfOk-weaker c.end.result (λ ended. ended ≡ end_of c.args.steps) (λ ended. ended ≡ (source c.args.module.now.content c.args.steps).ended)
-    (λ ended same. same ∙ Reached-ended c.loop-inst.invariant.reached c.args.module.now.content c.entry-insts.ensures c.in-Returns.value does) c.end.ensures.ok
+    IfOk-weaker c.end.result (λ ended. ended ≡ end_of c.args.steps) (λ ended. ended ≡ (source c.args.run.now.content c.args.steps).ended)
+    (λ ended same. same ∙ Reached-ended c.loop-inst.invariant.reached c.args.run.now.content c.entry-insts.ensures c.in-Returns.value does) c.end.ensures.ok
 
 pub returns-in-Returns-clause-written : goal.returns-in-Returns-clause-written
 returns-in-Returns-clause-written g c =
@@ -42,7 +42,7 @@ returns-in-Returns-clause-written g c =
       here = c.inst-item.is;
       does = sym (c.in-Returns.ensures ∙ ap (λ (values : List ℕ). effect_at values c.inst-item.result) c.as_slice.ensures.value);
     } in
-    on_ok_weaker c.end.result (Reached-last c.loop-inst.invariant.reached c.args.module.now.content c.entry-insts.ensures c.in-Returns.value does) c.end.ensures.written
+    on_ok_weaker c.end.result (Reached-last c.loop-inst.invariant.reached c.args.run.now.content c.entry-insts.ensures c.in-Returns.value does) c.end.ensures.written
 
 pub returns-in-Returns-clause-front : goal.returns-in-Returns-clause-front
 returns-in-Returns-clause-front g c =
@@ -52,7 +52,7 @@ returns-in-Returns-clause-front g c =
       here = c.inst-item.is;
       does = sym (c.in-Returns.ensures ∙ ap (λ (values : List ℕ). effect_at values c.inst-item.result) c.as_slice.ensures.value);
     } in
-    on_err_weaker c.end.result (Reached-front_last c.loop-inst.invariant.reached c.args.module.now.content c.entry-insts.ensures c.in-Returns.value does) c.end.ensures.front
+    on_err_weaker c.end.result (Reached-front_last c.loop-inst.invariant.reached c.args.run.now.content c.entry-insts.ensures c.in-Returns.value does) c.end.ensures.front
 
 pub loop-inst-preserved : goal.loop-inst-preserved
 loop-inst-preserved g c =
@@ -87,7 +87,12 @@ loop-inst-preserved g c =
     ]
 
 pub returns-clause-ok : goal.returns-clause-ok
-returns-clause-ok g c = (Reached-all c.loop-inst.invariant.reached c.args.module.now.content c.entry-insts.ensures (omega arith)).0
+returns-clause-ok g c = (Reached-all c.loop-inst.invariant.reached c.args.run.now.content c.entry-insts.ensures (omega arith)).0
 
 pub returns-clause-written : goal.returns-clause-written
-returns-clause-written g c = (Reached-all c.loop-inst.invariant.reached c.args.module.now.content c.entry-insts.ensures (omega arith)).1
+returns-clause-written g c = (Reached-all c.loop-inst.invariant.reached c.args.run.now.content c.entry-insts.ensures (omega arith)).1
+
+pub loop-inst-init : goal.loop-inst-init
+loop-inst-init g c =
+    rw c.in_ok-values.ensures.items
+    (record { reached = Reached-start c.entry-insts.result.now c.args.steps (g.O.Sink.written c.args.out.now); count = omega arith })
