@@ -74,6 +74,7 @@ module _ (p : ℕ → Bool) where
       let n = position_or_len p text in
       let inside : n < length text = omega (arith, length-drop (n + 1) text) in
       let next : suc n ≡ n + 1 = omega arith in
-      let found : position p text ≡ Some n = ap (λ b. cond b (Some n) None) (lt-ltb n (length text) inside) in
-      ((position-Some p text n 0 found).1,
-        sym (take-append-drop n text) ∙ ap (λ part. take n text ++ part) (drop-cons text n 0 inside ∙ ap (λ m. get_or text n 0 ∷ drop m text) next))
+      let found : position p text ≡ Some n = ap (λ b. cond b (Some n) None) (lt-ltb n (length text) inside) in (
+        (position-Some p text n 0 found).1,
+        sym (take-append-drop n text) ∙ ap (λ part. take n text ++ part) (drop-cons text n 0 inside ∙ ap (λ m. get_or text n 0 ∷ drop m text) next),
+      )

@@ -55,14 +55,19 @@ reads_add text line e = from_whole (and_then-Some with_whole (after_front (codes
     from_right whole values second left right a b d f h n =
         let p = if-Some (is_name (before_first space whole)) (Add (before_first space whole) left right) line n in
         record { whole = whole; values = values; second = second; left = left; right = right; starts = a; adds = b; goes_on = d; first_is = f; second_is = h; is_named = p.0; line_is = p.1 }
+
     from_left : (whole values second : List ℕ) (left : Term) → after_front (codes "  %") text ≡ Some whole → after_front (codes "= add i64 ") (after_first space whole) ≡ Some values → after_front (codes " ") (after_first comma values) ≡ Some second → term_of (before_first comma values) ≡ Some left → (right : Term) × (term_of second ≡ Some right) × (named whole left right ≡ Some line) → ReadsAdd text line
     from_left whole values second left a b d f p = from_right whole values second left p.0 a b d f p.1 p.2
+
     from_second : (whole values second : List ℕ) → after_front (codes "  %") text ≡ Some whole → after_front (codes "= add i64 ") (after_first space whole) ≡ Some values → after_front (codes " ") (after_first comma values) ≡ Some second → (left : Term) × (term_of (before_first comma values) ≡ Some left) × (with_right whole second left ≡ Some line) → ReadsAdd text line
     from_second whole values second a b d p = from_left whole values second p.0 a b d p.1 (and_then-Some (named whole p.0) (term_of second) line p.2)
+
     from_values : (whole values : List ℕ) → after_front (codes "  %") text ≡ Some whole → after_front (codes "= add i64 ") (after_first space whole) ≡ Some values → (second : List ℕ) × (after_front (codes " ") (after_first comma values) ≡ Some second) × (with_left whole values second ≡ Some line) → ReadsAdd text line
     from_values whole values a b p = from_second whole values p.0 a b p.1 (and_then-Some (with_right whole p.0) (term_of (before_first comma values)) line p.2)
+
     from_adds : (whole : List ℕ) → after_front (codes "  %") text ≡ Some whole → (values : List ℕ) × (after_front (codes "= add i64 ") (after_first space whole) ≡ Some values) × (with_values whole values ≡ Some line) → ReadsAdd text line
     from_adds whole a p = from_values whole p.0 a p.1 (and_then-Some (with_left whole p.0) (after_front (codes " ") (after_first comma p.0)) line p.2)
+
     from_whole : (whole : List ℕ) × (after_front (codes "  %") text ≡ Some whole) × (with_whole whole ≡ Some line) → ReadsAdd text line
     from_whole p = from_adds p.0 p.1 (and_then-Some (with_values p.0) (after_front (codes "= add i64 ") (after_first space p.0)) line p.2)
 
@@ -79,7 +84,7 @@ cut_at : (byte : ℕ) (text rest : List ℕ) (first : ℕ) → after_first (λ b
 cut_at byte text rest first follows =
     let found = cut-found (λ b. eqb b byte) text (subst (λ part. 0 < length part) (sym follows) (omega arith)) in
     found.1 ∙ (ap (λ b. before_first (λ c. eqb c byte) text ++ b ∷ after_first (λ c. eqb c byte) text) (eqb-true (get_or text (position_or_len (λ b. eqb b byte) text) 0) byte found.0)
-      ∙ ap (λ part. before_first (λ c. eqb c byte) text ++ byte ∷ part) follows)
+    ∙ ap (λ part. before_first (λ c. eqb c byte) text ++ byte ∷ part) follows)
 
 add_of-Some : (text : List ℕ) (line : Line) → add_of text ≡ Some line → (text ≡ text_of_line line) × IsLine line
 add_of-Some text line e = by (reads_add text line e)
@@ -145,10 +150,12 @@ print_of-Some text line e = from_argument (and_then-Some print_argument (after_f
         let term = term_of-Some spelling p.0 p.1 in
         let line_is : Print p.0 ≡ line = let last = p.2 in cc in
         let parts : text ≡ codes "  call void @print_i64(i64 " ++ (text_of_term p.0 ++ codes ")") =
-              after_front-Some (codes "  call void @print_i64(i64 ") text argument a ∙ ap (λ part. codes "  call void @print_i64(i64 " ++ part) (before_end-Some (codes ")") argument spelling b ∙ ap (λ part. part ++ codes ")") term.0) in
+        after_front-Some (codes "  call void @print_i64(i64 ") text argument a ∙ ap (λ part. codes "  call void @print_i64(i64 " ++ part) (before_end-Some (codes ")") argument spelling b ∙ ap (λ part. part ++ codes ")") term.0) in
         subst (λ l. (text ≡ text_of_line l) × IsLine l) line_is (parts ∙ sym (spelled-print p.0), term.1)
+
     from_spelling : (argument : List ℕ) → after_front (codes "  call void @print_i64(i64 ") text ≡ Some argument → (spelling : List ℕ) × (before_end (codes ")") argument ≡ Some spelling) × (print_steps spelling ≡ Some line) → (text ≡ text_of_line line) × IsLine line
     from_spelling argument a p = from_term argument p.0 a p.1 (and_then-Some (λ term. Some (Print term)) (term_of p.0) line p.2)
+
     from_argument : (argument : List ℕ) × (after_front (codes "  call void @print_i64(i64 ") text ≡ Some argument) × (print_argument argument ≡ Some line) → (text ≡ text_of_line line) × IsLine line
     from_argument p = from_spelling p.0 p.1 (and_then-Some print_steps (before_end (codes ")") p.0) line p.2)
 
@@ -173,6 +180,7 @@ return_of-Some text line e = from_spelling (and_then-Some (λ spelling. option_a
         let term = term_of-Some spelling p.0 p.1 in
         let line_is : Return p.0 ≡ line = let last = p.2 in cc in
         subst (λ l. (text ≡ text_of_line l) × IsLine l) line_is (after_front-Some (codes "  ret i64 ") text spelling a ∙ ap (λ part. codes "  ret i64 " ++ part) term.0, term.1)
+
     from_spelling : (spelling : List ℕ) × (after_front (codes "  ret i64 ") text ≡ Some spelling) × (option_and_then (λ term. Some (Return term)) (term_of spelling) ≡ Some line) → (text ≡ text_of_line line) × IsLine line
     from_spelling p = from_term p.0 p.1 (and_then-Some (λ term. Some (Return term)) (term_of p.0) line p.2)
 
@@ -204,6 +212,7 @@ line_of-Some text line e = by_add (add_of text) refl e
     by_print : (o : Option Line) → print_of text ≡ o → or_else o (return_of text) ≡ Some line → (text ≡ text_of_line line) × IsLine line
     by_print None _ rest = return_of-Some text line rest
     by_print (Some read) is rest = print_of-Some text line (is ∙ rest)
+
     by_add : (o : Option Line) → add_of text ≡ o → or_else o (or_else (print_of text) (return_of text)) ≡ Some line → (text ≡ text_of_line line) × IsLine line
     by_add None _ rest = by_print (print_of text) refl rest
     by_add (Some read) is rest = add_of-Some text line (is ∙ rest)

@@ -77,12 +77,16 @@ spelled-shape word below = by (ltb (2 * wrapped 64 word) (2 ^ 64)) refl
   where
     is_word : wrapped 64 word ≡ word
     is_word = omega arith
+
     last : suc (2 ^ 64 - suc word) ≡ 2 ^ 64 - word
     last = omega arith
+
     by : (b : Bool) → ltb (2 * wrapped 64 word) (2 ^ 64) ≡ b → ((word < 2 ^ 63) × (signed_decimal (if b then pos (wrapped 64 word) else pos (wrapped 64 word) -ℤ pos (2 ^ 64)) ≡ decimal word)) ⊎ ((2 ^ 63 ≤ word) × (signed_decimal (if b then pos (wrapped 64 word) else pos (wrapped 64 word) -ℤ pos (2 ^ 64)) ≡ 45 ∷ decimal (2 ^ 64 - word)))
     by true e = inl (omega (arith, ltb-true (2 * wrapped 64 word) (2 ^ 64) e), ap decimal is_word)
-    by false e = inr (omega (arith, ltb-false (2 * wrapped 64 word) (2 ^ 64) e),
-      ap (λ n. signed_decimal (pos n -ℤ pos (2 ^ 64))) is_word ∙ (ap signed_decimal (below_zero word (2 ^ 64) below) ∙ ap (λ n. 45 ∷ decimal n) last))
+    by false e = inr (
+      omega (arith, ltb-false (2 * wrapped 64 word) (2 ^ 64) e),
+      ap (λ n. signed_decimal (pos n -ℤ pos (2 ^ 64))) is_word ∙ (ap signed_decimal (below_zero word (2 ^ 64) below) ∙ ap (λ n. 45 ∷ decimal n) last),
+    )
 
 -- the first digit of a decimal, and the digits after it
 record IsHeaded (digits : List ℕ) : Type 0 where

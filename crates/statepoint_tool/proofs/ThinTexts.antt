@@ -138,6 +138,7 @@ read_line names text = by_line (line_of text) refl
     by_inst : (line : Line) → line_of text ≡ Some line → (o : Option Instruction) → instruction_of names line ≡ o → LineRead names text
     by_inst line read None none = Unread (ap (option_and_then (instruction_of names)) read ∙ none)
     by_inst line read (Some inst) stands = Stands line inst read stands
+
     by_line : (o : Option Line) → line_of text ≡ o → LineRead names text
     by_line None none = Unread (ap (option_and_then (instruction_of names)) none)
     by_line (Some line) read = by_inst line read (instruction_of names line) refl
@@ -161,8 +162,8 @@ body-Accepted [] names number insts e = absurd (let f : Refused number ≡ Accep
 body-Accepted (text ∷ texts) names number insts e = by_read (read_line names text) (λ inst more. body-Accepted texts (names_after names inst) (number + 1) more)
   where
     by_kind : (line : Line) (inst : Instruction) → line_of text ≡ Some line → instruction_of names line ≡ Some inst
-      → ((i : Instruction) (more : List Instruction) → body (names_after names i) (number + 1) texts ≡ Accepted more → IsBody (names_after names i) texts more)
-      → Kind line inst → body_rest names number texts inst ≡ Accepted insts → IsBody names (text ∷ texts) insts
+        → ((i : Instruction) (more : List Instruction) → body (names_after names i) (number + 1) texts ≡ Accepted more → IsBody (names_after names i) texts more)
+        → Kind line inst → body_rest names number texts inst ≡ Accepted insts → IsBody names (text ∷ texts) insts
     by_kind line inst read stands again (inl p) rest =
         let more = map-Accepted (λ (is : List Instruction). inst ∷ is) (body (names_after names inst) (number + 1) texts) insts (sym (body_rest-goes names number texts inst p.1) ∙ rest) in
         let spelling = line_of-Some text line read in
@@ -186,6 +187,7 @@ body-Accepted (text ∷ texts) names number insts e = by_read (read_line names t
           are_lines = (spelling.1, tt);
           in_scope = instructions_of-more names (Return p.0) [] inst [] (sym (ap (instruction_of names) p.1) ∙ stands) (instructions_of-nothing (names_after names inst)) ∙ ap Some more.2;
         }
+
     by_read : LineRead names text → ((i : Instruction) (more : List Instruction) → body (names_after names i) (number + 1) texts ≡ Accepted more → IsBody (names_after names i) texts more) → IsBody names (text ∷ texts) insts
     by_read (Unread none) again = absurd (let f : Refused number ≡ Accepted insts = sym (body-unread names number text texts none) ∙ e in cc)
     by_read (Stands line inst read stands) again = by_kind line inst read stands again (kind_of names line inst stands) (sym (body-inst names number text texts line inst read stands) ∙ e)
@@ -223,7 +225,7 @@ body-text (line ∷ steps) last names number insts are_steps are_lines scope =
     by parts.inst parts.more parts.stands (body-text steps last (names_after names parts.inst) (number + 1) parts.more are_steps.1 are_lines.1 parts.rest) (kind_of names line parts.inst parts.stands) ∙ ap Accepted parts.whole
   where
     by : (inst : Instruction) (more : List Instruction) → instruction_of names line ≡ Some inst → body (names_after names inst) (number + 1) (map text_of_line (steps ++ Return last ∷ []) ++ codes "}" ∷ []) ≡ Accepted more
-      → Kind line inst → body names number (text_of_line line ∷ (map text_of_line (steps ++ Return last ∷ []) ++ codes "}" ∷ [])) ≡ Accepted (inst ∷ more)
+        → Kind line inst → body names number (text_of_line line ∷ (map text_of_line (steps ++ Return last ∷ []) ++ codes "}" ∷ [])) ≡ Accepted (inst ∷ more)
     by inst more stands rest (inl p) =
         body-inst names number (text_of_line line) (map text_of_line (steps ++ Return last ∷ []) ++ codes "}" ∷ []) line inst (line_of-text line are_lines.0) stands
         ∙ (body_rest-goes names number (map text_of_line (steps ++ Return last ∷ []) ++ codes "}" ∷ []) inst p.1
@@ -251,8 +253,10 @@ thin_module-Accepted texts content e =
           in_scope = is.in_scope;
           stands_for = sym made;
         }
+
     from_insts : (left : Left) → texts ≡ head ++ left.lines → (insts : List Instruction) × (body [] left.number left.lines ≡ Accepted insts) × (module_of insts ≡ content) → IsThinText texts content
     from_insts left starts p = from_body left starts p.0 p.2 (body-Accepted left.lines [] left.number p.0 p.1)
+
     from_left : (left : Left) × (after_lines head (record { number = 1; lines = texts }) ≡ Accepted left) × (map_reading module_of (body [] left.number left.lines) ≡ Accepted content) → IsThinText texts content
     from_left p = from_insts p.0 (after_lines-Accepted head (record { number = 1; lines = texts }) p.0 p.1) (map-Accepted module_of (body [] p.0.number p.0.lines) content p.2)
 

@@ -6,5 +6,4 @@ ghost use Rattle.statepoint_tool.specs.ThinText.{AcceptsThinTexts, RefusesAtFirs
 pub fn thin_texts_are_read()
     ensures accepted { AcceptsThinTexts }
     ensures refused { RefusesAtFirstMisfit }
-{
-}
+{}
