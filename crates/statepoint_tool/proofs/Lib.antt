@@ -11,6 +11,7 @@ pub mod ThinBody
 pub mod ThinBytes
 pub mod ThinCuts
 pub mod ThinLaws
+pub mod ThinMisfits
 pub mod ThinNames
 pub mod ThinNumbers
 pub mod ThinReads

@@ -1,8 +1,8 @@
 -- A line is read exactly where it is the spelling of what is read.
-use Rattle.std.proofs.Common.{◌≡◌, ℕ, ◌+◌, ◌^◌, ◌<◌, ◌≤◌, Bool, true, false, not, cond, eqb, List, [], ◌∷◌, ◌++◌, length, codes, Option, Some, None, option_map, option_and_then, IsTrue, refl, sym, ap, subst, ◌∙◌, ◌&&◌, if◌then◌else◌, append_assoc, append-nil, length-append, get_or, arith}
-use Rattle.std.specs.List.{list_all, before_first, after_first, position_or_len}
+use Rattle.std.proofs.Common.{◌≡◌, ℕ, ◌<◌, Bool, true, eqb, List, ◌∷◌, ◌++◌, length, codes, Option, Some, None, option_and_then, refl, sym, ap, subst, ◌∙◌, if◌then◌else◌, append_assoc, get_or, arith}
+use Rattle.std.specs.List.{before_first, after_first, position_or_len}
 use Rattle.std.proofs.lemmas.Bool.{eqb-true}
-use Rattle.statepoint_tool.specs.ThinForms.{Term, Named, Number, Line, Add, Print, Return, spelled, is_name, after_front, before_end, number_of, term_of, add_of, print_of, return_of, line_of, or_else}
+use Rattle.statepoint_tool.specs.ThinForms.{Term, Line, Add, Print, Return, is_name, after_front, before_end, term_of, add_of, print_of, return_of, line_of, or_else}
 use Rattle.statepoint_tool.specs.ThinText.{text_of_term, text_of_line, IsTerm, IsLine}
 use Rattle.statepoint_tool.proofs.ThinCuts.{if-Some, after_front-Some, after_front-append, before_end-Some, before_end-append, before_first-append, after_first-append, cut-found}
 use Rattle.statepoint_tool.proofs.ThinSpelling.{and_then-Some, term_of-Some, term_of-text, term-no_comma, name-no_space}

@@ -1,13 +1,13 @@
 -- A line and its spelling.
-use Rattle.std.proofs.Common.{◌≡◌, ℕ, ◌+◌, ◌^◌, ◌<◌, ◌≤◌, Bool, true, false, not, cond, eqb, List, [], ◌∷◌, ◌++◌, length, codes, Option, Some, None, option_map, option_and_then, IsTrue, refl, sym, ap, subst, ◌∙◌, ◌&&◌, if◌then◌else◌, append_assoc, append-nil, length-append, get_or, arith}
-use Rattle.std.specs.List.{list_all, before_first, after_first, position_or_len}
+use Rattle.std.proofs.Common.{◌≡◌, ℕ, Bool, true, false, not, eqb, List, [], ◌∷◌, Option, Some, None, option_map, option_and_then, refl, sym, ap, subst, ◌∙◌, if◌then◌else◌, arith}
+use Rattle.std.specs.List.{list_all}
 use Rattle.std.specs.Char.{is_ascii_alphabetic, is_ascii_alphanumeric}
 use Rattle.std.proofs.lemmas.Bool.{eqb-true}
 use Rattle.std.proofs.lemmas.Bool.Decides.{nat_tests}
-use Rattle.statepoint_tool.specs.ThinForms.{Term, Named, Number, Line, Add, Print, Return, spelled, is_name, after_front, before_end, number_of, term_of, add_of, print_of, return_of, line_of, or_else}
-use Rattle.statepoint_tool.specs.ThinText.{text_of_term, text_of_line, IsTerm, IsLine}
-use Rattle.statepoint_tool.proofs.ThinCuts.{if-Some, and-both, after_front-Some, after_front-append, before_end-Some, before_end-append, before_first-append, after_first-append, cut-found}
-use Rattle.statepoint_tool.proofs.ThinNumbers.{number_of-Some, number_of-spelled, spelled-no_comma, BeginsNumber, spelled-begins}
+use Rattle.statepoint_tool.specs.ThinForms.{Term, Named, Number, is_name, number_of, term_of}
+use Rattle.statepoint_tool.specs.ThinText.{text_of_term, IsTerm}
+use Rattle.statepoint_tool.proofs.ThinCuts.{if-Some, and-both}
+use Rattle.statepoint_tool.proofs.ThinNumbers.{number_of-Some, number_of-spelled, spelled-no_comma, spelled-begins}
 
 pub and_then-Some : {A B : Type 0} (f : A → Option B) (o : Option A) (y : B) → option_and_then f o ≡ Some y → (x : A) × (o ≡ Some x) × (f x ≡ Some y)
 and_then-Some f None y e = absurd cc

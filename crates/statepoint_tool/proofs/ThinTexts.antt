@@ -1,5 +1,5 @@
 -- A text is accepted exactly where it is thin.
-use Rattle.std.proofs.Common.{◌≡◌, ℕ, ◌+◌, ◌^◌, ◌<◌, ◌≤◌, ◌⊎◌, inl, inr, Bool, true, false, not, List, [], ◌∷◌, ◌++◌, length, map, codes, Option, Some, None, option_map, option_and_then, IsTrue, refl, sym, ap, subst, ◌∙◌, if◌then◌else◌, arith}
+use Rattle.std.proofs.Common.{◌≡◌, ℕ, ◌+◌, ◌⊎◌, inl, inr, Bool, true, false, List, [], ◌∷◌, ◌++◌, map, codes, Option, Some, None, option_map, option_and_then, refl, sym, ap, subst, ◌∙◌, if◌then◌else◌}
 use Rattle.std.specs.List.{AllByRecursion, list_any}
 use Rattle.std.specs.Option.{option_map_or}
 use Rattle.std.specs.Str.{bytes_eq}
@@ -7,14 +7,14 @@ use Rattle.ir_ast.specs.Insts.{Instruction}
 use Rattle.ir_ast.specs.Modules.{ModuleContent}
 use Rattle.ir_ast.specs.Ops.{is_terminator}
 use Rattle.statepoint_tool.specs.ThinLines.{Left}
-use Rattle.statepoint_tool.specs.ThinForms.{Term, Named, Number, Line, Add, Print, Return, line_of}
+use Rattle.statepoint_tool.specs.ThinForms.{Term, Line, Add, Print, Return, line_of}
 use Rattle.statepoint_tool.specs.Thin.{Reading, Accepted, Refused, map_reading, then_reading, expected, expected_at, after_lines, head, closed, ended_at, body, operand_of, instruction_of, addition, printing, returning, names_after, module_of, thin_module}
-use Rattle.statepoint_tool.specs.ThinText.{text_of_line, IsTerm, IsLine, IsStep, instructions_of, IsThinText}
+use Rattle.statepoint_tool.specs.ThinText.{text_of_line, IsLine, IsStep, instructions_of, IsThinText}
 use Rattle.statepoint_tool.proofs.ThinCuts.{bytes_eq-same, bytes_eq-yes}
 use Rattle.statepoint_tool.proofs.ThinSpelling.{and_then-Some, map-Some}
 use Rattle.statepoint_tool.proofs.ThinLaws.{line_of-Some, line_of-text}
 
-map-Accepted : {A B : Type 0} (f : A → B) (r : Reading A) (b : B) → map_reading f r ≡ Accepted b → (a : A) × (r ≡ Accepted a) × (f a ≡ b)
+pub map-Accepted : {A B : Type 0} (f : A → B) (r : Reading A) (b : B) → map_reading f r ≡ Accepted b → (a : A) × (r ≡ Accepted a) × (f a ≡ b)
 map-Accepted f (Accepted a) b e = (a, refl, cc)
 map-Accepted f (Refused n) b e = absurd cc
 
@@ -37,7 +37,7 @@ expected-Accepted : (want : List ℕ) (left next : Left) → expected want left 
 unfolding expected
 expected-Accepted want left next e = expected_at-Accepted want left.number left.lines next e
 
-expected-first : (want : List ℕ) (number : ℕ) (texts : List (List ℕ)) → expected want (record { number = number; lines = want ∷ texts }) ≡ Accepted (record { number = number + 1; lines = texts })
+pub expected-first : (want : List ℕ) (number : ℕ) (texts : List (List ℕ)) → expected want (record { number = number; lines = want ∷ texts }) ≡ Accepted (record { number = number + 1; lines = texts })
 unfolding expected
 expected-first want number texts = rw (bytes_eq-yes want want refl) refl
 
@@ -64,7 +64,7 @@ closed-Accepted left mid e =
     let p = then-Accepted (λ rest. ended_at rest.number rest.lines) (expected (codes "}") left) mid e in
     expected-Accepted (codes "}") left p.0 p.1 ∙ ap (λ lines. codes "}" ∷ lines) (ended_at-Accepted p.0.number p.0.lines mid p.2)
 
-closed-brace : (number : ℕ) → closed (record { number = number; lines = codes "}" ∷ [] }) ≡ Accepted (record { number = number + 1; lines = [] })
+pub closed-brace : (number : ℕ) → closed (record { number = number; lines = codes "}" ∷ [] }) ≡ Accepted (record { number = number + 1; lines = [] })
 unfolding closed
 closed-brace number = ap (λ r. then_reading r (λ (rest : Left). ended_at rest.number rest.lines)) (expected-first (codes "}") number [])
 
@@ -99,17 +99,17 @@ record IsBody (names : List (List ℕ)) (texts : List (List ℕ)) (insts : List 
   in_scope : instructions_of names (steps ++ Return last ∷ []) ≡ Some insts
 
 -- one line of the reading
-abbrev body_rest : List (List ℕ) → ℕ → List (List ℕ) → Instruction → Reading (List Instruction)
+abbrev pub body_rest : List (List ℕ) → ℕ → List (List ℕ) → Instruction → Reading (List Instruction)
 body_rest names number texts inst =
     if is_terminator inst.op
     then map_reading (λ _. inst ∷ []) (closed (record { number = number + 1; lines = texts }))
     else map_reading (λ insts. inst ∷ insts) (body (names_after names inst) (number + 1) texts)
 
-body_rest-goes : (names : List (List ℕ)) (number : ℕ) (texts : List (List ℕ)) (inst : Instruction) → is_terminator inst.op ≡ false → body_rest names number texts inst ≡ map_reading (λ insts. inst ∷ insts) (body (names_after names inst) (number + 1) texts)
+pub body_rest-goes : (names : List (List ℕ)) (number : ℕ) (texts : List (List ℕ)) (inst : Instruction) → is_terminator inst.op ≡ false → body_rest names number texts inst ≡ map_reading (λ insts. inst ∷ insts) (body (names_after names inst) (number + 1) texts)
 body_rest-goes names number texts inst goes =
     ap (λ b. if b then map_reading (λ _. inst ∷ []) (closed (record { number = number + 1; lines = texts })) else map_reading (λ (insts : List Instruction). inst ∷ insts) (body (names_after names inst) (number + 1) texts)) goes
 
-body_rest-ends : (names : List (List ℕ)) (number : ℕ) (texts : List (List ℕ)) (inst : Instruction) → is_terminator inst.op ≡ true → body_rest names number texts inst ≡ map_reading (λ _. inst ∷ []) (closed (record { number = number + 1; lines = texts }))
+pub body_rest-ends : (names : List (List ℕ)) (number : ℕ) (texts : List (List ℕ)) (inst : Instruction) → is_terminator inst.op ≡ true → body_rest names number texts inst ≡ map_reading (λ _. inst ∷ []) (closed (record { number = number + 1; lines = texts }))
 body_rest-ends names number texts inst ends =
     ap (λ b. if b then map_reading (λ _. inst ∷ []) (closed (record { number = number + 1; lines = texts })) else map_reading (λ (insts : List Instruction). inst ∷ insts) (body (names_after names inst) (number + 1) texts)) ends
 
@@ -117,22 +117,22 @@ body-line : (names : List (List ℕ)) (number : ℕ) (text : List ℕ) (texts : 
 unfolding body
 body-line names number text texts = refl
 
-body-inst : (names : List (List ℕ)) (number : ℕ) (text : List ℕ) (texts : List (List ℕ)) (line : Line) (inst : Instruction) → line_of text ≡ Some line → instruction_of names line ≡ Some inst
+pub body-inst : (names : List (List ℕ)) (number : ℕ) (text : List ℕ) (texts : List (List ℕ)) (line : Line) (inst : Instruction) → line_of text ≡ Some line → instruction_of names line ≡ Some inst
     → body names number (text ∷ texts) ≡ body_rest names number texts inst
 body-inst names number text texts line inst read stands =
     body-line names number text texts
     ∙ (ap (λ o. option_map_or (body_rest names number texts) (option_and_then (instruction_of names) o) (Refused number)) read
     ∙ ap (λ o. option_map_or (body_rest names number texts) o (Refused number)) stands)
 
-body-unread : (names : List (List ℕ)) (number : ℕ) (text : List ℕ) (texts : List (List ℕ)) → option_and_then (instruction_of names) (line_of text) ≡ None → body names number (text ∷ texts) ≡ Refused number
+pub body-unread : (names : List (List ℕ)) (number : ℕ) (text : List ℕ) (texts : List (List ℕ)) → option_and_then (instruction_of names) (line_of text) ≡ None → body names number (text ∷ texts) ≡ Refused number
 body-unread names number text texts none = body-line names number text texts ∙ ap (λ o. option_map_or (body_rest names number texts) o (Refused number)) none
 
 -- the reading of a line, or none
-data LineRead (names : List (List ℕ)) (text : List ℕ) : Type 0 where
+pub data LineRead (names : List (List ℕ)) (text : List ℕ) : Type 0 where
   Unread : option_and_then (instruction_of names) (line_of text) ≡ None → LineRead names text
   Stands : (line : Line) (inst : Instruction) → line_of text ≡ Some line → instruction_of names line ≡ Some inst → LineRead names text
 
-read_line : (names : List (List ℕ)) (text : List ℕ) → LineRead names text
+pub read_line : (names : List (List ℕ)) (text : List ℕ) → LineRead names text
 read_line names text = by_line (line_of text) refl
   where
     by_inst : (line : Line) → line_of text ≡ Some line → (o : Option Instruction) → instruction_of names line ≡ o → LineRead names text
@@ -153,7 +153,7 @@ instructions_of-nothing : (names : List (List ℕ)) → instructions_of names []
 unfolding instructions_of
 instructions_of-nothing names = refl
 
-body-none : (names : List (List ℕ)) (number : ℕ) → body names number [] ≡ Refused number
+pub body-none : (names : List (List ℕ)) (number : ℕ) → body names number [] ≡ Refused number
 unfolding body
 body-none names number = refl
 
@@ -233,7 +233,7 @@ body-text (line ∷ steps) last names number insts are_steps are_lines scope =
     by inst more stands rest (inr p) = absurd (subst IsStep p.1 are_steps.0)
 
 -- the law
-thin_module-steps : (texts : List (List ℕ)) → thin_module texts ≡ then_reading (after_lines head (record { number = 1; lines = texts })) (λ left. map_reading module_of (body [] left.number left.lines))
+pub thin_module-steps : (texts : List (List ℕ)) → thin_module texts ≡ then_reading (after_lines head (record { number = 1; lines = texts })) (λ left. map_reading module_of (body [] left.number left.lines))
 unfolding thin_module
 thin_module-steps texts = refl
 

@@ -1,10 +1,10 @@
 -- What a thin text is: the printed lines of instructions that define each name once and before its use.
-use Rattle.std.specs.Prelude.{◌≡◌, ℕ, ◌+◌, ◌-◌, ◌^◌, ◌<◌, ◌≤◌, ◌↔◌, Bool, true, false, not, IsTrue, List, [], ◌∷◌, ◌++◌, length, take, map, codes, Option, Some, None, option_map, option_and_then}
+use Rattle.std.specs.Prelude.{◌≡◌, ℕ, ◌+◌, ◌-◌, ◌^◌, ◌<◌, ◌≤◌, ◌↔◌, IsTrue, List, [], ◌∷◌, ◌++◌, length, take, map, codes, Option, Some, option_map, option_and_then}
 use Rattle.std.specs.List.{AllByRecursion}
 use Rattle.ir_ast.specs.Insts.{Instruction}
 use Rattle.ir_ast.specs.Modules.{ModuleContent}
 use Rattle.statepoint_tool.specs.ThinForms.{Term, Named, Number, Line, Add, Print, Return, spelled, is_name}
-use Rattle.statepoint_tool.specs.Thin.{Reading, Accepted, Refused, head, instruction_of, names_after, module_of, thin_module}
+use Rattle.statepoint_tool.specs.Thin.{Accepted, Refused, head, instruction_of, names_after, module_of, thin_module}
 
 -- how an operand and a line are spelled
 unfoldable pub text_of_term : Term → List ℕ

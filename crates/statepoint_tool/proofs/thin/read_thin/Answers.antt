@@ -2,7 +2,7 @@ use Rattle.std.proofs.Common.{◌≡◌, ◌∙◌, [], sym, ap}
 use Rattle.std.specs.Str.Lines.{lines}
 use Rattle.std.proofs.lemmas.Result.{err_from_is_err_and}
 use Rattle.statepoint_tool.specs.declared.thin.ThinFault.TheVariants.{NotYet}
-use Rattle.statepoint_tool.specs.Thin.{Accepted, Refused, map_reading, module_of, after_lines, head, body, thin_module}
+use Rattle.statepoint_tool.specs.Thin.{Accepted, Refused, map_reading, module_of, after_lines, head, body}
 use Rattle.statepoint_tool.proofs.ThinReads.{AtLine-at, thin-head_stops, thin-body}
 use Rattle.statepoint_tool.proofs.thin.read_thin.Goals as goal
 
