@@ -26,9 +26,9 @@ pub closed-stops : (left : Left) (line : ℕ) → expected (codes "}") left ≡ 
 unfolding closed
 closed-stops left line stops = ap (λ r. then_reading r (λ rest. ended_at rest.number rest.lines)) stops
 
-pub closed-more : (left mid : Left) (text : List ℕ) (texts : List (List ℕ)) → expected (codes "}") left ≡ Accepted mid → mid.lines ≡ text ∷ texts → closed left ≡ Refused mid.number
+pub closed-more : (left mid : Left) (text : List ℕ) (texts : List (List ℕ)) (line : ℕ) → expected (codes "}") left ≡ Accepted mid → mid.lines ≡ text ∷ texts → line ≡ mid.number → closed left ≡ Refused line
 unfolding closed
-closed-more left mid text texts brace more = ap (λ r. then_reading r (λ rest. ended_at rest.number rest.lines)) brace ∙ ap (ended_at mid.number) more
+closed-more left mid text texts line brace more at = ap (λ r. then_reading r (λ (rest : Left). ended_at rest.number rest.lines)) brace ∙ (ap (ended_at mid.number) more ∙ ap Refused (sym at))
 
 pub closed-none : (left mid : Left) → expected (codes "}") left ≡ Accepted mid → mid.lines ≡ [] → closed left ≡ Accepted mid
 unfolding closed

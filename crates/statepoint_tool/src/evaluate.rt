@@ -165,17 +165,15 @@ pub enum Effect {
 fn effect_of(values: &[u64], inst: &Inst) -> Effect
     ensures { result ≡ effect_at values.now inst.now }
 {
+    let first = word_at(values, inst.operands(), 0);
+    let second = word_at(values, inst.operands(), 1);
     match inst.op() {
-        Op::Add => Effect::Defines(word_at(values, inst.operands(), 0).wrapping_add(word_at(
-            values,
-            inst.operands(),
-            1,
-        ))),
+        Op::Add => Effect::Defines(first.wrapping_add(second)),
         Op::Call {
             callee: Callee::Print,
             ..
-        } => Effect::Prints(word_at(values, inst.operands(), 0)),
-        Op::Ret => Effect::Returns(word_at(values, inst.operands(), 0)),
+        } => Effect::Prints(first),
+        Op::Ret => Effect::Returns(first),
         _ => Effect::Nothing,
     }
 }

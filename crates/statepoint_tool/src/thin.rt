@@ -119,9 +119,10 @@ fn close(rest: &mut Lines) -> Result<(), ThinFault>
     ensures { Reads (λ _. rest.new) result (closed rest.old) }
 {
     expect(rest, b"}")?;
+    let line = rest.number();
     match rest.next_line() {
-        Some((line, _)) => Err(ThinFault::NotYet { line }),
         None => Ok(()),
+        Some(_) => Err(ThinFault::NotYet { line }),
     }
 }
 
