@@ -1,6 +1,6 @@
 -- What a contract sees of a `Block`.
 use Rattle.std.specs.Prelude.{◌≡◌, ℕ, true, not, List, [], ◌∷◌, ◌++◌}
-use Rattle.std.specs.List.{AllPass}
+use Rattle.std.specs.List.{list_all}
 use Rattle.ir_ast.specs.Insts.{Instruction}
 use Rattle.ir_ast.specs.Ops.{is_terminator}
 
@@ -14,4 +14,4 @@ pub record EndsAtTerminator (insts : List Instruction) : Type 0 where
   pub last : Instruction
   pub whole : insts ≡ before ++ last ∷ []
   pub ends : is_terminator last.op ≡ true
-  pub inside : AllPass (λ inst. not (is_terminator inst.op)) before
+  pub inside : list_all (λ inst. not (is_terminator inst.op)) before ≡ true

@@ -1,13 +1,16 @@
 ghost use Rattle.std.specs.Prelude.{◌≡◌};
 ghost use Rattle.ir_ast.specs.Blocks.{EndsAtTerminator};
 
+use crate::clones::{TryClone, try_clone_all};
 use crate::insts::Inst;
 use crate::names::Name;
+use sp_ids::Memory;
+use std::alloc::Global;
 use std::marker::Model;
 
 /// A basic block: its name and its instructions, of which the last and no other is a terminator (LLVM
 /// Language Reference, "Functions"). Contracts see a `BasicBlock`.
-#[derive(Drop)]
+#[derive(Debug, Drop)]
 pub struct Block {
     name: Name,
     insts: Vec<Inst>,
@@ -41,16 +44,27 @@ impl Block {
         (self.name, self.insts)
     }
 
+    /// Its name, without the `:`.
     pub fn name(&self) -> &Name
         ensures { result.now ≡ self.now.name }
     {
         &self.name
     }
 
+    /// Its instructions, the terminator last.
     pub fn insts(&self) -> &[Inst]
         ensures value { result.now ≡ self.now.insts }
         ensures ends { EndsAtTerminator self.now.insts }
     {
         self.insts.as_slice()
+    }
+}
+
+impl TryClone for Block {
+    fn try_clone_in(&self, alloc: Global) -> Result<Block, Memory> {
+        Ok(Block {
+            name: self.name.try_clone_in(alloc)?,
+            insts: try_clone_all(alloc, self.insts.as_slice())?,
+        })
     }
 }

@@ -2,8 +2,11 @@ ghost use Rattle.std.specs.Prelude.{◌≡◌, length, replicate, slice_index};
 ghost use Rattle.ir_ast.specs.Funcs.{instructions_of, IsSmall};
 
 use crate::blocks::Block;
+use crate::clones::{TryClone, try_clone_all};
 use crate::names::Name;
 use crate::types::Ty;
+use sp_ids::Memory;
+use std::alloc::Global;
 use std::marker::Model;
 
 /// An argument of a function.
@@ -16,7 +19,7 @@ pub struct Arg {
 /// A defined function with the strategy `statepoint-example`. Contracts see its content, a `Function`,
 /// and beside it its lines: for each instruction, in text order, the number of its line in the text
 /// that was read, or 0. It has fewer than 2^30 arguments, blocks and instructions.
-#[derive(Drop)]
+#[derive(Debug, Drop)]
 pub struct Func {
     name: Name,
     answer: Ty,
@@ -82,18 +85,21 @@ impl Func {
         (self.name, self.answer, self.args, self.blocks)
     }
 
+    /// Its name, without the `@`.
     pub fn name(&self) -> &Name
         ensures { result.now ≡ self.now.content.name }
     {
         &self.name
     }
 
+    /// The type that it answers.
     pub fn answer(&self) -> &Ty
         ensures { result.now ≡ self.now.content.answer }
     {
         &self.answer
     }
 
+    /// Its arguments.
     pub fn args(&self) -> &[Arg]
         ensures value { result.now ≡ self.now.content.args }
         ensures small { IsSmall self.now.content.args self.now.content.blocks }
@@ -101,6 +107,7 @@ impl Func {
         self.args.as_slice()
     }
 
+    /// Its blocks, the entry first.
     pub fn blocks(&self) -> &[Block]
         ensures value { result.now ≡ self.now.content.blocks }
         ensures small { IsSmall self.now.content.args self.now.content.blocks }
@@ -114,5 +121,26 @@ impl Func {
         ensures { result ≡ slice_index self.now.lines place }
     {
         self.lines.get(place as usize).copied().unwrap_or(0)
+    }
+}
+
+impl TryClone for Arg {
+    fn try_clone_in(&self, alloc: Global) -> Result<Arg, Memory> {
+        Ok(Arg {
+            name: self.name.try_clone_in(alloc)?,
+            ty: self.ty,
+        })
+    }
+}
+
+impl TryClone for Func {
+    fn try_clone_in(&self, alloc: Global) -> Result<Func, Memory> {
+        Ok(Func {
+            name: self.name.try_clone_in(alloc)?,
+            answer: self.answer,
+            args: try_clone_all(alloc, self.args.as_slice())?,
+            blocks: try_clone_all(alloc, self.blocks.as_slice())?,
+            lines: Vec::from_slice(alloc, self.lines.as_slice())?,
+        })
     }
 }

@@ -1,9 +1,12 @@
 ghost use Rattle.std.specs.Prelude.{◌≡◌};
 
+use crate::clones::TryClone;
 use crate::names::Name;
 use crate::ops::{Op, Operand, Operands};
 use crate::types::Ty;
-use sp_ids::BlockId;
+use smallvec::SmallVec;
+use sp_ids::{BlockId, Memory};
+use std::alloc::Global;
 use std::marker::Model;
 
 /// An instruction. Its parts follow its line; contracts see an `Instruction`.
@@ -13,7 +16,7 @@ use std::marker::Model;
 /// condition, the callee's answer for a call or a statepoint, and `Void` where the line has none.
 /// A statepoint has its arguments first and then its "gc-live" entries, a relocate its token and its two
 /// indices as `Int`, a switch its value and then its case values, with its default label first.
-#[derive(Drop)]
+#[derive(Debug, Drop)]
 pub struct Inst {
     result: Option<Name>,
     op: Op,
@@ -95,39 +98,58 @@ impl Inst {
         )
     }
 
+    /// The name of its result, if it has one.
     pub fn result(&self) -> &Option<Name>
         ensures { result.now ≡ self.now.result }
     {
         &self.result
     }
 
+    /// Its operator.
     pub fn op(&self) -> &Op
         ensures { result.now ≡ self.now.op }
     {
         &self.op
     }
 
+    /// The type of its line.
     pub fn ty(&self) -> &Ty
         ensures { result.now ≡ self.now.ty }
     {
         &self.ty
     }
 
+    /// Its operands, in the order of its line.
     pub fn operands(&self) -> &[Operand]
         ensures { result.now ≡ self.now.operands }
     {
         self.operands.as_slice()
     }
 
+    /// Its labels, in the order of its line.
     pub fn labels(&self) -> &[BlockId]
         ensures { result.now ≡ self.now.labels }
     {
         self.labels.as_slice()
     }
 
+    /// The operands of its "deopt" bundle, with their types.
     pub fn bundle(&self) -> &[(Ty, Operand)]
         ensures { result.now ≡ self.now.bundle }
     {
         self.bundle.as_slice()
+    }
+}
+
+impl TryClone for Inst {
+    fn try_clone_in(&self, alloc: Global) -> Result<Inst, Memory> {
+        Ok(Inst {
+            result: self.result.try_clone_in(alloc)?,
+            op: self.op.try_clone_in(alloc)?,
+            ty: self.ty,
+            operands: SmallVec::from_slice(alloc, self.operands.as_slice())?,
+            labels: Vec::from_slice(alloc, self.labels.as_slice())?,
+            bundle: Vec::from_slice(alloc, self.bundle.as_slice())?,
+        })
     }
 }

@@ -1,7 +1,10 @@
 ghost use Rattle.std.specs.Prelude.{◌≡◌};
 
 use crate::cells::Cell;
+use crate::clones::TryClone;
 use crate::names::Name;
+use sp_ids::Memory;
+use std::alloc::Global;
 use std::marker::Model;
 
 /// A layout `%T = type { .. }`: its name and its cells, one per field (LLVM Language Reference,
@@ -36,15 +39,26 @@ impl Layout {
         (self.name, self.fields)
     }
 
+    /// Its name, without the `%`.
     pub fn name(&self) -> &Name
         ensures { result.now ≡ self.now.name }
     {
         &self.name
     }
 
+    /// Its cells, one per field.
     pub fn fields(&self) -> &[Cell]
         ensures { result.now ≡ self.now.fields }
     {
         self.fields.as_slice()
+    }
+}
+
+impl TryClone for Layout {
+    fn try_clone_in(&self, alloc: Global) -> Result<Layout, Memory> {
+        Ok(Layout {
+            name: self.name.try_clone_in(alloc)?,
+            fields: Vec::from_slice(alloc, self.fields.as_slice())?,
+        })
     }
 }

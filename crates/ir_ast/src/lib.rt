@@ -3,6 +3,7 @@
 
 mod blocks;
 mod cells;
+mod clones;
 mod funcs;
 mod insts;
 mod layouts;
@@ -22,3 +23,6 @@ pub use names::Name;
 pub use ops::{Callee, Elem, Op, Operand, Operands, Pred};
 pub use tables::{BaseTable, LiveTable};
 pub use types::{Ty, Types};
+
+#[cfg(test)]
+mod tests;

@@ -1,10 +1,12 @@
-ghost use Rattle.std.specs.Prelude.{◌≡◌, ◌^◌, ◌<◌, length, map};
+ghost use Rattle.std.specs.Prelude.{◌≡◌, ◌^◌, ◌<◌, length, map, IfOk};
 ghost use Rattle.ir_ast.specs.Funcs.{content_of, lines_of};
 ghost use Rattle.ir_ast.specs.Modules.{line_at};
 
+use crate::clones::try_clone_all;
 use crate::funcs::Func;
 use crate::layouts::Layout;
-use sp_ids::FuncId;
+use sp_ids::{FuncId, Memory};
+use std::alloc::Global;
 use std::marker::Model;
 
 /// Which forms the lines of a module have.
@@ -18,7 +20,7 @@ pub enum Form {
 
 /// A module: its layouts, its functions and its form. Contracts see its content, a `ModuleContent`, and
 /// beside it the lines of each function. It has fewer than 2^32 layouts and functions.
-#[derive(Drop)]
+#[derive(Debug, Drop)]
 pub struct Module {
     layouts: Vec<Layout>,
     funcs: Vec<Func>,
@@ -67,6 +69,7 @@ impl Module {
         (self.layouts, self.funcs, self.form)
     }
 
+    /// Its layouts.
     pub fn layouts(&self) -> &[Layout]
         ensures value { result.now ≡ self.now.content.layouts }
         ensures few { length result.now < 2 ^ 32 }
@@ -74,6 +77,7 @@ impl Module {
         self.layouts.as_slice()
     }
 
+    /// Its functions.
     pub fn funcs(&self) -> &[Func]
         ensures content { map content_of result.now ≡ self.now.content.funcs }
         ensures lines { map lines_of result.now ≡ self.now.lines }
@@ -82,10 +86,22 @@ impl Module {
         self.funcs.as_slice()
     }
 
+    /// Its form.
     pub fn form(&self) -> Form
         ensures { result ≡ self.now.content.form }
     {
         self.form
+    }
+
+    /// A copy of the module, its lines included.
+    pub fn try_clone(&self, alloc: Global) -> Result<Module, Memory>
+        ensures { IfOk result (λ copy. copy ≡ self.now) }
+    {
+        Ok(Module {
+            layouts: try_clone_all(alloc, self.layouts.as_slice())?,
+            funcs: try_clone_all(alloc, self.funcs.as_slice())?,
+            form: self.form,
+        })
     }
 
     /// The line of an instruction in the text that the module was read from, or 0 where the module

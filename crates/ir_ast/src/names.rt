@@ -1,5 +1,8 @@
 ghost use Rattle.std.specs.Prelude.{◌≡◌};
 
+use crate::clones::TryClone;
+use sp_ids::Memory;
+use std::alloc::Global;
 use std::marker::Model;
 
 /// A name without its `%` or `@` (LLVM Language Reference, "Identifiers"). Contracts see the list of
@@ -32,9 +35,18 @@ impl Name {
         self.bytes
     }
 
+    /// Its bytes.
     pub fn bytes(&self) -> &[u8]
         ensures { result.now ≡ self.now }
     {
         self.bytes.as_slice()
+    }
+}
+
+impl TryClone for Name {
+    fn try_clone_in(&self, alloc: Global) -> Result<Name, Memory> {
+        Ok(Name {
+            bytes: Vec::from_slice(alloc, self.bytes.as_slice())?,
+        })
     }
 }

@@ -1,9 +1,11 @@
 ghost use Rattle.std.specs.Prelude.{◌≡◌};
 ghost use Rattle.ir_ast.specs.Ops.{is_terminator};
 
+use crate::clones::TryClone;
 use crate::types::Types;
 use smallvec::SmallVec;
-use sp_ids::{FuncId, ValueId};
+use sp_ids::{FuncId, Memory, ValueId};
+use std::alloc::Global;
 
 /// An operand of an instruction.
 #[derive(Clone, Copy, Debug, Default, PartialEq, Eq)]
@@ -133,5 +135,58 @@ impl Op {
             self,
             Op::Br | Op::CondBr | Op::Switch | Op::Ret | Op::Unreachable
         )
+    }
+}
+
+impl TryClone for Op {
+    fn try_clone_in(&self, alloc: Global) -> Result<Op, Memory> {
+        match self {
+            Op::Add => Ok(Op::Add),
+            Op::Sub => Ok(Op::Sub),
+            Op::Mul => Ok(Op::Mul),
+            Op::Udiv => Ok(Op::Udiv),
+            Op::Sdiv => Ok(Op::Sdiv),
+            Op::Urem => Ok(Op::Urem),
+            Op::Srem => Ok(Op::Srem),
+            Op::And => Ok(Op::And),
+            Op::Or => Ok(Op::Or),
+            Op::Xor => Ok(Op::Xor),
+            Op::Shl => Ok(Op::Shl),
+            Op::Lshr => Ok(Op::Lshr),
+            Op::Ashr => Ok(Op::Ashr),
+            Op::Icmp(pred) => Ok(Op::Icmp(*pred)),
+            Op::Trunc(width) => Ok(Op::Trunc(*width)),
+            Op::Zext(width) => Ok(Op::Zext(*width)),
+            Op::Sext(width) => Ok(Op::Sext(*width)),
+            Op::Select => Ok(Op::Select),
+            Op::Phi => Ok(Op::Phi),
+            Op::Gep {
+                elem,
+                index_width,
+                place,
+            } => Ok(Op::Gep {
+                elem: *elem,
+                index_width: *index_width,
+                place: *place,
+            }),
+            Op::Load => Ok(Op::Load),
+            Op::Store => Ok(Op::Store),
+            Op::Call { callee, types } => Ok(Op::Call {
+                callee: *callee,
+                types: types.try_clone_in(alloc)?,
+            }),
+            Op::Statepoint { id, callee, types } => Ok(Op::Statepoint {
+                id: *id,
+                callee: *callee,
+                types: types.try_clone_in(alloc)?,
+            }),
+            Op::GcResult => Ok(Op::GcResult),
+            Op::GcRelocate => Ok(Op::GcRelocate),
+            Op::Br => Ok(Op::Br),
+            Op::CondBr => Ok(Op::CondBr),
+            Op::Switch => Ok(Op::Switch),
+            Op::Ret => Ok(Op::Ret),
+            Op::Unreachable => Ok(Op::Unreachable),
+        }
     }
 }

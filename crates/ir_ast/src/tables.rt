@@ -5,7 +5,7 @@ use sp_ids::ValueId;
 use std::marker::Model;
 
 /// The base of each value of a function. Contracts see a list of operands, by the value's number.
-#[derive(Drop)]
+#[derive(Debug, Drop)]
 pub struct BaseTable {
     bases: Vec<Operand>,
 }
@@ -34,6 +34,7 @@ impl BaseTable {
         self.bases
     }
 
+    /// The bases, by the value's number.
     pub fn bases(&self) -> &[Operand]
         ensures { result.now ≡ self.now }
     {
@@ -43,7 +44,7 @@ impl BaseTable {
 
 /// The values that are live across each call that isn't a leaf, in text order. Contracts see a list of
 /// lists.
-#[derive(Drop)]
+#[derive(Debug, Drop)]
 pub struct LiveTable {
     lists: Vec<Vec<ValueId>>,
 }
@@ -72,6 +73,7 @@ impl LiveTable {
         self.lists
     }
 
+    /// The live values of each call.
     pub fn lists(&self) -> &[Vec<ValueId>]
         ensures { map (λ list. list.items) result.now ≡ self.now }
     {

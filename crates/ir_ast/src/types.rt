@@ -1,5 +1,8 @@
 ghost use Rattle.std.specs.Prelude.{◌≡◌};
 
+use crate::clones::TryClone;
+use sp_ids::Memory;
+use std::alloc::Global;
 use std::marker::Model;
 
 /// A type of the profile (LLVM Language Reference, "Type System").
@@ -44,9 +47,18 @@ impl Types {
         self.list
     }
 
+    /// The types, in their order.
     pub fn list(&self) -> &[Ty]
         ensures { result.now ≡ self.now }
     {
         self.list.as_slice()
+    }
+}
+
+impl TryClone for Types {
+    fn try_clone_in(&self, alloc: Global) -> Result<Types, Memory> {
+        Ok(Types {
+            list: Vec::from_slice(alloc, self.list.as_slice())?,
+        })
     }
 }

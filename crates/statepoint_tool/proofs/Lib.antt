@@ -1,3 +1,11 @@
+pub mod StepBounds
+pub mod GivenLaws
+pub mod ReadsLaws
+pub mod WorksLaws
+pub mod NamedLaws
+pub mod CauseLaws
+pub mod AnswerLaws
+pub mod CompleteLaws
 pub mod SourceRuns
 pub mod ThinBody
 pub mod ThinBytes

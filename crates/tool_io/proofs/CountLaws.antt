@@ -1,5 +1,5 @@
 -- How counts of faults compose over several calls.
-use Rattle.std.proofs.Common.{◌≡◌, ℕ, ◌+◌, ◌-◌, ◌^◌, ◌<◌, ◌≤◌, min, List, arith}
+use Rattle.std.proofs.Common.{ℕ, ◌-◌, ◌^◌, ◌<◌, ◌≤◌, List, Result, Ok, Err, OnErr, IsOk, refl, arith}
 use Rattle.tool_io.specs.Counts.{raised, Rose, NoneFell}
 
 -- one fault more
@@ -40,3 +40,8 @@ Rose-then-none_fell {mid} {now} before name rose stayed = Rose-later before (mid
 -- no count fell, and then a name's count rose
 pub Rose-after-none_fell : {before mid : List ℕ → ℕ} → (now : ℕ) (name : List ℕ) → NoneFell before mid → Rose (mid name) now → Rose (before name) now
 Rose-after-none_fell {before} {mid} now name stayed rose = Rose-earlier (before name) (mid name) now (stayed.at name) rose
+
+-- a call that answers an error only where a count rose answers `Ok` where it didn't
+pub IsOk-from_no_fault : {T E : Type 0} → (result : Result T E) (before now : ℕ) → OnErr result (Rose before now) → (Rose before now → ⊥) → IsOk result
+IsOk-from_no_fault (Ok _) before now rose none = refl
+IsOk-from_no_fault (Err _) before now rose none = absurd (none rose)

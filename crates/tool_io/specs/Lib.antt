@@ -1,3 +1,4 @@
+pub mod Adapters
 pub mod Counts
 pub mod FilesInMemory
 pub mod NamedFiles

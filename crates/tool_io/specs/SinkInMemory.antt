@@ -1,5 +1,5 @@
 -- A sink in memory: its bytes, the room that they may fill, and the calls that are to fail.
-use Rattle.std.specs.Prelude.{◌≡◌, ℕ, ◌+◌, ◌==◌, nat_lt, if◌then◌else◌, List, [], ◌∷◌, ◌++◌, find, length, take, Option, Some, None, Result, Ok, Err}
+use Rattle.std.specs.Prelude.{ℕ, ◌+◌, ◌==◌, nat_lt, if◌then◌else◌, List, [], ◌++◌, find, length, take, Option, Some, None}
 use Rattle.std.specs.Option.{option_map}
 use Rattle.tool_io.specs.Counts.{raised}
 use Rattle.tool_io.specs.declared.mem_sink.FailingPut.{FailingPut}

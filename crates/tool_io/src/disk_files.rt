@@ -1,4 +1,6 @@
-ghost use Rattle.std.specs.Prelude.{◌≡◌, ◌<◌, ◌≤◌, None, length, vec_len, IfOk, IfSome, IsErrOf};
+ghost use Rattle.std.specs.Prelude.{◌≡◌, ◌+◌, ◌<◌, ◌≤◌, ◌≢◌, None, Err, length, vec_len, IfOk, IfSome, IsErrOf};
+ghost use Rattle.tool_io.specs.Adapters.{GivesCount};
+ghost use Rattle.tool_io.specs.Counts.{Rose};
 
 use crate::{Files, TakeFault};
 use std::alloc::Global;
@@ -44,7 +46,12 @@ impl<R: rt::Files> Files for DiskFiles<R> {
 
     ghost faults = { λ count _. count };
 
-    fn take(&mut self, alloc: Global, name: &str, limit: u64) -> Result<Vec<u8>, TakeFault> {
+    fn take(&mut self, alloc: Global, name: &str, limit: u64) -> Result<Vec<u8>, TakeFault>
+        ensures counts { self.old ≤ self.new }
+        ensures steady { result ≢ Err TakeFault.Failed → self.new ≡ self.old }
+        ensures bound { IfOk result (λ bytes. vec_len bytes ≤ limit) }
+        ensures failed { IsErrOf result TakeFault.Failed → Rose self.old self.new }
+    {
         let taken = self.read(alloc, name, limit);
         if let Err(TakeFault::Failed) = taken {
             self.faults = self.faults.saturating_add(1);
@@ -62,6 +69,7 @@ fn read_within<F: Read>(alloc: Global, file: &mut F, limit: u64) -> Result<Vec<u
     ensures bound { IfOk result (λ bytes. vec_len bytes ≤ limit) }
     ensures whole { IfOk result (λ bytes. IfSome (F.remaining file.old) (λ told. bytes.items ≡ told)) }
     ensures too_long { IsErrOf result TakeFault.TooLong → IfSome (F.remaining file.old) (λ told. limit < length told) }
+    ensures ends { IsErrOf result TakeFault.TooLong → GivesCount (F.remaining file.old) (F.remaining file.new) (limit + 1) }
 {
     let mut bytes = Vec::new(alloc);
     let mut buffer = [0; TURN as usize];

@@ -1,92 +1,115 @@
-ghost use Rattle.std.specs.Prelude.{◌≡◌, None, OnOk, OnErr};
+ghost use Rattle.std.specs.Prelude.{◌≡◌, ◌≤◌, None, OnOk, OnErr};
 ghost use Rattle.std.specs.Io.KnownBytes.{Appends};
+ghost use Rattle.tool_io.specs.Counts.{raised, Rose};
 ghost use Rattle.tool_io.specs.Sink.{WritesFront};
 
 use crate::{Failed, Sink};
 use std::io;
-use std::io::Write;
+use std::io::{Printer, Write};
 use std::marker::Model;
 
-/// Standard output. It is seen as its count of faults, and tells no bytes.
+/// Standard output as a sink. It tells no bytes.
 #[derive(Drop)]
-pub struct OutSink<P> {
-    to: P,
+pub struct OutSink<W: Write> {
+    to: W,
     faults: u64,
 }
 
-/// Standard error. It is seen as its count of faults, and tells no bytes.
+/// Standard error as a sink. It tells no bytes.
 #[derive(Drop)]
-pub struct NoteSink<P> {
-    to: P,
+pub struct NoteSink<W: Write> {
+    to: W,
     faults: u64,
 }
 
-impl<P> Model for OutSink<P> {
-    ghost use Rattle.std.specs.Prelude.{ℕ};
+impl<W: Write> Model for OutSink<W> {
+    ghost use Rattle.tool_io.specs.Adapters.{CountedWriter};
 
-    ghost Value = { ℕ };
+    ghost Value = { CountedWriter };
 
-    ghost view = { λ sink. sink.faults };
+    ghost view = { λ sink. record { known = W.contents sink.to; faults = sink.faults } };
 }
 
-impl<P> Model for NoteSink<P> {
-    ghost use Rattle.std.specs.Prelude.{ℕ};
+impl<W: Write> Model for NoteSink<W> {
+    ghost use Rattle.tool_io.specs.Adapters.{CountedWriter};
 
-    ghost Value = { ℕ };
+    ghost Value = { CountedWriter };
 
-    ghost view = { λ sink. sink.faults };
+    ghost view = { λ sink. record { known = W.contents sink.to; faults = sink.faults } };
 }
 
-impl<P: Print> OutSink<P> {
-    /// A sink that prints by `to`, which is the runtime or `&rt`.
-    pub fn new(to: P) -> OutSink<P>
-        ensures { result ≡ 0 }
+impl<'a, P: Print> OutSink<Printer<'a, P>> {
+    /// The standard output of this runtime. No call was made on it.
+    pub fn new(rt: &'a P) -> OutSink<Printer<'a, P>>
+        ensures { result ≡ record { known = None; faults = 0 } }
     {
-        OutSink { to, faults: 0 }
+        OutSink {
+            to: io::writer(rt),
+            faults: 0,
+        }
     }
 }
 
-impl<P: Print> NoteSink<P> {
-    /// A sink that prints by `to`, which is `rt.stderr()`.
-    pub fn new(to: P) -> NoteSink<P>
-        ensures { result ≡ 0 }
+impl<W: Write> NoteSink<W> {
+    /// Standard error, as `rt.stderr()` gives it. No call was made on it.
+    pub fn new(to: W) -> NoteSink<W>
+        ensures { result ≡ record { known = W.contents to; faults = 0 } }
     {
         NoteSink { to, faults: 0 }
     }
 }
 
-impl<P: Print> Sink for OutSink<P> {
+impl<W: Write> Sink for OutSink<W> {
     ghost written = { λ _. None };
 
-    ghost faults = { λ count. count };
+    ghost faults = { λ sink. sink.faults };
 
-    fn put(&mut self, bytes: &[u8]) -> Result<(), Failed> {
-        let put = write_whole(&mut io::writer(&self.to), bytes);
-        if put.is_err() {
-            self.faults = self.faults.saturating_add(1);
-        }
-        put
+    fn put(&mut self, bytes: &[u8]) -> Result<(), Failed>
+        ensures count { self.old.faults ≤ self.new.faults }
+        ensures steady { OnOk result (self.new.faults ≡ self.old.faults) }
+        ensures whole { OnOk result (Appends self.old.known self.new.known bytes.now) }
+        ensures front { OnErr result (WritesFront self.old.known self.new.known bytes.now) }
+        ensures failed { OnErr result (Rose self.old.faults self.new.faults) }
+    {
+        put_counted(&mut self.to, &mut self.faults, bytes)
     }
 }
 
-impl<P: Print> Sink for NoteSink<P> {
+impl<W: Write> Sink for NoteSink<W> {
     ghost written = { λ _. None };
 
-    ghost faults = { λ count. count };
+    ghost faults = { λ sink. sink.faults };
 
-    fn put(&mut self, bytes: &[u8]) -> Result<(), Failed> {
-        let put = write_whole(&mut io::writer(&self.to), bytes);
-        if put.is_err() {
-            self.faults = self.faults.saturating_add(1);
-        }
-        put
+    fn put(&mut self, bytes: &[u8]) -> Result<(), Failed>
+        ensures count { self.old.faults ≤ self.new.faults }
+        ensures steady { OnOk result (self.new.faults ≡ self.old.faults) }
+        ensures whole { OnOk result (Appends self.old.known self.new.known bytes.now) }
+        ensures front { OnErr result (WritesFront self.old.known self.new.known bytes.now) }
+        ensures failed { OnErr result (Rose self.old.faults self.new.faults) }
+    {
+        put_counted(&mut self.to, &mut self.faults, bytes)
     }
+}
+
+// Writes all of the bytes, and counts where that fails.
+fn put_counted<W: Write>(to: &mut W, faults: &mut u64, bytes: &[u8]) -> Result<(), Failed>
+    ensures count { faults.old ≤ faults.new }
+    ensures steady { OnOk result (faults.new ≡ faults.old) }
+    ensures counted { OnErr result (faults.new ≡ raised faults.old) }
+    ensures whole { OnOk result (Appends (W.contents to.old) (W.contents to.new) bytes.now) }
+    ensures front { OnErr result (WritesFront (W.contents to.old) (W.contents to.new) bytes.now) }
+{
+    let written = write_whole(to, bytes);
+    if written.is_err() {
+        *faults = faults.saturating_add(1);
+    }
+    written
 }
 
 // Writes all of the bytes, whatever part of them a write takes. A write that takes none fails.
 fn write_whole<W: Write>(to: &mut W, bytes: &[u8]) -> Result<(), Failed>
-    ensures ok { OnOk result (Appends (W.contents to.old) (W.contents to.new) bytes.now) }
-    ensures err { OnErr result (WritesFront (W.contents to.old) (W.contents to.new) bytes.now) }
+    ensures whole { OnOk result (Appends (W.contents to.old) (W.contents to.new) bytes.now) }
+    ensures front { OnErr result (WritesFront (W.contents to.old) (W.contents to.new) bytes.now) }
 {
     let mut rest = bytes;
     while !rest.is_empty() {
@@ -101,35 +124,6 @@ fn write_whole<W: Write>(to: &mut W, bytes: &[u8]) -> Result<(), Failed>
 #[cfg(test)]
 mod tests {
     use super::*;
-    use std::cell::Cell;
-    use std::fmt::Display;
-
-    // Takes two bytes at a time until its room is full, and then none.
-    #[derive(Drop)]
-    struct Narrow {
-        room: Cell<usize>,
-    }
-
-    impl Print for Narrow {
-        fn print<D: Display + Drop>(&self, _value: D) -> io::Result<()> {
-            Ok(())
-        }
-
-        fn println<D: Display + Drop>(&self, _value: D) -> io::Result<()> {
-            Ok(())
-        }
-
-        fn write_all(&self, _bytes: &[u8]) -> io::Result<()> {
-            Ok(())
-        }
-
-        fn write_some(&self, bytes: &[u8]) -> io::Result<usize> {
-            let room = self.room.get();
-            let taken = bytes.len().min(room).min(2);
-            self.room.set(room - taken);
-            Ok(taken)
-        }
-    }
 
     #[test]
     fn prints(rt: HostRuntime) {
@@ -141,27 +135,39 @@ mod tests {
         assert_eq!(rt; notes.faults, 0);
     }
 
+    // Takes two bytes at a time until its room is full, and then none.
+    #[derive(Drop)]
+    struct Narrow {
+        room: usize,
+    }
+
+    impl Write for Narrow {
+        fn write(&mut self, bytes: &[u8]) -> io::Result<usize> {
+            let taken = bytes.len().min(self.room).min(2);
+            self.room -= taken;
+            Ok(taken)
+        }
+
+        fn flush(&mut self) -> io::Result<()> {
+            Ok(())
+        }
+    }
+
     #[test]
     fn continues_and_counts(rt: HostRuntime) {
-        let to = Narrow { room: Cell::new(7) };
-        let mut out = OutSink::new(&to);
+        let mut out = OutSink {
+            to: Narrow { room: 7 },
+            faults: 0,
+        };
         assert_eq!(rt; out.put(b"abcde"), Ok(()));
-        assert_eq!(rt; to.room.get(), 2);
+        assert_eq!(rt; out.to.room, 2);
         assert_eq!(rt; out.put(b"fgh"), Err(Failed));
         assert_eq!(rt; out.put(b""), Ok(()));
         assert_eq!(rt; out.put(b"h"), Err(Failed));
         assert_eq!(rt; out.faults, 2);
-        let mut notes = NoteSink::new(&to);
-        assert_eq!(rt; notes.put(b"h"), Err(Failed));
+        let mut notes = NoteSink::new(Narrow { room: 3 });
+        assert_eq!(rt; notes.put(b"abc"), Ok(()));
+        assert_eq!(rt; notes.put(b"d"), Err(Failed));
         assert_eq!(rt; notes.faults, 1);
-    }
-
-    #[test]
-    fn writes_in_order(rt: HostRuntime) {
-        let mut held = [0; 5];
-        let mut room = held.as_mut_slice();
-        assert_eq!(rt; write_whole(&mut room, b"abc"), Ok(()));
-        assert_eq!(rt; write_whole(&mut room, b"def"), Err(Failed));
-        assert_eq!(rt; held.as_slice(), b"abcde".as_slice());
     }
 }

@@ -1,4 +1,5 @@
-use Rattle.std.proofs.Common.{◌≡◌, ◌∙◌, sym, ap, true, false, [], ◌∷◌, ◌++◌}
+use Rattle.std.proofs.Common.{◌≡◌, ◌∙◌, sym, ap, true, false, not, [], ◌∷◌, ◌++◌}
+use Rattle.std.proofs.lemmas.List.Sums.{list_all-from_AllPass}
 use Rattle.std.proofs.lemmas.Result.{err_from_is_err_and}
 use Rattle.ir_ast.specs.Ops.{is_terminator}
 use Rattle.statepoint_tool.specs.ThinLines.{Left}
@@ -32,6 +33,17 @@ returns-then-ends-clause-reads c =
     let ends : is_terminator c.in_ok-inst.inst.op ≡ true = sym (ap is_terminator c.op.ensures) ∙ (sym c.is_terminator-ends.ensures ∙ c.if-ends.true) in
     Going-ends c.loop-line.invariant next c.in_ok-inst.inst c.in_ok-inst.ensures.inst ends
     ∙ (ap (map_reading (λ _. c.loop-line.insts.items ++ c.in_ok-inst.inst ∷ [])) c.in_ok-close.ensures ∙ ap Accepted (sym c.in_ok-push.ensures.items))
+
+pub returns-then-ends-clause-ends : goal.returns-then-ends-clause-ends
+returns-then-ends-clause-ends c =
+    let ends : is_terminator c.in_ok-inst.inst.op ≡ true = sym (ap is_terminator c.op.ensures) ∙ (sym c.is_terminator-ends.ensures ∙ c.if-ends.true) in
+    record {
+      before = c.loop-line.insts.items;
+      last = c.in_ok-inst.inst;
+      whole = c.in_ok-push.ensures.items;
+      ends = ends;
+      inside = list_all-from_AllPass (λ inst. not (is_terminator inst.op)) c.loop-line.insts.items c.loop-line.invariant.inside;
+    }
 
 pub loop-line-preserved : goal.loop-line-preserved
 loop-line-preserved c =

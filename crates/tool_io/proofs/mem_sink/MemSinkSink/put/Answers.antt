@@ -1,6 +1,4 @@
-use Rattle.std.proofs.Common.{rules, ◌≡◌, ◌++◌, List, ℕ, take, Some}
-use Rattle.std.proofs.lemmas.Grind.{common_steps}
-use Rattle.tool_io.specs.Sink.{append_known}
+use Rattle.std.proofs.Common.{rules}
 use Rattle.tool_io.proofs.AppendLaws.{AppendsFront-take}
 use Rattle.tool_io.proofs.mem_sink.MemSinkSink.put.Goals as goal
 

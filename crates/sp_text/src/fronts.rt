@@ -1,0 +1,188 @@
+ghost use Rattle.std.specs.Prelude.{◌≡◌, ◌+◌, ◌^◌, ◌<◌, ◌≤◌, ◌∷◌, ◌==◌, length, drop, position, MatchOption};
+ghost use Rattle.std.specs.List.{prefix_len};
+ghost use Rattle.std.specs.Option.{option_map, ForSome};
+ghost use Rattle.std.specs.Char.{is_ascii_digit};
+ghost use Rattle.sp_text.specs.Bytes.{is_blank, after_blanks, begins_name, begins_word, in_name, in_word, is_mark};
+ghost use Rattle.sp_text.specs.Fronts.{IsLongestFront, HasNoFront};
+ghost use Rattle.sp_text.specs.Tokens.{front_of, are_digits, ends_quote, is_bang_end, is_ellipsis_end, is_name};
+
+use crate::tokens::Kind;
+
+// The longest token that begins with the byte `first`: its kind and its length.
+pub(crate) fn front(first: u8, rest: &[u8]) -> Option<(Kind, usize)>
+    ensures { result ≡ front_of (first ∷ rest.now) }
+{
+    match first {
+        b'%' => of_kind(Kind::Local, name_front(rest)),
+        b'@' => of_kind(Kind::Global, name_front(rest)),
+        b'-' => of_kind(Kind::Number, digits_front(rest)),
+        b'#' => of_kind(Kind::Hash, digits_front(rest)),
+        b'"' => of_kind(Kind::Quoted, quote_front(rest)),
+        b'!' => of_kind(Kind::Bang, bang_front(rest)),
+        b'.' => of_kind(Kind::Word, ellipsis_front(rest)),
+        _ if is_mark(first) => Some((Kind::Punct, 1)),
+        _ if first.is_ascii_digit() => Some((Kind::Number, 1 + digits_len(rest))),
+        _ if begins_word(first) => Some((Kind::Word, 1 + word_len(rest))),
+        _ => None,
+    }
+}
+
+// A token of one byte and what follows it.
+fn of_kind(kind: Kind, rest: Option<usize>) -> Option<(Kind, usize)>
+    requires { ForSome rest (λ len. len + 1 < 2 ^ 64) }
+    ensures { result ≡ option_map (λ len. (kind, 1 + len)) rest }
+{
+    rest.map(|len| (kind, 1 + len))
+}
+
+// A name or a number without leading zeros.
+pub(crate) fn name_front(bytes: &[u8]) -> Option<usize>
+    ensures { MatchOption result (HasNoFront is_name bytes.now) (IsLongestFront is_name bytes.now) }
+{
+    let (first, rest) = bytes.split_first()?;
+    if *first == b'0' {
+        Some(1)
+    } else if first.is_ascii_digit() {
+        Some(1 + digits_len(rest))
+    } else if begins_name(*first) {
+        Some(1 + name_len(rest))
+    } else {
+        None
+    }
+}
+
+// One or more digits.
+fn digits_front(bytes: &[u8]) -> Option<usize>
+    ensures { MatchOption result (HasNoFront are_digits bytes.now) (IsLongestFront are_digits bytes.now) }
+{
+    match digits_len(bytes) {
+        0 => None,
+        len => Some(len),
+    }
+}
+
+// A name, or digits with or without leading zeros.
+fn bang_front(bytes: &[u8]) -> Option<usize>
+    ensures { MatchOption result (HasNoFront is_bang_end bytes.now) (IsLongestFront is_bang_end bytes.now) }
+{
+    let (first, rest) = bytes.split_first()?;
+    if first.is_ascii_digit() {
+        Some(1 + digits_len(rest))
+    } else if begins_name(*first) {
+        Some(1 + name_len(rest))
+    } else {
+        None
+    }
+}
+
+// All bytes up to a quote, and the quote.
+fn quote_front(bytes: &[u8]) -> Option<usize>
+    ensures { MatchOption result (HasNoFront ends_quote bytes.now) (IsLongestFront ends_quote bytes.now) }
+{
+    let len = find(bytes, b'"')?;
+    Some(len + 1)
+}
+
+// Two dots.
+fn ellipsis_front(bytes: &[u8]) -> Option<usize>
+    ensures { MatchOption result (HasNoFront is_ellipsis_end bytes.now) (IsLongestFront is_ellipsis_end bytes.now) }
+{
+    match bytes {
+        [b'.', b'.', ..] => Some(2),
+        _ => None,
+    }
+}
+
+// What stands at and after a place.
+pub(crate) fn after(bytes: &[u8], place: usize) -> &[u8]
+    requires { place ≤ length bytes.now }
+    ensures { result.now ≡ drop place bytes.now }
+{
+    let (_, rest) = bytes.split_at(place);
+    rest
+}
+
+// What follows the blanks.
+pub(crate) fn after_blanks(bytes: &[u8]) -> &[u8]
+    ensures { result.now ≡ after_blanks bytes.now }
+{
+    after(bytes, blanks_len(bytes))
+}
+
+// The place of the first byte that is this one.
+pub(crate) fn find(bytes: &[u8], byte: u8) -> Option<usize>
+    ensures { result ≡ position (λ b. b == byte) bytes.now }
+{
+    bytes.iter().position(|b| *b == byte)
+}
+
+// How many blanks stand first.
+pub(crate) fn blanks_len(bytes: &[u8]) -> usize
+    ensures len { result ≡ prefix_len is_blank bytes.now }
+    ensures within { result ≤ length bytes.now }
+{
+    bytes.iter().take_while(|b| is_blank(**b)).count()
+}
+
+// How many digits stand first.
+fn digits_len(bytes: &[u8]) -> usize
+    ensures len { result ≡ prefix_len is_ascii_digit bytes.now }
+    ensures within { result ≤ length bytes.now }
+{
+    bytes.iter().take_while(|b| b.is_ascii_digit()).count()
+}
+
+// How many bytes stand first that a word may have after its first.
+fn word_len(bytes: &[u8]) -> usize
+    ensures len { result ≡ prefix_len in_word bytes.now }
+    ensures within { result ≤ length bytes.now }
+{
+    bytes.iter().take_while(|b| is_in_word(**b)).count()
+}
+
+// How many bytes stand first that a name may have after its first.
+fn name_len(bytes: &[u8]) -> usize
+    ensures len { result ≡ prefix_len in_name bytes.now }
+    ensures within { result ≤ length bytes.now }
+{
+    bytes.iter().take_while(|b| is_in_name(**b)).count()
+}
+
+fn is_blank(b: u8) -> bool
+    ensures { result ≡ is_blank b }
+{
+    b == b' ' || b == b'\t'
+}
+
+fn begins_word(b: u8) -> bool
+    ensures { result ≡ begins_word b }
+{
+    b.is_ascii_alphabetic() || b == b'_'
+}
+
+fn is_in_word(b: u8) -> bool
+    ensures { result ≡ in_word b }
+{
+    begins_word(b) || b.is_ascii_digit() || b == b'.'
+}
+
+fn begins_name(b: u8) -> bool
+    ensures { result ≡ begins_name b }
+{
+    b.is_ascii_alphabetic() || matches!(b, b'-' | b'$' | b'.' | b'_')
+}
+
+fn is_mark(b: u8) -> bool
+    ensures { result ≡ is_mark b }
+{
+    matches!(
+        b,
+        b'(' | b')' | b'{' | b'}' | b'[' | b']' | b',' | b'=' | b':' | b'*'
+    )
+}
+
+fn is_in_name(b: u8) -> bool
+    ensures { result ≡ in_name b }
+{
+    begins_name(b) || b.is_ascii_digit()
+}

@@ -1,0 +1,60 @@
+ghost use Rattle.std.specs.Prelude.{◌≡◌};
+ghost use Rattle.std.specs.Option.{option_copied};
+ghost use Rattle.sp_text.specs.Labels.{label_of, label_in, is_metadata};
+ghost use Rattle.sp_text.specs.Tokens.{is_name, says_nothing};
+
+use crate::fronts::{after, after_blanks, find, name_front};
+use crate::lines::Line;
+
+impl<'a> Line<'a> {
+    /// The name that a label line gives: the line has a name, a `:` directly after it and nothing more but
+    /// blanks and a comment. `None` where the line isn't one.
+    pub fn label(&self) -> Option<&'a [u8]>
+        ensures { option_copied result ≡ label_of self.now.bytes.now }
+    {
+        label_in(after_blanks(self.bytes))
+    }
+
+    /// Whether the first byte after blanks is `!`.
+    pub fn is_metadata(&self) -> bool
+        ensures { result ≡ is_metadata self.now.bytes.now }
+    {
+        match after_blanks(self.bytes).split_first() {
+            Some((first, _)) => *first == b'!',
+            None => false,
+        }
+    }
+}
+
+// The name that a label line without blanks before it gives.
+fn label_in(bytes: &[u8]) -> Option<&[u8]>
+    ensures { option_copied result ≡ label_in bytes.now }
+{
+    let end = find(bytes, b':')?;
+    let (name, _) = bytes.split_at(end);
+    if is_name(name) && says_nothing(after(bytes, end + 1)) {
+        Some(name)
+    } else {
+        None
+    }
+}
+
+// Whether the bytes are a name (LLVM Language Reference, "Identifiers") or a number without leading zeros.
+fn is_name(bytes: &[u8]) -> bool
+    ensures { result ≡ is_name bytes.now }
+{
+    match name_front(bytes) {
+        Some(len) => len == bytes.len(),
+        None => false,
+    }
+}
+
+// Whether nothing stands there but blanks and at most a comment.
+fn says_nothing(bytes: &[u8]) -> bool
+    ensures { result ≡ says_nothing bytes.now }
+{
+    match after_blanks(bytes).split_first() {
+        Some((first, _)) => *first == b';',
+        None => true,
+    }
+}

@@ -1,0 +1,13 @@
+//! The lines of a text and the tokens of a line, as slices of the text. Nothing here takes memory.
+#![tactic(auto)]
+
+mod fronts;
+mod labels;
+mod lines;
+mod tokens;
+
+pub use lines::{Line, Lines};
+pub use tokens::{BadByte, Kind, Token};
+
+#[cfg(test)]
+mod tests;

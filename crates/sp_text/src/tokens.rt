@@ -1,0 +1,96 @@
+ghost use Rattle.std.specs.Prelude.{◌≡◌, ◌+◌, ◌≤◌, ◌↔◌, length, drop, IsTrue, IsErr, IfOk, IfErr, IfSome};
+ghost use Rattle.sp_text.specs.TokenAt.{IsFirstToken, BeginsNoToken, past_blanks, tokens_by};
+ghost use Rattle.sp_text.specs.Tokens.{tokens, says_nothing};
+
+use crate::fronts::{after, blanks_len, front};
+use crate::lines::Line;
+use std::error::Error;
+use std::fmt;
+
+/// What a token is.
+#[derive(Clone, Copy, Debug, PartialEq, Eq)]
+pub enum Kind {
+    /// A letter or `_`, then letters, digits, `_` and `.`; also `...`.
+    Word,
+    /// `%` and a name (LLVM Language Reference, "Identifiers").
+    Local,
+    /// `@` and a name.
+    Global,
+    /// An optional `-`, then digits.
+    Number,
+    /// `"`, bytes other than `"`, `"`.
+    Quoted,
+    /// `#` and digits.
+    Hash,
+    /// `!` and a name, or `!` and digits.
+    Bang,
+    /// One of `( ) { } [ ] , = : *`.
+    Punct,
+}
+
+/// A token of a line, the longest at its place.
+#[derive(Clone, Copy, Debug)]
+pub struct Token<'a> {
+    pub kind: Kind,
+    /// The slice `from..to` of the line.
+    pub bytes: &'a [u8],
+    /// The place of its first byte in the line.
+    pub from: usize,
+    /// The place after its last byte.
+    pub to: usize,
+}
+
+/// A byte outside comments and quoted texts that begins no token.
+#[derive(Clone, Copy, Debug, PartialEq, Eq)]
+pub struct BadByte {
+    /// The line's number.
+    pub line: u32,
+    /// The byte's place in the line.
+    pub at: usize,
+}
+
+impl fmt::Display for BadByte {
+    fn fmt<W: fmt::Write>(&self, f: &mut fmt::Formatter<W>) -> fmt::Result {
+        write!(f, "line {}: byte {} begins no token", self.line, self.at)
+    }
+}
+
+impl Error for BadByte {}
+
+impl<'a> Line<'a> {
+    /// The first token at or after `from`: `None` exactly where only blanks or a comment follow, and
+    /// [`BadByte`] exactly where the first byte after the blanks begins no token.
+    pub fn token_at(&self, from: usize) -> Result<Option<Token<'a>>, BadByte>
+        requires { from ≤ length self.now.bytes.now }
+        ensures remaining { tokens (drop from self.now.bytes.now) ≡ tokens_by self.now.bytes.now result }
+        ensures token { IfOk result (λ found. IfSome found (IsFirstToken self.now.bytes.now from)) }
+        ensures none { (result ≡ Ok None) ↔ IsTrue (says_nothing (drop from self.now.bytes.now)) }
+        ensures bad { IsErr result ↔ BeginsNoToken (drop from self.now.bytes.now) }
+        ensures bad_line { IfErr result (λ byte. byte.line ≡ self.now.number) }
+        ensures bad_place { IfErr result (λ byte. byte.at ≡ past_blanks self.now.bytes.now from) }
+    {
+        let bytes = self.bytes;
+        let at = from + blanks_len(after(bytes, from));
+        let Some((first, rest)) = after(bytes, at).split_first() else {
+            return Ok(None);
+        };
+        if *first == b';' {
+            return Ok(None);
+        }
+        match front(*first, rest) {
+            Some((kind, len)) => {
+                let to = at + len;
+                Ok(Some(Token {
+                    kind,
+                    bytes: &bytes[at..to],
+                    from: at,
+                    to,
+                }))
+            }
+            None => Err(BadByte {
+                line: self.number,
+                at,
+            }),
+        }
+    }
+}
