@@ -4,4 +4,5 @@ pub mod KindLemmas
 pub mod LineLemmas
 pub mod LinePlaces
 pub mod Runs
+pub mod Spelled
 pub mod TokenLemmas

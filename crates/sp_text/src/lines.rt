@@ -27,13 +27,14 @@ pub struct Lines<'a> {
 
 impl<'a> Model for Lines<'a> {
     ghost use Rattle.std.specs.Prelude.{◌+◌, ◌≤◌, length};
+    ghost use Rattle.sp_ids.specs.declared.limits.TheConstants.{FILE_BYTES};
     ghost use Rattle.sp_text.specs.Lines.{LineStart};
 
     ghost Value = { LineStart };
 
     ghost view = { λ l. record { text = l.text.now; at = l.at; number = l.number } };
 
-    ghost invariant = { λ l. (length l.text.now ≤ 16777216) × (l.at ≤ length l.text.now) × (l.number ≤ l.at + 1) };
+    ghost invariant = { λ l. (length l.text.now ≤ FILE_BYTES) × (l.at ≤ length l.text.now) × (l.number ≤ l.at + 1) };
 }
 
 impl<'a> Lines<'a> {

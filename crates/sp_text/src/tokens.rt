@@ -4,6 +4,8 @@ ghost use Rattle.sp_text.specs.Tokens.{tokens, says_nothing};
 
 use crate::fronts::{after, blanks_len, front};
 use crate::lines::Line;
+use std::error::Error;
+use std::fmt;
 
 /// What a token is.
 #[derive(Clone, Copy, Debug, PartialEq, Eq)]
@@ -46,6 +48,14 @@ pub struct BadByte {
     /// The byte's place in the line.
     pub at: usize,
 }
+
+impl fmt::Display for BadByte {
+    fn fmt<W: fmt::Write>(&self, f: &mut fmt::Formatter<W>) -> fmt::Result {
+        write!(f, "line {}: byte {} begins no token", self.line, self.at)
+    }
+}
+
+impl Error for BadByte {}
 
 impl<'a> Line<'a> {
     /// The first token at or after `from`: `None` exactly where only blanks or a comment follow, and

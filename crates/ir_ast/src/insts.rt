@@ -1,0 +1,155 @@
+ghost use Rattle.std.specs.Prelude.{◌≡◌};
+
+use crate::clones::TryClone;
+use crate::names::Name;
+use crate::ops::{Op, Operand, Operands};
+use crate::types::Ty;
+use smallvec::SmallVec;
+use sp_ids::{BlockId, Memory};
+use std::alloc::Global;
+use std::marker::Model;
+
+/// An instruction. Its parts follow its line; contracts see an `Instruction`.
+///
+/// The type is that of the operands for an arithmetic line, an `icmp`, a `trunc`, `zext` or `sext`, the
+/// chosen type of a `select`, `Ptr` for a `getelementptr` or a relocate, `i1` for a `br` with a
+/// condition, the callee's answer for a call or a statepoint, and `Void` where the line has none.
+/// A statepoint has its arguments first and then its "gc-live" entries, a relocate its token and its two
+/// indices as `Int`, a switch its value and then its case values, with its default label first.
+#[derive(Debug, Drop)]
+pub struct Inst {
+    result: Option<Name>,
+    op: Op,
+    ty: Ty,
+    operands: Operands,
+    labels: Vec<BlockId>,
+    bundle: Vec<(Ty, Operand)>,
+}
+
+impl Model for Inst {
+    ghost use Rattle.ir_ast.specs.Insts.{Instruction};
+
+    ghost Value = { Instruction };
+
+    ghost view = { λ inst. record {
+      result = inst.result;
+      op = inst.op;
+      ty = inst.ty;
+      operands = inst.operands.items;
+      labels = inst.labels.items;
+      bundle = inst.bundle.items;
+    } };
+}
+
+impl Inst {
+    /// The instruction with these parts; `bundle` has the operands of its "deopt" bundle.
+    pub fn of(
+        named: Option<Name>,
+        op: Op,
+        ty: Ty,
+        operands: Operands,
+        labels: Vec<BlockId>,
+        bundle: Vec<(Ty, Operand)>,
+    ) -> Inst
+        ensures { result ≡ record {
+          result = named;
+          op = op;
+          ty = ty;
+          operands = operands.items;
+          labels = labels.items;
+          bundle = bundle.items;
+        } }
+    {
+        Inst {
+            result: named,
+            op,
+            ty,
+            operands,
+            labels,
+            bundle,
+        }
+    }
+
+    /// Gives its parts back.
+    pub fn into_parts(
+        self,
+    ) -> (
+        Option<Name>,
+        Op,
+        Ty,
+        Operands,
+        Vec<BlockId>,
+        Vec<(Ty, Operand)>,
+    )
+        ensures named { result.0 ≡ self.result }
+        ensures op { result.1 ≡ self.op }
+        ensures ty { result.2 ≡ self.ty }
+        ensures operands { result.3.items ≡ self.operands }
+        ensures labels { result.4.items ≡ self.labels }
+        ensures bundle { result.5.items ≡ self.bundle }
+    {
+        (
+            self.result,
+            self.op,
+            self.ty,
+            self.operands,
+            self.labels,
+            self.bundle,
+        )
+    }
+
+    /// The name of its result, if it has one.
+    pub fn result(&self) -> &Option<Name>
+        ensures { result.now ≡ self.now.result }
+    {
+        &self.result
+    }
+
+    /// Its operator.
+    pub fn op(&self) -> &Op
+        ensures { result.now ≡ self.now.op }
+    {
+        &self.op
+    }
+
+    /// The type of its line.
+    pub fn ty(&self) -> &Ty
+        ensures { result.now ≡ self.now.ty }
+    {
+        &self.ty
+    }
+
+    /// Its operands, in the order of its line.
+    pub fn operands(&self) -> &[Operand]
+        ensures { result.now ≡ self.now.operands }
+    {
+        self.operands.as_slice()
+    }
+
+    /// Its labels, in the order of its line.
+    pub fn labels(&self) -> &[BlockId]
+        ensures { result.now ≡ self.now.labels }
+    {
+        self.labels.as_slice()
+    }
+
+    /// The operands of its "deopt" bundle, with their types.
+    pub fn bundle(&self) -> &[(Ty, Operand)]
+        ensures { result.now ≡ self.now.bundle }
+    {
+        self.bundle.as_slice()
+    }
+}
+
+impl TryClone for Inst {
+    fn try_clone_in(&self, alloc: Global) -> Result<Inst, Memory> {
+        Ok(Inst {
+            result: self.result.try_clone_in(alloc)?,
+            op: self.op.try_clone_in(alloc)?,
+            ty: self.ty,
+            operands: SmallVec::from_slice(alloc, self.operands.as_slice())?,
+            labels: Vec::from_slice(alloc, self.labels.as_slice())?,
+            bundle: Vec::from_slice(alloc, self.bundle.as_slice())?,
+        })
+    }
+}

@@ -1,0 +1,28 @@
+//! Modules of the profile as plain lists: layouts, functions, blocks and instructions.
+#![tactic(auto)]
+
+mod blocks;
+mod cells;
+mod clones;
+mod funcs;
+mod insts;
+mod layouts;
+mod modules;
+mod names;
+mod ops;
+mod tables;
+mod types;
+
+pub use blocks::Block;
+pub use cells::Cell;
+pub use funcs::{Arg, Func};
+pub use insts::Inst;
+pub use layouts::Layout;
+pub use modules::{Form, Module};
+pub use names::Name;
+pub use ops::{Callee, Elem, Op, Operand, Operands, Pred};
+pub use tables::{BaseTable, LiveTable};
+pub use types::{Ty, Types};
+
+#[cfg(test)]
+mod tests;

@@ -1,0 +1,33 @@
+//! The program: real files and streams, the words of the command line, and an exit status.
+#![tactic(auto)]
+
+use statepoint_tool::{Status, statepoint};
+use std::process::ExitCode;
+use std::{env, io};
+use tool_io::{DiskFiles, NoteSink, OutSink, Sink};
+
+fn main(rt: HostRuntime) -> ExitCode {
+    ExitCode::from(run(&rt).code())
+}
+
+// A word that isn't UTF-8 makes a faulty command line, as no word at all does.
+fn run(rt: &HostRuntime) -> Status {
+    let mut files = DiskFiles::new(rt);
+    let mut out = OutSink::new(rt);
+    let mut notes = NoteSink::new(rt.stderr());
+    match words(rt) {
+        Ok(words) => statepoint(rt.alloc(), &words, &mut files, &mut out, &mut notes),
+        Err(error) if error.kind() == io::ErrorKind::OutOfMemory => {
+            match notes.put(b"out of memory\n") {
+                Ok(()) => Status::WantOfMemory,
+                Err(_) => Status::WriteFault,
+            }
+        }
+        Err(_) => statepoint(rt.alloc(), &[], &mut files, &mut out, &mut notes),
+    }
+}
+
+fn words(rt: &HostRuntime) -> io::Result<Vec<String>> {
+    let words = env::args(rt)?.collect(rt.alloc())?;
+    Ok(words)
+}

@@ -1,0 +1,48 @@
+-- What files may give, over the parts of a call.
+use Rattle.std.proofs.Common.{◌≡◌, ℕ, ◌<◌, ◌≤◌, Bool, true, false, cond, List, [], length, Option, Some, None, IfSome, refl, sym, rules, arith, ap}
+use Rattle.std.specs.Prelude.{nat_le}
+use Rattle.std.proofs.lemmas.Bool.Decides.{nat_tests}
+use Rattle.sp_ids.specs.declared.limits.TheConstants.{FILE_BYTES}
+use Rattle.tool_io.specs.Counts.{Rose, NoneFell}
+use Rattle.tool_io.proofs.CountLaws.{Rose-then-none_fell, Rose-after-none_fell}
+use Rattle.statepoint_tool.specs.Taken.{Taken, Bytes, Longer, Faulty, FilesSeen, files_seen, MayGive}
+
+-- what told contents give
+abbrev pub given_within : List ℕ → Taken
+given_within told = cond (nat_le (length told) FILE_BYTES) (Bytes told) Longer
+
+-- what a file gives by its contents where they are told, and else no bytes
+abbrev pub given_by : Option (List ℕ) → Taken
+given_by None = Bytes []
+given_by (Some told) = given_within told
+
+abbrev pub as_told : FilesSeen → List ℕ → Taken
+as_told files name = given_by (files.contents name)
+
+MayGive-within : (files : FilesSeen) (name told : List ℕ) → files.contents name ≡ Some told →
+    (fits : Bool) → nat_le (length told) FILE_BYTES ≡ fits → MayGive files name (cond fits (Bytes told) Longer)
+MayGive-within files name told is true fits = (grind (arith, nat_tests), rw is refl)
+MayGive-within files name told is false fits = rw is (grind (arith, nat_tests))
+
+MayGive-given_by : (files : FilesSeen) (name : List ℕ) (contents : Option (List ℕ)) → files.contents name ≡ contents →
+    MayGive files name (given_by contents)
+MayGive-given_by files name None is = (omega arith, rw is tt)
+MayGive-given_by files name (Some told) is = MayGive-within files name told is (nat_le (length told) FILE_BYTES) refl
+
+-- a file may give what is told of it
+pub MayGive-as_told : (files : FilesSeen) (name : List ℕ) → MayGive files name (as_told files name)
+MayGive-as_told files name = MayGive-given_by files name (files.contents name) refl
+
+-- what a file gave in a part of a call it gave in the whole call: no count fell after that part
+pub MayGive-later : (contents : List ℕ → Option (List ℕ)) (before mid after : List ℕ → ℕ) (name : List ℕ) (given : Taken) →
+    MayGive (files_seen contents before mid) name given → NoneFell mid after → MayGive (files_seen contents before after) name given
+MayGive-later contents before mid after name (Bytes bytes) may stayed = may
+MayGive-later contents before mid after name Longer may stayed = may
+MayGive-later contents before mid after name Faulty may stayed = Rose-then-none_fell (before name) name may stayed
+
+-- and none fell before it, nor did the contents change
+pub MayGive-earlier : (contents others : List ℕ → Option (List ℕ)) (before mid after : List ℕ → ℕ) (name : List ℕ) (given : Taken) →
+    others ≡ contents → NoneFell before mid → MayGive (files_seen others mid after) name given → MayGive (files_seen contents before after) name given
+MayGive-earlier contents others before mid after name (Bytes bytes) kept stayed may = rw kept at may
+MayGive-earlier contents others before mid after name Longer kept stayed may = rw kept at may
+MayGive-earlier contents others before mid after name Faulty kept stayed may = Rose-after-none_fell (after name) name stayed may

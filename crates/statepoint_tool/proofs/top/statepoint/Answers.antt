@@ -1,0 +1,144 @@
+use Rattle.std.proofs.Common.{map, string_bytes}
+use Rattle.statepoint_tool.specs.Answers.{sink_seen}
+use Rattle.statepoint_tool.specs.Taken.{files_seen}
+use Rattle.statepoint_tool.specs.declared.status.Status.TheVariants as status
+use Rattle.statepoint_tool.proofs.AnswerLaws.{Exactly-answer, ReadFaultCounted-answer, Says-answer, Writes-answer, never-answer, write_fault-answer}
+use Rattle.statepoint_tool.proofs.CauseLaws.{status-CannotRead, status-HasInputFault, status-HasModuleFault, status-HasPlanFault, status-IsTooLong, status-NoCommand, status-Returns, status-RunsOutOfSteps}
+use Rattle.statepoint_tool.proofs.CompleteLaws.{IsComplete-answer}
+use Rattle.statepoint_tool.proofs.top.statepoint.Goals as goal
+
+pub returns-clause-complete : goal.returns-clause-complete
+returns-clause-complete g c =
+    let words = map string_bytes c.args.words.now in
+    let files = files_seen (g.F.Files.contents c.args.files.now) (g.F.Files.faults c.args.files.now) (g.F.Files.faults c.answer.new.files) in
+    let out = sink_seen (g.O.Sink.written c.args.out.now) (g.O.Sink.written c.answer.new.out) (g.O.Sink.faults c.args.out.now) (g.O.Sink.faults c.answer.new.out) in
+    let notes = sink_seen (g.E.Sink.written c.args.notes.now) (g.E.Sink.written c.answer.new.notes) (g.E.Sink.faults c.args.notes.now) (g.E.Sink.faults c.answer.new.notes) in
+    IsComplete-answer words files out notes c.answer.result c.answer.ensures.answer
+
+pub returns-clause-done : goal.returns-clause-done
+returns-clause-done g c =
+    let words = map string_bytes c.args.words.now in
+    let files = files_seen (g.F.Files.contents c.args.files.now) (g.F.Files.faults c.args.files.now) (g.F.Files.faults c.answer.new.files) in
+    let out = sink_seen (g.O.Sink.written c.args.out.now) (g.O.Sink.written c.answer.new.out) (g.O.Sink.faults c.args.out.now) (g.O.Sink.faults c.answer.new.out) in
+    let notes = sink_seen (g.E.Sink.written c.args.notes.now) (g.E.Sink.written c.answer.new.notes) (g.E.Sink.faults c.args.notes.now) (g.E.Sink.faults c.answer.new.notes) in
+    Exactly-answer words files out notes c.answer.result c.answer.ensures.answer status.Done (λ clash. cc) (λ clash. cc) (status-Returns words)
+
+pub returns-clause-out_of_steps : goal.returns-clause-out_of_steps
+returns-clause-out_of_steps g c =
+    let words = map string_bytes c.args.words.now in
+    let files = files_seen (g.F.Files.contents c.args.files.now) (g.F.Files.faults c.args.files.now) (g.F.Files.faults c.answer.new.files) in
+    let out = sink_seen (g.O.Sink.written c.args.out.now) (g.O.Sink.written c.answer.new.out) (g.O.Sink.faults c.args.out.now) (g.O.Sink.faults c.answer.new.out) in
+    let notes = sink_seen (g.E.Sink.written c.args.notes.now) (g.E.Sink.written c.answer.new.notes) (g.E.Sink.faults c.args.notes.now) (g.E.Sink.faults c.answer.new.notes) in
+    Exactly-answer words files out notes c.answer.result c.answer.ensures.answer status.OutOfSteps (λ clash. cc) (λ clash. cc) (status-RunsOutOfSteps words)
+
+pub returns-clause-words_refused : goal.returns-clause-words_refused
+returns-clause-words_refused g c =
+    let words = map string_bytes c.args.words.now in
+    let files = files_seen (g.F.Files.contents c.args.files.now) (g.F.Files.faults c.args.files.now) (g.F.Files.faults c.answer.new.files) in
+    let out = sink_seen (g.O.Sink.written c.args.out.now) (g.O.Sink.written c.answer.new.out) (g.O.Sink.faults c.args.out.now) (g.O.Sink.faults c.answer.new.out) in
+    let notes = sink_seen (g.E.Sink.written c.args.notes.now) (g.E.Sink.written c.answer.new.notes) (g.E.Sink.faults c.args.notes.now) (g.E.Sink.faults c.answer.new.notes) in
+    Exactly-answer words files out notes c.answer.result c.answer.ensures.answer status.WordsRefused (λ clash. cc) (λ clash. cc) (status-NoCommand words)
+
+pub returns-clause-module_refused : goal.returns-clause-module_refused
+returns-clause-module_refused g c =
+    let words = map string_bytes c.args.words.now in
+    let files = files_seen (g.F.Files.contents c.args.files.now) (g.F.Files.faults c.args.files.now) (g.F.Files.faults c.answer.new.files) in
+    let out = sink_seen (g.O.Sink.written c.args.out.now) (g.O.Sink.written c.answer.new.out) (g.O.Sink.faults c.args.out.now) (g.O.Sink.faults c.answer.new.out) in
+    let notes = sink_seen (g.E.Sink.written c.args.notes.now) (g.E.Sink.written c.answer.new.notes) (g.E.Sink.faults c.args.notes.now) (g.E.Sink.faults c.answer.new.notes) in
+    Exactly-answer words files out notes c.answer.result c.answer.ensures.answer status.ModuleRefused (λ clash. cc) (λ clash. cc) (status-HasModuleFault words)
+
+pub returns-clause-input_refused : goal.returns-clause-input_refused
+returns-clause-input_refused g c =
+    let words = map string_bytes c.args.words.now in
+    let files = files_seen (g.F.Files.contents c.args.files.now) (g.F.Files.faults c.args.files.now) (g.F.Files.faults c.answer.new.files) in
+    let out = sink_seen (g.O.Sink.written c.args.out.now) (g.O.Sink.written c.answer.new.out) (g.O.Sink.faults c.args.out.now) (g.O.Sink.faults c.answer.new.out) in
+    let notes = sink_seen (g.E.Sink.written c.args.notes.now) (g.E.Sink.written c.answer.new.notes) (g.E.Sink.faults c.args.notes.now) (g.E.Sink.faults c.answer.new.notes) in
+    Exactly-answer words files out notes c.answer.result c.answer.ensures.answer status.InputRefused (λ clash. cc) (λ clash. cc) (status-HasInputFault words)
+
+pub returns-clause-plan_refused : goal.returns-clause-plan_refused
+returns-clause-plan_refused g c =
+    let words = map string_bytes c.args.words.now in
+    let files = files_seen (g.F.Files.contents c.args.files.now) (g.F.Files.faults c.args.files.now) (g.F.Files.faults c.answer.new.files) in
+    let out = sink_seen (g.O.Sink.written c.args.out.now) (g.O.Sink.written c.answer.new.out) (g.O.Sink.faults c.args.out.now) (g.O.Sink.faults c.answer.new.out) in
+    let notes = sink_seen (g.E.Sink.written c.args.notes.now) (g.E.Sink.written c.answer.new.notes) (g.E.Sink.faults c.args.notes.now) (g.E.Sink.faults c.answer.new.notes) in
+    Exactly-answer words files out notes c.answer.result c.answer.ensures.answer status.PlanRefused (λ clash. cc) (λ clash. cc) (status-HasPlanFault words)
+
+pub returns-clause-too_long : goal.returns-clause-too_long
+returns-clause-too_long g c =
+    let words = map string_bytes c.args.words.now in
+    let files = files_seen (g.F.Files.contents c.args.files.now) (g.F.Files.faults c.args.files.now) (g.F.Files.faults c.answer.new.files) in
+    let out = sink_seen (g.O.Sink.written c.args.out.now) (g.O.Sink.written c.answer.new.out) (g.O.Sink.faults c.args.out.now) (g.O.Sink.faults c.answer.new.out) in
+    let notes = sink_seen (g.E.Sink.written c.args.notes.now) (g.E.Sink.written c.answer.new.notes) (g.E.Sink.faults c.args.notes.now) (g.E.Sink.faults c.answer.new.notes) in
+    Exactly-answer words files out notes c.answer.result c.answer.ensures.answer status.TooLong (λ clash. cc) (λ clash. cc) (status-IsTooLong words)
+
+pub returns-clause-read_fault : goal.returns-clause-read_fault
+returns-clause-read_fault g c =
+    let words = map string_bytes c.args.words.now in
+    let files = files_seen (g.F.Files.contents c.args.files.now) (g.F.Files.faults c.args.files.now) (g.F.Files.faults c.answer.new.files) in
+    let out = sink_seen (g.O.Sink.written c.args.out.now) (g.O.Sink.written c.answer.new.out) (g.O.Sink.faults c.args.out.now) (g.O.Sink.faults c.answer.new.out) in
+    let notes = sink_seen (g.E.Sink.written c.args.notes.now) (g.E.Sink.written c.answer.new.notes) (g.E.Sink.faults c.args.notes.now) (g.E.Sink.faults c.answer.new.notes) in
+    Exactly-answer words files out notes c.answer.result c.answer.ensures.answer status.ReadFault (λ clash. cc) (λ clash. cc) (status-CannotRead words)
+
+pub returns-clause-read_fault_counted : goal.returns-clause-read_fault_counted
+returns-clause-read_fault_counted g c =
+    let words = map string_bytes c.args.words.now in
+    let files = files_seen (g.F.Files.contents c.args.files.now) (g.F.Files.faults c.args.files.now) (g.F.Files.faults c.answer.new.files) in
+    let out = sink_seen (g.O.Sink.written c.args.out.now) (g.O.Sink.written c.answer.new.out) (g.O.Sink.faults c.args.out.now) (g.O.Sink.faults c.answer.new.out) in
+    let notes = sink_seen (g.E.Sink.written c.args.notes.now) (g.E.Sink.written c.answer.new.notes) (g.E.Sink.faults c.args.notes.now) (g.E.Sink.faults c.answer.new.notes) in
+    ReadFaultCounted-answer words files out notes c.answer.result c.answer.ensures.answer
+
+pub returns-clause-write_fault_counted : goal.returns-clause-write_fault_counted
+returns-clause-write_fault_counted g c =
+    let words = map string_bytes c.args.words.now in
+    let files = files_seen (g.F.Files.contents c.args.files.now) (g.F.Files.faults c.args.files.now) (g.F.Files.faults c.answer.new.files) in
+    let out = sink_seen (g.O.Sink.written c.args.out.now) (g.O.Sink.written c.answer.new.out) (g.O.Sink.faults c.args.out.now) (g.O.Sink.faults c.answer.new.out) in
+    let notes = sink_seen (g.E.Sink.written c.args.notes.now) (g.E.Sink.written c.answer.new.notes) (g.E.Sink.faults c.args.notes.now) (g.E.Sink.faults c.answer.new.notes) in
+    write_fault-answer words files out notes c.answer.result c.answer.ensures.answer
+
+pub returns-clause-never_trapped : goal.returns-clause-never_trapped
+returns-clause-never_trapped g c =
+    let words = map string_bytes c.args.words.now in
+    let files = files_seen (g.F.Files.contents c.args.files.now) (g.F.Files.faults c.args.files.now) (g.F.Files.faults c.answer.new.files) in
+    let out = sink_seen (g.O.Sink.written c.args.out.now) (g.O.Sink.written c.answer.new.out) (g.O.Sink.faults c.args.out.now) (g.O.Sink.faults c.answer.new.out) in
+    let notes = sink_seen (g.E.Sink.written c.args.notes.now) (g.E.Sink.written c.answer.new.notes) (g.E.Sink.faults c.args.notes.now) (g.E.Sink.faults c.answer.new.notes) in
+    never-answer words files out notes c.answer.result c.answer.ensures.answer status.Trapped (λ clash. cc) (λ clash. cc) (λ given none. none)
+
+pub returns-clause-never_said_no : goal.returns-clause-never_said_no
+returns-clause-never_said_no g c =
+    let words = map string_bytes c.args.words.now in
+    let files = files_seen (g.F.Files.contents c.args.files.now) (g.F.Files.faults c.args.files.now) (g.F.Files.faults c.answer.new.files) in
+    let out = sink_seen (g.O.Sink.written c.args.out.now) (g.O.Sink.written c.answer.new.out) (g.O.Sink.faults c.args.out.now) (g.O.Sink.faults c.answer.new.out) in
+    let notes = sink_seen (g.E.Sink.written c.args.notes.now) (g.E.Sink.written c.answer.new.notes) (g.E.Sink.faults c.args.notes.now) (g.E.Sink.faults c.answer.new.notes) in
+    never-answer words files out notes c.answer.result c.answer.ensures.answer status.CheckSaidNo (λ clash. cc) (λ clash. cc) (λ given none. none)
+
+pub returns-clause-never_map_refused : goal.returns-clause-never_map_refused
+returns-clause-never_map_refused g c =
+    let words = map string_bytes c.args.words.now in
+    let files = files_seen (g.F.Files.contents c.args.files.now) (g.F.Files.faults c.args.files.now) (g.F.Files.faults c.answer.new.files) in
+    let out = sink_seen (g.O.Sink.written c.args.out.now) (g.O.Sink.written c.answer.new.out) (g.O.Sink.faults c.args.out.now) (g.O.Sink.faults c.answer.new.out) in
+    let notes = sink_seen (g.E.Sink.written c.args.notes.now) (g.E.Sink.written c.answer.new.notes) (g.E.Sink.faults c.args.notes.now) (g.E.Sink.faults c.answer.new.notes) in
+    never-answer words files out notes c.answer.result c.answer.ensures.answer status.MapRefused (λ clash. cc) (λ clash. cc) (λ given none. none)
+
+pub returns-clause-never_stray : goal.returns-clause-never_stray
+returns-clause-never_stray g c =
+    let words = map string_bytes c.args.words.now in
+    let files = files_seen (g.F.Files.contents c.args.files.now) (g.F.Files.faults c.args.files.now) (g.F.Files.faults c.answer.new.files) in
+    let out = sink_seen (g.O.Sink.written c.args.out.now) (g.O.Sink.written c.answer.new.out) (g.O.Sink.faults c.args.out.now) (g.O.Sink.faults c.answer.new.out) in
+    let notes = sink_seen (g.E.Sink.written c.args.notes.now) (g.E.Sink.written c.answer.new.notes) (g.E.Sink.faults c.args.notes.now) (g.E.Sink.faults c.answer.new.notes) in
+    never-answer words files out notes c.answer.result c.answer.ensures.answer status.Stray (λ clash. cc) (λ clash. cc) (λ given none. none)
+
+pub returns-clause-writes : goal.returns-clause-writes
+returns-clause-writes g c =
+    let words = map string_bytes c.args.words.now in
+    let files = files_seen (g.F.Files.contents c.args.files.now) (g.F.Files.faults c.args.files.now) (g.F.Files.faults c.answer.new.files) in
+    let out = sink_seen (g.O.Sink.written c.args.out.now) (g.O.Sink.written c.answer.new.out) (g.O.Sink.faults c.args.out.now) (g.O.Sink.faults c.answer.new.out) in
+    let notes = sink_seen (g.E.Sink.written c.args.notes.now) (g.E.Sink.written c.answer.new.notes) (g.E.Sink.faults c.args.notes.now) (g.E.Sink.faults c.answer.new.notes) in
+    Writes-answer words files out notes c.answer.result c.answer.ensures.answer
+
+pub returns-clause-says : goal.returns-clause-says
+returns-clause-says g c =
+    let words = map string_bytes c.args.words.now in
+    let files = files_seen (g.F.Files.contents c.args.files.now) (g.F.Files.faults c.args.files.now) (g.F.Files.faults c.answer.new.files) in
+    let out = sink_seen (g.O.Sink.written c.args.out.now) (g.O.Sink.written c.answer.new.out) (g.O.Sink.faults c.args.out.now) (g.O.Sink.faults c.answer.new.out) in
+    let notes = sink_seen (g.E.Sink.written c.args.notes.now) (g.E.Sink.written c.answer.new.notes) (g.E.Sink.faults c.args.notes.now) (g.E.Sink.faults c.answer.new.notes) in
+    Says-answer words files out notes c.answer.result c.answer.ensures.answer

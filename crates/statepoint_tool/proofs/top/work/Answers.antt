@@ -1,0 +1,19 @@
+use Rattle.std.proofs.Common.{map, string_bytes}
+use Rattle.statepoint_tool.specs.Taken.{files_seen}
+use Rattle.statepoint_tool.specs.Words.{command_of}
+use Rattle.statepoint_tool.specs.Work.{work as work_of}
+use Rattle.statepoint_tool.proofs.NamedLaws.{Works-memory, Works-no_command}
+use Rattle.statepoint_tool.proofs.top.work.Goals as goal
+
+pub returns-in-Err-Words-clause-works : goal.returns-in-Err-Words-clause-works
+returns-in-Err-Words-clause-works g c =
+    let faults = g.F.Files.faults c.args.files.now in
+    Works-no_command (map string_bytes c.args.words.now) (files_seen (g.F.Files.contents c.args.files.now) faults faults)
+    (g.O.Sink.written c.args.out.now) (g.O.Sink.faults c.args.out.now) (c.in-Err-Words.ensures.none (cc))
+
+pub returns-in-Err-Memory-clause-works : goal.returns-in-Err-Memory-clause-works
+returns-in-Err-Memory-clause-works g c =
+    let faults = g.F.Files.faults c.args.files.now in
+    let words = map string_bytes c.args.words.now in
+    Works-memory (files_seen (g.F.Files.contents c.args.files.now) faults faults) (command_of words) (work_of words)
+    (g.O.Sink.written c.args.out.now) (g.O.Sink.faults c.args.out.now)

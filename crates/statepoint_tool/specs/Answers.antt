@@ -1,0 +1,105 @@
+-- What a call answers and writes, over what the files gave.
+use Rattle.std.specs.Prelude.{◌≡◌, ℕ, ⊤, ◌⊎◌, List, [], Option, Result, Ok, Err}
+use Rattle.tool_io.specs.Counts.{Rose}
+use Rattle.tool_io.specs.Sink.{AppendsFront, append_known}
+use Rattle.statepoint_tool.specs.Steps.{Step, Go, Stop}
+use Rattle.statepoint_tool.specs.Taken.{Taken, FilesSeen, MayGive, file_phase}
+use Rattle.statepoint_tool.specs.Notes.{refusal_line, status_of_refusal}
+use Rattle.statepoint_tool.specs.Words.{command_of}
+use Rattle.statepoint_tool.specs.Work.{Output, Given, MayGiveNamed, work}
+use Rattle.statepoint_tool.specs.declared.refusal.Cause.{Cause}
+use Rattle.statepoint_tool.specs.declared.refusal.Refusal.{Refusal}
+use Rattle.statepoint_tool.specs.declared.refusal.Refusal.TheVariants.{Defined, WriteFault, Memory}
+use Rattle.statepoint_tool.specs.declared.status.Status.{Status}
+use Rattle.statepoint_tool.specs.declared.status.Status.TheVariants as ending
+
+-- what a call sees of a sink: the list that was written, where it is told, and the count of faults,
+-- before the call and after it
+pub record SinkSeen : Type 0 where
+  pub old : Option (List ℕ)
+  pub new : Option (List ℕ)
+  pub faults_before : ℕ
+  pub faults_after : ℕ
+
+abbrev pub sink_seen : (old new : Option (List ℕ)) (before after : ℕ) → SinkSeen
+sink_seen old new before after = record { old = old; new = new; faults_before = before; faults_after = after }
+
+-- the sink grew by exactly these bytes; by a front of them
+abbrev pub Gained : SinkSeen → List ℕ → Type 0
+Gained sink bytes = sink.new ≡ append_known sink.old bytes
+
+abbrev pub GainedFront : SinkSeen → List ℕ → Type 0
+GainedFront sink bytes = AppendsFront sink.old sink.new bytes
+
+abbrev pub SinkFailed : SinkSeen → Type 0
+SinkFailed sink = Rose sink.faults_before sink.faults_after
+
+-- the bytes that the work would write
+abbrev pub text_of_step : Step Output → List ℕ
+text_of_step (Go output) = output.text
+text_of_step (Stop _) = []
+
+-- a phase that reads gives the step's value, or refuses by the step's cause, or wants memory
+abbrev pub Agrees : {A B : Type 0} → (B → A) → Result B Refusal → Step A → Type 0
+Agrees view (Ok value) step = step ≡ Go (view value)
+Agrees view (Err (Defined cause)) step = step ≡ Stop cause
+Agrees view (Err WriteFault) step = ⊥
+Agrees view (Err Memory) step = ⊤
+
+-- the file of this name was taken, and what it gave was read
+pub record Reads {A B : Type 0} (files : FilesSeen) (name : List ℕ) (read : List ℕ → Step A) (view : B → A) (result : Result B Refusal) : Type 0 where
+  pub given : Taken
+  pub may_give : MayGive files name given
+  pub agrees : Agrees view result (file_phase name read given)
+
+-- the work came to its end: its status is the step's, and all of the step's text was written
+pub record IsDone (status : Status) (step : Step Output) (out : SinkSeen) : Type 0 where
+  pub output : Output
+  pub defined : step ≡ Go output
+  pub status_is : status ≡ output.status
+  pub written : Gained out output.text
+
+-- the step's cause, and nothing was written
+pub record IsRefused (cause : Cause) (step : Step Output) (out : SinkSeen) : Type 0 where
+  pub defined : step ≡ Stop cause
+  pub unwritten : Gained out []
+
+-- standard output failed in this call after a front of the step's text
+pub record IsCut (step : Step Output) (out : SinkSeen) : Type 0 where
+  pub failed : SinkFailed out
+  pub front : GainedFront out (text_of_step step)
+
+-- how a call of the work ends
+abbrev pub Came : Result Status Refusal → Step Output → SinkSeen → Type 0
+Came (Ok status) step out = IsDone status step out
+Came (Err (Defined cause)) step out = IsRefused cause step out
+Came (Err WriteFault) step out = IsCut step out
+Came (Err Memory) step out = GainedFront out (text_of_step step)
+
+-- the same, over something that the files may have given
+pub record Works {G : Type 0} (may_give : G → Type 0) (steps : G → Step Output) (result : Result Status Refusal) (out : SinkSeen) : Type 0 where
+  pub given : G
+  pub may : may_give given
+  pub came : Came result (steps given) out
+
+-- what is said of a refusal: its line, with its status; or standard error failed after a front of it
+pub record IsSaid (refusal : Refusal) (status : Status) (notes : SinkSeen) : Type 0 where
+  pub status_is : status ≡ status_of_refusal refusal
+  pub line : Gained notes (refusal_line refusal)
+
+pub record IsSaidInPart (refusal : Refusal) (status : Status) (notes : SinkSeen) : Type 0 where
+  pub status_is : status ≡ ending.WriteFault
+  pub failed : SinkFailed notes
+  pub front : GainedFront notes (refusal_line refusal)
+
+-- where the work came to its end nothing is said
+abbrev pub IsTold : Result Status Refusal → Status → SinkSeen → Type 0
+IsTold (Ok ended) status notes = (status ≡ ended) × Gained notes []
+IsTold (Err refusal) status notes = IsSaid refusal status notes ⊎ IsSaidInPart refusal status notes
+
+-- the whole of what a call answers: the work ended in some way over something that the files may have
+-- given, and the status and the notes tell how
+pub record IsAnswer (words : List (List ℕ)) (files : FilesSeen) (out notes : SinkSeen) (status : Status) : Type 0 where
+  pub ended : Result Status Refusal
+  pub works : Works (MayGiveNamed files (command_of words)) (work words) ended out
+  pub told : IsTold ended status notes

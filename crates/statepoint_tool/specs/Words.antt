@@ -1,0 +1,35 @@
+-- Which words give which command.
+use Rattle.std.specs.Prelude.{ℕ, Bool, true, false, not, ◌&&◌, ◌==◌, ◌^◌, nat_le, if◌then◌else◌, List, [], ◌∷◌, length, Option, Some, None, option_map, codes}
+use Rattle.std.specs.List.{list_all}
+use Rattle.std.specs.Char.{is_ascii_digit}
+use Rattle.std.specs.Str.{bytes_eq}
+use Rattle.std.specs.Str.Parse.{digits_value}
+use Rattle.sp_ids.specs.declared.limits.TheConstants.{STEPS}
+use Rattle.statepoint_tool.specs.declared.request.Command.{Command}
+use Rattle.statepoint_tool.specs.declared.request.Command.TheVariants.{Run}
+
+-- a word that may name a file: it isn't empty, and begins with `-` only where it is `-`
+abbrev pub names_file : List ℕ → Bool
+names_file [] = false
+names_file (byte ∷ []) = true
+names_file (byte ∷ next ∷ rest) = not (byte == 45)
+
+-- a bound on steps: 1 to 20 digits that spell no more than the limit
+abbrev pub steps_of : List ℕ → Option ℕ
+steps_of word =
+    if nat_le 1 (length word) && nat_le (length word) 20 && list_all is_ascii_digit word && nat_le (digits_value 10 word) STEPS
+    then Some (digits_value 10 word)
+    else None
+
+-- the command `run` names three files, in order, and a bound on steps
+abbrev pub run_of : (module_file input plan steps : List ℕ) → Option Command
+run_of module_file input plan steps =
+    if names_file module_file && names_file input && names_file plan
+    then option_map (λ bound. Run module_file input plan bound) (steps_of steps)
+    else None
+
+-- the program's name, the command's name, and what the command takes; nothing else is a command
+abbrev pub command_of : List (List ℕ) → Option Command
+command_of (program ∷ name ∷ module_file ∷ input ∷ plan ∷ steps ∷ []) =
+    if bytes_eq name (codes "run") then run_of module_file input plan steps else None
+command_of _ = None

@@ -1,0 +1,19 @@
+//! The top call of `statepoint`: words to a command, files to a run, and a status for each way to end.
+#![tactic(auto)]
+
+mod evaluate;
+mod notes;
+mod phases;
+mod refusal;
+mod request;
+mod run;
+mod status;
+#[cfg(test)]
+mod tests;
+mod thin;
+mod top;
+mod words;
+
+pub use request::FileName;
+pub use status::Status;
+pub use top::statepoint;

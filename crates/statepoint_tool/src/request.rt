@@ -1,0 +1,56 @@
+ghost use Rattle.std.specs.Prelude.{◌≡◌, IfOk, string_bytes};
+
+use sp_ids::Memory;
+use std::alloc::Global;
+use std::marker::Model;
+
+/// The name of a file, as a word of the command line gives it. Contracts see its bytes.
+#[derive(Debug, Drop)]
+pub struct FileName {
+    text: String,
+}
+
+impl Model for FileName {
+    ghost use Rattle.std.specs.Prelude.{ℕ, List, string_bytes};
+
+    ghost Value = { List ℕ };
+
+    ghost view = { λ name. string_bytes name.text };
+}
+
+impl FileName {
+    /// A copy of the word.
+    pub(crate) fn of(alloc: Global, word: &str) -> Result<FileName, Memory>
+        ensures { IfOk result (λ name. name ≡ word.now) }
+    {
+        Ok(FileName {
+            text: String::from_str(alloc, word)?,
+        })
+    }
+
+    /// The bytes of the name.
+    pub fn bytes(&self) -> &[u8]
+        ensures { result.now ≡ self.now }
+    {
+        self.text.as_bytes()
+    }
+
+    /// The name as text.
+    pub(crate) fn as_str(&self) -> &str
+        ensures { result.now ≡ self.now }
+    {
+        self.text.as_str()
+    }
+}
+
+/// What the words of the command line ask for.
+#[derive(Debug, Drop)]
+pub(crate) enum Command {
+    /// Run the module with the input under the plan, for at most so many steps.
+    Run {
+        module: FileName,
+        input: FileName,
+        plan: FileName,
+        steps: u64,
+    },
+}

@@ -1,0 +1,103 @@
+//! The command `run`: the module, the input and the plan are taken in this order, then the module runs.
+ghost use Rattle.std.specs.Prelude.{◌≡◌, ◌≤◌, ℕ};
+ghost use Rattle.tool_io.specs.Counts.{NoneFell};
+ghost use Rattle.statepoint_tool.specs.Answers.{Came, Works, sink_seen};
+ghost use Rattle.statepoint_tool.specs.Taken.{files_seen, MayGive};
+ghost use Rattle.statepoint_tool.specs.Work.{MayGiveAll, MayGiveBoth, after_input, after_module, run_phase, run_work};
+
+use crate::evaluate::{Ended, RunFault, evaluate};
+use crate::phases::{take_input, take_module, take_plan};
+use crate::refusal::Refusal;
+use crate::request::FileName;
+use crate::status::Status;
+use ir_ast::Module;
+use std::alloc::Global;
+use tool_io::{Files, Sink};
+
+/// The names of the files that a run takes.
+#[derive(Debug, Drop)]
+pub(crate) struct RunFiles {
+    pub(crate) code: FileName,
+    pub(crate) input: FileName,
+    pub(crate) plan: FileName,
+}
+
+/// Runs the module of the first file for at most `steps` steps.
+pub(crate) fn run<F: Files, O: Sink>(
+    alloc: Global,
+    names: RunFiles,
+    steps: u64,
+    files: &mut F,
+    out: &mut O,
+) -> Result<Status, Refusal>
+    ensures works { Works (MayGiveAll (files_seen (F.contents files.old) (F.faults files.old) (F.faults files.new)) names.code names.input names.plan)
+        (run_work names.code names.input names.plan steps) result
+        (sink_seen (O.written out.old) (O.written out.new) (O.faults out.old) (O.faults out.new)) }
+    ensures kept { F.contents files.new ≡ F.contents files.old }
+    ensures counted { NoneFell (F.faults files.old) (F.faults files.new) }
+    ensures out_counted { O.faults out.old ≤ O.faults out.new }
+{
+    let RunFiles { code, input, plan } = names;
+    let read = take_module(alloc, files, code)?;
+    run_module(alloc, &read, input, plan, steps, files, out)
+}
+
+// What is left once the module is read.
+fn run_module<F: Files, O: Sink>(
+    alloc: Global,
+    read: &Module,
+    input: FileName,
+    plan: FileName,
+    steps: u64,
+    files: &mut F,
+    out: &mut O,
+) -> Result<Status, Refusal>
+    ensures works { Works (MayGiveBoth (files_seen (F.contents files.old) (F.faults files.old) (F.faults files.new)) input plan)
+        (after_module input plan read.now.content steps) result
+        (sink_seen (O.written out.old) (O.written out.new) (O.faults out.old) (O.faults out.new)) }
+    ensures kept { F.contents files.new ≡ F.contents files.old }
+    ensures counted { NoneFell (F.faults files.old) (F.faults files.new) }
+    ensures out_counted { O.faults out.old ≤ O.faults out.new }
+{
+    take_input(alloc, files, input)?;
+    run_with_input(alloc, read, plan, steps, files, out)
+}
+
+// What is left once the input is read.
+fn run_with_input<F: Files, O: Sink>(
+    alloc: Global,
+    read: &Module,
+    plan: FileName,
+    steps: u64,
+    files: &mut F,
+    out: &mut O,
+) -> Result<Status, Refusal>
+    ensures works { Works (MayGive (files_seen (F.contents files.old) (F.faults files.old) (F.faults files.new)) plan)
+        (after_input plan read.now.content steps) result
+        (sink_seen (O.written out.old) (O.written out.new) (O.faults out.old) (O.faults out.new)) }
+    ensures kept { F.contents files.new ≡ F.contents files.old }
+    ensures counted { NoneFell (F.faults files.old) (F.faults files.new) }
+    ensures out_counted { O.faults out.old ≤ O.faults out.new }
+{
+    take_plan(alloc, files, plan)?;
+    run_under_plan(alloc, read, steps, out)
+}
+
+// The run itself.
+fn run_under_plan<O: Sink>(
+    alloc: Global,
+    read: &Module,
+    steps: u64,
+    out: &mut O,
+) -> Result<Status, Refusal>
+    ensures came { Came result (run_phase read.now.content steps)
+        (sink_seen (O.written out.old) (O.written out.new) (O.faults out.old) (O.faults out.new)) }
+    ensures out_counted { O.faults out.old ≤ O.faults out.new }
+{
+    match evaluate(alloc, read, steps, out) {
+        Ok(Ended::Returned) => Ok(Status::Done),
+        Ok(Ended::OutOfSteps) => Ok(Status::OutOfSteps),
+        Err(RunFault::Memory) => Err(Refusal::Memory),
+        Err(RunFault::Write) => Err(Refusal::WriteFault),
+    }
+}

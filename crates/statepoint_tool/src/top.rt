@@ -1,0 +1,185 @@
+//! The top call.
+ghost use Rattle.std.specs.Prelude.{◌≡◌, ◌≢◌, ◌≤◌, ◌⊎◌, ℕ, List, map, string_bytes};
+ghost use Rattle.tool_io.specs.Counts.{NoneFell};
+ghost use Rattle.statepoint_tool.specs.Answers.{SinkFailed, IsAnswer, IsTold, Works, sink_seen};
+ghost use Rattle.statepoint_tool.specs.Causes.{CannotRead, HasInputFault, HasModuleFault, HasPlanFault, IsTooLong, NoCommand, Returns, RunsOutOfSteps};
+ghost use Rattle.statepoint_tool.specs.Complete.{IsComplete};
+ghost use Rattle.statepoint_tool.specs.Statuses.{Exactly, ReadFaultCounted, Says, Writes};
+ghost use Rattle.statepoint_tool.specs.Taken.{files_seen};
+ghost use Rattle.statepoint_tool.specs.Words.{command_of};
+ghost use Rattle.statepoint_tool.specs.Work.{MayGiveNamed, work as work_of};
+
+use crate::notes::put_note;
+use crate::refusal::{Cause, Refusal};
+use crate::request::Command;
+use crate::run::{RunFiles, run};
+use crate::status::Status;
+use crate::words::{WordsFault, command};
+use std::alloc::Global;
+use tool_io::{Failed, Files, Sink};
+
+/// Does what the words ask for, and says how it ended. The first word is the program's name.
+///
+/// The work goes in this order: the words; the module is taken and read; the input; the plan; the run.
+/// A run writes each line by one `put`. A refusal puts one line on `notes`.
+///
+/// What the files gave is what is told of them, or anything where nothing is told; a file could not be
+/// read only where a fault was counted for its name. Each status comes exactly where its cause holds over
+/// that, and yields to want of memory and to a failed sink alone.
+pub fn statepoint<F: Files, O: Sink, E: Sink>(
+    alloc: Global,
+    words: &[String],
+    files: &mut F,
+    out: &mut O,
+    notes: &mut E,
+) -> Status
+    // Told files without fault, and no fault counted: the source meaning's bytes and its status.
+    ensures complete { IsComplete (map string_bytes words.now)
+        (files_seen (F.contents files.old) (F.faults files.old) (F.faults files.new))
+        (sink_seen (O.written out.old) (O.written out.new) (O.faults out.old) (O.faults out.new))
+        (sink_seen (E.written notes.old) (E.written notes.new) (E.faults notes.old) (E.faults notes.new))
+        result }
+
+    // Each status with its cause.
+    ensures done { Exactly (map string_bytes words.now)
+        (files_seen (F.contents files.old) (F.faults files.old) (F.faults files.new))
+        (sink_seen (O.written out.old) (O.written out.new) (O.faults out.old) (O.faults out.new))
+        (sink_seen (E.written notes.old) (E.written notes.new) (E.faults notes.old) (E.faults notes.new))
+        result Status.Done Returns }
+    ensures out_of_steps { Exactly (map string_bytes words.now)
+        (files_seen (F.contents files.old) (F.faults files.old) (F.faults files.new))
+        (sink_seen (O.written out.old) (O.written out.new) (O.faults out.old) (O.faults out.new))
+        (sink_seen (E.written notes.old) (E.written notes.new) (E.faults notes.old) (E.faults notes.new))
+        result Status.OutOfSteps RunsOutOfSteps }
+    ensures words_refused { Exactly (map string_bytes words.now)
+        (files_seen (F.contents files.old) (F.faults files.old) (F.faults files.new))
+        (sink_seen (O.written out.old) (O.written out.new) (O.faults out.old) (O.faults out.new))
+        (sink_seen (E.written notes.old) (E.written notes.new) (E.faults notes.old) (E.faults notes.new))
+        result Status.WordsRefused NoCommand }
+    ensures module_refused { Exactly (map string_bytes words.now)
+        (files_seen (F.contents files.old) (F.faults files.old) (F.faults files.new))
+        (sink_seen (O.written out.old) (O.written out.new) (O.faults out.old) (O.faults out.new))
+        (sink_seen (E.written notes.old) (E.written notes.new) (E.faults notes.old) (E.faults notes.new))
+        result Status.ModuleRefused HasModuleFault }
+    ensures input_refused { Exactly (map string_bytes words.now)
+        (files_seen (F.contents files.old) (F.faults files.old) (F.faults files.new))
+        (sink_seen (O.written out.old) (O.written out.new) (O.faults out.old) (O.faults out.new))
+        (sink_seen (E.written notes.old) (E.written notes.new) (E.faults notes.old) (E.faults notes.new))
+        result Status.InputRefused HasInputFault }
+    ensures plan_refused { Exactly (map string_bytes words.now)
+        (files_seen (F.contents files.old) (F.faults files.old) (F.faults files.new))
+        (sink_seen (O.written out.old) (O.written out.new) (O.faults out.old) (O.faults out.new))
+        (sink_seen (E.written notes.old) (E.written notes.new) (E.faults notes.old) (E.faults notes.new))
+        result Status.PlanRefused HasPlanFault }
+    ensures too_long { Exactly (map string_bytes words.now)
+        (files_seen (F.contents files.old) (F.faults files.old) (F.faults files.new))
+        (sink_seen (O.written out.old) (O.written out.new) (O.faults out.old) (O.faults out.new))
+        (sink_seen (E.written notes.old) (E.written notes.new) (E.faults notes.old) (E.faults notes.new))
+        result Status.TooLong IsTooLong }
+    ensures read_fault { Exactly (map string_bytes words.now)
+        (files_seen (F.contents files.old) (F.faults files.old) (F.faults files.new))
+        (sink_seen (O.written out.old) (O.written out.new) (O.faults out.old) (O.faults out.new))
+        (sink_seen (E.written notes.old) (E.written notes.new) (E.faults notes.old) (E.faults notes.new))
+        result Status.ReadFault CannotRead }
+    ensures read_fault_counted { result ≡ Status.ReadFault → ReadFaultCounted (map string_bytes words.now)
+        (files_seen (F.contents files.old) (F.faults files.old) (F.faults files.new)) }
+    ensures write_fault_counted { result ≡ Status.WriteFault →
+        SinkFailed (sink_seen (O.written out.old) (O.written out.new) (O.faults out.old) (O.faults out.new)) ⊎
+        SinkFailed (sink_seen (E.written notes.old) (E.written notes.new) (E.faults notes.old) (E.faults notes.new)) }
+    ensures never_trapped { result ≢ Status.Trapped }
+    ensures never_said_no { result ≢ Status.CheckSaidNo }
+    ensures never_map_refused { result ≢ Status.MapRefused }
+    ensures never_stray { result ≢ Status.Stray }
+
+    // What the call leaves.
+    ensures writes { Writes result (map string_bytes words.now)
+        (files_seen (F.contents files.old) (F.faults files.old) (F.faults files.new))
+        (sink_seen (O.written out.old) (O.written out.new) (O.faults out.old) (O.faults out.new)) }
+    ensures says { Says result (map string_bytes words.now)
+        (files_seen (F.contents files.old) (F.faults files.old) (F.faults files.new))
+        (sink_seen (O.written out.old) (O.written out.new) (O.faults out.old) (O.faults out.new))
+        (sink_seen (E.written notes.old) (E.written notes.new) (E.faults notes.old) (E.faults notes.new)) }
+    ensures kept { F.contents files.new ≡ F.contents files.old }
+{
+    answer(alloc, words, files, out, notes)
+}
+
+// The call, with its whole answer in one clause, from which the public clauses follow.
+fn answer<F: Files, O: Sink, E: Sink>(
+    alloc: Global,
+    words: &[String],
+    files: &mut F,
+    out: &mut O,
+    notes: &mut E,
+) -> Status
+    ensures answer { IsAnswer (map string_bytes words.now)
+        (files_seen (F.contents files.old) (F.faults files.old) (F.faults files.new))
+        (sink_seen (O.written out.old) (O.written out.new) (O.faults out.old) (O.faults out.new))
+        (sink_seen (E.written notes.old) (E.written notes.new) (E.faults notes.old) (E.faults notes.new))
+        result }
+    ensures kept { F.contents files.new ≡ F.contents files.old }
+    ensures counted { NoneFell (F.faults files.old) (F.faults files.new) }
+    ensures out_counted { O.faults out.old ≤ O.faults out.new }
+    ensures notes_counted { E.faults notes.old ≤ E.faults notes.new }
+{
+    let ended = work(alloc, words, files, out);
+    tell(ended, notes)
+}
+
+// The work that the words ask for.
+fn work<F: Files, O: Sink>(
+    alloc: Global,
+    words: &[String],
+    files: &mut F,
+    out: &mut O,
+) -> Result<Status, Refusal>
+    ensures works { Works (MayGiveNamed (files_seen (F.contents files.old) (F.faults files.old) (F.faults files.new)) (command_of (map string_bytes words.now)))
+        (work_of (map string_bytes words.now)) result
+        (sink_seen (O.written out.old) (O.written out.new) (O.faults out.old) (O.faults out.new)) }
+    ensures kept { F.contents files.new ≡ F.contents files.old }
+    ensures counted { NoneFell (F.faults files.old) (F.faults files.new) }
+    ensures out_counted { O.faults out.old ≤ O.faults out.new }
+{
+    match command(alloc, words) {
+        Ok(
+            Command::Run {
+                module,
+                input,
+                plan,
+                steps,
+            },
+        ) => {
+            let names = RunFiles {
+                code: module,
+                input,
+                plan,
+            };
+            run(alloc, names, steps, files, out)
+        }
+        Err(WordsFault::Words) => Err(Refusal::Defined(Cause::Words)),
+        Err(WordsFault::Memory) => Err(Refusal::Memory),
+    }
+}
+
+// The status, once standard error has the line of a refusal.
+fn tell<E: Sink>(ended: Result<Status, Refusal>, notes: &mut E) -> Status
+    ensures told { IsTold ended result
+        (sink_seen (E.written notes.old) (E.written notes.new) (E.faults notes.old) (E.faults notes.new)) }
+    ensures notes_counted { E.faults notes.old ≤ E.faults notes.new }
+{
+    match ended {
+        Ok(status) => status,
+        Err(refusal) => say(&refusal, notes),
+    }
+}
+
+fn say<E: Sink>(refusal: &Refusal, notes: &mut E) -> Status
+    ensures told { IsTold (Err refusal.now) result
+        (sink_seen (E.written notes.old) (E.written notes.new) (E.faults notes.old) (E.faults notes.new)) }
+    ensures notes_counted { E.faults notes.old ≤ E.faults notes.new }
+{
+    match put_note(refusal, notes) {
+        Ok(()) => refusal.status(),
+        Err(Failed) => Status::WriteFault,
+    }
+}

@@ -1,0 +1,104 @@
+ghost use Rattle.std.specs.Prelude.{◌≡◌, Some, None, map, string_bytes, IfOk, IsErrOf};
+ghost use Rattle.std.specs.Char.{is_ascii_digit};
+ghost use Rattle.std.specs.List.{list_all};
+ghost use Rattle.statepoint_tool.specs.Words.{command_of, names_file, run_of, steps_of};
+
+use crate::request::{Command, FileName};
+use sp_ids::{Memory, limits};
+use std::alloc::Global;
+
+/// Why the words give no command.
+#[derive(Clone, Copy, Debug, PartialEq, Eq)]
+pub(crate) enum WordsFault {
+    /// They are none that any command has.
+    Words,
+    Memory,
+}
+
+impl From<Memory> for WordsFault {
+    ghost use Rattle.std.specs.Prelude.{◌≡◌};
+    ghost use Rattle.statepoint_tool.specs.declared.words.WordsFault.TheVariants.{Memory as OutOfMemory};
+
+    ghost from_gives = { λ _ fault. fault ≡ OutOfMemory };
+
+    fn from(_memory: Memory) -> Self {
+        WordsFault::Memory
+    }
+}
+
+/// The command that the words give, the program's name first.
+pub(crate) fn command(alloc: Global, words: &[String]) -> Result<Command, WordsFault>
+    ensures gives { IfOk result (λ command. command_of (map string_bytes words.now) ≡ Some command) }
+    ensures none { IsErrOf result WordsFault.Words → command_of (map string_bytes words.now) ≡ None }
+{
+    let [_program, name, module_name, input, plan, steps] = words else {
+        return Err(WordsFault::Words);
+    };
+    if name.as_str() != "run" {
+        return Err(WordsFault::Words);
+    }
+    run_command(
+        alloc,
+        module_name.as_str(),
+        input.as_str(),
+        plan.as_str(),
+        steps.as_str(),
+    )
+}
+
+// The command `run` over these words.
+fn run_command(
+    alloc: Global,
+    module_name: &str,
+    input: &str,
+    plan: &str,
+    steps: &str,
+) -> Result<Command, WordsFault>
+    ensures gives { IfOk result (λ command. run_of module_name.now input.now plan.now steps.now ≡ Some command) }
+    ensures none { IsErrOf result WordsFault.Words → run_of module_name.now input.now plan.now steps.now ≡ None }
+{
+    if !(may_name_file(module_name) && may_name_file(input) && may_name_file(plan)) {
+        return Err(WordsFault::Words);
+    }
+    let Some(steps) = step_bound(steps) else {
+        return Err(WordsFault::Words);
+    };
+    Ok(Command::Run {
+        module: FileName::of(alloc, module_name)?,
+        input: FileName::of(alloc, input)?,
+        plan: FileName::of(alloc, plan)?,
+        steps,
+    })
+}
+
+fn may_name_file(word: &str) -> bool
+    ensures { result ≡ names_file word.now }
+{
+    match word.as_bytes() {
+        [] => false,
+        [_] => true,
+        [first, _, ..] => *first != b'-',
+    }
+}
+
+fn step_bound(word: &str) -> Option<u64>
+    ensures { result ≡ steps_of word.now }
+{
+    if word.is_empty() || word.len() > 20 || !is_digits(word) {
+        return None;
+    }
+    let Ok(steps) = word.parse::<u64>() else {
+        return None;
+    };
+    if steps <= limits::STEPS {
+        Some(steps)
+    } else {
+        None
+    }
+}
+
+fn is_digits(word: &str) -> bool
+    ensures { result ≡ list_all is_ascii_digit word.now }
+{
+    word.as_bytes().iter().all(|byte| byte.is_ascii_digit())
+}

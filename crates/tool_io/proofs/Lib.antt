@@ -1,0 +1,3 @@
+pub mod AppendLaws
+pub mod CountLaws
+pub mod KnownLaws

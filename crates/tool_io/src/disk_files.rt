@@ -1,0 +1,141 @@
+ghost use Rattle.std.specs.Prelude.{◌≡◌, ◌+◌, ◌<◌, ◌≤◌, ◌≢◌, None, Err, length, vec_len, IfOk, IfSome, IsErrOf};
+ghost use Rattle.tool_io.specs.Adapters.{GivesCount};
+ghost use Rattle.tool_io.specs.Counts.{Rose};
+
+use crate::{Files, TakeFault};
+use std::alloc::Global;
+use std::fs::File;
+use std::io::Read;
+use std::marker::Model;
+use std::rt;
+
+/// The files of the system, by their paths. It is seen as its count of faults, one for all names,
+/// and tells no contents.
+#[derive(Drop)]
+pub struct DiskFiles<R> {
+    rt: R,
+    faults: u64,
+}
+
+impl<R> Model for DiskFiles<R> {
+    ghost use Rattle.std.specs.Prelude.{ℕ};
+
+    ghost Value = { ℕ };
+
+    ghost view = { λ files. files.faults };
+}
+
+impl<R: rt::Files> DiskFiles<R> {
+    /// The files that this runtime reaches.
+    pub fn new(rt: R) -> DiskFiles<R>
+        ensures { result ≡ 0 }
+    {
+        DiskFiles { rt, faults: 0 }
+    }
+
+    fn read(&self, alloc: Global, name: &str, limit: u64) -> Result<Vec<u8>, TakeFault>
+        ensures { IfOk result (λ bytes. vec_len bytes ≤ limit) }
+    {
+        let mut file = File::open(&self.rt, name).map_err(|_| TakeFault::Failed)?;
+        read_within(alloc, &mut file, limit)
+    }
+}
+
+impl<R: rt::Files> Files for DiskFiles<R> {
+    ghost contents = { λ _ _. None };
+
+    ghost faults = { λ count _. count };
+
+    fn take(&mut self, alloc: Global, name: &str, limit: u64) -> Result<Vec<u8>, TakeFault>
+        ensures counts { self.old ≤ self.new }
+        ensures steady { result ≢ Err TakeFault.Failed → self.new ≡ self.old }
+        ensures bound { IfOk result (λ bytes. vec_len bytes ≤ limit) }
+        ensures failed { IsErrOf result TakeFault.Failed → Rose self.old self.new }
+    {
+        let taken = self.read(alloc, name, limit);
+        if let Err(TakeFault::Failed) = taken {
+            self.faults = self.faults.saturating_add(1);
+        }
+        taken
+    }
+}
+
+// How many bytes are read at once.
+const TURN: u64 = 4_096;
+
+// All bytes that the reader has left, of which there may be at most `limit`. Each turn takes a byte
+// or is the last, and no byte past the first one above the limit is read.
+fn read_within<F: Read>(alloc: Global, file: &mut F, limit: u64) -> Result<Vec<u8>, TakeFault>
+    ensures bound { IfOk result (λ bytes. vec_len bytes ≤ limit) }
+    ensures whole { IfOk result (λ bytes. IfSome (F.remaining file.old) (λ told. bytes.items ≡ told)) }
+    ensures too_long { IsErrOf result TakeFault.TooLong → IfSome (F.remaining file.old) (λ told. limit < length told) }
+    ensures ends { IsErrOf result TakeFault.TooLong → GivesCount (F.remaining file.old) (F.remaining file.new) (limit + 1) }
+{
+    let mut bytes = Vec::new(alloc);
+    let mut buffer = [0; TURN as usize];
+    'turns: while bytes.len() as u64 <= limit {
+        let left = limit - bytes.len() as u64;
+        let part = &mut buffer[..left.min(TURN - 1) as usize + 1];
+        match file.read(part) {
+            Ok(0) => return Ok(bytes),
+            Ok(count) => bytes.extend_from_slice(&part[..count])?,
+            Err(_) => return Err(TakeFault::Failed),
+        }
+    }
+    Err(TakeFault::TooLong)
+}
+
+#[cfg(test)]
+mod tests {
+    use super::*;
+    use std::test::Fail;
+    use std::{env, fs, process};
+
+    #[test]
+    fn takes_whole(rt: HostRuntime) -> Result<(), Fail> {
+        let alloc = rt.alloc();
+        let folder = env::temp_dir(&rt)?;
+        let folder = folder.as_str();
+        let id = process::id(rt.process());
+        let name = format!(in alloc; "{folder}/tool_io takes é {id}")?;
+        let name = name.as_str();
+        let mut files = DiskFiles::new(&rt);
+        assert_eq!(rt; files.take(alloc, name, 9).err(), Some(TakeFault::Failed));
+        assert_eq!(rt; files.faults, 1);
+        fs::write(&rt, name, "ab\ncd")?;
+        let exact = files.take(alloc, name, 5);
+        let ample = files.take(alloc, name, u64::MAX);
+        let one_less = files.take(alloc, name, 4);
+        fs::remove_file(&rt, name)?;
+        assert_eq!(rt; exact?.as_slice(), b"ab\ncd".as_slice());
+        assert_eq!(rt; ample?.as_slice(), b"ab\ncd".as_slice());
+        assert_eq!(rt; one_less.err(), Some(TakeFault::TooLong));
+        assert_eq!(rt; files.faults, 1);
+        Ok(())
+    }
+
+    // A file without an end, and a folder, which opens and can't be read.
+    #[test]
+    fn ends_at_the_limit(rt: HostRuntime) {
+        let alloc = rt.alloc();
+        let mut files = DiskFiles::new(&rt);
+        for limit in [0, 4_095, 4_096, 10_000] {
+            assert_eq!(rt;
+                files.take(alloc, "/dev/zero", limit).err(),
+                Some(TakeFault::TooLong)
+            );
+        }
+        assert_eq!(rt; files.faults, 0);
+        assert_eq!(rt; files.take(alloc, "/", 9).err(), Some(TakeFault::Failed));
+        assert_eq!(rt; files.faults, 1);
+    }
+
+    // No byte past the first one above the limit is taken.
+    #[test]
+    fn leaves_the_rest(rt: HostRuntime) {
+        let mut left = b"abcdef".as_slice();
+        let taken = read_within(rt.alloc(), &mut left, 2);
+        assert_eq!(rt; taken.err(), Some(TakeFault::TooLong));
+        assert_eq!(rt; left, b"def".as_slice());
+    }
+}
