@@ -6,3 +6,4 @@ pub mod Stopping
 pub mod AllOf
 pub mod LineByLine
 pub mod Openings
+pub mod FittingLines

@@ -39,7 +39,7 @@ unfolding after
 first_found None next e = absurd cc
 first_found (Some x) next e = (x.0, x.1, refl, e)
 
-found_is : {A : Type 0} (found : Found A) (x : A × List Tok) → found ≡ Some x → IsFound found
+pub found_is : {A : Type 0} (found : Found A) (x : A × List Tok) → found ≡ Some x → IsFound found
 found_is found x e = rw e refl
 
 -- the first slot of a form that fits, and the others

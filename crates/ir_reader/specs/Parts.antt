@@ -6,8 +6,8 @@ use Rattle.sp_text.specs.declared.tokens.Kind.TheVariants as kinds
 use Rattle.ir_reader.specs.declared.readings.TypeWord.{TypeWord}
 use Rattle.ir_reader.specs.declared.readings.TypeWord.TheVariants as types
 use Rattle.ir_reader.specs.declared.readings.Literal.{Literal}
-use Rattle.ir_reader.specs.declared.words.Pred.{Pred}
-use Rattle.ir_reader.specs.declared.words.Pred.TheVariants as preds
+use Rattle.ir_ast.specs.declared.ops.Pred.{Pred}
+use Rattle.ir_ast.specs.declared.ops.Pred.TheVariants as preds
 use Rattle.ir_reader.specs.declared.words.Dropped.TheVariants as drops
 use Rattle.ir_reader.specs.Gives.{Found, after, one_at, with_rest}
 use Rattle.ir_reader.specs.Marks.{is_word, is_mark, is_number, local_of, global_of, quoted_of, stands, begins}

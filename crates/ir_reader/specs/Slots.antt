@@ -4,7 +4,7 @@ use Rattle.sp_text.specs.Tokens.{Tok, tok, bad}
 use Rattle.ir_reader.specs.declared.readings.TypeWord.{TypeWord}
 use Rattle.ir_reader.specs.declared.readings.TypeWord.TheVariants as types
 use Rattle.ir_reader.specs.declared.readings.Literal.{Literal}
-use Rattle.ir_reader.specs.declared.words.Pred.{Pred}
+use Rattle.ir_ast.specs.declared.ops.Pred.{Pred}
 use Rattle.ir_reader.specs.declared.words.Dropped.{Dropped}
 use Rattle.ir_reader.specs.Gives.{Found, after, one_at}
 use Rattle.ir_reader.specs.Marks.{is_quoted, is_hash, stands}

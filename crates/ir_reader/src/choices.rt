@@ -11,7 +11,7 @@ use crate::cursor::Cursor;
 use crate::faults::Stop;
 use crate::readings::{Literal, Value};
 use crate::tokens::{is_mark, is_text, is_word, local};
-use crate::words::Pred;
+use ir_ast::Pred;
 use sp_text::{Kind, Token};
 
 // The predicate that a word names.

@@ -27,14 +27,14 @@ mod types;
 mod words;
 
 pub use faults::ReadFault;
-pub use laws::{one_form, one_reading};
-pub use raw::{NumberedReading, Raw, TextForm};
+pub use laws::{fitting_line, one_form, one_reading};
+pub use raw::{NumberedReading, Raw};
 pub use readings::{
     AllPassed, Argument, Arguments, Entries, Entry, Fields, Literal, Passed, Reading, TypeWord,
     Value,
 };
 pub use text::read;
-pub use words::{Binary, Cast, Conversion, Pred};
+pub use words::{Binary, Cast, Conversion};
 
 #[cfg(test)]
 mod tests;

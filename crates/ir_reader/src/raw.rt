@@ -3,6 +3,7 @@
 ghost use Rattle.std.specs.Prelude.{◌≡◌};
 
 use crate::readings::Reading;
+use ir_ast::Form;
 use std::marker::Model;
 
 /// What a line says, with the line's number.
@@ -12,18 +13,12 @@ pub struct NumberedReading<'a> {
     pub reading: Reading<'a>,
 }
 
-/// The form that a text was read in.
-#[derive(Clone, Copy, Debug, PartialEq, Eq)]
-pub enum TextForm {
-    Source,
-}
-
 /// The readings of all lines of a text that are neither empty nor dropped. The text is within the file limit, and
 /// nothing in it passes a limit.
 #[derive(Drop)]
 pub struct Raw<'a> {
     text: &'a [u8],
-    form: TextForm,
+    form: Form,
     readings: Vec<NumberedReading<'a>>,
 }
 
@@ -41,12 +36,12 @@ impl<'a> Raw<'a> {
     ghost use Rattle.ir_reader.specs.Raws.{Readings, IsRead};
 
     pub(crate) fn of(text: &'a [u8], readings: Vec<NumberedReading<'a>>) -> Raw<'a>
-        requires { IsRead (record { text = text.now; form = TextForm.Source; lines = readings.items }) }
-        ensures { result ≡ record { text = text.entry.now; form = TextForm.Source; lines = readings.entry.items } }
+        requires { IsRead (record { text = text.now; form = Form.Source; lines = readings.items }) }
+        ensures { result ≡ record { text = text.entry.now; form = Form.Source; lines = readings.entry.items } }
     {
         Raw {
             text,
-            form: TextForm::Source,
+            form: Form::Source,
             readings,
         }
     }
@@ -60,7 +55,7 @@ impl<'a> Raw<'a> {
     }
 
     /// The form that the text was read in.
-    pub fn form(&self) -> TextForm
+    pub fn form(&self) -> Form
         ensures { result ≡ self.now.form }
     {
         self.form

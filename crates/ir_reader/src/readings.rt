@@ -1,4 +1,5 @@
-use crate::words::{Binary, Cast, Conversion, Pred};
+use crate::words::{Binary, Cast, Conversion};
+use ir_ast::Pred;
 use smallvec::SmallVec;
 
 /// A type as a line spells it.

@@ -23,21 +23,6 @@ pub enum Binary {
     Ashr,
 }
 
-/// The predicate of an `icmp` (LLVM Language Reference, "'icmp' Instruction").
-#[derive(Clone, Copy, Debug, PartialEq, Eq)]
-pub enum Pred {
-    Eq,
-    Ne,
-    Ugt,
-    Uge,
-    Ult,
-    Ule,
-    Sgt,
-    Sge,
-    Slt,
-    Sle,
-}
-
 /// A conversion between widths (LLVM Language Reference, "Conversion Operations").
 #[derive(Clone, Copy, Debug, PartialEq, Eq)]
 pub enum Conversion {
