@@ -1,0 +1,4 @@
+//! The printed text of a module.
+#![tactic(auto)]
+
+mod pieces;
