@@ -2,3 +2,8 @@
 #![tactic(auto)]
 
 mod pieces;
+mod calls;
+mod names;
+mod operands;
+mod rows;
+mod words;
