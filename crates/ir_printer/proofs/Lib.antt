@@ -1,3 +1,6 @@
 pub mod RowLemmas
 pub mod NameLemmas
 pub mod IntegerLemmas
+pub mod CallLemmas
+pub mod LineLemmas
+pub mod DeclarationLemmas

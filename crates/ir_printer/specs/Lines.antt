@@ -3,6 +3,8 @@ use Rattle.std.specs.Prelude.{ℕ, List, [], ◌∷◌, ◌++◌, map, drop, Opt
 use Rattle.std.specs.List.{zip, flat_map}
 use Rattle.ir_ast.specs.declared.types.Ty.{Ty}
 use Rattle.ir_ast.specs.declared.types.Ty.TheVariants.{Void, Int, Ptr}
+use Rattle.sp_ids.specs.declared.ids.BlockId.{BlockId}
+use Rattle.ir_ast.specs.declared.ops.Operand.{Operand}
 use Rattle.ir_ast.specs.declared.ops.Pred.{Pred}
 use Rattle.ir_ast.specs.declared.ops.Elem.{Elem}
 use Rattle.ir_ast.specs.declared.ops.Elem.TheVariants.{Int as IntegerElement, Ptr as PointerElement, Layout}
@@ -35,11 +37,16 @@ select_text names inst =
     codes "select " ++ (typed_text names (Int 1) (operand_at inst 0) ++ (codes ", "
     ++ (typed_text names inst.ty (operand_at inst 1) ++ (codes ", " ++ typed_text names inst.ty (operand_at inst 2)))))
 
+-- `[ V, %l ]`
+abbrev pub phi_entry_text : Names → Ty → Operand → BlockId → List ℕ
+phi_entry_text names ty operand label =
+    codes "[ " ++ (value_text names ty operand ++ (codes ", " ++ (label_text names label ++ codes " ]")))
+
 -- `phi T [ V, %l ], ..`
 abbrev pub phi_text : Names → Instruction → List ℕ
 phi_text names inst =
-    codes "phi " ++ (type_text inst.ty ++ (codes " " ++ joined (codes ", ")
-    (map (λ entry. codes "[ " ++ (value_text names inst.ty entry.0 ++ (codes ", " ++ (label_text names entry.1 ++ codes " ]")))) (zip inst.operands inst.labels))))
+    codes "phi " ++ (type_text inst.ty ++ (codes " "
+    ++ joined (codes ", ") (map (λ entry. phi_entry_text names inst.ty entry.0 entry.1) (zip inst.operands inst.labels))))
 
 -- the source element of a `getelementptr`
 abbrev pub element_text : Names → Elem → List ℕ
@@ -77,12 +84,17 @@ branch_text names inst =
     codes "br " ++ (typed_text names (Int 1) (operand_at inst 0) ++ (codes ", label " ++ (label_text names (label_at inst 0)
     ++ (codes ", label " ++ label_text names (label_at inst 1)))))
 
+-- `iN C, label %m`, on a line of its own
+abbrev pub case_text : Names → Ty → Operand → BlockId → List ℕ
+case_text names ty operand label =
+    codes "    " ++ (typed_text names ty operand ++ (codes ", label " ++ (label_text names label ++ codes "\n")))
+
 -- `switch iN V, label %l [`, the case lines `iN C, label %m`, and `]`
 abbrev pub switch_text : Names → Instruction → List ℕ
 switch_text names inst =
     codes "switch " ++ (typed_text names inst.ty (operand_at inst 0) ++ (codes ", label " ++ (label_text names (label_at inst 0) ++ (codes " [\n"
-    ++ (joined [] (map (λ entry. codes "    " ++ (typed_text names inst.ty entry.0 ++ (codes ", label " ++ (label_text names entry.1 ++ codes "\n"))))
-    (zip (drop 1 inst.operands) (drop 1 inst.labels))) ++ codes "  ]")))))
+    ++ (joined [] (map (λ entry. case_text names inst.ty entry.0 entry.1) (zip (drop 1 inst.operands) (drop 1 inst.labels)))
+    ++ codes "  ]")))))
 
 -- `ret T V`, or `ret void`
 abbrev pub return_text : Names → Ty → Instruction → List ℕ

@@ -164,11 +164,16 @@ impl Piece for Bundles<'_> {
             scope: self.scope,
             entries: self.entries,
         };
-        match (self.bundle, self.entries) {
-            ([], []) => Ok(()),
-            ([], _) => (Bytes(b" [ "), live, Bytes(b" ]")).put_into(out),
-            (_, []) => (Bytes(b" [ "), deopt, Bytes(b" ]")).put_into(out),
-            (_, _) => (Bytes(b" [ "), deopt, Bytes(b", "), live, Bytes(b" ]")).put_into(out),
+        if self.bundle.is_empty() {
+            if self.entries.is_empty() {
+                Ok(())
+            } else {
+                (Bytes(b" [ "), live, Bytes(b" ]")).put_into(out)
+            }
+        } else if self.entries.is_empty() {
+            (Bytes(b" [ "), deopt, Bytes(b" ]")).put_into(out)
+        } else {
+            (Bytes(b" [ "), deopt, Bytes(b", "), live, Bytes(b" ]")).put_into(out)
         }
     }
 }

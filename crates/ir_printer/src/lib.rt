@@ -3,6 +3,8 @@
 
 mod pieces;
 mod calls;
+mod declarations;
+mod lines;
 mod names;
 mod operands;
 mod rows;

@@ -34,10 +34,7 @@ impl Scope<'_> {
     pub(crate) fn layout(&self, layout: u32) -> &[u8]
         ensures { result.now ≡ layout_name self.now.layouts layout }
     {
-        match self.layouts.get(layout as usize) {
-            Some(layout) => layout.name().bytes(),
-            None => &[],
-        }
+        name_of_layout(self.layouts, layout)
     }
 
     pub(crate) fn function(&self, func: FuncId) -> &[u8]
@@ -62,6 +59,16 @@ impl Scope<'_> {
         ensures { result.now ≡ value_name self.now.func value.0 }
     {
         name_of_value(self.func, value)
+    }
+}
+
+/// The name of the layout with this place, or nothing where there is none.
+pub(crate) fn name_of_layout(layouts: &[Layout], layout: u32) -> &[u8]
+    ensures { result.now ≡ layout_name layouts.now layout }
+{
+    match layouts.get(layout as usize) {
+        Some(layout) => layout.name().bytes(),
+        None => &[],
     }
 }
 

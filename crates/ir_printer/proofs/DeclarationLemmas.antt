@@ -1,0 +1,7 @@
+-- Externals that a module calls, and the list of their declarations.
+use Rattle.std.proofs.Common.{◌≡◌, ℕ, Bool, ◌||◌, List, [], ◌∷◌, ◌++◌, map, refl, ap}
+use Rattle.std.specs.List.{list_any, flat_map}
+
+pub list_any-map : {A B : Type 0} (test : B → Bool) (view : A → B) (xs : List A) → list_any test (map view xs) ≡ list_any (λ x. test (view x)) xs
+list_any-map test view [] = refl
+list_any-map test view (x ∷ xs) = ap (λ rest. test (view x) || rest) (list_any-map test view xs)
