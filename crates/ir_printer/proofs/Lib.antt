@@ -4,3 +4,4 @@ pub mod IntegerLemmas
 pub mod CallLemmas
 pub mod LineLemmas
 pub mod DeclarationLemmas
+pub mod TextLemmas

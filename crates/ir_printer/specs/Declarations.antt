@@ -82,15 +82,19 @@ declaration_if_called layouts funcs external =
     if calls funcs external then declaration_text layouts external else []
 
 -- between `gc_new` of each layout and the results
-abbrev pub fixed_externals : List External
+unfoldable pub fixed_externals : List External
 fixed_externals =
     Print ∷ Read ∷ TaskStart ∷ Poll ∷ Check ∷ Same ∷ StatepointFamily ∷ RelocateFamily ∷ []
+
+-- the widths that an integer type may have
+unfoldable pub integer_widths : List ℕ
+integer_widths = range_with_len 1 64
 
 -- all externals of a module with these layouts, in the order of their declarations
 abbrev pub externals : List ObjectLayout → List External
 externals layouts =
     map New (range_with_len 0 (length layouts))
-    ++ (fixed_externals ++ (map ResultOf (range_with_len 1 64) ++ ResultPointer ∷ []))
+    ++ (fixed_externals ++ (map ResultOf integer_widths ++ ResultPointer ∷ []))
 
 unfoldable pub declarations_text : List ObjectLayout → List Function → List ℕ
 declarations_text layouts funcs = flat_map (declaration_if_called layouts funcs) (externals layouts)

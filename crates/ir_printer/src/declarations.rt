@@ -1,11 +1,14 @@
 //! Declarations of the externals that a module calls.
-ghost use Rattle.std.specs.Prelude.{◌≡◌, ◌++◌, ℕ, List, [], ◌∷◌, ◌^◌, ◌<◌, codes, map, length};
+ghost use Rattle.std.specs.Prelude.{◌≡◌, ◌++◌, ℕ, List, [], ◌∷◌, ◌||◌, ◌^◌, ◌<◌, ◌≤◌, ◌-◌, codes, map, length, OnOk, OnErr};
+ghost use Rattle.tool_io.specs.Counts.{Rose};
+ghost use Rattle.tool_io.specs.Sink.{append_known, AppendsFront};
 ghost use Rattle.std.specs.List.{range_with_len, list_any};
 ghost use Rattle.ir_ast.specs.Funcs.{content_of};
-ghost use Rattle.ir_printer.specs.Declarations.{is_callee, is_result, is_statepoints, is_relocates, is_call_of, calls, new_words, result_of_words, fixed_declaration, declaration_text, declaration_if_called, fixed_externals, externals, declarations_text, has_top};
+ghost use Rattle.ir_printer.specs.Declarations.{is_callee, is_result, is_statepoints, is_relocates, is_call_of, calls, new_words, result_of_words, fixed_declaration, declaration_text, declaration_if_called, fixed_externals, integer_widths, declarations_text, has_top};
 
 use crate::names::name_of_layout;
 use crate::pieces::{Bytes, Piece};
+use crate::rows::{Each, Joined, Printer, Row};
 use crate::words::Decimal;
 use ir_ast::{Block, Callee, Func, Inst, Layout, Op, Ty};
 use tool_io::{Failed, Sink};
@@ -208,4 +211,174 @@ impl Piece for Declared<'_> {
             Ok(())
         }
     }
+}
+
+// Puts the declaration of an external, if the module calls it.
+#[derive(Clone, Copy)]
+struct DeclaredOf<'a> {
+    layouts: &'a [Layout],
+    funcs: &'a [Func],
+}
+
+impl Printer<External> for DeclaredOf<'_> {
+    ghost element_text = { λ printer external. declaration_if_called printer.layouts.now (map content_of printer.funcs.now) external };
+
+    fn put_element<O: Sink>(&self, external: &External, out: &mut O) -> Result<(), Failed> {
+        Declared {
+            layouts: self.layouts,
+            funcs: self.funcs,
+            external: *external,
+        }
+        .put_into(out)
+    }
+}
+
+// The declarations of `gc_new` of each layout.
+#[derive(Drop)]
+struct NewDeclarations<'a> {
+    layouts: &'a [Layout],
+    funcs: &'a [Func],
+    ghost few: { length layouts.now < 2 ^ 32 },
+}
+
+impl Row for NewDeclarations<'_> {
+    ghost use Rattle.ir_printer.specs.declared.declarations.External.{External};
+
+    ghost texts = { λ row. map (λ layout. declaration_if_called row.layouts.now (map content_of row.funcs.now) (External.New layout)) (range_with_len 0 (length row.layouts.now)) };
+
+    fn count(&self) -> usize {
+        self.layouts.len()
+    }
+
+    fn put_at<O: Sink>(&self, place: usize, out: &mut O) -> Result<(), Failed> {
+        if place < self.layouts.len() {
+            Declared {
+                layouts: self.layouts,
+                funcs: self.funcs,
+                external: External::New(place as u32),
+            }
+            .put_into(out)
+        } else {
+            Ok(())
+        }
+    }
+}
+
+// The declarations of `gc.result` of the integer types.
+#[derive(Clone, Copy)]
+struct ResultDeclarations<'a> {
+    layouts: &'a [Layout],
+    funcs: &'a [Func],
+}
+
+impl Row for ResultDeclarations<'_> {
+    ghost use Rattle.ir_printer.specs.declared.declarations.External.{External};
+
+    ghost texts = { λ row. map (λ width. declaration_if_called row.layouts.now (map content_of row.funcs.now) (External.ResultOf width)) integer_widths };
+
+    #[tactic(auto, unfolding(crate::specs::Declarations::integer_widths))]
+    fn count(&self) -> usize {
+        64
+    }
+
+    fn put_at<O: Sink>(&self, place: usize, out: &mut O) -> Result<(), Failed> {
+        if place < 64 {
+            Declared {
+                layouts: self.layouts,
+                funcs: self.funcs,
+                external: External::ResultOf(place as u32 + 1),
+            }
+            .put_into(out)
+        } else {
+            Ok(())
+        }
+    }
+}
+
+#[tactic(auto, unfolding(crate::specs::Declarations::fixed_externals))]
+fn fixed_list() -> [External; 8]
+    ensures { result ≡ fixed_externals }
+{
+    [
+        External::Print,
+        External::Read,
+        External::TaskStart,
+        External::Poll,
+        External::Check,
+        External::Same,
+        External::StatepointFamily,
+        External::RelocateFamily,
+    ]
+}
+
+/// Puts the declarations of the externals that the module calls.
+pub(crate) fn put_declarations<O: Sink>(
+    layouts: &[Layout],
+    funcs: &[Func],
+    out: &mut O,
+) -> Result<(), Failed>
+    requires { length layouts.now < 2 ^ 32 }
+    ensures ok { OnOk result (O.written out.new ≡ append_known (O.written out.old) (declarations_text layouts.now (map content_of funcs.now))) }
+    ensures err { OnErr result (AppendsFront (O.written out.old) (O.written out.new) (declarations_text layouts.now (map content_of funcs.now))) }
+    ensures failed { OnErr result (Rose (O.faults out.old) (O.faults out.new)) }
+    ensures count { O.faults out.old ≤ O.faults out.new }
+{
+    let externals = fixed_list();
+    let news = Joined {
+        separator: b"",
+        row: NewDeclarations { layouts, funcs },
+    };
+    let fixed = Joined {
+        separator: b"",
+        row: Each {
+            printer: DeclaredOf { layouts, funcs },
+            elements: &externals,
+        },
+    };
+    let results = Joined {
+        separator: b"",
+        row: ResultDeclarations { layouts, funcs },
+    };
+    let pointer = Declared {
+        layouts,
+        funcs,
+        external: External::ResultPointer,
+    };
+    (news, fixed, results, pointer).put_into(out)
+}
+
+/// Whether a layout or a declaration stands above the functions.
+pub(crate) fn stands_above(layouts: &[Layout], funcs: &[Func]) -> bool
+    ensures { result ≡ has_top layouts.now (map content_of funcs.now) }
+{
+    !layouts.is_empty() || declares_some(funcs)
+}
+
+// Whether an external other than `gc_new` is called.
+fn declares_some(funcs: &[Func]) -> bool
+    ensures { result ≡ (list_any (calls (map content_of funcs.now)) fixed_externals || (list_any (λ width. calls (map content_of funcs.now) (External.ResultOf width)) integer_widths || calls (map content_of funcs.now) External.ResultPointer)) }
+{
+    calls_fixed(funcs) || calls_result(funcs) || is_called(funcs, External::ResultPointer)
+}
+
+fn calls_fixed(funcs: &[Func]) -> bool
+    ensures { result ≡ list_any (calls (map content_of funcs.now)) fixed_externals }
+{
+    let externals = fixed_list();
+    externals
+        .iter()
+        .any(|external| is_called(funcs, *external))
+}
+
+fn calls_result(funcs: &[Func]) -> bool
+    ensures { result ≡ list_any (λ width. calls (map content_of funcs.now) (External.ResultOf width)) integer_widths }
+{
+    calls_result_between(funcs, 1, 65)
+}
+
+// Whether the result of an integer type of a width from `from` up to and without `end` is called.
+fn calls_result_between(funcs: &[Func], from: u32, end: u32) -> bool
+    ensures { result ≡ list_any (λ width. calls (map content_of funcs.now) (External.ResultOf width)) (range_with_len from (end - from)) }
+{
+    (from..end).any(|width| is_called(funcs, External::ResultOf(width)))
 }

@@ -8,4 +8,7 @@ mod lines;
 mod names;
 mod operands;
 mod rows;
+mod texts;
 mod words;
+
+pub use texts::print;
