@@ -29,8 +29,13 @@ text-none text elements place past =
 pub pair-text-some : {A B : Type 0} (text : A × B → List ℕ) (first : List A) (second : List B) (place : ℕ) (a : A) (b : B) → place < length first → place < length second → a ≡ get_or first place a → b ≡ get_or second place b → unwrap_or (slice_get (map text (zip first second)) place) [] ≡ text (a, b)
 pair-text-some text first second place a b one two is_a is_b =
     let within : place < length (zip first second) = omega (arith, length-zip first second) in
-    rw (slice_get-map text (zip first second) place, slice_get-get_or (zip first second) place (a, b) within,
-    get_or-zip first second place (a, b) one two, ← is_a, ← is_b)
+    rw (
+      slice_get-map text (zip first second) place,
+      slice_get-get_or (zip first second) place (a, b) within,
+      get_or-zip first second place (a, b) one two,
+      ← is_a,
+      ← is_b,
+    )
 
 -- where one of the lists has ended, no text stands
 pub pair-text-none : {A B : Type 0} (text : A × B → List ℕ) (first : List A) (second : List B) (place : ℕ) → min (length first) (length second) ≤ place → unwrap_or (slice_get (map text (zip first second)) place) [] ≡ []

@@ -139,9 +139,7 @@ fn fixed(external: External) -> &'static [u8]
         External::Read => b"declare i64 @read_i64()\n",
         External::TaskStart => b"declare void @task_start(ptr, ptr addrspace(1))\n",
         External::Poll => b"declare void @gc.safepoint_poll()\n",
-        External::Check => {
-            b"declare void @gc_check(ptr addrspace(1), ptr addrspace(1), i64)\n"
-        }
+        External::Check => { b"declare void @gc_check(ptr addrspace(1), ptr addrspace(1), i64)\n" }
         External::Same => {
             b"declare i1 @gc_same(ptr addrspace(1), ptr addrspace(1), ptr addrspace(1), ptr addrspace(1))\n"
         }
@@ -365,9 +363,7 @@ fn calls_fixed(funcs: &[Func]) -> bool
     ensures { result ≡ list_any (calls (map content_of funcs.now)) fixed_externals }
 {
     let externals = fixed_list();
-    externals
-        .iter()
-        .any(|external| is_called(funcs, *external))
+    externals.iter().any(|external| is_called(funcs, *external))
 }
 
 fn calls_result(funcs: &[Func]) -> bool

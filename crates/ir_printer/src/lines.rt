@@ -587,12 +587,6 @@ impl Printer<Inst> for Lines<'_> {
             op: inst.op(),
             inst,
         };
-        (
-            Bytes(b"  "),
-            Front(inst.result()),
-            operation,
-            Bytes(b"\n"),
-        )
-            .put_into(out)
+        (Bytes(b"  "), Front(inst.result()), operation, Bytes(b"\n")).put_into(out)
     }
 }

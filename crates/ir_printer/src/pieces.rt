@@ -82,7 +82,8 @@ impl<A: Piece, B: Piece, C: Piece, D: Piece, E: Piece, F: Piece> Piece for (A, B
     }
 }
 
-impl<A: Piece, B: Piece, C: Piece, D: Piece, E: Piece, F: Piece, G: Piece> Piece for (A, B, C, D, E, F, G) {
+impl<A: Piece, B: Piece, C: Piece, D: Piece, E: Piece, F: Piece, G: Piece> Piece
+    for (A, B, C, D, E, F, G) {
     ghost text = { λ parts. A.text parts.0 ++ (B.text parts.1 ++ (C.text parts.2 ++ (D.text parts.3 ++ (E.text parts.4 ++ (F.text parts.5 ++ G.text parts.6))))) };
 
     fn put_into<O: Sink>(&self, out: &mut O) -> Result<(), Failed> {
@@ -91,11 +92,15 @@ impl<A: Piece, B: Piece, C: Piece, D: Piece, E: Piece, F: Piece, G: Piece> Piece
     }
 }
 
-impl<A: Piece, B: Piece, C: Piece, D: Piece, E: Piece, F: Piece, G: Piece, H: Piece> Piece for (A, B, C, D, E, F, G, H) {
+impl<A: Piece, B: Piece, C: Piece, D: Piece, E: Piece, F: Piece, G: Piece, H: Piece> Piece
+    for (A, B, C, D, E, F, G, H) {
     ghost text = { λ parts. A.text parts.0 ++ (B.text parts.1 ++ (C.text parts.2 ++ (D.text parts.3 ++ (E.text parts.4 ++ (F.text parts.5 ++ (G.text parts.6 ++ H.text parts.7)))))) };
 
     fn put_into<O: Sink>(&self, out: &mut O) -> Result<(), Failed> {
         self.0.put_into(out)?;
-        (&self.1, &self.2, &self.3, &self.4, &self.5, &self.6, &self.7).put_into(out)
+        (
+            &self.1, &self.2, &self.3, &self.4, &self.5, &self.6, &self.7,
+        )
+            .put_into(out)
     }
 }

@@ -39,7 +39,12 @@ impl<R: Row> Piece for At<'_, R> {
 }
 
 // Adds the texts from this place on, each after the separator.
-fn put_led<R: Row, O: Sink>(separator: &[u8], row: &R, from: usize, out: &mut O) -> Result<(), Failed>
+fn put_led<R: Row, O: Sink>(
+    separator: &[u8],
+    row: &R,
+    from: usize,
+    out: &mut O,
+) -> Result<(), Failed>
     ensures ok { OnOk result (O.written out.new ≡ append_known (O.written out.old) (led separator.now (drop from (R.texts row.now)))) }
     ensures err { OnErr result (AppendsFront (O.written out.old) (O.written out.new) (led separator.now (drop from (R.texts row.now)))) }
     ensures failed { OnErr result (Rose (O.faults out.old) (O.faults out.new)) }

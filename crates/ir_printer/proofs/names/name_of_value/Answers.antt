@@ -11,5 +11,8 @@ returns-in-Some c =
 pub returns-in-None : goal.returns-in-None
 returns-in-None c =
     let one = c.in-None.ensures.lookup in
-    rw (value_name-result c.args.func.now.content c.args.value.0 (rw c.args-args.ensures.value at one.3),
-    ← c.args-args.ensures.value, ← c.blocks-in-None.ensures.value) c.result_name.ensures
+    rw (
+      value_name-result c.args.func.now.content c.args.value.0 (rw c.args-args.ensures.value at one.3),
+      ← c.args-args.ensures.value,
+      ← c.blocks-in-None.ensures.value,
+    ) c.result_name.ensures

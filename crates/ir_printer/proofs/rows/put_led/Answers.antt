@@ -12,7 +12,7 @@ returns-in_err-put_into-clause-err g c =
 
 pub loop-place-preserved : goal.loop-place-preserved
 loop-place-preserved g c = (
-    AppendsBefore-next c.loop-place.invariant.0 _ _ _ c.in_ok-put_into.ensures.ok
-    (led-drop c.args.separator.now (g.R.Row.texts c.args.row.now) c.loop-place.place (omega arith)),
-    (let before = c.loop-place.invariant.1 in let step = c.put_into.ensures.count in omega arith),
+  AppendsBefore-next c.loop-place.invariant.0 _ _ _ c.in_ok-put_into.ensures.ok
+      (led-drop c.args.separator.now (g.R.Row.texts c.args.row.now) c.loop-place.place (omega arith)),
+  (let before = c.loop-place.invariant.1 in let step = c.put_into.ensures.count in omega arith),
 )
