@@ -5,3 +5,4 @@ pub mod CallLemmas
 pub mod LineLemmas
 pub mod DeclarationLemmas
 pub mod TextLemmas
+pub mod TestLemmas
