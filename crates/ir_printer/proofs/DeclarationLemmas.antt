@@ -1,5 +1,5 @@
 -- Externals that a module calls, and the list of their declarations.
-use Rattle.std.proofs.Common.{◌≡◌, ℕ, Bool, true, false, ◌||◌, ◌==◌, List, [], ◌∷◌, ◌++◌, length, map, unwrap_or, slice_get, refl, ap, sym, ◌∙◌, append-nil, ◌+◌, ◌<◌, ◌≤◌, suc, nat_lt, arith}
+use Rattle.std.proofs.Common.{◌≡◌, ℕ, Bool, true, false, ◌||◌, ◌==◌, List, [], ◌∷◌, ◌++◌, length, map, unwrap_or, slice_get, refl, ap, ◌∙◌, append-nil, ◌+◌, ◌<◌, suc, nat_lt, arith}
 use Rattle.std.specs.List.{list_any, flat_map, range_with_len}
 use Rattle.std.proofs.lemmas.Grind.{flat_map-append}
 use Rattle.std.proofs.lemmas.List.Folds.{flat_map-map}

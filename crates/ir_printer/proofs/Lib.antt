@@ -5,4 +5,3 @@ pub mod CallLemmas
 pub mod LineLemmas
 pub mod DeclarationLemmas
 pub mod TextLemmas
-pub mod TestLemmas

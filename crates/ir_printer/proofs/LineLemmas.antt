@@ -1,5 +1,5 @@
 -- Lines by what they have.
-use Rattle.std.proofs.Common.{◌≡◌, ℕ, List, ◌++◌, codes, refl}
+use Rattle.std.proofs.Common.{◌≡◌, ◌++◌, codes, refl}
 use Rattle.ir_ast.specs.declared.types.Ty.{Ty}
 use Rattle.ir_ast.specs.declared.types.Ty.TheVariants.{Void, Int, Ptr, Token}
 use Rattle.ir_ast.specs.Insts.{Instruction}

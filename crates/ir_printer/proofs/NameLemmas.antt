@@ -5,7 +5,7 @@ use Rattle.ir_ast.specs.Insts.{Instruction}
 use Rattle.ir_ast.specs.declared.funcs.Arg.{Arg}
 use Rattle.ir_ast.specs.Blocks.{BasicBlock}
 use Rattle.ir_ast.specs.Funcs.{Function, instructions_of}
-use Rattle.ir_ast.specs.Values.{Definition, argument, outcome, definitions_of, definition_name}
+use Rattle.ir_ast.specs.Values.{Definition, argument, outcome, definition_name}
 use Rattle.ir_printer.specs.Names.{result_name, value_name}
 
 pub result_name-none : (inst : Instruction) (insts : List Instruction) (number : ℕ) → inst.result ≡ None → result_name (inst ∷ insts) number ≡ result_name insts number

@@ -1,5 +1,5 @@
 -- The functions of a module, seen with their lines.
-use Rattle.std.proofs.Common.{◌≡◌, ℕ, true, false, List, [], ◌∷◌, map, codes, refl, ap}
+use Rattle.std.proofs.Common.{◌≡◌, true, false, List, [], ◌∷◌, map, codes, refl, ap}
 use Rattle.ir_ast.specs.Layouts.{ObjectLayout}
 use Rattle.ir_ast.specs.Funcs.{LinedFunction, content_of}
 use Rattle.ir_printer.specs.Lists.{led, joined}

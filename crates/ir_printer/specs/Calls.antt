@@ -1,6 +1,6 @@
 -- Calls and statepoints (LLVM Language Reference, "'call' Instruction" and "Operand Bundles"; Garbage
 -- Collection Safepoints in LLVM, "Statepoint Intrinsics").
-use Rattle.std.specs.Prelude.{ℕ, List, [], ◌∷◌, ◌++◌, map, length, take, drop, codes, decimal}
+use Rattle.std.specs.Prelude.{ℕ, List, [], ◌∷◌, ◌++◌, map, length, drop, codes, decimal}
 use Rattle.std.specs.List.{zip}
 use Rattle.ir_ast.specs.declared.types.Ty.{Ty}
 use Rattle.ir_ast.specs.declared.types.Ty.TheVariants.{Int, Ptr}

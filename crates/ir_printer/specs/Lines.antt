@@ -1,6 +1,6 @@
 -- The line of each instruction, by its operator.
-use Rattle.std.specs.Prelude.{ℕ, List, [], ◌∷◌, ◌++◌, map, drop, Option, Some, None, codes, decimal}
-use Rattle.std.specs.List.{zip, flat_map}
+use Rattle.std.specs.Prelude.{ℕ, List, [], ◌++◌, map, drop, Option, Some, None, codes, decimal}
+use Rattle.std.specs.List.{zip}
 use Rattle.ir_ast.specs.declared.types.Ty.{Ty}
 use Rattle.ir_ast.specs.declared.types.Ty.TheVariants.{Void, Int, Ptr}
 use Rattle.sp_ids.specs.declared.ids.BlockId.{BlockId}

@@ -179,11 +179,7 @@ pub fn print<O: Sink>(program: &Module, out: &mut O) -> Result<(), Failed>
     put_all(program.layouts(), program.funcs(), out)
 }
 
-pub(crate) fn put_all<O: Sink>(
-    layouts: &[Layout],
-    funcs: &[Func],
-    out: &mut O,
-) -> Result<(), Failed>
+fn put_all<O: Sink>(layouts: &[Layout], funcs: &[Func], out: &mut O) -> Result<(), Failed>
     requires { length layouts.now < 2 ^ 32 }
     ensures ok { OnOk result (O.written out.new ≡ append_known (O.written out.old) (joined [] (map layout_text layouts.now) ++ (declarations_text layouts.now (map content_of funcs.now) ++ functions_text layouts.now (map content_of funcs.now)))) }
     ensures err { OnErr result (AppendsFront (O.written out.old) (O.written out.new) (joined [] (map layout_text layouts.now) ++ (declarations_text layouts.now (map content_of funcs.now) ++ functions_text layouts.now (map content_of funcs.now)))) }

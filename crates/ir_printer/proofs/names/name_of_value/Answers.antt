@@ -1,4 +1,4 @@
-use Rattle.std.proofs.Common.{◌≡◌, ◌∙◌, sym, arith}
+use Rattle.std.proofs.Common.{◌∙◌, sym}
 use Rattle.ir_printer.proofs.NameLemmas.{value_name-argument, value_name-result}
 use Rattle.ir_printer.proofs.names.name_of_value.Goals as goal
 

@@ -1,4 +1,4 @@
-use Rattle.std.proofs.Common.{◌≤◌, arith}
+use Rattle.std.proofs.Common.{arith}
 use Rattle.std.proofs.lemmas.Result.{err_from_is_err_and}
 use Rattle.tool_io.proofs.AppendLaws.{AppendsBefore-next, AppendsBefore-failed}
 use Rattle.ir_printer.proofs.RowLemmas.{led-drop}

@@ -1,6 +1,4 @@
-use Rattle.std.proofs.Common.{◌∙◌, sym, map}
-use Rattle.ir_ast.specs.Funcs.{content_of}
-use Rattle.ir_printer.specs.Texts.{function_text}
+use Rattle.std.proofs.Common.{◌∙◌, sym}
 use Rattle.ir_printer.proofs.TextLemmas.{functions_text-above, functions_text-first}
 use Rattle.ir_printer.proofs.texts.put_functions.Goals as goal
 

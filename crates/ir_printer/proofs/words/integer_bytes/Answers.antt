@@ -1,4 +1,4 @@
-use Rattle.std.proofs.Common.{sym, arith, ◌∙◌, ap, ◌≡◌, ◌≢◌}
+use Rattle.std.proofs.Common.{sym, arith, ◌∙◌}
 use Rattle.std.proofs.lemmas.Grind.{common_steps}
 use Rattle.std.proofs.lemmas.Int.{to_z-of_z}
 use Rattle.ir_printer.proofs.IntegerLemmas.{integer-empty, integer-false, integer-true, integer-signed, integer-wide}

@@ -1,5 +1,4 @@
-use Rattle.std.proofs.Common.{sym, ◌≡◌, ◌≤◌, [], List, ℕ, length, map, min, slice_get, unwrap_or, arith}
-use Rattle.std.specs.List.{zip}
+use Rattle.std.proofs.Common.{sym, arith}
 use Rattle.tool_io.proofs.AppendLaws.{append_known-nil}
 use Rattle.ir_printer.proofs.RowLemmas.{pair-text-some, pair-text-none}
 use Rattle.ir_printer.proofs.rows.PairsRow.put_at.Goals as goal
