@@ -1,1 +1,3 @@
 pub mod RowLemmas
+pub mod GraphLemmas
+pub mod TurnLemmas

@@ -19,7 +19,7 @@ stops_below start (stop ∷ stops) end h = let rest = stops_below stop stops end
 pub record RowAt (start : ℕ) (stops : List ℕ) (items : List BlockId) (place : ℕ) : Type 0 where
   pub up : get_or (start ∷ stops) place 0 ≤ get_or stops place 0
   pub within : get_or stops place 0 ≤ length items
-  pub row : unwrap_or (slice_get (rows_from start stops items) place) []
+  pub row : get_or (rows_from start stops items) place []
       ≡ slice_range items (get_or (start ∷ stops) place 0) (get_or stops place 0)
 
 pub row_at : (start : ℕ) (stops : List ℕ) (items : List BlockId) (place : ℕ) → AreStops start stops (length items)

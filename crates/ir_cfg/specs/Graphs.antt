@@ -1,5 +1,5 @@
 -- The edges of a function as a graph: for each block, in text order, the blocks where its edges lead.
-use Rattle.std.specs.Prelude.{◌≡◌, ℕ, ◌<◌, ◌≤◌, List, [], map, length, replicate, Some, slice_get, unwrap_or}
+use Rattle.std.specs.Prelude.{◌≡◌, ℕ, ◌<◌, ◌≤◌, List, [], map, length, replicate, Some, slice_get, slice_index_or}
 use Rattle.std.specs.List.{flat_map, range_with_len}
 use Rattle.sp_ids.specs.declared.ids.BlockId.{BlockId}
 use Rattle.ir_ast.specs.Funcs.{Function}
@@ -16,7 +16,7 @@ block_at place = record { 0 = place }
 
 -- where the edges of a block lead: one entry per edge, in the order of its labels
 abbrev pub succs_of : Graph → ℕ → List BlockId
-succs_of graph block = unwrap_or (slice_get graph block) []
+succs_of graph block = slice_index_or graph block []
 
 -- where the edges into a block come from: one entry per edge, in text order
 abbrev pub preds_of : Graph → ℕ → List BlockId

@@ -6,3 +6,5 @@ pub mod DefiniteUses
 pub mod Limits
 pub mod SourceModules
 pub mod TargetModules
+pub mod Turned
+pub mod Marks

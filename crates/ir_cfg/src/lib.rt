@@ -4,6 +4,7 @@
 
 
 mod graphs;
+mod reach;
 mod rows;
 
 
