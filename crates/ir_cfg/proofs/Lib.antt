@@ -1,3 +1,5 @@
 pub mod RowLemmas
 pub mod GraphLemmas
 pub mod TurnLemmas
+pub mod PlaceLemmas
+pub mod SearchLemmas

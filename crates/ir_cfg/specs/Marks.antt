@@ -1,6 +1,6 @@
 -- A search for the reached blocks: a mark for each block, and the marked blocks in the order in which
 -- they were found.
-use Rattle.std.specs.Prelude.{◌≡◌, ℕ, ◌+◌, ◌<◌, true, not, Bool, List, length, count_by, Some, slice_get}
+use Rattle.std.specs.Prelude.{◌≡◌, ℕ, ◌+◌, ◌<◌, true, false, not, Bool, List, [], ◌∷◌, ◌++◌, length, count_by, Some, slice_get, slice_set}
 use Rattle.std.specs.List.{Contains}
 use Rattle.sp_ids.specs.declared.ids.BlockId.{BlockId}
 use Rattle.ir_cfg.specs.Graphs.{Graph, block_at}
@@ -31,3 +31,9 @@ pub record Visits (labels : List BlockId) (old : List Bool) (before : List Block
   pub marked : (place : ℕ) (label : BlockId) → slice_get labels place ≡ Some label → Marked new label.0
   pub front : (place : ℕ) (block : BlockId) → slice_get before place ≡ Some block → slice_get after place ≡ Some block
   pub balance : count_by not new + length after ≡ count_by not old + length before
+
+-- marking one block: nothing where it has a mark
+pub data MarksOne (label : BlockId) (old : List Bool) (before : List BlockId) (new : List Bool) (after : List BlockId) : Type 0 where
+  had_mark : Marked old label.0 → new ≡ old → after ≡ before → MarksOne label old before new after
+  had_none : slice_get old label.0 ≡ Some false → new ≡ slice_set old label.0 true → after ≡ before ++ label ∷ []
+      → MarksOne label old before new after

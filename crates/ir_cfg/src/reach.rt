@@ -1,7 +1,7 @@
 ghost use Rattle.std.specs.Prelude.{◌≡◌, ◌<◌, ◌↔◌, true, false, length, replicate, Some, IfOk, slice_get};
 ghost use Rattle.ir_cfg.specs.Graphs.{succs_of};
 ghost use Rattle.ir_cfg.specs.Turned.{LeadsInside};
-ghost use Rattle.ir_cfg.specs.Marks.{MarksReached, IsSearch, Visits};
+ghost use Rattle.ir_cfg.specs.Marks.{MarksReached, IsSearch, Visits, MarksOne};
 
 use crate::rows::Rows;
 use sp_ids::{BlockId, Memory};
@@ -49,11 +49,19 @@ fn visit(
     ensures visits { IfOk result (λ _. Visits (succs_of succs.now from.0) marks.old.items order.old.items marks.new.items order.new.items) }
 {
     for to in succs.row(from.0 as usize) {
-        let mark = &mut marks[to.0 as usize];
-        if !*mark {
-            *mark = true;
-            order.push(*to)?;
-        }
+        mark(*to, marks, order)?;
     }
+    Ok(())
+}
+
+fn mark(to: BlockId, marks: &mut Vec<bool>, order: &mut Vec<BlockId>) -> Result<(), Memory>
+    requires { to.0 < length marks.old.items }
+    ensures { IfOk result (λ _. MarksOne to marks.old.items order.old.items marks.new.items order.new.items) }
+{
+    if marks[to.0 as usize] {
+        return Ok(());
+    }
+    marks[to.0 as usize] = true;
+    order.push(to)?;
     Ok(())
 }
