@@ -3,3 +3,4 @@ pub mod GraphLemmas
 pub mod TurnLemmas
 pub mod PlaceLemmas
 pub mod SearchLemmas
+pub mod CycleLemmas

@@ -8,3 +8,4 @@ pub mod SourceModules
 pub mod TargetModules
 pub mod Turned
 pub mod Marks
+pub mod Cfgs

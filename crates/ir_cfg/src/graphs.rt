@@ -13,7 +13,8 @@ use std::alloc::Global;
 
 /// The rows of a function's edges.
 pub(crate) fn edges(alloc: Global, func: &Func) -> Result<Rows, Memory>
-    ensures { IfOk result (λ rows. rows ≡ graph_of func.now.content) }
+    ensures rows { IfOk result (λ rows. rows ≡ graph_of func.now.content) }
+    ensures few { length func.now.content.blocks < 2 ^ 30 }
 {
     let mut rows = Rows::new(alloc);
     for block in func.blocks() {
@@ -76,4 +77,3 @@ fn joined(alloc: Global, lists: &[Vec<BlockId>]) -> Result<Rows, Memory>
     }
     Ok(rows)
 }
-

@@ -1,10 +1,9 @@
 //! The graph of a function's blocks: edges, paths from the entry, reached blocks, and where polls stand.
 #![tactic(auto)]
 
-
-
+mod cfg;
 mod graphs;
 mod reach;
 mod rows;
 
-
+pub use cfg::Cfg;
