@@ -4,3 +4,4 @@ pub mod TurnLemmas
 pub mod PlaceLemmas
 pub mod SearchLemmas
 pub mod CycleLemmas
+pub mod KeptLemmas

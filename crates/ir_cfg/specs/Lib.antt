@@ -9,3 +9,4 @@ pub mod TargetModules
 pub mod Turned
 pub mod Marks
 pub mod Cfgs
+pub mod Unreached

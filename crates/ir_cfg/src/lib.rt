@@ -4,6 +4,9 @@
 mod cfg;
 mod graphs;
 mod reach;
+mod renumber;
 mod rows;
+mod unreached;
 
 pub use cfg::Cfg;
+pub use unreached::drop_unreachable;

@@ -1,0 +1,7 @@
+use Rattle.std.proofs.Common.{◌≡◌, map, take}
+use Rattle.std.specs.List.{filter}
+use Rattle.ir_cfg.specs.Unreached.{kept_of, operand_kept, label_kept, has_mark, inst_kept}
+use Rattle.ir_cfg.proofs.renumber.bundle.Given as goal
+
+abbrev pub invariant-loop-ty : goal.invariant-loop-ty
+invariant-loop-ty l = l.kept.items ≡ map (λ entry. (entry.0, operand_kept l.renumber entry.1)) (take l.ty-index l.entries)
