@@ -24,13 +24,16 @@ kept_of (false ∷ marks) (x ∷ xs) = kept_of marks xs
 abbrev pub new_numbers : List Bool → List ℕ
 new_numbers marks = map (λ old. count_by (λ mark. mark) (take old marks)) (range_with_len 0 (length marks))
 
--- a mark for each result of the blocks that have a mark
-abbrev pub result_marks : List Bool → List BasicBlock → List Bool
-result_marks (mark ∷ marks) (block ∷ blocks) =
-    replicate (length (filter (λ inst. is_some inst.result) block.insts)) mark ++ result_marks marks blocks
-result_marks marks blocks = []
+abbrev pub result_count : BasicBlock → ℕ
+result_count block = length (filter (λ inst. is_some inst.result) block.insts)
 
--- a mark for each value that is left: the arguments, and the results of the blocks that have a mark
+-- the mark of its block for each result; a block past the marks has none
+abbrev pub result_marks : List Bool → List BasicBlock → List Bool
+result_marks marks [] = []
+result_marks [] (block ∷ blocks) = replicate (result_count block) false ++ result_marks [] blocks
+result_marks (mark ∷ marks) (block ∷ blocks) = replicate (result_count block) mark ++ result_marks marks blocks
+
+-- the mark of each value: the arguments have it
 abbrev pub value_marks : List Bool → Function → List Bool
 value_marks marks func = replicate (length func.args) true ++ result_marks marks func.blocks
 

@@ -51,7 +51,7 @@ impl Renumber {
     pub(crate) fn keeps(&self, place: usize) -> bool
         ensures { result ≡ slice_index_or self.now.marks place false }
     {
-        self.marks.get(place).copied().unwrap_or(false)
+        mark_at(self.marks.as_slice(), place)
     }
 
     fn has_mark(&self, block: BlockId) -> bool
@@ -80,6 +80,13 @@ impl Renumber {
     {
         ValueId(self.values.get(value.0 as usize).copied().unwrap_or(0))
     }
+}
+
+/// The mark at a place, where there is one.
+pub(crate) fn mark_at(marks: &[bool], place: usize) -> bool
+    ensures { result ≡ slice_index_or marks.now place false }
+{
+    marks.get(place).copied().unwrap_or(false)
 }
 
 // The operands that a phi keeps, one for each label.
