@@ -1,7 +1,7 @@
 -- Every cycle has an edge to the same or an earlier place.
-use Rattle.std.proofs.Common.{◌≡◌, ℕ, zero, suc, ◌<◌, ◌≤◌, ◌+◌, List, [], ◌∷◌, refl, arith, inl, inr, ◌⊎◌, get_or, length}
+use Rattle.std.proofs.Common.{ℕ, zero, suc, ◌<◌, ◌≤◌, List, [], ◌∷◌, refl, arith, inl, inr, ◌⊎◌}
 use Rattle.std.specs.List.{Contains}
-use Rattle.ir_cfg.specs.Graphs.{Graph, Edge, Retreats}
+use Rattle.ir_cfg.specs.Graphs.{Graph, Edge}
 use Rattle.ir_cfg.specs.Paths.{Reached, Way, one, more}
 use Rattle.ir_cfg.specs.PollPoints.{PollsAtEnd, CyclesPoll}
 use Rattle.ir_cfg.proofs.SearchLemmas.{reached_by}
@@ -30,10 +30,12 @@ on_way graph _ _ _ (one from to edge) reached =
     elim (back_or_on from to) [ inl back ↦ inl (here graph [] from to reached edge back) | inr on ↦ inr on ]
 on_way graph _ _ _ (more from by to blocks edge way) reached =
     elim (back_or_on from by) [
-      inl back ↦ inl (here graph blocks from by reached edge back)
-    | inr on ↦ elim (on_way graph by blocks to way (reached_by graph from by reached edge)) [
-        inl found ↦ inl (further graph blocks from found)
-      | inr rest ↦ inr (omega arith) ] ]
+      | inl back ↦ inl (here graph blocks from by reached edge back)
+      | inr on ↦ elim (on_way graph by blocks to way (reached_by graph from by reached edge)) [
+        | inl found ↦ inl (further graph blocks from found)
+        | inr rest ↦ inr (omega arith)
+      ]
+    ]
 
 pub cycles_poll : (graph : Graph) → CyclesPoll graph
 cycles_poll graph block blocks reached cycle =

@@ -1,5 +1,5 @@
 -- The edges of blocks.
-use Rattle.std.proofs.Common.{◌≡◌, nat_le, get_or, ℕ, zero, suc, ◌<◌, ◌≤◌, ◌+◌, ◌-◌, Bool, true, false, if◌then◌else◌, List, [], ◌∷◌, ◌++◌, length, map, refl, ap, sym, subst, arith, Some, slice_get, ◌∙◌}
+use Rattle.std.proofs.Common.{◌≡◌, nat_le, ℕ, ◌<◌, ◌-◌, Bool, true, false, if◌then◌else◌, List, [], ◌∷◌, ◌++◌, length, map, refl, ap, sym, subst, arith, Some, slice_get, ◌∙◌}
 use Rattle.std.specs.List.{All, flat_map}
 use Rattle.std.proofs.lemmas.List.Elements.{All-nil, All-cons, All-head, All-tail, All-append}
 use Rattle.sp_ids.specs.declared.ids.BlockId.{BlockId}
@@ -10,7 +10,7 @@ use Rattle.std.specs.List.{list_any}
 use Rattle.std.proofs.lemmas.List.Folds.{Any-from_list_any, list_any_at}
 use Rattle.std.proofs.lemmas.Bool.{le-leb, leb-true}
 use Rattle.std.proofs.lemmas.Option.{slice_get_within, get_or_from_slice_get, slice_get-get_or}
-use Rattle.ir_cfg.specs.Graphs.{Graph, Retreats, Edge, block_at, succs_of, graph_of}
+use Rattle.ir_cfg.specs.Graphs.{Graph, Retreats, block_at, succs_of, graph_of}
 use Rattle.ir_cfg.specs.Turned.{LeadsInside}
 use Rattle.std.proofs.lemmas.List.{length-append, length-map}
 use Rattle.ir_ast.specs.Insts.{Instruction}
@@ -55,22 +55,22 @@ targets_inside : (func : Function) (insts : List Instruction) → All (NamesOfFu
 targets_inside func [] known = All-nil _
 targets_inside func (inst ∷ insts) known =
     All-append (λ (label : BlockId). label.0 < length func.blocks) (own_targets inst) (flat_map own_targets insts)
-      (own_inside func inst (is_terminator inst.op) (All-head (NamesOfFunction func) inst insts known))
-      (targets_inside func insts (All-tail (NamesOfFunction func) inst insts known))
+    (own_inside func inst (is_terminator inst.op) (All-head (NamesOfFunction func) inst insts known))
+    (targets_inside func insts (All-tail (NamesOfFunction func) inst insts known))
 
 rows_inside : (func : Function) (blocks : List BasicBlock) → All (NamesOfFunction func) (instructions_of blocks)
     → All (λ row. All (λ label. label.0 < length func.blocks) row) (map targets blocks)
 rows_inside func [] known = All-nil _
 rows_inside func (block ∷ blocks) known =
     All-cons (λ (row : List BlockId). All (λ (label : BlockId). label.0 < length func.blocks) row) (targets block) (map targets blocks)
-      (targets_inside func block.insts (front_of (NamesOfFunction func) block.insts (instructions_of blocks) known))
-      (rows_inside func blocks (back_of (NamesOfFunction func) block.insts (instructions_of blocks) known))
+    (targets_inside func block.insts (front_of (NamesOfFunction func) block.insts (instructions_of blocks) known))
+    (rows_inside func blocks (back_of (NamesOfFunction func) block.insts (instructions_of blocks) known))
 
 -- the edges of a formed function lead to its blocks
 pub leads_inside : (func : Function) → LocalNamesAreKnown func → LeadsInside (graph_of func)
 leads_inside func known =
     subst (λ (n : ℕ). All (λ (row : List BlockId). All (λ (label : BlockId). label.0 < n) row) (graph_of func)) (sym (length-map func.blocks targets))
-      (rows_inside func func.blocks known)
+    (rows_inside func func.blocks known)
 
 -- whether an edge leads back
 pub leads_back : (graph : Graph) (block : ℕ) → list_any (λ to. nat_le to.0 block) (succs_of graph block) ≡ true → Retreats graph block
@@ -88,4 +88,4 @@ back_leads graph block back =
     let within = slice_get_within (succs_of graph block) back.edge.number (block_at back.to) back.edge.leads in
     let is = get_or_from_slice_get (succs_of graph block) back.edge.number (block_at back.to) (block_at back.to) back.edge.leads in
     list_any_at (λ (to : BlockId). nat_le to.0 block) (succs_of graph block) back.edge.number (block_at back.to) within
-      (rw is (le-leb back.to block back.back))
+    (rw is (le-leb back.to block back.back))

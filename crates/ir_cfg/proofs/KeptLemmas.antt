@@ -1,6 +1,6 @@
 -- What is kept of lists and of blocks.
 use Rattle.std.proofs.Common.{◌≡◌, ℕ, zero, suc, ◌<◌, ◌≤◌, ◌+◌, Bool, true, false, not, if◌then◌else◌, List, [], ◌∷◌, ◌++◌, length, get_or, take, map, refl, ap, sym, arith, add-one, append-nil, append_assoc, subst, replicate, is_some, ◌∙◌}
-use Rattle.std.specs.List.{All, list_all, filter}
+use Rattle.std.specs.List.{All, list_all}
 use Rattle.std.proofs.lemmas.List.{map-append, length-append, length-replicate, length-map, get_or-map}
 use Rattle.std.proofs.lemmas.List.Sums.{length-filter, count_by-le-length}
 use Rattle.ir_ast.specs.declared.funcs.Arg.{Arg}
@@ -87,7 +87,7 @@ kept_end f marks xs x place same = rw same (end_by f marks xs x (get_or marks (l
 
 results_next : (marks : List Bool) (blocks : List BasicBlock) (place : ℕ) (block : BasicBlock) → place < length blocks
     → result_marks marks (take (suc place) blocks)
-      ≡ result_marks marks (take place blocks) ++ replicate (result_count (get_or blocks place block)) (get_or marks place false)
+    ≡ result_marks marks (take place blocks) ++ replicate (result_count (get_or blocks place block)) (get_or marks place false)
 results_next marks [] place block within = absurd (omega arith)
 results_next [] (b ∷ blocks) zero block within = append-nil _
 results_next (mark ∷ marks) (b ∷ blocks) zero block within = append-nil _
@@ -101,7 +101,7 @@ results_next (mark ∷ marks) (b ∷ blocks) (suc place) block within =
 -- the results of one block more
 pub results_more : (marks : List Bool) (blocks : List BasicBlock) (place : ℕ) (block : BasicBlock) → place < length blocks
     → result_marks marks (take (place + 1) blocks)
-      ≡ result_marks marks (take place blocks) ++ replicate (result_count (get_or blocks place block)) (get_or marks place false)
+    ≡ result_marks marks (take place blocks) ++ replicate (result_count (get_or blocks place block)) (get_or marks place false)
 results_more marks blocks place block within = rw add-one (results_next marks blocks place block within)
 
 few_in_block : (block : BasicBlock) → result_count block ≤ length block.insts
@@ -110,11 +110,23 @@ few_in_block block = omega (arith, length-filter (λ (inst : Instruction). is_so
 pub few_results : (marks : List Bool) (blocks : List BasicBlock) → length (result_marks marks blocks) ≤ length (instructions_of blocks)
 few_results marks [] = omega arith
 few_results [] (block ∷ blocks) =
-    omega (arith, few_results [] blocks, few_in_block block, length-append (replicate (result_count block) false) (result_marks [] blocks),
-      length-replicate (result_count block) false, length-append block.insts (instructions_of blocks))
+    omega (
+      arith,
+      few_results [] blocks,
+      few_in_block block,
+      length-append (replicate (result_count block) false) (result_marks [] blocks),
+      length-replicate (result_count block) false,
+      length-append block.insts (instructions_of blocks),
+    )
 few_results (mark ∷ marks) (block ∷ blocks) =
-    omega (arith, few_results marks blocks, few_in_block block, length-append (replicate (result_count block) mark) (result_marks marks blocks),
-      length-replicate (result_count block) mark, length-append block.insts (instructions_of blocks))
+    omega (
+      arith,
+      few_results marks blocks,
+      few_in_block block,
+      length-append (replicate (result_count block) mark) (result_marks marks blocks),
+      length-replicate (result_count block) mark,
+      length-append block.insts (instructions_of blocks),
+    )
 
 few_kept : {A : Type 0} (marks : List Bool) (xs : List A) → length (kept_of marks xs) ≤ length xs
 few_kept marks [] = omega arith
@@ -127,8 +139,13 @@ few_instructions : (kept : Kept) (marks : List Bool) (blocks : List BasicBlock)
 few_instructions kept marks [] = omega arith
 few_instructions kept [] (block ∷ blocks) = omega arith
 few_instructions kept (true ∷ marks) (block ∷ blocks) =
-    omega (arith, few_instructions kept marks blocks, length-append block.insts (instructions_of blocks), length-map block.insts (inst_kept kept),
-      length-append (map (inst_kept kept) block.insts) (instructions_of (map (block_kept kept) (kept_of marks blocks))))
+    omega (
+      arith,
+      few_instructions kept marks blocks,
+      length-append block.insts (instructions_of blocks),
+      length-map block.insts (inst_kept kept),
+      length-append (map (inst_kept kept) block.insts) (instructions_of (map (block_kept kept) (kept_of marks blocks))),
+    )
 few_instructions kept (false ∷ marks) (block ∷ blocks) =
     omega (arith, few_instructions kept marks blocks, length-append block.insts (instructions_of blocks))
 

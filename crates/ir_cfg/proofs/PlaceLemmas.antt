@@ -1,5 +1,5 @@
 -- What stands at a place of a list after a push and after a write.
-use Rattle.std.proofs.Common.{◌≡◌, ℕ, zero, suc, ◌<◌, ◌≤◌, ◌+◌, Bool, true, false, not, cond, get_or, List, [], ◌∷◌, ◌++◌, length, set, refl, ap, sym, arith, Some, None, slice_get, inl, inr, ◌⊎◌, ◌∙◌}
+use Rattle.std.proofs.Common.{◌≡◌, ℕ, zero, suc, ◌+◌, Bool, true, false, not, cond, get_or, List, [], ◌∷◌, ◌++◌, length, set, refl, ap, arith, Some, slice_get, inl, inr, ◌⊎◌}
 use Rattle.std.specs.List.{count_by}
 use Rattle.std.proofs.lemmas.List.Sums.{sum_by-set}
 use Rattle.std.proofs.lemmas.Option.{slice_get_within, get_or_from_slice_get}

@@ -1,13 +1,11 @@
 -- The search for the reached blocks, a label at a time.
-use Rattle.std.proofs.Common.{◌≡◌, ℕ, zero, suc, ◌<◌, ◌≤◌, ◌+◌, Bool, true, false, not, List, [], ◌∷◌, ◌++◌, length, get_or, set, replicate, refl, ap, sym, arith, Some, None, slice_get, inl, inr, ◌⊎◌, ◌∙◌, subst}
-use Rattle.std.specs.List.{count_by, All}
+use Rattle.std.proofs.Common.{◌≡◌, ℕ, zero, suc, ◌<◌, ◌≤◌, ◌+◌, Bool, true, false, List, [], ◌∷◌, ◌++◌, length, get_or, set, replicate, refl, ap, sym, arith, Some, None, slice_get, inl, inr, ◌⊎◌, ◌∙◌}
 use Rattle.std.proofs.lemmas.List.{length-set, length-append, length-replicate, get_or-replicate}
 use Rattle.std.proofs.lemmas.Option.{slice_get_within, slice_get-get_or, get_or_from_slice_get}
 use Rattle.std.proofs.lemmas.Bool.{cases_eq}
 use Rattle.sp_ids.specs.declared.ids.BlockId.{BlockId}
 use Rattle.ir_cfg.specs.Graphs.{Graph, Edge, block_at, succs_of}
 use Rattle.ir_cfg.specs.Paths.{Path, Reached, at_entry, along}
-use Rattle.ir_cfg.specs.Turned.{LeadsInside}
 use Rattle.ir_cfg.specs.Marks.{Marked, MarksReached, IsSearch, Visits, MarksOne, had_mark, had_none}
 use Rattle.ir_cfg.proofs.PlaceLemmas.{get_front, get_last, get_pushed, get_written, get_kept, get_set, count_set}
 
@@ -28,16 +26,18 @@ pub visits_more : (labels : List BlockId) (label : BlockId) (old marks new : Lis
 visits_more labels label old marks new before order after visits (had_mark is same still) = record {
   kept = λ block m. rw same (visits.kept block m);
   marked = λ place one stands. elim (get_pushed labels label place one stands) [
-      inl earlier ↦ rw same (visits.marked place one earlier)
-    | inr e ↦ rw (same, e) is ];
+    | inl earlier ↦ rw same (visits.marked place one earlier)
+    | inr e ↦ rw (same, e) is
+  ];
   front = λ place block stands. rw still (visits.front place block stands);
   balance = rw (same, still) visits.balance;
 }
 visits_more labels label old marks new before order after visits (had_none is written pushed) = record {
   kept = λ block m. rw written (get_kept marks label.0 block (visits.kept block m));
   marked = λ place one stands. elim (get_pushed labels label place one stands) [
-      inl earlier ↦ rw written (get_kept marks label.0 one.0 (visits.marked place one earlier))
-    | inr e ↦ rw (written, e) (get_written marks label.0 false true is) ];
+    | inl earlier ↦ rw written (get_kept marks label.0 one.0 (visits.marked place one earlier))
+    | inr e ↦ rw (written, e) (get_written marks label.0 false true is)
+  ];
   front = λ place block stands. rw pushed (get_front order (label ∷ []) place block (visits.front place block stands));
   balance =
       let count = count_set marks label.0 is in
@@ -52,16 +52,18 @@ search_more graph label marks new order after search reached (had_none is writte
   whole = rw written (length-set marks label.0 true ∙ search.whole);
   entry = rw written (get_kept marks label.0 0 search.entry);
   marked = λ place block stands. elim (get_pushed order label place block (let s = rw pushed at stands in s)) [
-      inl earlier ↦ rw written (get_kept marks label.0 block.0 (search.marked place block earlier))
-    | inr e ↦ rw (written, e) (get_written marks label.0 false true is) ];
+    | inl earlier ↦ rw written (get_kept marks label.0 block.0 (search.marked place block earlier))
+    | inr e ↦ rw (written, e) (get_written marks label.0 false true is)
+  ];
   found = λ block m. elim (get_set marks label.0 block (let s = rw written at m in s)) [
-      inl earlier ↦ let at = search.found block earlier in (at.0, rw pushed (get_front order (label ∷ []) at.0 (block_at block) at.1))
-    | inr e ↦ (length order, rw (pushed, e) (get_last order label)) ];
+    | inl earlier ↦ let at = search.found block earlier in (at.0, rw pushed (get_front order (label ∷ []) at.0 (block_at block) at.1))
+    | inr e ↦ (length order, rw (pushed, e) (get_last order label))
+  ];
   reached = λ block m. elim (get_set marks label.0 block (let s = rw written at m in s)) [
-      inl earlier ↦ search.reached block earlier
-    | inr e ↦ rw e reached ];
+    | inl earlier ↦ search.reached block earlier
+    | inr e ↦ rw e reached
+  ];
 }
-
 
 -- the edges of the first blocks of the order have been followed
 pub record Followed (graph : Graph) (marks : List Bool) (order : List BlockId) (done : ℕ) : Type 0 where
@@ -144,7 +146,7 @@ entry_marked : (count : ℕ) → 0 < count → Marked (set (replicate count fals
 entry_marked count some =
     let within : 0 < length (replicate count false) = omega (arith, length-replicate count false) in
     get_written (replicate count false) 0 false true
-      (slice_get-get_or (replicate count false) 0 false within ∙ ap (λ (x : Bool). Some x) (get_or-replicate count 0 false false some))
+    (slice_get-get_or (replicate count false) 0 false within ∙ ap (λ (x : Bool). Some x) (get_or-replicate count 0 false false some))
 
 alone : (place : ℕ) (block only : BlockId) → slice_get (only ∷ []) place ≡ Some block → block ≡ only
 alone zero block only stands = cc

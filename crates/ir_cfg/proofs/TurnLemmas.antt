@@ -1,16 +1,15 @@
 -- One list of entries for each block, filled block after block.
-use Rattle.std.proofs.Common.{◌≡◌, ◌≢◌, ℕ, zero, suc, ◌<◌, ◌≤◌, ◌+◌, ◌-◌, ◌==◌, true, false, cond, List, [], ◌∷◌, ◌++◌, length, get_or, set, take, map, replicate, refl, ap, sym, arith, ◌∙◌, subst, append_assoc, append-nil, inl, inr, ◌⊎◌}
-use Rattle.std.specs.List.{flat_map, range_with_len, All, sum_by, count_by}
-use Rattle.std.proofs.lemmas.List.{take_more, length-append, length-set, get_or-set_same, get_or-set_other, replicate-append-replicate, map-id, get_or-replicate, length-replicate}
+use Rattle.std.proofs.Common.{◌≡◌, ◌≢◌, ℕ, ◌<◌, ◌+◌, ◌==◌, cond, List, [], ◌∷◌, ◌++◌, length, get_or, set, take, replicate, refl, ap, sym, arith, ◌∙◌, subst, append_assoc, append-nil, inl, inr, ◌⊎◌}
+use Rattle.std.specs.List.{flat_map, range_with_len, All}
+use Rattle.std.proofs.lemmas.List.{take_more, length-set, get_or-set_same, get_or-set_other, replicate-append-replicate, map-id, get_or-replicate, length-replicate}
 use Rattle.std.proofs.lemmas.List.FromFn.{map-range_with_len_more}
 use Rattle.std.proofs.lemmas.List.Concat.{flat_map-append}
 use Rattle.std.proofs.lemmas.List.Sums.{sum_by-append}
-use Rattle.std.proofs.lemmas.List.Elements.{All-get_or}
 use Rattle.std.proofs.lemmas.Bool.{cases_eq, eq-eqb}
 use Rattle.std.proofs.lemmas.Bool.Decides.{eqb_tells}
 use Rattle.sp_ids.specs.declared.ids.BlockId.{BlockId}
 use Rattle.ir_ast.specs.Edges.{count_of}
-use Rattle.ir_cfg.specs.Graphs.{Graph, block_at, succs_of, preds_of}
+use Rattle.ir_cfg.specs.Graphs.{Graph, block_at, succs_of}
 use Rattle.ir_cfg.specs.Turned.{IsTurned, Enters, LeadsInside}
 
 pub replicate_more : {A : Type 0} (n : ℕ) (a : A) → replicate (n + 1) a ≡ replicate n a ++ a ∷ []
@@ -32,8 +31,8 @@ enters_each from labels label old new entered in' to below (inl same) =
     let more = replicate_more (count_of label.0 labels) from in
     let count = count_same label.0 labels label refl in
     subst (λ (t : ℕ). get_or (set new label.0 (get_or new label.0 [] ++ from ∷ [])) t [] ≡ get_or old t [] ++ replicate (count_of t (labels ++ label ∷ [])) from) same
-      (written ∙ ap (λ (xs : List BlockId). xs ++ from ∷ []) before ∙ append_assoc (get_or old label.0 []) (replicate (count_of label.0 labels) from) (from ∷ [])
-       ∙ ap (λ (xs : List BlockId). get_or old label.0 [] ++ xs) (sym more ∙ ap (λ (n : ℕ). replicate n from) (sym count)))
+    (written ∙ ap (λ (xs : List BlockId). xs ++ from ∷ []) before ∙ append_assoc (get_or old label.0 []) (replicate (count_of label.0 labels) from) (from ∷ [])
+    ∙ ap (λ (xs : List BlockId). get_or old label.0 [] ++ xs) (sym more ∙ ap (λ (n : ℕ). replicate n from) (sym count)))
 enters_each from labels label old new entered in' to below (inr other) =
     let apart : to ≢ label.0 = λ e. other (sym e) in
     get_or-set_other new label.0 to (get_or new label.0 [] ++ from ∷ []) [] apart ∙ entered.each to below
@@ -66,7 +65,7 @@ range_more n = sym (map-id (range_with_len 0 (n + 1))) ∙ map-range_with_len_mo
 
 pub preds_more : (graph : Graph) (count block : ℕ) → preds_before graph (count + 1) block
     ≡ preds_before graph count block ++ replicate (count_of block (succs_of graph count)) (block_at count)
-preds_more graph count block = 
+preds_more graph count block =
     let f : ℕ → List BlockId = λ from. replicate (count_of block (succs_of graph from)) (block_at from) in
     rw (range_more count, flat_map-append f (range_with_len 0 count) (count ∷ []), append-nil (f count)) refl
 

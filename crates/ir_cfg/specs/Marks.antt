@@ -1,7 +1,6 @@
 -- A search for the reached blocks: a mark for each block, and the marked blocks in the order in which
 -- they were found.
-use Rattle.std.specs.Prelude.{◌≡◌, ℕ, ◌+◌, ◌<◌, true, false, not, Bool, List, [], ◌∷◌, ◌++◌, length, count_by, Some, slice_get, slice_set}
-use Rattle.std.specs.List.{Contains}
+use Rattle.std.specs.Prelude.{◌≡◌, ℕ, ◌+◌, true, false, not, Bool, List, [], ◌∷◌, ◌++◌, length, count_by, Some, slice_get, slice_set}
 use Rattle.sp_ids.specs.declared.ids.BlockId.{BlockId}
 use Rattle.ir_cfg.specs.Graphs.{Graph, block_at}
 use Rattle.ir_cfg.specs.Paths.{Reached}

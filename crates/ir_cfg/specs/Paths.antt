@@ -1,6 +1,5 @@
 -- Paths from the entry, and the blocks that are reached.
-use Rattle.std.specs.Prelude.{◌≡◌, ◌≢◌, ℕ, List, [], ◌∷◌, ◌++◌}
-use Rattle.std.specs.List.{Contains}
+use Rattle.std.specs.Prelude.{ℕ, List, [], ◌∷◌, ◌++◌}
 use Rattle.ir_cfg.specs.Graphs.{Graph, Edge}
 
 -- a path to a block: its blocks begin with the entry, and each is an edge target of the one before it

@@ -1,5 +1,5 @@
 -- Target modules: what the rewriting gives, and what the verifier, the layouts and the machine ask for.
-use Rattle.std.specs.Prelude.{◌≡◌, ℕ, ◌+◌, ◌≤◌, ◌<◌, ◌^◌, ◌&&◌, Bool, true, false, Some, is_some, length, filter, slice_get}
+use Rattle.std.specs.Prelude.{◌≡◌, ℕ, ◌≤◌, ◌<◌, ◌^◌, ◌&&◌, Bool, true, false, Some, length, filter, slice_get}
 use Rattle.std.specs.List.{All, flat_map}
 use Rattle.ir_ast.specs.declared.modules.Form.TheVariants.{Rewritten}
 use Rattle.ir_ast.specs.declared.ops.Op.{Op}

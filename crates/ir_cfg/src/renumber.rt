@@ -116,7 +116,11 @@ fn entry_kept(renumber: &Renumber, labels: &[BlockId], place: usize) -> bool
     }
 }
 
-fn all_operands(alloc: Global, renumber: &Renumber, operands: &[Operand]) -> Result<Operands, Memory>
+fn all_operands(
+    alloc: Global,
+    renumber: &Renumber,
+    operands: &[Operand],
+) -> Result<Operands, Memory>
     ensures { IfOk result (λ kept. kept.items ≡ map (operand_kept renumber.now) operands.now) }
 {
     let mut kept = SmallVec::new(alloc);
@@ -141,7 +145,11 @@ fn operands(
     }
 }
 
-fn phi_labels(alloc: Global, renumber: &Renumber, labels: &[BlockId]) -> Result<Vec<BlockId>, Memory>
+fn phi_labels(
+    alloc: Global,
+    renumber: &Renumber,
+    labels: &[BlockId],
+) -> Result<Vec<BlockId>, Memory>
     ensures { IfOk result (λ kept. kept.items ≡ map (label_kept renumber.now) (filter (has_mark renumber.now) labels.now)) }
 {
     let mut kept = Vec::new(alloc);
@@ -153,7 +161,11 @@ fn phi_labels(alloc: Global, renumber: &Renumber, labels: &[BlockId]) -> Result<
     Ok(kept)
 }
 
-fn all_labels(alloc: Global, renumber: &Renumber, labels: &[BlockId]) -> Result<Vec<BlockId>, Memory>
+fn all_labels(
+    alloc: Global,
+    renumber: &Renumber,
+    labels: &[BlockId],
+) -> Result<Vec<BlockId>, Memory>
     ensures { IfOk result (λ kept. kept.items ≡ map (label_kept renumber.now) labels.now) }
 {
     let mut kept = Vec::new(alloc);
@@ -163,7 +175,12 @@ fn all_labels(alloc: Global, renumber: &Renumber, labels: &[BlockId]) -> Result<
     Ok(kept)
 }
 
-fn labels(alloc: Global, renumber: &Renumber, op: &Op, labels: &[BlockId]) -> Result<Vec<BlockId>, Memory>
+fn labels(
+    alloc: Global,
+    renumber: &Renumber,
+    op: &Op,
+    labels: &[BlockId],
+) -> Result<Vec<BlockId>, Memory>
     ensures { IfOk result (λ kept. kept.items ≡ labels_kept renumber.now op.now labels.now) }
 {
     match op {
@@ -172,7 +189,11 @@ fn labels(alloc: Global, renumber: &Renumber, op: &Op, labels: &[BlockId]) -> Re
     }
 }
 
-fn bundle(alloc: Global, renumber: &Renumber, entries: &[(Ty, Operand)]) -> Result<Vec<(Ty, Operand)>, Memory>
+fn bundle(
+    alloc: Global,
+    renumber: &Renumber,
+    entries: &[(Ty, Operand)],
+) -> Result<Vec<(Ty, Operand)>, Memory>
     ensures { IfOk result (λ kept. kept.items ≡ map (λ entry. (entry.0, operand_kept renumber.now entry.1)) entries.now) }
 {
     let mut kept = Vec::new(alloc);

@@ -1,4 +1,4 @@
-use Rattle.std.proofs.Common.{◌≡◌, ap, sym, ◌∙◌}
+use Rattle.std.proofs.Common.{sym, ◌∙◌}
 use Rattle.ir_cfg.proofs.GraphLemmas.{labels_of_last}
 use Rattle.ir_cfg.proofs.graphs.edges_of.Goals as goal
 

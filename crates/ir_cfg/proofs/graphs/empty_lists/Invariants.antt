@@ -1,4 +1,4 @@
-use Rattle.std.proofs.Common.{◌≡◌, ◌≤◌, map, replicate, []}
+use Rattle.std.proofs.Common.{◌≡◌, map, replicate, []}
 use Rattle.ir_cfg.proofs.graphs.empty_lists.Given as goal
 
 abbrev pub invariant-loop : goal.invariant-loop

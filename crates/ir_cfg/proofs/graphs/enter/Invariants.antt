@@ -1,4 +1,4 @@
-use Rattle.std.proofs.Common.{◌≡◌, map, take}
+use Rattle.std.proofs.Common.{map, take}
 use Rattle.ir_cfg.specs.Turned.{Enters}
 use Rattle.ir_cfg.proofs.graphs.enter.Given as goal
 

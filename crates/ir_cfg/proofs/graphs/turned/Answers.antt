@@ -1,10 +1,9 @@
-use Rattle.std.proofs.Common.{◌≡◌, ◌<◌, [], map, replicate, List, length, arith, Vec, Global, ap, sym, ◌∙◌}
+use Rattle.std.proofs.Common.{◌≡◌, ◌<◌, [], map, replicate, length, arith, Vec, Global, ap, ◌∙◌}
 use Rattle.std.specs.List.{All}
 use Rattle.std.proofs.lemmas.List.{length-map}
 use Rattle.std.proofs.lemmas.Result.{IfOk-weaker}
 use Rattle.sp_ids.specs.declared.ids.BlockId.{BlockId}
-use Rattle.ir_cfg.specs.Graphs.{block_at}
-use Rattle.ir_cfg.specs.Turned.{IsTurned, Enters}
+use Rattle.ir_cfg.specs.Turned.{IsTurned}
 use Rattle.ir_cfg.proofs.TurnLemmas.{TurnedBefore, turned_start, turned_more, turned_all, row_inside}
 use Rattle.ir_cfg.proofs.graphs.turned.Goals as goal
 
@@ -30,4 +29,4 @@ returns c =
     let all : c.loop-from.from ≡ length c.args.succs.now = omega arith in
     let is : TurnedBefore c.args.succs.now c.loop-from.from (map (λ (l : Vec BlockId Global). l.items) c.deref.result.now) = rw c.deref.ensures.value c.loop-from.invariant in
     IfOk-weaker c.joined.result (λ rows. rows ≡ map (λ (l : Vec BlockId Global). l.items) c.deref.result.now) (λ rows. IsTurned c.args.succs.now rows)
-      (λ rows same. rw same (turned_all c.args.succs.now _ c.loop-from.from all is)) c.joined.ensures
+    (λ rows same. rw same (turned_all c.args.succs.now _ c.loop-from.from all is)) c.joined.ensures

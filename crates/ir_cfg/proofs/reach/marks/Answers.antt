@@ -1,8 +1,6 @@
-use Rattle.std.proofs.Common.{◌≡◌, ◌<◌, ◌≤◌, ◌+◌, ℕ, [], ◌∷◌, false, true, Some, length, set, replicate, slice_get, arith, ap, sym, ◌∙◌}
+use Rattle.std.proofs.Common.{length, arith}
 use Rattle.std.proofs.lemmas.Option.{slice_get_read, slice_get_within}
-use Rattle.ir_cfg.specs.Graphs.{block_at}
-use Rattle.ir_cfg.specs.Marks.{IsSearch}
-use Rattle.ir_cfg.proofs.SearchLemmas.{Followed, search_start, followed_none, followed_more, marks_reached}
+use Rattle.ir_cfg.proofs.SearchLemmas.{search_start, followed_none, followed_more, marks_reached}
 use Rattle.ir_cfg.proofs.reach.marks.Goals as goal
 
 pub loop-done-init : goal.loop-done-init

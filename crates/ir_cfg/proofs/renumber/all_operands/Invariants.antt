@@ -1,6 +1,5 @@
 use Rattle.std.proofs.Common.{◌≡◌, map, take}
-use Rattle.std.specs.List.{filter}
-use Rattle.ir_cfg.specs.Unreached.{kept_of, operand_kept, label_kept, has_mark, inst_kept}
+use Rattle.ir_cfg.specs.Unreached.{operand_kept}
 use Rattle.ir_cfg.proofs.renumber.all_operands.Given as goal
 
 abbrev pub invariant-loop-operand : goal.invariant-loop-operand

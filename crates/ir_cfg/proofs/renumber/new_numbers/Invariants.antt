@@ -1,4 +1,4 @@
-use Rattle.std.proofs.Common.{◌≡◌, ◌≤◌, map, take, Bool}
+use Rattle.std.proofs.Common.{◌≡◌, map, take, Bool}
 use Rattle.std.specs.List.{count_by, range_with_len}
 use Rattle.ir_cfg.proofs.renumber.new_numbers.Given as goal
 

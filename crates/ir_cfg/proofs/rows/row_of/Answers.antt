@@ -1,5 +1,5 @@
-use Rattle.std.proofs.Common.{◌≡◌, ◌≤◌, arith}
-use Rattle.ir_cfg.proofs.RowLemmas.{RowAt, row_at}
+use Rattle.std.proofs.Common.{arith}
+use Rattle.ir_cfg.proofs.RowLemmas.{row_at}
 use Rattle.ir_cfg.proofs.rows.row_of.Goals as goal
 
 pub returns : goal.returns

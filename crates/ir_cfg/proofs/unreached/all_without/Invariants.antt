@@ -1,7 +1,6 @@
 use Rattle.std.proofs.Common.{◌≡◌, map, length}
-use Rattle.std.specs.List.{All, AllZip}
+use Rattle.std.specs.List.{AllZip}
 use Rattle.ir_ast.specs.Funcs.{content_of}
-use Rattle.ir_ast.specs.Formed.{IsFormed}
 use Rattle.ir_cfg.specs.Unreached.{DropsUnreached}
 use Rattle.ir_cfg.proofs.unreached.all_without.Given as goal
 

@@ -1,4 +1,4 @@
-use Rattle.std.proofs.Common.{◌≡◌, ◌++◌, map, length, take, replicate, is_some}
+use Rattle.std.proofs.Common.{◌≡◌, ◌++◌, length, take, replicate, is_some}
 use Rattle.std.specs.List.{filter}
 use Rattle.ir_cfg.proofs.unreached.mark_results.Given as goal
 

@@ -1,4 +1,4 @@
-use Rattle.std.proofs.Common.{◌≡◌, ◌<◌, ◌≤◌, ◌++◌, Bool, List, length, replicate, take, get_or, true, false, ap, sym, ◌∙◌, arith, append-nil, append_assoc}
+use Rattle.std.proofs.Common.{◌≡◌, ◌<◌, ◌++◌, Bool, List, length, replicate, take, get_or, true, false, ap, sym, ◌∙◌, arith, append-nil, append_assoc}
 use Rattle.ir_ast.specs.Blocks.{BasicBlock}
 use Rattle.ir_cfg.specs.Unreached.{result_marks, result_count}
 use Rattle.ir_cfg.proofs.KeptLemmas.{results_more}

@@ -1,4 +1,4 @@
-use Rattle.std.proofs.Common.{◌≡◌, ◌++◌, map, length, take, replicate, is_some, true}
+use Rattle.std.proofs.Common.{◌≡◌, ◌++◌, take, replicate, true}
 use Rattle.ir_cfg.specs.Unreached.{result_marks}
 use Rattle.ir_cfg.proofs.unreached.value_marks.Given as goal
 

@@ -1,4 +1,4 @@
-use Rattle.std.proofs.Common.{◌≡◌, ◌<◌, ◌≤◌, ◌++◌, Bool, List, rules, true, length, replicate, map, ap, sym, ◌∙◌, arith}
+use Rattle.std.proofs.Common.{◌≡◌, Bool, List, rules, true, length, replicate, ap, ◌∙◌, arith}
 use Rattle.std.proofs.lemmas.List.{length-append, length-replicate}
 use Rattle.ir_ast.specs.Blocks.{BasicBlock}
 use Rattle.ir_ast.specs.Funcs.{instructions_of}
@@ -20,13 +20,24 @@ of-requires-clause-few_values c =
     let values = ap length c.in_ok-values.ensures in
     let results = few_results c.as_slice.result.now c.as_slice-2.result.now in
     let instructions = ap (λ (bs : List BasicBlock). length (instructions_of bs)) blocks in
-    omega (arith, ap length c.as_slice-3.ensures.value, values, count, ap length c.into_parts-name.ensures.args, results, instructions, small.few_arguments, small.few_instructions,
-      length-append (replicate c.len.result true) (result_marks c.as_slice.result.now c.as_slice-2.result.now), length-replicate c.len.result true)
+    omega (
+      arith,
+      ap length c.as_slice-3.ensures.value,
+      values,
+      count,
+      ap length c.into_parts-name.ensures.args,
+      results,
+      instructions,
+      small.few_arguments,
+      small.few_instructions,
+      length-append (replicate c.len.result true) (result_marks c.as_slice.result.now c.as_slice-2.result.now),
+      length-replicate c.len.result true,
+    )
 
 pub of-requires-2 : goal.of-requires-2
 of-requires-2 c =
     rw (c.in_ok-kept.ensures, c.into_parts-name.ensures.args, c.into_parts-name.ensures.blocks)
-      (small_kept c.args.func.content.args c.in_ok-renumber.renumber c.in_ok-renumber.renumber.marks c.args.func.content.blocks c.into_parts-name.ensures.small)
+    (small_kept c.args.func.content.args c.in_ok-renumber.renumber c.in_ok-renumber.renumber.marks c.args.func.content.blocks c.into_parts-name.ensures.small)
 
 pub returns : goal.returns
 returns c =
@@ -34,12 +45,12 @@ returns c =
     let count : c.len.result ≡ length c.into_parts-name.result.2.items = search rules in
     let told = rw c.as_slice.ensures.value at c.in_ok-values.ensures in
     let values = numbers_left c.args.func.content c.in_ok-marks.marks.items c.in_ok-values.values.items c.len.result c.as_slice-2.result.now
-        (count ∙ ap length c.into_parts-name.ensures.args) (c.as_slice-2.ensures.value ∙ c.into_parts-name.ensures.blocks) told in
+    (count ∙ ap length c.into_parts-name.ensures.args) (c.as_slice-2.ensures.value ∙ c.into_parts-name.ensures.blocks) told in
     let renumber : c.in_ok-renumber.renumber ≡ kept_by c.in_ok-marks.marks.items c.args.func.content =
-        c.in_ok-renumber.ensures ∙ ap (λ (vs : List Bool). (let k : Kept = record { marks = c.in_ok-marks.marks.items; blocks = new_numbers c.in_ok-marks.marks.items; values = new_numbers vs } in k))
-          (c.as_slice-3.ensures.value ∙ values) in
+    c.in_ok-renumber.ensures ∙ ap (λ (vs : List Bool). (let k : Kept = record { marks = c.in_ok-marks.marks.items; blocks = new_numbers c.in_ok-marks.marks.items; values = new_numbers vs } in k))
+    (c.as_slice-3.ensures.value ∙ values) in
     let blocks = blocks_left c.args.func.content c.in_ok-marks.marks.items c.in_ok-renumber.renumber c.into_parts-name.result.3.items c.in_ok-kept.kept.items renumber
-        c.into_parts-name.ensures.blocks c.in_ok-kept.ensures in
+    c.into_parts-name.ensures.blocks c.in_ok-kept.ensures in
     record {
       marks = c.in_ok-marks.marks.items;
       reached = reached;

@@ -1,5 +1,3 @@
-use Rattle.std.proofs.Common.{◌≡◌}
-use Rattle.ir_cfg.specs.Turned.{LeadsInside}
 use Rattle.ir_cfg.proofs.GraphLemmas.{leads_inside}
 use Rattle.ir_cfg.proofs.cfg.Cfg.of.Goals as goal
 

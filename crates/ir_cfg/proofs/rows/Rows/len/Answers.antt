@@ -1,4 +1,4 @@
-use Rattle.std.proofs.Common.{◌≡◌, ap, length, sym, rules}
+use Rattle.std.proofs.Common.{rules}
 use Rattle.ir_cfg.proofs.RowLemmas.{length-rows_from}
 use Rattle.ir_cfg.proofs.rows.Rows.len.Goals as goal
 

@@ -1,7 +1,4 @@
-use Rattle.std.proofs.Common.{◌≡◌, ◌<◌, length, subst, ap, List, sym, ◌∙◌, arith}
-use Rattle.sp_ids.specs.declared.ids.BlockId.{BlockId}
-use Rattle.ir_cfg.specs.Graphs.{succs_of}
-use Rattle.ir_cfg.specs.Rows.{AreStops}
+use Rattle.std.proofs.Common.{length, ap, ◌∙◌, arith}
 use Rattle.ir_cfg.proofs.RowLemmas.{length-rows_from}
 use Rattle.ir_cfg.proofs.rows.Rows.row.Goals as goal
 

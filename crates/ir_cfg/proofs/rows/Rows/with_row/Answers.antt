@@ -1,6 +1,5 @@
-use Rattle.std.proofs.Common.{◌≡◌, ◌≤◌, ◌++◌, ◌∷◌, [], ap, length, sym, arith, rules, ◌∙◌}
+use Rattle.std.proofs.Common.{◌≡◌, ◌≤◌, ◌++◌, ◌∷◌, [], ap, length, arith, rules, ◌∙◌}
 use Rattle.std.proofs.lemmas.List.{length-append}
-use Rattle.ir_cfg.specs.Rows.{rows_from, AreStops}
 use Rattle.ir_cfg.proofs.RowLemmas.{stops_push, rows_push}
 use Rattle.ir_cfg.proofs.rows.Rows.with_row.Goals as goal
 
@@ -17,5 +16,5 @@ returns c =
     let items = c.in_ok-extend_from_slice.ensures.items in
     let whole : c.len.result ≡ length c.extend_from_slice.new.self.items = search rules in
     rw (c.in_ok-push.ensures.items, whole, items)
-      (rows_push 0 c.self.inside.stops.items c.self.inside.items.items c.args.row.now c.self.invariant
-        ∙ ap (λ rows. rows ++ c.args.row.now ∷ []) c.self.view_is)
+    (rows_push 0 c.self.inside.stops.items c.self.inside.items.items c.args.row.now c.self.invariant
+    ∙ ap (λ rows. rows ++ c.args.row.now ∷ []) c.self.view_is)
