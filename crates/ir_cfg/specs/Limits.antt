@@ -23,6 +23,6 @@ pub record IsWithinLimits (content : ModuleContent) : Type 0 where
   pub fields : All (λ layout. length layout.fields ≤ 64) content.layouts
   pub arguments : All (λ func. length func.args ≤ 64) content.funcs
 
--- what is asked of each function of a module of either form
+-- the names of the layouts are names of texts
 abbrev pub LayoutsHaveNames : ModuleContent → Type 0
 LayoutsHaveNames content = All (λ layout. IsName layout.name) content.layouts
