@@ -32,10 +32,7 @@ fn of_kind(kind: Kind, rest: Option<usize>) -> Option<(Kind, usize)>
     requires { ForSome rest (λ len. len + 1 < 2 ^ 64) }
     ensures { result ≡ option_map (λ len. (kind, 1 + len)) rest }
 {
-    match rest {
-        Some(len) => Some((kind, 1 + len)),
-        None => None,
-    }
+    rest.map(|len| (kind, 1 + len))
 }
 
 // A name or a number without leading zeros.
@@ -82,10 +79,8 @@ fn bang_front(bytes: &[u8]) -> Option<usize>
 fn quote_front(bytes: &[u8]) -> Option<usize>
     ensures { MatchOption result (HasNoFront ends_quote bytes.now) (IsLongestFront ends_quote bytes.now) }
 {
-    match find(bytes, b'"') {
-        Some(len) => Some(len + 1),
-        None => None,
-    }
+    let len = find(bytes, b'"')?;
+    Some(len + 1)
 }
 
 // Two dots.

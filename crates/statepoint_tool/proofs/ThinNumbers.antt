@@ -17,9 +17,9 @@ use Rattle.statepoint_tool.proofs.ThinCuts.{if-Some, bytes_eq-same, bytes_eq-yes
 below_word : (n : ℕ) → wrapped 64 n < 2 ^ 64
 below_word n = omega arith
 
-fold-below : (n : ℕ) (digits : List ℕ) → n < 2 ^ 64 → fold (λ word digit. wrapped 64 (wrapped 64 (word * 10) + (digit - 48))) n digits < 2 ^ 64
+fold-below : (n : ℕ) (digits : List ℕ) → n < 2 ^ 64 → fold (λ word digit. wrapped 64 (word * 10 + (digit - 48))) n digits < 2 ^ 64
 fold-below n [] below = below
-fold-below n (digit ∷ digits) below = fold-below (wrapped 64 (wrapped 64 (n * 10) + (digit - 48))) digits (below_word (wrapped 64 (n * 10) + (digit - 48)))
+fold-below n (digit ∷ digits) below = fold-below (wrapped 64 (n * 10 + (digit - 48))) digits (below_word (n * 10 + (digit - 48)))
 
 word_of_digits-below : (digits : List ℕ) → word_of_digits digits < 2 ^ 64
 unfolding word_of_digits
@@ -41,15 +41,15 @@ number_of-Some text word e =
     (sym (bytes_eq-same (spelled (word_of text)) text p.0) ∙ ap spelled p.1, subst (λ n. n < 2 ^ 64) p.1 (word_of-below text))
 
 -- the digits of a decimal give its number
-word_of_digits-push : (digits : List ℕ) (digit : ℕ) → word_of_digits (digits ++ digit ∷ []) ≡ wrapped 64 (wrapped 64 (word_of_digits digits * 10) + (digit - 48))
+word_of_digits-push : (digits : List ℕ) (digit : ℕ) → word_of_digits (digits ++ digit ∷ []) ≡ wrapped 64 (word_of_digits digits * 10 + (digit - 48))
 unfolding word_of_digits
-word_of_digits-push digits digit = fold-append (λ (word digit : ℕ). wrapped 64 (wrapped 64 (word * 10) + (digit - 48))) 0 digits (digit ∷ [])
+word_of_digits-push digits digit = fold-append (λ (word digit : ℕ). wrapped 64 (word * 10 + (digit - 48))) 0 digits (digit ∷ [])
 
 word_of_digits-one : (n : ℕ) → n < 10 → word_of_digits ((48 + n) ∷ []) ≡ wrapped 64 n
 unfolding word_of_digits
 word_of_digits-one n small = omega arith
 
-step_of : (n low : ℕ) → low ≡ wrapped 64 (n / 10) → wrapped 64 (wrapped 64 (low * 10) + ((48 + n % 10) - 48)) ≡ wrapped 64 n
+step_of : (n low : ℕ) → low ≡ wrapped 64 (n / 10) → wrapped 64 (low * 10 + ((48 + n % 10) - 48)) ≡ wrapped 64 n
 step_of n low is = omega arith
 
 word_of_digits-decimal : (n : ℕ) → n < 2 ^ 64 → word_of_digits (decimal n) ≡ wrapped 64 n

@@ -6,6 +6,22 @@ use Rattle.std.specs.Str.{bytes_eq}
 use Rattle.std.specs.Fmt.{signed_decimal}
 use Rattle.sp_ids.specs.Numbers.{wrapped, signed}
 
+-- the bytes of `%`, `-`, `0`, a space and a comma
+abbrev pub percent : ℕ
+percent = 37
+
+abbrev pub minus : ℕ
+minus = 45
+
+abbrev pub zero_digit : ℕ
+zero_digit = 48
+
+abbrev pub space : ℕ
+space = 32
+
+abbrev pub comma : ℕ
+comma = 44
+
 -- what an operand is spelled as: a name, without its `%`, or a number, a word of 64 bits
 pub data Term : Type 0 where
   Named : List ℕ → Term
@@ -37,12 +53,12 @@ before_end end text =
 
 -- the word that decimal digits give
 unfoldable pub word_of_digits : List ℕ → ℕ
-word_of_digits digits = fold (λ word digit. wrapped 64 (wrapped 64 (word * 10) + (digit - 48))) 0 digits
+word_of_digits digits = fold (λ word digit. wrapped 64 (word * 10 + (digit - zero_digit))) 0 digits
 
 -- the word that a decimal with an optional `-` gives
 unfoldable pub word_of : List ℕ → ℕ
 word_of [] = 0
-word_of (first ∷ rest) = if first == 45 then wrapped 64 (2 ^ 64 - word_of_digits rest) else word_of_digits (first ∷ rest)
+word_of (first ∷ rest) = if first == minus then wrapped 64 (2 ^ 64 - word_of_digits rest) else word_of_digits (first ∷ rest)
 
 -- the number that is spelled so: no plus, no zero in front, and within 64 bits
 unfoldable pub number_of : List ℕ → Option ℕ
@@ -51,7 +67,7 @@ number_of text = if bytes_eq (spelled (word_of text)) text then Some (word_of te
 unfoldable pub term_of : List ℕ → Option Term
 term_of [] = None
 term_of (first ∷ rest) =
-    if first == 37 then (if is_name rest then Some (Named rest) else None) else option_map Number (number_of (first ∷ rest))
+    if first == percent then (if is_name rest then Some (Named rest) else None) else option_map Number (number_of (first ∷ rest))
 
 infixl 10 ◌>>=◌
 abbrev ◌>>=◌ : {A B : Type 0} → Option A → (A → Option B) → Option B
@@ -61,11 +77,11 @@ o >>= f = option_and_then f o
 unfoldable pub add_of : List ℕ → Option Line
 add_of text = do
   whole ← after_front (codes "  %") text
-  values ← after_front (codes "= add i64 ") (after_first (λ b. b == 32) whole)
-  second ← after_front (codes " ") (after_first (λ b. b == 44) values)
-  left ← term_of (before_first (λ b. b == 44) values)
+  values ← after_front (codes "= add i64 ") (after_first (λ b. b == space) whole)
+  second ← after_front (codes " ") (after_first (λ b. b == comma) values)
+  left ← term_of (before_first (λ b. b == comma) values)
   right ← term_of second
-  if is_name (before_first (λ b. b == 32) whole) then Some (Add (before_first (λ b. b == 32) whole) left right) else None
+  if is_name (before_first (λ b. b == space) whole) then Some (Add (before_first (λ b. b == space) whole) left right) else None
 
 -- `  call void @print_i64(i64 TERM)`
 unfoldable pub print_of : List ℕ → Option Line

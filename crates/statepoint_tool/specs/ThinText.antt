@@ -3,12 +3,12 @@ use Rattle.std.specs.Prelude.{◌≡◌, ℕ, ◌+◌, ◌-◌, ◌^◌, ◌<◌
 use Rattle.std.specs.List.{AllByRecursion}
 use Rattle.ir_ast.specs.Insts.{Instruction}
 use Rattle.ir_ast.specs.Modules.{ModuleContent}
-use Rattle.statepoint_tool.specs.ThinForms.{Term, Named, Number, Line, Add, Print, Return, spelled, is_name}
+use Rattle.statepoint_tool.specs.ThinForms.{Term, Named, Number, Line, Add, Print, Return, percent, spelled, is_name}
 use Rattle.statepoint_tool.specs.Thin.{Accepted, Refused, head, instruction_of, names_after, module_of, thin_module}
 
 -- how an operand and a line are spelled
 unfoldable pub text_of_term : Term → List ℕ
-text_of_term (Named name) = 37 ∷ name
+text_of_term (Named name) = percent ∷ name
 text_of_term (Number word) = spelled word
 
 unfoldable pub text_of_line : Line → List ℕ

@@ -1,0 +1,26 @@
+-- Bundles by which of them have operands.
+use Rattle.std.proofs.Common.{◌≡◌, ℕ, Bool, true, false, ◌==◌, List, [], ◌∷◌, ◌++◌, length, codes, refl, ◌∙◌}
+use Rattle.std.proofs.Math.Dec.{eqb-suc-zero}
+use Rattle.std.proofs.lemmas.Bool.{true≢false}
+use Rattle.ir_ast.specs.declared.types.Ty.{Ty}
+use Rattle.ir_ast.specs.declared.ops.Operand.{Operand}
+use Rattle.ir_printer.specs.Names.{Names}
+use Rattle.ir_printer.specs.Calls.{deopt_text, live_text, bundles_text}
+
+cons-not_empty : {T : Type 0} (x : T) (xs : List T) → true ≡ (length (x ∷ xs) == 0) → ⊥
+cons-not_empty x xs empty = true≢false (empty ∙ eqb-suc-zero (length xs))
+
+pub bundles-live : (names : Names) (bundle : List (Ty × Operand)) (entries : List Operand) → true ≡ (length bundle == 0) → false ≡ (length entries == 0) → bundles_text names bundle entries ≡ codes " [ " ++ (live_text names entries ++ codes " ]")
+bundles-live names [] [] none some = absurd (cc)
+bundles-live names [] (entry ∷ entries) none some = refl
+bundles-live names (value ∷ bundle) entries none some = absurd (cons-not_empty value bundle none)
+
+pub bundles-deopt : (names : Names) (bundle : List (Ty × Operand)) (entries : List Operand) → false ≡ (length bundle == 0) → true ≡ (length entries == 0) → bundles_text names bundle entries ≡ codes " [ " ++ (deopt_text names bundle ++ codes " ]")
+bundles-deopt names [] entries some none = absurd (cc)
+bundles-deopt names (value ∷ bundle) [] some none = refl
+bundles-deopt names (value ∷ bundle) (entry ∷ entries) some none = absurd (cons-not_empty entry entries none)
+
+pub bundles-both : (names : Names) (bundle : List (Ty × Operand)) (entries : List Operand) → false ≡ (length bundle == 0) → false ≡ (length entries == 0) → bundles_text names bundle entries ≡ codes " [ " ++ (deopt_text names bundle ++ (codes ", " ++ (live_text names entries ++ codes " ]")))
+bundles-both names [] entries some more = absurd (cc)
+bundles-both names (value ∷ bundle) [] some more = absurd (cc)
+bundles-both names (value ∷ bundle) (entry ∷ entries) some more = refl

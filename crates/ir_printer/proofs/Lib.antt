@@ -1,0 +1,8 @@
+pub mod RowLemmas
+pub mod NameLemmas
+pub mod IntegerLemmas
+pub mod CallLemmas
+pub mod LineLemmas
+pub mod DeclarationLemmas
+pub mod TextLemmas
+pub mod TestLemmas

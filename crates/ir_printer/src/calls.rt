@@ -1,0 +1,462 @@
+//! Calls, statepoints, and the results and relocates after them.
+ghost use Rattle.std.specs.Prelude.{◌≡◌, ◌≤◌, ◌++◌, ℕ, List, [], codes, map, drop};
+ghost use Rattle.std.specs.List.{zip};
+ghost use Rattle.ir_ast.specs.declared.types.Ty.TheVariants.{Ptr};
+ghost use Rattle.ir_printer.specs.Operands.{parameter_text, typed_text, argument_text};
+ghost use Rattle.ir_printer.specs.Calls.{callee_name, deopt_text, live_text, bundles_text, call_text, statepoint_words, elementtype_words, end_words, target_text, counted_text, statepoint_text, result_suffix, result_words, result_text, relocate_words, relocate_text};
+
+use crate::names::Scope;
+use crate::operands::{Argument, ParameterWord, Typed, Value, operand_of};
+use crate::pieces::{Bytes, Piece};
+use crate::rows::{Each, Joined, Led, PairPrinter, Pairs, Printer};
+use crate::words::{Decimal, Integer, TypeWord};
+use ir_ast::{Callee, Inst, Operand, Ty};
+use tool_io::{Failed, Sink};
+
+// The name of a callee, without the `@`.
+#[derive(Drop)]
+struct CalleeName<'a> {
+    scope: &'a Scope<'a>,
+    callee: Callee,
+}
+
+impl Piece for CalleeName<'_> {
+    ghost text = { λ piece. callee_name piece.scope.now piece.callee };
+
+    fn put_into<O: Sink>(&self, out: &mut O) -> Result<(), Failed> {
+        match self.callee {
+            Callee::Fun(func) => out.put(self.scope.function(func)),
+            Callee::New(layout) => {
+                (Bytes(b"gc_new."), Bytes(self.scope.layout(layout))).put_into(out)
+            }
+            Callee::Print => out.put(b"print_i64"),
+            Callee::Read => out.put(b"read_i64"),
+            Callee::TaskStart => out.put(b"task_start"),
+            Callee::Poll => out.put(b"gc.safepoint_poll"),
+            Callee::Check => out.put(b"gc_check"),
+            Callee::Same => out.put(b"gc_same"),
+        }
+    }
+}
+
+// Puts an argument beside its type.
+#[derive(Drop)]
+struct Arguments<'a>(&'a Scope<'a>);
+
+impl PairPrinter<Ty, Operand> for Arguments<'_> {
+    ghost pair_text = { λ printer ty operand. argument_text printer.0.now ty operand };
+
+    fn put_pair<O: Sink>(&self, ty: &Ty, operand: &Operand, out: &mut O) -> Result<(), Failed> {
+        Argument {
+            scope: self.0,
+            ty: *ty,
+            operand: *operand,
+        }
+        .put_into(out)
+    }
+}
+
+// Puts a live entry.
+#[derive(Drop)]
+struct LiveEntries<'a>(&'a Scope<'a>);
+
+impl Printer<Operand> for LiveEntries<'_> {
+    ghost element_text = { λ printer entry. typed_text printer.0.now Ptr entry };
+
+    fn put_element<O: Sink>(&self, entry: &Operand, out: &mut O) -> Result<(), Failed> {
+        Typed {
+            scope: self.0,
+            ty: Ty::Ptr,
+            operand: *entry,
+        }
+        .put_into(out)
+    }
+}
+
+// Puts an operand of a "deopt" bundle.
+#[derive(Drop)]
+struct DeoptEntries<'a>(&'a Scope<'a>);
+
+impl Printer<(Ty, Operand)> for DeoptEntries<'_> {
+    ghost element_text = { λ printer entry. typed_text printer.0.now entry.0 entry.1 };
+
+    fn put_element<O: Sink>(&self, entry: &(Ty, Operand), out: &mut O) -> Result<(), Failed> {
+        Typed {
+            scope: self.0,
+            ty: entry.0,
+            operand: entry.1,
+        }
+        .put_into(out)
+    }
+}
+
+// Puts a parameter's type.
+#[derive(Clone, Copy)]
+struct Parameters;
+
+impl Printer<Ty> for Parameters {
+    ghost element_text = { λ printer ty. parameter_text ty };
+
+    fn put_element<O: Sink>(&self, ty: &Ty, out: &mut O) -> Result<(), Failed> {
+        ParameterWord(*ty).put_into(out)
+    }
+}
+
+#[derive(Drop)]
+struct Deopt<'a> {
+    scope: &'a Scope<'a>,
+    bundle: &'a [(Ty, Operand)],
+}
+
+impl Piece for Deopt<'_> {
+    ghost text = { λ piece. deopt_text piece.scope.now piece.bundle.now };
+
+    fn put_into<O: Sink>(&self, out: &mut O) -> Result<(), Failed> {
+        let entries = Joined {
+            separator: b", ",
+            row: Each {
+                printer: DeoptEntries(self.scope),
+                elements: self.bundle,
+            },
+        };
+        (Bytes(b"\"deopt\"("), entries, Bytes(b")")).put_into(out)
+    }
+}
+
+#[derive(Drop)]
+struct Live<'a> {
+    scope: &'a Scope<'a>,
+    entries: &'a [Operand],
+}
+
+impl Piece for Live<'_> {
+    ghost text = { λ piece. live_text piece.scope.now piece.entries.now };
+
+    fn put_into<O: Sink>(&self, out: &mut O) -> Result<(), Failed> {
+        let entries = Joined {
+            separator: b", ",
+            row: Each {
+                printer: LiveEntries(self.scope),
+                elements: self.entries,
+            },
+        };
+        (Bytes(b"\"gc-live\"("), entries, Bytes(b")")).put_into(out)
+    }
+}
+
+// The bundles that have operands, in brackets.
+#[derive(Drop)]
+struct Bundles<'a> {
+    scope: &'a Scope<'a>,
+    bundle: &'a [(Ty, Operand)],
+    entries: &'a [Operand],
+}
+
+impl Piece for Bundles<'_> {
+    ghost text = { λ piece. bundles_text piece.scope.now piece.bundle.now piece.entries.now };
+
+    fn put_into<O: Sink>(&self, out: &mut O) -> Result<(), Failed> {
+        let deopt = Deopt {
+            scope: self.scope,
+            bundle: self.bundle,
+        };
+        let live = Live {
+            scope: self.scope,
+            entries: self.entries,
+        };
+        if self.bundle.is_empty() {
+            if self.entries.is_empty() {
+                Ok(())
+            } else {
+                (Bytes(b" [ "), live, Bytes(b" ]")).put_into(out)
+            }
+        } else if self.entries.is_empty() {
+            (Bytes(b" [ "), deopt, Bytes(b" ]")).put_into(out)
+        } else {
+            (Bytes(b" [ "), deopt, Bytes(b", "), live, Bytes(b" ]")).put_into(out)
+        }
+    }
+}
+
+/// A call's line, after its result.
+#[derive(Drop)]
+pub(crate) struct Call<'a> {
+    pub scope: &'a Scope<'a>,
+    pub callee: Callee,
+    pub types: &'a [Ty],
+    pub inst: &'a Inst,
+}
+
+impl Piece for Call<'_> {
+    ghost text = { λ piece. call_text piece.scope.now piece.callee piece.types.now piece.inst.now };
+
+    fn put_into<O: Sink>(&self, out: &mut O) -> Result<(), Failed> {
+        let name = CalleeName {
+            scope: self.scope,
+            callee: self.callee,
+        };
+        let arguments = Joined {
+            separator: b", ",
+            row: Pairs {
+                printer: Arguments(self.scope),
+                first: self.types,
+                second: self.inst.operands(),
+            },
+        };
+        let bundles = Bundles {
+            scope: self.scope,
+            bundle: self.inst.bundle(),
+            entries: &[],
+        };
+        (
+            Bytes(b"call "),
+            TypeWord(*self.inst.ty()),
+            Bytes(b" @"),
+            name,
+            Bytes(b"("),
+            arguments,
+            Bytes(b")"),
+            bundles,
+        )
+            .put_into(out)
+    }
+}
+
+#[tactic(auto, unfolding(crate::specs::Calls::statepoint_words))]
+fn statepoint_start() -> &'static [u8]
+    ensures { result.now ≡ statepoint_words }
+{
+    b"call token (i64, i32, ptr, i32, i32, ...) @llvm.experimental.gc.statepoint.p0(i64 "
+}
+
+#[tactic(auto, unfolding(crate::specs::Calls::elementtype_words))]
+fn elementtype_start() -> &'static [u8]
+    ensures { result.now ≡ elementtype_words }
+{
+    b", i32 0, ptr elementtype("
+}
+
+#[tactic(auto, unfolding(crate::specs::Calls::end_words))]
+fn statepoint_end() -> &'static [u8]
+    ensures { result.now ≡ end_words }
+{
+    b", i32 0, i32 0)"
+}
+
+// The type of what a statepoint calls, and its name.
+#[derive(Drop)]
+struct Target<'a> {
+    scope: &'a Scope<'a>,
+    callee: Callee,
+    types: &'a [Ty],
+    answer: Ty,
+}
+
+impl Piece for Target<'_> {
+    ghost text = { λ piece. target_text piece.scope.now piece.callee piece.types.now piece.answer };
+
+    fn put_into<O: Sink>(&self, out: &mut O) -> Result<(), Failed> {
+        let parameters = Joined {
+            separator: b", ",
+            row: Each {
+                printer: Parameters,
+                elements: self.types,
+            },
+        };
+        let name = CalleeName {
+            scope: self.scope,
+            callee: self.callee,
+        };
+        (
+            TypeWord(self.answer),
+            Bytes(b" ("),
+            parameters,
+            Bytes(b")) @"),
+            name,
+        )
+            .put_into(out)
+    }
+}
+
+// The number of the arguments of a statepoint, and the arguments.
+#[derive(Drop)]
+struct Counted<'a> {
+    scope: &'a Scope<'a>,
+    types: &'a [Ty],
+    operands: &'a [Operand],
+}
+
+impl Piece for Counted<'_> {
+    ghost text = { λ piece. counted_text piece.scope.now piece.types.now piece.operands.now };
+
+    fn put_into<O: Sink>(&self, out: &mut O) -> Result<(), Failed> {
+        let arguments = Led {
+            separator: b", ",
+            row: Pairs {
+                printer: Arguments(self.scope),
+                first: self.types,
+                second: self.operands,
+            },
+        };
+        (
+            Bytes(b", i32 "),
+            Decimal(self.types.len() as u64),
+            Bytes(b", i32 0"),
+            arguments,
+        )
+            .put_into(out)
+    }
+}
+
+/// A statepoint's line, after its result.
+#[derive(Drop)]
+pub(crate) struct Statepoint<'a> {
+    pub scope: &'a Scope<'a>,
+    pub id: u64,
+    pub callee: Callee,
+    pub types: &'a [Ty],
+    pub inst: &'a Inst,
+}
+
+impl Piece for Statepoint<'_> {
+    ghost text = { λ piece. statepoint_text piece.scope.now piece.id piece.callee piece.types.now piece.inst.now };
+
+    fn put_into<O: Sink>(&self, out: &mut O) -> Result<(), Failed> {
+        let operands = self.inst.operands();
+        let target = Target {
+            scope: self.scope,
+            callee: self.callee,
+            types: self.types,
+            answer: *self.inst.ty(),
+        };
+        let counted = Counted {
+            scope: self.scope,
+            types: self.types,
+            operands,
+        };
+        let bundles = Bundles {
+            scope: self.scope,
+            bundle: self.inst.bundle(),
+            entries: after(operands, self.types.len()),
+        };
+        (
+            Bytes(statepoint_start()),
+            Integer(64, self.id),
+            Bytes(elementtype_start()),
+            target,
+            counted,
+            Bytes(statepoint_end()),
+            bundles,
+        )
+            .put_into(out)
+    }
+}
+
+// The operands after the first `count`.
+fn after(operands: &[Operand], count: usize) -> &[Operand]
+    ensures { result.now ≡ drop count operands.now }
+{
+    if count <= operands.len() {
+        &operands[count..]
+    } else {
+        &[]
+    }
+}
+
+// The end of the name of a `gc.result`: its type.
+#[derive(Clone, Copy)]
+struct ResultSuffix(Ty);
+
+impl Piece for ResultSuffix {
+    ghost text = { λ piece. result_suffix piece.0 };
+
+    fn put_into<O: Sink>(&self, out: &mut O) -> Result<(), Failed> {
+        match self.0 {
+            Ty::Ptr => out.put(b"p1"),
+            ty => TypeWord(ty).put_into(out),
+        }
+    }
+}
+
+#[tactic(auto, unfolding(crate::specs::Calls::result_words))]
+fn result_start() -> &'static [u8]
+    ensures { result.now ≡ result_words }
+{
+    b" @llvm.experimental.gc.result."
+}
+
+/// The line of a `gc.result`, after its result.
+#[derive(Drop)]
+pub(crate) struct ResultCall<'a> {
+    pub scope: &'a Scope<'a>,
+    pub inst: &'a Inst,
+}
+
+impl Piece for ResultCall<'_> {
+    ghost text = { λ piece. result_text piece.scope.now piece.inst.now };
+
+    fn put_into<O: Sink>(&self, out: &mut O) -> Result<(), Failed> {
+        let ty = *self.inst.ty();
+        let token = Value {
+            scope: self.scope,
+            ty,
+            operand: operand_of(self.inst, 0),
+        };
+        (
+            Bytes(b"call "),
+            TypeWord(ty),
+            Bytes(result_start()),
+            ResultSuffix(ty),
+            Bytes(b"(token "),
+            token,
+            Bytes(b")"),
+        )
+            .put_into(out)
+    }
+}
+
+#[tactic(auto, unfolding(crate::specs::Calls::relocate_words))]
+fn relocate_start() -> &'static [u8]
+    ensures { result.now ≡ relocate_words }
+{
+    b"call ptr addrspace(1) @llvm.experimental.gc.relocate.p1(token "
+}
+
+/// The line of a `gc.relocate`, after its result.
+#[derive(Drop)]
+pub(crate) struct Relocate<'a> {
+    pub scope: &'a Scope<'a>,
+    pub inst: &'a Inst,
+}
+
+impl Piece for Relocate<'_> {
+    ghost text = { λ piece. relocate_text piece.scope.now piece.inst.now };
+
+    fn put_into<O: Sink>(&self, out: &mut O) -> Result<(), Failed> {
+        let token = Value {
+            scope: self.scope,
+            ty: *self.inst.ty(),
+            operand: operand_of(self.inst, 0),
+        };
+        let base = Typed {
+            scope: self.scope,
+            ty: Ty::Int(32),
+            operand: operand_of(self.inst, 1),
+        };
+        let derived = Typed {
+            scope: self.scope,
+            ty: Ty::Int(32),
+            operand: operand_of(self.inst, 2),
+        };
+        (
+            Bytes(relocate_start()),
+            token,
+            Bytes(b", "),
+            base,
+            Bytes(b", "),
+            derived,
+            Bytes(b")"),
+        )
+            .put_into(out)
+    }
+}

@@ -1,0 +1,17 @@
+//! The printed text of a module.
+#![tactic(auto)]
+
+mod calls;
+mod declarations;
+mod lines;
+mod names;
+mod operands;
+mod pieces;
+mod rows;
+mod texts;
+mod words;
+
+pub use texts::print;
+
+#[cfg(test)]
+mod tests;

@@ -1,0 +1,592 @@
+//! The line of each instruction.
+ghost use Rattle.std.specs.Prelude.{◌≡◌, ◌++◌, ℕ, List, [], codes, map, drop};
+ghost use Rattle.std.specs.List.{zip};
+ghost use Rattle.ir_ast.specs.declared.types.Ty.TheVariants.{Void, Int};
+ghost use Rattle.ir_printer.specs.Words.{type_text};
+ghost use Rattle.ir_printer.specs.Operands.{value_text, typed_text, label_text, operand_at};
+ghost use Rattle.ir_printer.specs.Lines.{arithmetic_text, comparison_text, conversion_text, select_text, phi_text, phi_entry_text, element_text, place_text, step_text, load_text, store_text, jump_text, branch_text, switch_text, case_text, return_text, operator_text, result_front, line_text};
+
+use crate::calls::{Call, Relocate, ResultCall, Statepoint};
+use crate::names::Scope;
+use crate::operands::{Label, Typed, Value, label_of, operand_of};
+use crate::pieces::{Bytes, Piece};
+use crate::rows::{Joined, PairPrinter, Pairs, Printer};
+use crate::words::{Decimal, TypeWord, predicate_bytes};
+use ir_ast::{Elem, Inst, Name, Op, Operand, Ty};
+use sp_ids::BlockId;
+use tool_io::{Failed, Sink};
+
+#[derive(Drop)]
+struct Arithmetic<'a> {
+    scope: &'a Scope<'a>,
+    word: &'a [u8],
+    inst: &'a Inst,
+}
+
+impl Piece for Arithmetic<'_> {
+    ghost text = { λ piece. arithmetic_text piece.scope.now piece.word.now piece.inst.now };
+
+    fn put_into<O: Sink>(&self, out: &mut O) -> Result<(), Failed> {
+        let ty = *self.inst.ty();
+        let left = Typed {
+            scope: self.scope,
+            ty,
+            operand: operand_of(self.inst, 0),
+        };
+        let right = Value {
+            scope: self.scope,
+            ty,
+            operand: operand_of(self.inst, 1),
+        };
+        (Bytes(self.word), Bytes(b" "), left, Bytes(b", "), right).put_into(out)
+    }
+}
+
+#[derive(Drop)]
+struct Conversion<'a> {
+    scope: &'a Scope<'a>,
+    word: &'a [u8],
+    width: u32,
+    inst: &'a Inst,
+}
+
+impl Piece for Conversion<'_> {
+    ghost text = { λ piece. conversion_text piece.scope.now piece.word.now piece.width piece.inst.now };
+
+    fn put_into<O: Sink>(&self, out: &mut O) -> Result<(), Failed> {
+        let from = Typed {
+            scope: self.scope,
+            ty: *self.inst.ty(),
+            operand: operand_of(self.inst, 0),
+        };
+        let to = TypeWord(Ty::Int(self.width));
+        (Bytes(self.word), Bytes(b" "), from, Bytes(b" to "), to).put_into(out)
+    }
+}
+
+#[derive(Drop)]
+struct Select<'a> {
+    scope: &'a Scope<'a>,
+    inst: &'a Inst,
+}
+
+impl Piece for Select<'_> {
+    ghost text = { λ piece. select_text piece.scope.now piece.inst.now };
+
+    fn put_into<O: Sink>(&self, out: &mut O) -> Result<(), Failed> {
+        let scope = self.scope;
+        let ty = *self.inst.ty();
+        let condition = Typed {
+            scope,
+            ty: Ty::Int(1),
+            operand: operand_of(self.inst, 0),
+        };
+        let taken = Typed {
+            scope,
+            ty,
+            operand: operand_of(self.inst, 1),
+        };
+        let other = Typed {
+            scope,
+            ty,
+            operand: operand_of(self.inst, 2),
+        };
+        (
+            Bytes(b"select "),
+            condition,
+            Bytes(b", "),
+            taken,
+            Bytes(b", "),
+            other,
+        )
+            .put_into(out)
+    }
+}
+
+// Puts an entry of a phi.
+#[derive(Drop)]
+struct PhiEntries<'a> {
+    scope: &'a Scope<'a>,
+    ty: Ty,
+}
+
+impl PairPrinter<Operand, BlockId> for PhiEntries<'_> {
+    ghost pair_text = { λ printer operand label. phi_entry_text printer.scope.now printer.ty operand label };
+
+    fn put_pair<O: Sink>(
+        &self,
+        operand: &Operand,
+        label: &BlockId,
+        out: &mut O,
+    ) -> Result<(), Failed> {
+        let value = Value {
+            scope: self.scope,
+            ty: self.ty,
+            operand: *operand,
+        };
+        let label = Label {
+            scope: self.scope,
+            block: *label,
+        };
+        (Bytes(b"[ "), value, Bytes(b", "), label, Bytes(b" ]")).put_into(out)
+    }
+}
+
+#[derive(Drop)]
+struct Phi<'a> {
+    scope: &'a Scope<'a>,
+    inst: &'a Inst,
+}
+
+impl Piece for Phi<'_> {
+    ghost text = { λ piece. phi_text piece.scope.now piece.inst.now };
+
+    fn put_into<O: Sink>(&self, out: &mut O) -> Result<(), Failed> {
+        let ty = *self.inst.ty();
+        let entries = Joined {
+            separator: b", ",
+            row: Pairs {
+                printer: PhiEntries {
+                    scope: self.scope,
+                    ty,
+                },
+                first: self.inst.operands(),
+                second: self.inst.labels(),
+            },
+        };
+        (Bytes(b"phi "), TypeWord(ty), Bytes(b" "), entries).put_into(out)
+    }
+}
+
+// The source element of a `getelementptr`.
+#[derive(Drop)]
+struct Element<'a> {
+    scope: &'a Scope<'a>,
+    elem: Elem,
+}
+
+impl Piece for Element<'_> {
+    ghost text = { λ piece. element_text piece.scope.now piece.elem };
+
+    fn put_into<O: Sink>(&self, out: &mut O) -> Result<(), Failed> {
+        match self.elem {
+            Elem::Int(width) => TypeWord(Ty::Int(width)).put_into(out),
+            Elem::Ptr => TypeWord(Ty::Ptr).put_into(out),
+            Elem::Layout(layout) => (Bytes(b"%"), Bytes(self.scope.layout(layout))).put_into(out),
+        }
+    }
+}
+
+// The place of a field, where the line names one.
+#[derive(Clone, Copy)]
+struct Place(Option<u32>);
+
+impl Piece for Place {
+    ghost text = { λ piece. place_text piece.0 };
+
+    fn put_into<O: Sink>(&self, out: &mut O) -> Result<(), Failed> {
+        match self.0 {
+            None => Ok(()),
+            Some(place) => (Bytes(b", i32 "), Decimal(place as u64)).put_into(out),
+        }
+    }
+}
+
+#[derive(Drop)]
+struct Step<'a> {
+    scope: &'a Scope<'a>,
+    elem: Elem,
+    index_width: u32,
+    place: Option<u32>,
+    inst: &'a Inst,
+}
+
+impl Piece for Step<'_> {
+    ghost text = { λ piece. step_text piece.scope.now piece.elem piece.index_width piece.place piece.inst.now };
+
+    fn put_into<O: Sink>(&self, out: &mut O) -> Result<(), Failed> {
+        let scope = self.scope;
+        let element = Element {
+            scope,
+            elem: self.elem,
+        };
+        let pointer = Typed {
+            scope,
+            ty: Ty::Ptr,
+            operand: operand_of(self.inst, 0),
+        };
+        let index = Typed {
+            scope,
+            ty: Ty::Int(self.index_width),
+            operand: operand_of(self.inst, 1),
+        };
+        (
+            Bytes(b"getelementptr "),
+            element,
+            Bytes(b", "),
+            pointer,
+            Bytes(b", "),
+            index,
+            Place(self.place),
+        )
+            .put_into(out)
+    }
+}
+
+#[derive(Drop)]
+struct Load<'a> {
+    scope: &'a Scope<'a>,
+    inst: &'a Inst,
+}
+
+impl Piece for Load<'_> {
+    ghost text = { λ piece. load_text piece.scope.now piece.inst.now };
+
+    fn put_into<O: Sink>(&self, out: &mut O) -> Result<(), Failed> {
+        let pointer = Typed {
+            scope: self.scope,
+            ty: Ty::Ptr,
+            operand: operand_of(self.inst, 0),
+        };
+        (
+            Bytes(b"load "),
+            TypeWord(*self.inst.ty()),
+            Bytes(b", "),
+            pointer,
+        )
+            .put_into(out)
+    }
+}
+
+#[derive(Drop)]
+struct Store<'a> {
+    scope: &'a Scope<'a>,
+    inst: &'a Inst,
+}
+
+impl Piece for Store<'_> {
+    ghost text = { λ piece. store_text piece.scope.now piece.inst.now };
+
+    fn put_into<O: Sink>(&self, out: &mut O) -> Result<(), Failed> {
+        let value = Typed {
+            scope: self.scope,
+            ty: *self.inst.ty(),
+            operand: operand_of(self.inst, 0),
+        };
+        let pointer = Typed {
+            scope: self.scope,
+            ty: Ty::Ptr,
+            operand: operand_of(self.inst, 1),
+        };
+        (Bytes(b"store "), value, Bytes(b", "), pointer).put_into(out)
+    }
+}
+
+#[derive(Drop)]
+struct Branch<'a> {
+    scope: &'a Scope<'a>,
+    inst: &'a Inst,
+}
+
+impl Piece for Branch<'_> {
+    ghost text = { λ piece. branch_text piece.scope.now piece.inst.now };
+
+    fn put_into<O: Sink>(&self, out: &mut O) -> Result<(), Failed> {
+        let scope = self.scope;
+        let condition = Typed {
+            scope,
+            ty: Ty::Int(1),
+            operand: operand_of(self.inst, 0),
+        };
+        let taken = Label {
+            scope,
+            block: label_of(self.inst, 0),
+        };
+        let other = Label {
+            scope,
+            block: label_of(self.inst, 1),
+        };
+        (
+            Bytes(b"br "),
+            condition,
+            Bytes(b", label "),
+            taken,
+            Bytes(b", label "),
+            other,
+        )
+            .put_into(out)
+    }
+}
+
+// Puts the line of a case.
+#[derive(Drop)]
+struct Cases<'a> {
+    scope: &'a Scope<'a>,
+    ty: Ty,
+}
+
+impl PairPrinter<Operand, BlockId> for Cases<'_> {
+    ghost pair_text = { λ printer operand label. case_text printer.scope.now printer.ty operand label };
+
+    fn put_pair<O: Sink>(
+        &self,
+        operand: &Operand,
+        label: &BlockId,
+        out: &mut O,
+    ) -> Result<(), Failed> {
+        let value = Typed {
+            scope: self.scope,
+            ty: self.ty,
+            operand: *operand,
+        };
+        let label = Label {
+            scope: self.scope,
+            block: *label,
+        };
+        (
+            Bytes(b"    "),
+            value,
+            Bytes(b", label "),
+            label,
+            Bytes(b"\n"),
+        )
+            .put_into(out)
+    }
+}
+
+#[derive(Drop)]
+struct Switch<'a> {
+    scope: &'a Scope<'a>,
+    inst: &'a Inst,
+}
+
+impl Piece for Switch<'_> {
+    ghost text = { λ piece. switch_text piece.scope.now piece.inst.now };
+
+    fn put_into<O: Sink>(&self, out: &mut O) -> Result<(), Failed> {
+        let scope = self.scope;
+        let ty = *self.inst.ty();
+        let value = Typed {
+            scope,
+            ty,
+            operand: operand_of(self.inst, 0),
+        };
+        let default = Label {
+            scope,
+            block: label_of(self.inst, 0),
+        };
+        let cases = Joined {
+            separator: b"",
+            row: Pairs {
+                printer: Cases { scope, ty },
+                first: after_first_operand(self.inst.operands()),
+                second: after_first_label(self.inst.labels()),
+            },
+        };
+        (
+            Bytes(b"switch "),
+            value,
+            Bytes(b", label "),
+            default,
+            Bytes(b" [\n"),
+            cases,
+            Bytes(b"  ]"),
+        )
+            .put_into(out)
+    }
+}
+
+fn after_first_operand(operands: &[Operand]) -> &[Operand]
+    ensures { result.now ≡ drop 1 operands.now }
+{
+    match operands {
+        [_, rest @ ..] => rest,
+        [] => &[],
+    }
+}
+
+fn after_first_label(labels: &[BlockId]) -> &[BlockId]
+    ensures { result.now ≡ drop 1 labels.now }
+{
+    match labels {
+        [_, rest @ ..] => rest,
+        [] => &[],
+    }
+}
+
+// What a `ret` answers.
+#[derive(Drop)]
+struct Answer<'a> {
+    scope: &'a Scope<'a>,
+    ty: Ty,
+    inst: &'a Inst,
+}
+
+impl Piece for Answer<'_> {
+    ghost text = { λ piece. codes "ret " ++ typed_text piece.scope.now piece.ty (operand_at piece.inst.now 0) };
+
+    fn put_into<O: Sink>(&self, out: &mut O) -> Result<(), Failed> {
+        let answer = Typed {
+            scope: self.scope,
+            ty: self.ty,
+            operand: operand_of(self.inst, 0),
+        };
+        (Bytes(b"ret "), answer).put_into(out)
+    }
+}
+
+#[derive(Drop)]
+struct Return<'a> {
+    scope: &'a Scope<'a>,
+    ty: Ty,
+    inst: &'a Inst,
+}
+
+impl Piece for Return<'_> {
+    ghost text = { λ piece. return_text piece.scope.now piece.ty piece.inst.now };
+
+    fn put_into<O: Sink>(&self, out: &mut O) -> Result<(), Failed> {
+        let (scope, inst) = (self.scope, self.inst);
+        match self.ty {
+            Ty::Void => out.put(b"ret void"),
+            ty => Answer { scope, ty, inst }.put_into(out),
+        }
+    }
+}
+
+// What stands before the operator: `%x = `, where the line has a result.
+#[derive(Drop)]
+struct Front<'a>(&'a Option<Name>);
+
+impl Piece for Front<'_> {
+    ghost text = { λ piece. result_front piece.0.now };
+
+    fn put_into<O: Sink>(&self, out: &mut O) -> Result<(), Failed> {
+        match self.0 {
+            None => Ok(()),
+            Some(name) => (Bytes(b"%"), Bytes(name.bytes()), Bytes(b" = ")).put_into(out),
+        }
+    }
+}
+
+// A line after its result.
+#[derive(Drop)]
+struct Operation<'a> {
+    scope: &'a Scope<'a>,
+    op: &'a Op,
+    inst: &'a Inst,
+}
+
+impl<'a> Operation<'a> {
+    fn arithmetic(&self, word: &'a [u8]) -> Arithmetic<'a>
+        ensures { result ≡ record { scope = self.now.scope; word = word.entry; inst = self.now.inst } }
+    {
+        Arithmetic {
+            scope: self.scope,
+            word,
+            inst: self.inst,
+        }
+    }
+
+    fn conversion(&self, word: &'a [u8], width: u32) -> Conversion<'a>
+        ensures { result ≡ record { scope = self.now.scope; word = word.entry; width = width; inst = self.now.inst } }
+    {
+        Conversion {
+            scope: self.scope,
+            word,
+            width,
+            inst: self.inst,
+        }
+    }
+}
+
+impl Piece for Operation<'_> {
+    ghost text = { λ piece. operator_text piece.scope.now piece.op.now piece.inst.now };
+
+    fn put_into<O: Sink>(&self, out: &mut O) -> Result<(), Failed> {
+        let (scope, inst) = (self.scope, self.inst);
+        match self.op {
+            Op::Add => self.arithmetic(b"add").put_into(out),
+            Op::Sub => self.arithmetic(b"sub").put_into(out),
+            Op::Mul => self.arithmetic(b"mul").put_into(out),
+            Op::Udiv => self.arithmetic(b"udiv").put_into(out),
+            Op::Sdiv => self.arithmetic(b"sdiv").put_into(out),
+            Op::Urem => self.arithmetic(b"urem").put_into(out),
+            Op::Srem => self.arithmetic(b"srem").put_into(out),
+            Op::And => self.arithmetic(b"and").put_into(out),
+            Op::Or => self.arithmetic(b"or").put_into(out),
+            Op::Xor => self.arithmetic(b"xor").put_into(out),
+            Op::Shl => self.arithmetic(b"shl").put_into(out),
+            Op::Lshr => self.arithmetic(b"lshr").put_into(out),
+            Op::Ashr => self.arithmetic(b"ashr").put_into(out),
+            Op::Icmp(pred) => {
+                let compared = self.arithmetic(predicate_bytes(*pred));
+                (Bytes(b"icmp "), compared).put_into(out)
+            }
+            Op::Trunc(width) => self.conversion(b"trunc", *width).put_into(out),
+            Op::Zext(width) => self.conversion(b"zext", *width).put_into(out),
+            Op::Sext(width) => self.conversion(b"sext", *width).put_into(out),
+            Op::Select => Select { scope, inst }.put_into(out),
+            Op::Phi => Phi { scope, inst }.put_into(out),
+            Op::Gep {
+                elem,
+                index_width,
+                place,
+            } => Step {
+                scope,
+                elem: *elem,
+                index_width: *index_width,
+                place: *place,
+                inst,
+            }
+            .put_into(out),
+            Op::Load => Load { scope, inst }.put_into(out),
+            Op::Store => Store { scope, inst }.put_into(out),
+            Op::Call { callee, types } => Call {
+                scope,
+                callee: *callee,
+                types: types.list(),
+                inst,
+            }
+            .put_into(out),
+            Op::Statepoint { id, callee, types } => Statepoint {
+                scope,
+                id: *id,
+                callee: *callee,
+                types: types.list(),
+                inst,
+            }
+            .put_into(out),
+            Op::GcResult => ResultCall { scope, inst }.put_into(out),
+            Op::GcRelocate => Relocate { scope, inst }.put_into(out),
+            Op::Br => {
+                let block = label_of(inst, 0);
+                (Bytes(b"br label "), Label { scope, block }).put_into(out)
+            }
+            Op::CondBr => Branch { scope, inst }.put_into(out),
+            Op::Switch => Switch { scope, inst }.put_into(out),
+            Op::Ret => {
+                let ty = *inst.ty();
+                Return { scope, ty, inst }.put_into(out)
+            }
+            Op::Unreachable => out.put(b"unreachable"),
+        }
+    }
+}
+
+/// Puts the line of an instruction.
+#[derive(Drop)]
+pub(crate) struct Lines<'a>(pub &'a Scope<'a>);
+
+impl Printer<Inst> for Lines<'_> {
+    ghost element_text = { λ printer inst. line_text printer.0.now inst };
+
+    fn put_element<O: Sink>(&self, inst: &Inst, out: &mut O) -> Result<(), Failed> {
+        let operation = Operation {
+            scope: self.0,
+            op: inst.op(),
+            inst,
+        };
+        (Bytes(b"  "), Front(inst.result()), operation, Bytes(b"\n")).put_into(out)
+    }
+}

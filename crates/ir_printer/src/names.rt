@@ -1,0 +1,101 @@
+//! What the lines of a function name.
+ghost use Rattle.std.specs.Prelude.{◌≡◌};
+ghost use Rattle.ir_ast.specs.Funcs.{instructions_of};
+ghost use Rattle.ir_printer.specs.Names.{layout_name, function_name, block_name, value_name, result_name as name_of_result};
+
+use ir_ast::{Block, Func, Layout};
+use sp_ids::{BlockId, FuncId, ValueId};
+use std::marker::Model;
+
+/// A function, and the layouts and functions of its module. Contracts see `Names`.
+#[derive(Drop)]
+pub(crate) struct Scope<'a> {
+    pub layouts: &'a [Layout],
+    pub funcs: &'a [Func],
+    pub func: &'a Func,
+}
+
+impl<'a> Model for Scope<'a> {
+    ghost use Rattle.std.specs.Prelude.{map};
+    ghost use Rattle.ir_ast.specs.Funcs.{content_of};
+    ghost use Rattle.ir_printer.specs.Names.{Names};
+
+    ghost Value = { Names };
+
+    ghost view = { λ scope. record {
+      layouts = scope.layouts.now;
+      funcs = map content_of scope.funcs.now;
+      func = scope.func.now.content;
+    } };
+}
+
+impl Scope<'_> {
+    /// The name of the layout with this place, or nothing where there is none.
+    pub(crate) fn layout(&self, layout: u32) -> &[u8]
+        ensures { result.now ≡ layout_name self.now.layouts layout }
+    {
+        name_of_layout(self.layouts, layout)
+    }
+
+    pub(crate) fn function(&self, func: FuncId) -> &[u8]
+        ensures { result.now ≡ function_name self.now.funcs func.0 }
+    {
+        match self.funcs.get(func.0 as usize) {
+            Some(func) => func.name().bytes(),
+            None => &[],
+        }
+    }
+
+    pub(crate) fn block(&self, block: BlockId) -> &[u8]
+        ensures { result.now ≡ block_name self.now.func block.0 }
+    {
+        match self.func.blocks().get(block.0 as usize) {
+            Some(block) => block.name().bytes(),
+            None => &[],
+        }
+    }
+
+    pub(crate) fn value(&self, value: ValueId) -> &[u8]
+        ensures { result.now ≡ value_name self.now.func value.0 }
+    {
+        name_of_value(self.func, value)
+    }
+}
+
+/// The name of the layout with this place, or nothing where there is none.
+pub(crate) fn name_of_layout(layouts: &[Layout], layout: u32) -> &[u8]
+    ensures { result.now ≡ layout_name layouts.now layout }
+{
+    match layouts.get(layout as usize) {
+        Some(layout) => layout.name().bytes(),
+        None => &[],
+    }
+}
+
+fn name_of_value(func: &Func, value: ValueId) -> &[u8]
+    ensures { result.now ≡ value_name func.now.content value.0 }
+{
+    let args = func.args();
+    match args.get(value.0 as usize) {
+        Some(arg) => arg.name.bytes(),
+        None => result_name(func.blocks(), value.0 as usize - args.len()),
+    }
+}
+
+// The name of the result with this number among the results of these blocks, in text order.
+fn result_name(blocks: &[Block], number: usize) -> &[u8]
+    ensures { result.now ≡ name_of_result (instructions_of blocks.now) number }
+{
+    let mut left = number;
+    for block in blocks {
+        for inst in block.insts() {
+            if let Some(name) = inst.result() {
+                if left == 0 {
+                    return name.bytes();
+                }
+                left -= 1;
+            }
+        }
+    }
+    &[]
+}

@@ -1,0 +1,196 @@
+//! Layouts, blocks, functions and the module.
+ghost use Rattle.std.specs.Prelude.{◌≡◌, ◌≤◌, ◌++◌, ℕ, List, [], ◌^◌, ◌<◌, codes, length, map, OnOk, OnErr};
+ghost use Rattle.tool_io.specs.Counts.{Rose};
+ghost use Rattle.tool_io.specs.Sink.{append_known, AppendsFront};
+ghost use Rattle.ir_ast.specs.Funcs.{content_of};
+ghost use Rattle.ir_ast.specs.Formed.{IsFormedModule};
+ghost use Rattle.ir_ast.specs.Cells.{word_of};
+ghost use Rattle.ir_printer.specs.Lists.{joined};
+ghost use Rattle.ir_printer.specs.Declarations.{declarations_text};
+ghost use Rattle.ir_printer.specs.Texts.{layout_text, argument_of, block_text, function_text, functions_text, text_of};
+
+use crate::declarations::{put_declarations, stands_above};
+use crate::lines::Lines;
+use crate::names::Scope;
+use crate::pieces::{Bytes, Piece};
+use crate::rows::{Each, Joined, Led, Printer};
+use crate::words::{TypeWord, strategy};
+use ir_ast::{Arg, Block, Cell, Func, Layout, Module};
+use tool_io::{Failed, Sink};
+
+// Puts the type of a field.
+#[derive(Clone, Copy)]
+struct Fields;
+
+impl Printer<Cell> for Fields {
+    ghost element_text = { λ printer cell. word_of cell };
+
+    fn put_element<O: Sink>(&self, cell: &Cell, out: &mut O) -> Result<(), Failed> {
+        out.put(cell.word())
+    }
+}
+
+// Puts the line of a layout.
+#[derive(Clone, Copy)]
+struct LayoutLines;
+
+impl Printer<Layout> for LayoutLines {
+    ghost element_text = { λ printer layout. layout_text layout };
+
+    fn put_element<O: Sink>(&self, layout: &Layout, out: &mut O) -> Result<(), Failed> {
+        let fields = Joined {
+            separator: b", ",
+            row: Each {
+                printer: Fields,
+                elements: layout.fields(),
+            },
+        };
+        (
+            Bytes(b"%"),
+            Bytes(layout.name().bytes()),
+            Bytes(b" = type { "),
+            fields,
+            Bytes(b" }\n"),
+        )
+            .put_into(out)
+    }
+}
+
+// Puts an argument of a function's head.
+#[derive(Clone, Copy)]
+struct Heads;
+
+impl Printer<Arg> for Heads {
+    ghost element_text = { λ printer arg. argument_of arg };
+
+    fn put_element<O: Sink>(&self, arg: &Arg, out: &mut O) -> Result<(), Failed> {
+        (TypeWord(arg.ty), Bytes(b" %"), Bytes(arg.name.bytes())).put_into(out)
+    }
+}
+
+// Puts a block: its label line, and its instructions.
+#[derive(Drop)]
+struct Blocks<'a>(&'a Scope<'a>);
+
+impl Printer<Block> for Blocks<'_> {
+    ghost element_text = { λ printer block. block_text printer.0.now block };
+
+    fn put_element<O: Sink>(&self, block: &Block, out: &mut O) -> Result<(), Failed> {
+        let lines = Joined {
+            separator: b"",
+            row: Each {
+                printer: Lines(self.0),
+                elements: block.insts(),
+            },
+        };
+        (Bytes(block.name().bytes()), Bytes(b":\n"), lines).put_into(out)
+    }
+}
+
+// Puts a function.
+#[derive(Clone, Copy)]
+struct Functions<'a> {
+    layouts: &'a [Layout],
+    funcs: &'a [Func],
+}
+
+impl Printer<Func> for Functions<'_> {
+    ghost element_text = { λ printer func. function_text printer.layouts.now (map content_of printer.funcs.now) func.content };
+
+    fn put_element<O: Sink>(&self, func: &Func, out: &mut O) -> Result<(), Failed> {
+        let scope = Scope {
+            layouts: self.layouts,
+            funcs: self.funcs,
+            func,
+        };
+        let args = Joined {
+            separator: b", ",
+            row: Each {
+                printer: Heads,
+                elements: func.args(),
+            },
+        };
+        let blocks = Joined {
+            separator: b"",
+            row: Each {
+                printer: Blocks(&scope),
+                elements: func.blocks(),
+            },
+        };
+        (
+            (Bytes(b"define "), TypeWord(*func.answer()), Bytes(b" @")),
+            Bytes(func.name().bytes()),
+            Bytes(b"("),
+            args,
+            Bytes(strategy()),
+            blocks,
+            Bytes(b"}\n"),
+        )
+            .put_into(out)
+    }
+}
+
+// Puts the functions, with an empty line before each that isn't the first line of the text.
+fn put_functions<O: Sink>(layouts: &[Layout], funcs: &[Func], out: &mut O) -> Result<(), Failed>
+    ensures ok { OnOk result (O.written out.new ≡ append_known (O.written out.old) (functions_text layouts.now (map content_of funcs.now))) }
+    ensures err { OnErr result (AppendsFront (O.written out.old) (O.written out.new) (functions_text layouts.now (map content_of funcs.now))) }
+    ensures failed { OnErr result (Rose (O.faults out.old) (O.faults out.new)) }
+    ensures count { O.faults out.old ≤ O.faults out.new }
+{
+    let row = Each {
+        printer: Functions { layouts, funcs },
+        elements: funcs,
+    };
+    let separator = b"\n";
+    if stands_above(layouts, funcs) {
+        Led { separator, row }.put_into(out)
+    } else {
+        Joined { separator, row }.put_into(out)
+    }
+}
+
+// The layouts.
+fn put_layouts<O: Sink>(layouts: &[Layout], out: &mut O) -> Result<(), Failed>
+    ensures ok { OnOk result (O.written out.new ≡ append_known (O.written out.old) (joined [] (map layout_text layouts.now))) }
+    ensures err { OnErr result (AppendsFront (O.written out.old) (O.written out.new) (joined [] (map layout_text layouts.now))) }
+    ensures failed { OnErr result (Rose (O.faults out.old) (O.faults out.new)) }
+    ensures count { O.faults out.old ≤ O.faults out.new }
+{
+    Joined {
+        separator: b"",
+        row: Each {
+            printer: LayoutLines,
+            elements: layouts,
+        },
+    }
+    .put_into(out)
+}
+
+/// Puts the printed text of a formed module: its layouts, the declarations of the externals that it
+/// calls, and its functions. It takes no memory. After `Failed`, which comes only where the sink's
+/// count of faults rose, a front of the text was added.
+pub fn print<O: Sink>(program: &Module, out: &mut O) -> Result<(), Failed>
+    requires { IsFormedModule program.now.content }
+    ensures ok { OnOk result (O.written out.new ≡ append_known (O.written out.old) (text_of program.now.content)) }
+    ensures err { OnErr result (AppendsFront (O.written out.old) (O.written out.new) (text_of program.now.content)) }
+    ensures failed { OnErr result (Rose (O.faults out.old) (O.faults out.new)) }
+    ensures count { O.faults out.old ≤ O.faults out.new }
+{
+    put_all(program.layouts(), program.funcs(), out)
+}
+
+pub(crate) fn put_all<O: Sink>(
+    layouts: &[Layout],
+    funcs: &[Func],
+    out: &mut O,
+) -> Result<(), Failed>
+    requires { length layouts.now < 2 ^ 32 }
+    ensures ok { OnOk result (O.written out.new ≡ append_known (O.written out.old) (joined [] (map layout_text layouts.now) ++ (declarations_text layouts.now (map content_of funcs.now) ++ functions_text layouts.now (map content_of funcs.now)))) }
+    ensures err { OnErr result (AppendsFront (O.written out.old) (O.written out.new) (joined [] (map layout_text layouts.now) ++ (declarations_text layouts.now (map content_of funcs.now) ++ functions_text layouts.now (map content_of funcs.now)))) }
+    ensures failed { OnErr result (Rose (O.faults out.old) (O.faults out.new)) }
+    ensures count { O.faults out.old ≤ O.faults out.new }
+{
+    put_layouts(layouts, out)?;
+    put_declarations(layouts, funcs, out)?;
+    put_functions(layouts, funcs, out)
+}

@@ -1,0 +1,210 @@
+-- The table of forms.
+use Rattle.std.specs.Prelude.{ℕ, Bool, true, false, ◌&&◌, ◌||◌, List, [], ◌∷◌, ◌++◌, Option, Some, None, is_some, codes, option_map, if◌then◌else◌}
+use Rattle.std.specs.Str.{bytes_eq}
+use Rattle.sp_text.specs.Tokens.{Tok, tok, bad}
+use Rattle.sp_text.specs.declared.tokens.Kind.TheVariants as kinds
+use Rattle.ir_reader.specs.declared.words.Binary.{Binary}
+use Rattle.ir_reader.specs.declared.words.Binary.TheVariants as ops
+use Rattle.ir_reader.specs.declared.words.Conversion.{Conversion}
+use Rattle.ir_reader.specs.declared.words.Conversion.TheVariants as convs
+use Rattle.ir_reader.specs.declared.words.Cast.{Cast}
+use Rattle.ir_reader.specs.declared.words.Cast.TheVariants as casts
+use Rattle.ir_reader.specs.declared.words.Dropped.{Dropped}
+use Rattle.ir_reader.specs.declared.words.Dropped.TheVariants as drops
+use Rattle.ir_reader.specs.declared.words.Flags.{Flags}
+use Rattle.ir_reader.specs.declared.words.Flags.TheVariants as flags
+use Rattle.ir_reader.specs.declared.forms.Form.{Form}
+use Rattle.ir_reader.specs.declared.forms.Form.TheVariants as forms
+use Rattle.ir_reader.specs.declared.forms.DroppedLine.{DroppedLine}
+use Rattle.ir_reader.specs.declared.forms.DroppedLine.TheVariants as drop_lines
+use Rattle.ir_reader.specs.Marks.{is_word, is_mark, is_local, begins}
+use Rattle.ir_reader.specs.Numbers.{width_of}
+use Rattle.ir_reader.specs.Drops.{past_all}
+use Rattle.ir_reader.specs.Parts.{spelled_by}
+use Rattle.ir_reader.specs.Slots.{Slot, blank, m, w, dropped, a_managed, a_quoted, a_hash, to_brace, a_local, a_layout_name, a_width, a_type, an_answer, a_cast_type, a_value, a_case, a_pred, a_scalar, a_layout, a_place, some_fields, some_entries, a_declared, a_defined, a_called, a_strategy}
+
+-- ---- words of choice
+
+abbrev pub binary_word : Binary → List ℕ
+binary_word ops.Add = codes "add"
+binary_word ops.Sub = codes "sub"
+binary_word ops.Mul = codes "mul"
+binary_word ops.Udiv = codes "udiv"
+binary_word ops.Sdiv = codes "sdiv"
+binary_word ops.Urem = codes "urem"
+binary_word ops.Srem = codes "srem"
+binary_word ops.And = codes "and"
+binary_word ops.Or = codes "or"
+binary_word ops.Xor = codes "xor"
+binary_word ops.Shl = codes "shl"
+binary_word ops.Lshr = codes "lshr"
+binary_word ops.Ashr = codes "ashr"
+
+-- the flags that are dropped behind the word
+abbrev pub binary_flags : Binary → Flags
+binary_flags ops.Add = flags.Wrapping
+binary_flags ops.Sub = flags.Wrapping
+binary_flags ops.Mul = flags.Wrapping
+binary_flags ops.Shl = flags.Wrapping
+binary_flags ops.Udiv = flags.Exact
+binary_flags ops.Sdiv = flags.Exact
+binary_flags ops.Lshr = flags.Exact
+binary_flags ops.Ashr = flags.Exact
+binary_flags ops.Or = flags.Disjoint
+binary_flags ops.Urem = flags.Nothing
+binary_flags ops.Srem = flags.Nothing
+binary_flags ops.And = flags.Nothing
+binary_flags ops.Xor = flags.Nothing
+
+abbrev pub conversion_word : Conversion → List ℕ
+conversion_word convs.Trunc = codes "trunc"
+conversion_word convs.Zext = codes "zext"
+conversion_word convs.Sext = codes "sext"
+
+abbrev pub conversion_flags : Conversion → Flags
+conversion_flags convs.Trunc = flags.Wrapping
+conversion_flags convs.Zext = flags.NonNegative
+conversion_flags convs.Sext = flags.Nothing
+
+abbrev pub cast_word : Cast → List ℕ
+cast_word casts.PtrToInt = codes "ptrtoint"
+cast_word casts.IntToPtr = codes "inttoptr"
+cast_word casts.AddrSpaceCast = codes "addrspacecast"
+cast_word casts.BitCast = codes "bitcast"
+
+abbrev pub all_binaries : List Binary
+all_binaries = ops.Add ∷ ops.Sub ∷ ops.Mul ∷ ops.Udiv ∷ ops.Sdiv ∷ ops.Urem ∷ ops.Srem ∷ ops.And ∷ ops.Or ∷ ops.Xor ∷ ops.Shl ∷ ops.Lshr ∷ ops.Ashr ∷ []
+
+abbrev pub all_conversions : List Conversion
+all_conversions = convs.Trunc ∷ convs.Zext ∷ convs.Sext ∷ []
+
+abbrev pub all_casts : List Cast
+all_casts = casts.PtrToInt ∷ casts.IntToPtr ∷ casts.AddrSpaceCast ∷ casts.BitCast ∷ []
+
+-- ---- the slots of each form
+
+-- `%x = ..`
+abbrev result_is : List Slot → List Slot
+result_is f = a_local ∷ blank ∷ m (codes "=") ∷ blank ∷ f
+
+-- `label %l`
+abbrev label_then : List Slot → List Slot
+label_then f = w (codes "label") ∷ blank ∷ a_local ∷ f
+
+-- flags, which are dropped
+abbrev flagged : Flags → Slot
+flagged which = dropped (drops.Words which)
+
+-- the end of an instruction
+abbrev ended : List Slot
+ended = dropped drops.Attachments ∷ []
+
+abbrev pub slots : Form → List Slot
+slots (forms.Dropped drop_lines.SourceFilename) = w (codes "source_filename") ∷ blank ∷ m (codes "=") ∷ blank ∷ a_quoted ∷ []
+slots (forms.Dropped drop_lines.DataLayout) = w (codes "target") ∷ blank ∷ w (codes "datalayout") ∷ blank ∷ m (codes "=") ∷ blank ∷ a_quoted ∷ []
+slots (forms.Dropped drop_lines.Triple) = w (codes "target") ∷ blank ∷ w (codes "triple") ∷ blank ∷ m (codes "=") ∷ blank ∷ a_quoted ∷ []
+slots (forms.Dropped drop_lines.Attributes) = w (codes "attributes") ∷ blank ∷ a_hash ∷ blank ∷ m (codes "=") ∷ blank ∷ m (codes "{") ∷ to_brace ∷ []
+slots forms.Layout = a_layout_name ∷ blank ∷ m (codes "=") ∷ blank ∷ w (codes "type") ∷ blank ∷ m (codes "{") ∷ blank ∷ some_fields ∷ blank ∷ m (codes "}") ∷ []
+slots forms.Declare = w (codes "declare") ∷ dropped drops.HeadAttachments ∷ dropped drops.Groups ∷ blank ∷ an_answer ∷ blank ∷ a_declared ∷ dropped drops.Groups ∷ []
+slots forms.Define = w (codes "define") ∷ dropped drops.Groups ∷ blank ∷ an_answer ∷ blank ∷ a_defined ∷ dropped drops.Groups ∷ a_strategy ∷ dropped drops.HeadAttachments ∷ blank ∷ m (codes "{") ∷ []
+slots forms.Close = m (codes "}") ∷ []
+slots (forms.Binary op) = result_is (w (binary_word op) ∷ flagged (binary_flags op) ∷ blank ∷ a_width ∷ blank ∷ a_value ∷ m (codes ",") ∷ blank ∷ a_value ∷ ended)
+slots forms.Compare = result_is (w (codes "icmp") ∷ flagged flags.SameSign ∷ blank ∷ a_pred ∷ blank ∷ a_type ∷ blank ∷ a_value ∷ m (codes ",") ∷ blank ∷ a_value ∷ ended)
+slots (forms.Convert op) = result_is (w (conversion_word op) ∷ flagged (conversion_flags op) ∷ blank ∷ a_width ∷ blank ∷ a_value ∷ blank ∷ w (codes "to") ∷ blank ∷ a_width ∷ ended)
+slots forms.Select = result_is (w (codes "select") ∷ blank ∷ w (codes "i1") ∷ blank ∷ a_value ∷ m (codes ",") ∷ blank ∷ a_type ∷ blank ∷ a_value ∷ m (codes ",") ∷ blank ∷ a_type ∷ blank ∷ a_value ∷ ended)
+slots forms.Phi = result_is (w (codes "phi") ∷ blank ∷ a_type ∷ blank ∷ some_entries ∷ ended)
+slots forms.ScalarElement = result_is (w (codes "getelementptr") ∷ flagged flags.Bounds ∷ blank ∷ a_scalar ∷ m (codes ",") ∷ blank ∷ a_managed ∷ blank ∷ a_value ∷ m (codes ",") ∷ blank ∷ a_width ∷ blank ∷ a_value ∷ ended)
+slots forms.LayoutElement = result_is (w (codes "getelementptr") ∷ flagged flags.Bounds ∷ blank ∷ a_layout ∷ m (codes ",") ∷ blank ∷ a_managed ∷ blank ∷ a_value ∷ m (codes ",") ∷ blank ∷ a_width ∷ blank ∷ a_value ∷ a_place ∷ ended)
+slots forms.Load = result_is (w (codes "load") ∷ blank ∷ a_type ∷ m (codes ",") ∷ blank ∷ a_managed ∷ blank ∷ a_value ∷ dropped drops.Alignments ∷ ended)
+slots forms.Store = w (codes "store") ∷ blank ∷ a_type ∷ blank ∷ a_value ∷ m (codes ",") ∷ blank ∷ a_managed ∷ blank ∷ a_value ∷ dropped drops.Alignments ∷ ended
+slots forms.ValueCall = result_is (flagged flags.Calling ∷ w (codes "call") ∷ dropped drops.Groups ∷ blank ∷ a_type ∷ blank ∷ a_called ∷ dropped drops.Groups ∷ ended)
+slots forms.VoidCall = flagged flags.Calling ∷ w (codes "call") ∷ dropped drops.Groups ∷ blank ∷ w (codes "void") ∷ blank ∷ a_called ∷ dropped drops.Groups ∷ ended
+slots forms.Jump = w (codes "br") ∷ blank ∷ label_then ended
+slots forms.Branch = w (codes "br") ∷ blank ∷ w (codes "i1") ∷ blank ∷ a_value ∷ m (codes ",") ∷ blank ∷ label_then (m (codes ",") ∷ blank ∷ label_then ended)
+slots forms.Switch = w (codes "switch") ∷ blank ∷ a_width ∷ blank ∷ a_value ∷ m (codes ",") ∷ blank ∷ label_then (blank ∷ m (codes "[") ∷ [])
+slots forms.Case = a_width ∷ blank ∷ a_case ∷ m (codes ",") ∷ blank ∷ label_then []
+slots forms.SwitchEnd = m (codes "]") ∷ ended
+slots forms.ReturnVoid = w (codes "ret") ∷ blank ∷ w (codes "void") ∷ ended
+slots forms.Return = w (codes "ret") ∷ blank ∷ a_type ∷ blank ∷ a_value ∷ ended
+slots forms.Unreachable = w (codes "unreachable") ∷ ended
+slots (forms.Cast op) = result_is (w (cast_word op) ∷ blank ∷ a_cast_type ∷ blank ∷ a_value ∷ blank ∷ w (codes "to") ∷ blank ∷ a_cast_type ∷ ended)
+
+-- ---- which form a line can have, by the tokens that it begins with
+
+abbrev pub is_calling_word : List ℕ → Bool
+is_calling_word bytes = bytes_eq bytes (codes "call") || bytes_eq bytes (codes "tail") || bytes_eq bytes (codes "notail")
+
+abbrev pub element_form : List Tok → Form
+element_form ts = if begins is_local (past_all (drops.Words flags.Bounds) ts) then forms.LayoutElement else forms.ScalarElement
+
+abbrev pub single_result_form : List ℕ → List Tok → Option Form
+single_result_form bytes ts =
+    if bytes_eq bytes (codes "getelementptr") then Some (element_form ts) else
+    if bytes_eq bytes (codes "load") then Some forms.Load else
+    if is_calling_word bytes then Some forms.ValueCall else
+    if bytes_eq bytes (codes "phi") then Some forms.Phi else
+    if bytes_eq bytes (codes "icmp") then Some forms.Compare else
+    if bytes_eq bytes (codes "select") then Some forms.Select else
+    if bytes_eq bytes (codes "type") then Some forms.Layout else None
+
+abbrev pub or_else : {A : Type 0} → Option A → Option A → Option A
+or_else (Some x) other = Some x
+or_else None other = other
+
+-- behind `%x =`
+unfoldable pub named_form : List ℕ → List Tok → Option Form
+named_form bytes ts =
+    or_else (option_map (λ op. forms.Binary op) (spelled_by binary_word all_binaries bytes)) (
+    or_else (option_map (λ op. forms.Convert op) (spelled_by conversion_word all_conversions bytes)) (
+    or_else (option_map (λ op. forms.Cast op) (spelled_by cast_word all_casts bytes))
+    (single_result_form bytes ts)))
+
+abbrev pub result_form : List Tok → Option Form
+result_form (tok kinds.Word bytes ∷ ts) = named_form bytes ts
+result_form _ = None
+
+abbrev pub target_form : List Tok → Form
+target_form ts = if begins (is_word (codes "datalayout")) ts then forms.Dropped drop_lines.DataLayout else forms.Dropped drop_lines.Triple
+
+abbrev pub top_form : List ℕ → List Tok → Option Form
+top_form bytes ts =
+    if bytes_eq bytes (codes "declare") then Some forms.Declare else
+    if bytes_eq bytes (codes "define") then Some forms.Define else
+    if bytes_eq bytes (codes "attributes") then Some (forms.Dropped drop_lines.Attributes) else
+    if bytes_eq bytes (codes "source_filename") then Some (forms.Dropped drop_lines.SourceFilename) else
+    if bytes_eq bytes (codes "target") then Some (target_form ts) else None
+
+abbrev pub case_form : Tok → Option Form
+case_form t = if is_some (width_of t) then Some forms.Case else None
+
+abbrev pub branch_form : List Tok → Form
+branch_form ts = if begins (is_word (codes "label")) ts then forms.Jump else forms.Branch
+
+abbrev pub return_form : List Tok → Form
+return_form ts = if begins (is_word (codes "void")) ts then forms.ReturnVoid else forms.Return
+
+abbrev pub instruction_form : List ℕ → List Tok → Option Form
+instruction_form bytes ts =
+    if bytes_eq bytes (codes "store") then Some forms.Store else
+    if is_calling_word bytes then Some forms.VoidCall else
+    if bytes_eq bytes (codes "br") then Some (branch_form ts) else
+    if bytes_eq bytes (codes "switch") then Some forms.Switch else
+    if bytes_eq bytes (codes "ret") then Some (return_form ts) else
+    if bytes_eq bytes (codes "unreachable") then Some forms.Unreachable else None
+
+unfoldable pub word_form : List ℕ → List Tok → Option Form
+word_form bytes ts = or_else (instruction_form bytes ts) (or_else (top_form bytes ts) (case_form (tok kinds.Word bytes)))
+
+abbrev pub mark_form : List ℕ → Option Form
+mark_form bytes = if bytes_eq bytes (codes "}") then Some forms.Close else if bytes_eq bytes (codes "]") then Some forms.SwitchEnd else None
+
+abbrev pub local_form : List Tok → Option Form
+local_form [] = None
+local_form (t ∷ ts) = if is_mark (codes "=") t then result_form ts else None
+
+-- the form of a line
+unfoldable pub form_of : List Tok → Option Form
+form_of (tok kinds.Local bytes ∷ ts) = local_form ts
+form_of (tok kinds.Word bytes ∷ ts) = word_form bytes ts
+form_of (tok kinds.Punct bytes ∷ ts) = mark_form bytes
+form_of _ = None

@@ -1,0 +1,16 @@
+pub mod Drops
+pub mod Forms
+pub mod Gives
+pub mod Limits
+pub mod LineFaults
+pub mod Lists
+pub mod Marks
+pub mod Numbers
+pub mod Outcomes
+pub mod Parts
+pub mod Places
+pub mod Seen
+pub mod Slots
+pub mod Text
+pub mod Raws
+pub mod Reads

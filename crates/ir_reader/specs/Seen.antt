@@ -1,0 +1,82 @@
+-- A reading as its form and what it says at the slots of that form.
+use Rattle.std.specs.Prelude.{ℕ, Bool, true, false, List, [], ◌∷◌, map, Option, Some, None, option_map}
+use Rattle.ir_reader.specs.declared.forms.Form.{Form}
+use Rattle.ir_reader.specs.declared.forms.Form.TheVariants as forms
+use Rattle.ir_reader.specs.declared.readings.Reading.{Reading}
+use Rattle.ir_reader.specs.declared.readings.Reading.TheVariants as readings
+use Rattle.ir_reader.specs.declared.readings.Value.{Value}
+use Rattle.ir_reader.specs.declared.readings.Value.TheVariants as values
+use Rattle.ir_reader.specs.declared.readings.Argument.{Argument}
+use Rattle.ir_reader.specs.declared.readings.Passed.{Passed}
+use Rattle.ir_reader.specs.declared.readings.Passed.TheVariants as all_passed
+use Rattle.ir_reader.specs.declared.readings.Entry.{Entry}
+use Rattle.ir_reader.specs.declared.readings.TypeWord.{TypeWord}
+use Rattle.ir_reader.specs.declared.readings.Literal.{Literal}
+use Rattle.ir_reader.specs.declared.readings.TypeWord.TheVariants as types
+use Rattle.std.specs.Option.{option_copied}
+use Rattle.sp_text.specs.Tokens.{Tok}
+use Rattle.ir_reader.specs.Gives.{Found, after}
+use Rattle.ir_reader.specs.Forms.{slots}
+use Rattle.ir_reader.specs.Parts.{Val, local, number, truth, null}
+use Rattle.ir_reader.specs.Lists.{Named, Given, given, function}
+use Rattle.ir_reader.specs.Slots.{Item, parse, name, layout_name, width, ty, value, pred, scalar, layout, place, fields, entries, declared, defined, called, strategy}
+
+abbrev pub seen_value : Value → Val
+seen_value (values.Local bytes) = local bytes.now
+seen_value (values.Number n) = number n
+seen_value (values.Truth b) = truth b
+seen_value values.Null = null
+
+abbrev pub seen_argument : Argument → Named
+seen_argument a = record { ty = a.ty; name = option_copied a.name }
+
+abbrev pub seen_passed : Passed → Given
+seen_passed (all_passed.Value of_type passed) = given of_type (seen_value passed)
+seen_passed (all_passed.Function bytes) = function bytes.now
+
+abbrev pub seen_entry : Entry → Val × List ℕ
+seen_entry e = (seen_value e.value, e.label.now)
+
+-- a line that is made of tokens: its form, and what it says at the form's slots
+pub record Line : Type 0 where
+  pub form : Form
+  pub items : List Item
+
+-- what a reading is: a label, or a line of tokens
+pub data Said : Type 0 where
+  label : List ℕ → Said
+  line : Line → Said
+
+abbrev pub of_form : Form → List Item → Said
+of_form f is = line (record { form = f; items = is })
+
+abbrev pub seen : Reading → Said
+seen (readings.Layout n fs) = of_form forms.Layout (layout_name n.now ∷ fields fs.items ∷ [])
+seen (readings.Declare answer n ps) = of_form forms.Declare (ty answer ∷ declared n.now (map seen_argument ps.items) ∷ [])
+seen (readings.Define answer n args s) = of_form forms.Define (ty answer ∷ defined n.now (map seen_argument args.items) ∷ strategy (option_copied s) ∷ [])
+seen readings.Close = of_form forms.Close []
+seen (readings.Label n) = label n.now
+seen (readings.Binary x op n l r) = of_form (forms.Binary op) (name x.now ∷ width n ∷ value (seen_value l) ∷ value (seen_value r) ∷ [])
+seen (readings.Compare x p t l r) = of_form forms.Compare (name x.now ∷ pred p ∷ ty t ∷ value (seen_value l) ∷ value (seen_value r) ∷ [])
+seen (readings.Convert x op n v to) = of_form (forms.Convert op) (name x.now ∷ width n ∷ value (seen_value v) ∷ width to ∷ [])
+seen (readings.Select x c lt l rt r) = of_form forms.Select (name x.now ∷ value (seen_value c) ∷ ty lt ∷ value (seen_value l) ∷ ty rt ∷ value (seen_value r) ∷ [])
+seen (readings.Phi x t es) = of_form forms.Phi (name x.now ∷ ty t ∷ entries (map seen_entry es.items) ∷ [])
+seen (readings.ScalarElement x e a n i) = of_form forms.ScalarElement (name x.now ∷ scalar e ∷ value (seen_value a) ∷ width n ∷ value (seen_value i) ∷ [])
+seen (readings.LayoutElement x l a n i p) = of_form forms.LayoutElement (name x.now ∷ layout l.now ∷ value (seen_value a) ∷ width n ∷ value (seen_value i) ∷ place p ∷ [])
+seen (readings.Load x t a) = of_form forms.Load (name x.now ∷ ty t ∷ value (seen_value a) ∷ [])
+seen (readings.Store t v a) = of_form forms.Store (ty t ∷ value (seen_value v) ∷ value (seen_value a) ∷ [])
+seen (readings.ValueCall x t f ps) = of_form forms.ValueCall (name x.now ∷ ty t ∷ called f.now (map seen_passed ps.items) ∷ [])
+seen (readings.VoidCall f ps) = of_form forms.VoidCall (called f.now (map seen_passed ps.items) ∷ [])
+seen (readings.Jump l) = of_form forms.Jump (name l.now ∷ [])
+seen (readings.Branch c l r) = of_form forms.Branch (value (seen_value c) ∷ name l.now ∷ name r.now ∷ [])
+seen (readings.Switch n v d) = of_form forms.Switch (width n ∷ value (seen_value v) ∷ name d.now ∷ [])
+seen (readings.Case n v l) = of_form forms.Case (width n ∷ value (seen_value v) ∷ name l.now ∷ [])
+seen readings.SwitchEnd = of_form forms.SwitchEnd []
+seen readings.ReturnVoid = of_form forms.ReturnVoid []
+seen (readings.Return t v) = of_form forms.Return (ty t ∷ value (seen_value v) ∷ [])
+seen readings.Unreachable = of_form forms.Unreachable []
+seen (readings.Cast x op t v u) = of_form (forms.Cast op) (name x.now ∷ ty t ∷ value (seen_value v) ∷ ty u ∷ [])
+
+-- a front of this form
+unfoldable pub line_at : Form → List Tok → Found Said
+line_at form ts = after (parse (slots form) ts) (λ items rest. Some (of_form form items, rest))

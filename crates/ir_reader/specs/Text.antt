@@ -1,0 +1,103 @@
+-- The readings of a text: of all lines that are neither empty nor dropped, or the first fault.
+use Rattle.std.specs.Prelude.{◌≡◌, ℕ, ◌+◌, Bool, true, false, ◌&&◌, List, [], ◌∷◌, Option, Some, None, Result, Ok, Err, if◌then◌else◌}
+use Rattle.sp_text.specs.Tokens.{Tok, tokens}
+use Rattle.sp_text.specs.Lines.{NumberedLine, lines_of}
+use Rattle.sp_text.specs.Labels.{label_of, is_metadata}
+use Rattle.ir_reader.specs.declared.forms.Form.{Form}
+use Rattle.ir_reader.specs.declared.forms.Place.{Place}
+use Rattle.ir_reader.specs.declared.forms.Place.TheVariants as places
+use Rattle.ir_reader.specs.declared.forms.State.{State}
+use Rattle.ir_reader.specs.Gives.{Found, is_nil}
+use Rattle.ir_reader.specs.Forms.{form_of}
+use Rattle.ir_reader.specs.Places.{is_dropped_form, behind, behind_label}
+use Rattle.ir_reader.specs.Seen.{Line, Said, label, line, line_at}
+use Rattle.ir_reader.specs.Limits.{said_fits, said_counts_as, counted, counts_fit}
+
+-- what a line comes to
+pub data Outcome : Type 0 where
+  no_reading : Outcome
+  over_limit : Outcome
+  -- an empty or dropped line
+  nothing : Outcome
+  -- what it says, and what is known behind it
+  said : Said → State → Outcome
+
+abbrev pub is_top : Place → Bool
+is_top places.Top = true
+is_top _ = false
+
+-- what is known behind a line
+abbrev pub next_state : State → Place → Said → State
+next_state s place what = record { place = place; counts = counted (said_counts_as what) s.counts }
+
+-- a reading, if it passes no limit
+abbrev pub within : State → Place → Said → Outcome
+within s place what = if said_fits what && counts_fit (next_state s place what).counts then said what (next_state s place what) else over_limit
+
+-- what a whole line says: nothing stands behind it
+abbrev pub ended : Found Said → Option Said
+ended None = None
+ended (Some (what, rest)) = if is_nil rest then Some what else None
+
+abbrev pub said_by : State → Form → Place → Option Said → Outcome
+said_by s form place None = no_reading
+said_by s form place (Some what) = if is_dropped_form form then nothing else within s place what
+
+-- a line of this form
+abbrev pub formed : State → Form → List Tok → Option Place → Outcome
+formed s form ts None = no_reading
+formed s form ts (Some place) = said_by s form place (ended (line_at form ts))
+
+abbrev pub by_form : State → List Tok → Option Form → Outcome
+by_form s ts None = no_reading
+by_form s ts (Some form) = formed s form ts (behind s.place form)
+
+-- a line of tokens
+unfoldable pub tokens_outcome : State → List Tok → Outcome
+tokens_outcome s ts = if is_nil ts then nothing else by_form s ts (form_of ts)
+
+abbrev pub label_outcome : State → List ℕ → Option Place → Outcome
+label_outcome s name None = no_reading
+label_outcome s name (Some place) = said (label name) (record { place = place; counts = s.counts })
+
+abbrev pub labelled : State → List ℕ → Option (List ℕ) → Outcome
+labelled s bytes None = tokens_outcome s (tokens bytes)
+labelled s bytes (Some name) = label_outcome s name (behind_label s.place)
+
+-- a line: metadata outside functions, a label, or tokens
+unfoldable pub outcome : State → List ℕ → Outcome
+outcome s bytes = if is_top s.place && is_metadata bytes then nothing else labelled s bytes (label_of bytes)
+
+-- ---- the text
+
+pub data Fault : Type 0 where
+  syntax_fault : ℕ → Fault
+  limit_fault : ℕ → Fault
+
+-- what a line says, with the line's number
+pub record Numbered : Type 0 where
+  pub line : ℕ
+  pub said : Said
+
+abbrev pub with_first : Numbered → Result (List Numbered) Fault → Result (List Numbered) Fault
+with_first x (Ok xs) = Ok (x ∷ xs)
+with_first x (Err fault) = Err fault
+
+-- the readings of the lines that are left, by what the first of them comes to
+abbrev pub readings_by : Outcome → ℕ → (State → Result (List Numbered) Fault) → State → Result (List Numbered) Fault
+readings_by no_reading number more s = Err (syntax_fault number)
+readings_by over_limit number more s = Err (limit_fault number)
+readings_by nothing number more s = more s
+readings_by (said what next) number more s = with_first (record { line = number; said = what }) (more next)
+
+-- the readings of the lines that are left; `number` is that of the line after the last one
+unfoldable pub readings : State → ℕ → List NumberedLine → Result (List Numbered) Fault
+readings s number [] = if is_top s.place then Ok [] else Err (syntax_fault number)
+readings s number (l ∷ ls) = readings_by (outcome s l.bytes) l.number (λ next. readings next (l.number + 1) ls) s
+
+-- nothing was read yet
+abbrev pub opening : State
+opening = record { place = places.Top; counts = record { layouts = 0; functions = 0; values = 0; instructions = 0 } }
+
+unfoldable pub text_readings : List ℕ → Result (List Numbered) Fault
+text_readings text = readings opening 1 (lines_of text)

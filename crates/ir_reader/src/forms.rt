@@ -1,0 +1,86 @@
+//! The forms of lines, and the places where they may stand.
+
+use crate::words::{Binary, Cast, Conversion};
+
+/// A line outside functions that is read and says nothing.
+#[derive(Clone, Copy, Debug, PartialEq, Eq)]
+pub enum DroppedLine {
+    SourceFilename,
+    DataLayout,
+    Triple,
+    Attributes,
+}
+
+/// A form of a line that is made of tokens.
+#[derive(Clone, Copy, Debug, PartialEq, Eq)]
+pub enum Form {
+    Dropped(DroppedLine),
+    Layout,
+    Declare,
+    Define,
+    Close,
+    Binary(Binary),
+    Compare,
+    Convert(Conversion),
+    Select,
+    Phi,
+    /// A `getelementptr` over integers or pointers.
+    ScalarElement,
+    /// A `getelementptr` over a layout.
+    LayoutElement,
+    Load,
+    Store,
+    ValueCall,
+    VoidCall,
+    Jump,
+    Branch,
+    Switch,
+    Case,
+    SwitchEnd,
+    ReturnVoid,
+    Return,
+    Unreachable,
+    Cast(Cast),
+}
+
+/// Where a line stands.
+#[derive(Clone, Copy, Debug, PartialEq, Eq)]
+pub enum Place {
+    /// Outside functions.
+    Top,
+    /// Directly after the head of a definition.
+    Entry,
+    /// In a block, before its terminator.
+    Block,
+    /// After a terminator.
+    Closed,
+    /// Among the cases of a `switch`.
+    Cases,
+}
+
+/// What a line counts as.
+#[derive(Clone, Copy, Debug, PartialEq, Eq)]
+pub enum Counted {
+    Layout,
+    /// A definition, with its number of arguments.
+    Function(usize),
+    Instruction,
+    Nothing,
+}
+
+/// How much of a module was read so far.
+#[derive(Clone, Copy, Debug, PartialEq, Eq)]
+pub struct Counts {
+    pub layouts: u32,
+    pub functions: u32,
+    /// Arguments and instructions of the function.
+    pub values: usize,
+    pub instructions: u32,
+}
+
+/// What is known behind a line.
+#[derive(Clone, Copy, Debug, PartialEq, Eq)]
+pub struct State {
+    pub place: Place,
+    pub counts: Counts,
+}

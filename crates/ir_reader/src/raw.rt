@@ -1,0 +1,78 @@
+//! The readings of a text, kept with it.
+
+ghost use Rattle.std.specs.Prelude.{◌≡◌};
+
+use crate::readings::Reading;
+use ir_ast::Form;
+use std::marker::Model;
+
+/// What a line says, with the line's number.
+#[derive(Drop)]
+pub struct NumberedReading<'a> {
+    pub line: u32,
+    pub reading: Reading<'a>,
+}
+
+/// The readings of all lines of a text that are neither empty nor dropped. The text is within the file limit, and
+/// nothing in it passes a limit.
+#[derive(Drop)]
+pub struct Raw<'a> {
+    text: &'a [u8],
+    form: Form,
+    readings: Vec<NumberedReading<'a>>,
+}
+
+impl<'a> Model for Raw<'a> {
+    ghost use Rattle.ir_reader.specs.Raws.{Readings, IsRead};
+
+    ghost Value = { Readings };
+
+    ghost view = { λ raw. record { text = raw.text.now; form = raw.form; lines = raw.readings.items } };
+
+    ghost invariant = { λ raw. IsRead (record { text = raw.text.now; form = raw.form; lines = raw.readings.items }) };
+}
+
+impl<'a> Raw<'a> {
+    ghost use Rattle.ir_reader.specs.Raws.{Readings, IsRead};
+
+    pub(crate) fn of(text: &'a [u8], readings: Vec<NumberedReading<'a>>) -> Raw<'a>
+        requires { IsRead (record { text = text.now; form = Form.Source; lines = readings.items }) }
+        ensures { result ≡ record { text = text.entry.now; form = Form.Source; lines = readings.entry.items } }
+    {
+        Raw {
+            text,
+            form: Form::Source,
+            readings,
+        }
+    }
+
+    /// The readings, in the order of the text.
+    pub fn lines(&self) -> &[NumberedReading<'a>]
+        ensures lines { result.now ≡ self.now.lines }
+        ensures read { IsRead self.now }
+    {
+        self.readings.as_slice()
+    }
+
+    /// The form that the text was read in.
+    pub fn form(&self) -> Form
+        ensures { result ≡ self.now.form }
+    {
+        self.form
+    }
+
+    /// The text.
+    pub fn text(&self) -> &'a [u8]
+        ensures { result.now ≡ self.now.text }
+    {
+        self.text
+    }
+
+    /// Gives the readings up.
+    pub fn into_lines(self) -> Vec<NumberedReading<'a>>
+        ensures lines { result.items ≡ self.entry.lines }
+        ensures read { IsRead self.entry }
+    {
+        self.readings
+    }
+}

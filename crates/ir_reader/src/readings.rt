@@ -1,0 +1,229 @@
+use crate::words::{Binary, Cast, Conversion};
+use ir_ast::Pred;
+use smallvec::SmallVec;
+
+/// A type as a line spells it.
+#[derive(Clone, Copy, Debug, PartialEq, Eq, Default)]
+pub enum TypeWord {
+    #[default]
+    Void,
+    /// `iN`. A width above 64 counts as 65.
+    Int(u32),
+    /// `ptr addrspace(1)`.
+    Managed,
+    /// `ptr`, where a line may say so.
+    Plain,
+}
+
+/// A number as a line spells it. One that no literal may have counts as the negative of 2^64 - 1.
+#[derive(Clone, Copy, Debug, PartialEq, Eq)]
+pub struct Literal {
+    pub negative: bool,
+    pub magnitude: u64,
+}
+
+/// A value that an instruction uses. Names stand without their mark.
+#[derive(Clone, Copy, Debug, Default)]
+pub enum Value<'a> {
+    Local(&'a [u8]),
+    Number(Literal),
+    Truth(bool),
+    #[default]
+    Null,
+}
+
+/// An argument of a definition, with its name where the line gives one.
+#[derive(Clone, Copy, Debug, Default)]
+pub struct Argument<'a> {
+    pub ty: TypeWord,
+    pub name: Option<&'a [u8]>,
+}
+
+/// What a call passes.
+#[derive(Clone, Copy, Debug)]
+pub enum Passed<'a> {
+    Value(TypeWord, Value<'a>),
+    /// `ptr @NAME`, which only `task_start` takes.
+    Function(&'a [u8]),
+}
+
+impl Default for Passed<'_> {
+    fn default() -> Self {
+        Passed::Value(TypeWord::Void, Value::Null)
+    }
+}
+
+/// An entry of a phi: the value where control comes from the label.
+#[derive(Clone, Copy, Debug)]
+pub struct Entry<'a> {
+    pub value: Value<'a>,
+    pub label: &'a [u8],
+}
+
+impl Default for Entry<'_> {
+    fn default() -> Self {
+        Entry {
+            value: Value::Null,
+            label: &[],
+        }
+    }
+}
+
+/// The fields of a layout.
+pub type Fields = SmallVec<TypeWord, 4>;
+/// The arguments of a head.
+pub type Arguments<'a> = SmallVec<Argument<'a>, 2>;
+/// What a call passes, in order.
+pub type AllPassed<'a> = SmallVec<Passed<'a>, 2>;
+/// The entries of a phi.
+pub type Entries<'a> = SmallVec<Entry<'a>, 2>;
+
+/// What a line says. Names stand without their mark, and are slices of the text.
+#[derive(Drop)]
+pub enum Reading<'a> {
+    /// `%T = type { F, F, .. }`
+    Layout {
+        name: &'a [u8],
+        fields: Fields,
+    },
+    /// `declare R @name(A, A, ..)`. Names that the line gives its parameters mean nothing.
+    Declare {
+        answer: TypeWord,
+        name: &'a [u8],
+        parameters: Arguments<'a>,
+    },
+    /// `define R @name(T %a, T %b, ..) gc "S" {`, with the bytes of S.
+    Define {
+        answer: TypeWord,
+        name: &'a [u8],
+        arguments: Arguments<'a>,
+        strategy: Option<&'a [u8]>,
+    },
+    /// `}`, the end of a definition.
+    Close,
+    /// `name:`, the head of a block.
+    Label {
+        name: &'a [u8],
+    },
+    /// `%x = OP iN V, V`
+    Binary {
+        result: &'a [u8],
+        op: Binary,
+        width: u32,
+        left: Value<'a>,
+        right: Value<'a>,
+    },
+    /// `%x = icmp PRED T V, V`
+    Compare {
+        result: &'a [u8],
+        pred: Pred,
+        ty: TypeWord,
+        left: Value<'a>,
+        right: Value<'a>,
+    },
+    /// `%x = trunc iN V to iM`, and so `zext` and `sext`
+    Convert {
+        result: &'a [u8],
+        op: Conversion,
+        width: u32,
+        value: Value<'a>,
+        to: u32,
+    },
+    /// `%x = select i1 V, T V, T V`
+    Select {
+        result: &'a [u8],
+        condition: Value<'a>,
+        left_ty: TypeWord,
+        left: Value<'a>,
+        right_ty: TypeWord,
+        right: Value<'a>,
+    },
+    /// `%x = phi T [ V, %l ], [ V, %m ], ..`
+    Phi {
+        result: &'a [u8],
+        ty: TypeWord,
+        entries: Entries<'a>,
+    },
+    /// `%x = getelementptr E, P V, iN V`, where E is `i8`, `i16`, `i32`, `i64` or `ptr addrspace(1)`
+    ScalarElement {
+        result: &'a [u8],
+        element: TypeWord,
+        address: Value<'a>,
+        width: u32,
+        index: Value<'a>,
+    },
+    /// `%x = getelementptr %T, P V, iN V`, and maybe `, i32 C`, the place of a field
+    LayoutElement {
+        result: &'a [u8],
+        layout: &'a [u8],
+        address: Value<'a>,
+        width: u32,
+        index: Value<'a>,
+        place: Option<Literal>,
+    },
+    /// `%x = load T, P V`
+    Load {
+        result: &'a [u8],
+        ty: TypeWord,
+        address: Value<'a>,
+    },
+    /// `store T V, P V`
+    Store {
+        ty: TypeWord,
+        value: Value<'a>,
+        address: Value<'a>,
+    },
+    /// `%x = call T @f(T V, ..)`
+    ValueCall {
+        result: &'a [u8],
+        answer: TypeWord,
+        callee: &'a [u8],
+        passed: AllPassed<'a>,
+    },
+    /// `call void @f(T V, ..)`
+    VoidCall {
+        callee: &'a [u8],
+        passed: AllPassed<'a>,
+    },
+    /// `br label %l`
+    Jump {
+        label: &'a [u8],
+    },
+    /// `br i1 V, label %l, label %m`
+    Branch {
+        condition: Value<'a>,
+        on_true: &'a [u8],
+        on_false: &'a [u8],
+    },
+    /// `switch iN V, label %l [`; its cases and its end are the next readings.
+    Switch {
+        width: u32,
+        value: Value<'a>,
+        default: &'a [u8],
+    },
+    /// `iN C, label %m` in a `switch`
+    Case {
+        width: u32,
+        value: Value<'a>,
+        label: &'a [u8],
+    },
+    /// `]`, the end of a `switch`
+    SwitchEnd,
+    /// `ret void`
+    ReturnVoid,
+    /// `ret T V`
+    Return {
+        ty: TypeWord,
+        value: Value<'a>,
+    },
+    /// `unreachable`
+    Unreachable,
+    /// `%x = CAST T V to U`
+    Cast {
+        result: &'a [u8],
+        op: Cast,
+        from: TypeWord,
+        value: Value<'a>,
+        to: TypeWord,
+    },
+}

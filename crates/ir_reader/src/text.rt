@@ -1,0 +1,88 @@
+//! The readings of a text.
+
+ghost use Rattle.std.specs.Prelude.{◌≡◌, ◌≤◌, length, map, IfOk, IfErr, OnOk, IsTrue};
+ghost use Rattle.ir_reader.specs.Text.{text_readings, outcome};
+ghost use Rattle.ir_reader.specs.Limits.{counts_fit};
+ghost use Rattle.ir_reader.specs.Raws.{seen_numbered};
+ghost use Rattle.ir_reader.specs.Reads.{TextGives, AfterLine, FaultOfLine};
+
+use crate::faults::{LineFault, ReadFault};
+use crate::forms::{Counts, Place, State};
+use crate::line::Step;
+use crate::raw::{NumberedReading, Raw};
+use sp_ids::limits::FILE_BYTES;
+use sp_text::{Line, Lines};
+use std::alloc::Global;
+
+const OPENING: State = State {
+    place: Place::Top,
+    counts: Counts {
+        layouts: 0,
+        functions: 0,
+        values: 0,
+        instructions: 0,
+    },
+};
+
+/// The readings of a text in the source form: of all its lines that are neither empty nor dropped, each with its
+/// number; or the first line that has no reading in its place or passes a limit. A text that ends inside a function
+/// has no reading at the line after its last. [`ReadFault::Memory`] says nothing of the text.
+pub fn read(alloc: Global, text: &[u8]) -> Result<Raw<'_>, ReadFault>
+    requires { length text.now ≤ FILE_BYTES }
+    ensures exact { TextGives (λ raw. map seen_numbered raw.lines) result (text_readings text.now) }
+    ensures text { IfOk result (λ raw. raw.text ≡ text.now) }
+{
+    let readings = all_readings(alloc, text)?;
+    Ok(Raw::of(text, readings))
+}
+
+fn all_readings(alloc: Global, text: &[u8]) -> Result<Vec<NumberedReading<'_>>, ReadFault>
+    requires { length text.now ≤ FILE_BYTES }
+    ensures { TextGives (λ readings. map seen_numbered readings.items) result (text_readings text.now) }
+{
+    let mut lines = Lines::of(text);
+    let mut state = OPENING;
+    let mut number = 1;
+    let mut readings = Vec::new(alloc);
+    while let Some(line) = lines.next_line() {
+        read_line(alloc, &mut state, line, &mut readings)?;
+        number = line.number + 1;
+    }
+    if state.place.is_top() {
+        Ok(readings)
+    } else {
+        Err(ReadFault::Syntax { line: number })
+    }
+}
+
+// Reads one line, and keeps what it says.
+fn read_line<'a>(
+    alloc: Global,
+    state: &mut State,
+    line: Line<'a>,
+    readings: &mut Vec<NumberedReading<'a>>,
+) -> Result<(), ReadFault>
+    requires { IsTrue (counts_fit state.old.counts) }
+    ensures ok { OnOk result (AfterLine (outcome state.old line.entry.bytes.now) line.entry.number state.old state.new
+        (map seen_numbered readings.old.items) (map seen_numbered readings.new.items)) }
+    ensures fault { IfErr result (λ fault. FaultOfLine fault line.entry.number (outcome state.old line.entry.bytes.now)) }
+    ensures counts { OnOk result (IsTrue (counts_fit state.new.counts)) }
+{
+    match Step::of(alloc, *state, line) {
+        Ok(None) => Ok(()),
+        Ok(Some(step)) => {
+            let reading = NumberedReading {
+                line: line.number,
+                reading: step.reading,
+            };
+            if readings.push(reading).is_err() {
+                return Err(ReadFault::Memory);
+            }
+            *state = step.state;
+            Ok(())
+        }
+        Err(LineFault::NoReading) => Err(ReadFault::Syntax { line: line.number }),
+        Err(LineFault::OverLimit) => Err(ReadFault::Limit { line: line.number }),
+        Err(LineFault::Memory) => Err(ReadFault::Memory),
+    }
+}
