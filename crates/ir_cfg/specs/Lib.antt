@@ -1,0 +1,12 @@
+pub mod Rows
+pub mod Graphs
+pub mod Paths
+pub mod PollPoints
+pub mod DefiniteUses
+pub mod Limits
+pub mod SourceModules
+pub mod TargetModules
+pub mod Turned
+pub mod Marks
+pub mod Cfgs
+pub mod Unreached
