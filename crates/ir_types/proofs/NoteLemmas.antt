@@ -1,0 +1,70 @@
+-- One pass after another keeps the first of the faults of both; at the end it is the least fault.
+use Rattle.std.proofs.Common.{◌≡◌, ℕ, ◌<◌, ◌≤◌, ◌⊎◌, inl, inr, List, refl, sym, subst, arith}
+use Rattle.std.specs.Prelude.{Option, Some, None}
+use Rattle.ir_types.specs.declared.faults.Fault.{Fault}
+use Rattle.ir_types.specs.Statements.{Line}
+use Rattle.ir_types.specs.FaultSet.{ComesFirst, HasFault, IsLeastFault, HasNoFault}
+use Rattle.ir_types.specs.Notes.{Notes, IsUpTo, HasSource}
+
+abbrev pub Either : (ℕ → ℕ → Type 0) → (ℕ → ℕ → Type 0) → ℕ → ℕ → Type 0
+Either F G line code = F line code ⊎ G line code
+
+pub first-then : (l c m d n e : ℕ) → ComesFirst l c m d → ComesFirst m d n e → ComesFirst l c n e
+first-then l c m d n e (inl p) (inl q) = inl (omega arith)
+first-then l c m d n e (inl p) (inr q) = let r = q.0 in inl (omega arith)
+first-then l c m d n e (inr p) (inl q) = let r = p.0 in inl (omega arith)
+first-then l c m d n e (inr p) (inr q) = let r = p.0 in let s = q.0 in let t = p.1 in let u = q.1 in inr (omega arith, omega arith)
+
+pub up_to-then : (kept : Option Fault) (between : Fault) (line code : ℕ)
+    → IsUpTo kept between.line between.code → ComesFirst between.line between.code line code → IsUpTo kept line code
+up_to-then kept between line code u f = record {
+  fault = u.fault;
+  is = u.is;
+  first = first-then u.fault.line u.fault.code between.line between.code line code u.first f;
+}
+
+either : (old : Option Fault) (fault : Fault) (F G : ℕ → ℕ → Type 0) → (old ≡ Some fault) ⊎ F fault.line fault.code
+    → (old ≡ Some fault) ⊎ Either F G fault.line fault.code
+either old fault F G (inl p) = inl p
+either old fault F G (inr q) = inr (inl q)
+
+source-then : (old between new : Option Fault) (F G : ℕ → ℕ → Type 0) → HasSource old between F → HasSource between new G
+    → HasSource old new (Either F G)
+source-then old between None F G s t = tt
+source-then old between (Some fault) F G s (inr g) = inr (inr g)
+source-then old between (Some fault) F G s (inl e) =
+    either old fault F G (subst (λ (kept : Option Fault). HasSource old kept F) e s)
+
+least-then : (old between new : Option Fault) (F G : ℕ → ℕ → Type 0) → Notes old between F → Notes between new G
+    → (line code : ℕ) → Either F G line code → IsUpTo new line code
+least-then old between new F G m n line code (inr g) = n.least line code g
+least-then old between new F G m n line code (inl f) =
+    let u = m.least line code f in up_to-then new u.fault line code (n.earlier u.fault u.is) u.first
+
+pub notes-then : (old between new : Option Fault) (F G : ℕ → ℕ → Type 0) → Notes old between F → Notes between new G
+    → Notes old new (Either F G)
+notes-then old between new F G m n = record {
+  source = source-then old between new F G m.source n.source;
+  earlier = λ fault e. let u = m.earlier fault e in up_to-then new u.fault fault.line fault.code (n.earlier u.fault u.is) u.first;
+  least = least-then old between new F G m n;
+}
+
+found-in : (fault : Fault) (F : ℕ → ℕ → Type 0) → (None ≡ Some fault) ⊎ F fault.line fault.code → F fault.line fault.code
+found-in fault F (inl e) = absurd (let bad : None ≡ Some fault = e in cc)
+found-in fault F (inr f) = f
+
+first-of : (fault kept : Fault) (line code : ℕ) → Some fault ≡ Some kept → ComesFirst kept.line kept.code line code
+    → ComesFirst fault.line fault.code line code
+first-of fault kept line code e f = let same : kept ≡ fault = cc in subst (λ (one : Fault). ComesFirst one.line one.code line code) same f
+
+-- nothing was kept before: what is kept is the least fault
+pub notes-least : (lines : List Line) (fault : Fault) → Notes None (Some fault) (λ line code. HasFault lines line code)
+    → IsLeastFault lines fault.line fault.code
+notes-least lines fault n = record {
+  is = found-in fault (λ line code. HasFault lines line code) n.source;
+  least = λ line code f. let u = n.least line code f in first-of fault u.fault line code u.is u.first;
+}
+
+-- nothing is kept: there is no fault
+pub notes-none : (lines : List Line) → Notes None None (λ line code. HasFault lines line code) → HasNoFault lines
+notes-none lines n = λ line code f. let u = n.least line code f in let bad : None ≡ Some u.fault = u.is in cc

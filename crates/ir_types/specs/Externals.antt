@@ -1,0 +1,31 @@
+-- The externals, with what they answer and take.
+use Rattle.std.specs.Prelude.{ℕ, List, [], ◌∷◌, ◌++◌, map, codes}
+use Rattle.ir_reader.specs.declared.readings.TypeWord.{TypeWord}
+use Rattle.ir_reader.specs.declared.readings.TypeWord.TheVariants.{Void, Int, Managed, Plain}
+
+pub record External : Type 0 where
+  pub name : List ℕ
+  pub answer : TypeWord
+  pub parameters : List TypeWord
+
+abbrev pub external : List ℕ → TypeWord → List TypeWord → External
+external name answer parameters = record { name = name; answer = answer; parameters = parameters }
+
+abbrev pub gc_new : List ℕ → List ℕ
+gc_new layout = codes "gc_new." ++ layout
+
+-- each layout has its own `gc_new`
+abbrev pub externals_of : List (List ℕ) → List External
+externals_of layouts =
+    map (λ layout. external (gc_new layout) Managed (Int 64 ∷ [])) layouts
+    ++ external (codes "print_i64") Void (Int 64 ∷ [])
+    ∷ external (codes "read_i64") (Int 64) []
+    ∷ external (codes "task_start") Void (Plain ∷ Managed ∷ [])
+    ∷ external (codes "gc.safepoint_poll") Void []
+    ∷ external (codes "gc_check") Void (Managed ∷ Managed ∷ Int 64 ∷ [])
+    ∷ external (codes "gc_same") (Int 1) (Managed ∷ Managed ∷ Managed ∷ Managed ∷ [])
+    ∷ []
+
+-- what only rewritten modules declare
+abbrev pub helpers : List (List ℕ)
+helpers = codes "gc.safepoint_poll" ∷ codes "gc_check" ∷ codes "gc_same" ∷ []

@@ -1,0 +1,16 @@
+pub mod Statements
+pub mod Parts
+pub mod Sections
+pub mod Places
+pub mod Scope
+pub mod Externals
+pub mod Modules
+pub mod Types
+pub mod InBody
+pub mod Faults
+pub mod FaultSet
+pub mod Answers
+pub mod Notes
+pub mod Placed
+pub mod Views
+pub mod Known

@@ -1,0 +1,661 @@
+//! The module that lines stand for.
+
+ghost use Rattle.std.specs.Prelude.{◌≡◌, [], ◌∷◌, ◌++◌, ◌+◌, ◌<◌, length, map, option_map, drop, IfOk, OnOk};
+ghost use Rattle.ir_ast.specs.Blocks.{EndsAtTerminator};
+ghost use Rattle.std.specs.Option.{option_copied};
+ghost use Rattle.ir_reader.specs.Seen.{seen_value, seen_entry, seen_passed};
+ghost use Rattle.ir_types.specs.Places.{number_in};
+ghost use Rattle.ir_types.specs.Views.{said, seen_lines};
+ghost use Rattle.ir_types.specs.Known.{known_in};
+ghost use Rattle.ir_types.specs.Placed.{IsPlaced};
+ghost use Rattle.ir_types.specs.Modules.{module_of, instruction, instruction_said, with_line, insts_of, numbers_of, external_callee, callee_of, passed_operand, given_type, case_values, case_labels, element_of, entry_operand, entry_label, operand_in, label_in, type_of, binary_of, predicate_of, conversion_of, cell_of, place_of};
+
+use crate::best::First;
+use crate::lines::{Scope, passed_type};
+use crate::names::{NOWHERE, is_text, number_of};
+use crate::operands::{binary_of, conversion_of, element_of, predicate_of, type_of};
+use crate::scope::{Local, Top};
+use crate::sections::{BlockLines, Definition, HeadNames, blocks, definitions};
+use ir_ast::{
+    Arg, Block, Callee, Cell, Elem, Form, Func, Inst, Layout, Module, Name, Op, Operand, Operands,
+    Ty, Types,
+};
+use ir_reader::{
+    Binary, Conversion, Entry, Literal, NumberedReading, Passed, Reading, TypeWord, Value,
+};
+use smallvec::SmallVec;
+use sp_ids::{BlockId, FuncId};
+use std::alloc::{AllocError, Global};
+
+// The layout of a `gc_new.T`.
+fn layout_made(name: &[u8]) -> &[u8]
+    ensures { result.now ≡ drop 7 name.now }
+{
+    if name.len() < 7 { &[] } else { &name[7..] }
+}
+
+fn owned(alloc: Global, name: &[u8]) -> Result<Name, AllocError>
+    ensures { IfOk result (λ owned. owned ≡ name.now) }
+{
+    let bytes = Vec::from_slice(alloc, name)?;
+    Ok(Name::of(bytes))
+}
+
+// The place of a field.
+fn place_of(place: Literal) -> u32
+    ensures { result ≡ place_of place }
+{
+    place.magnitude.min(NOWHERE as u64) as u32
+}
+
+fn place_if_any(place: Option<Literal>) -> Option<u32>
+    ensures { result ≡ option_map place_of place }
+{
+    match place {
+        Some(place) => Some(place_of(place)),
+        None => None,
+    }
+}
+
+fn cell_of(ty: TypeWord) -> Cell
+    ensures { result ≡ cell_of ty }
+{
+    match ty {
+        TypeWord::Managed => Cell::Ptr,
+        _ => Cell::I64,
+    }
+}
+
+// The name of a result.
+fn named(alloc: Global, name: Option<&[u8]>) -> Result<Option<Name>, AllocError>
+    ensures { IfOk result (λ named. named ≡ option_copied name.entry) }
+{
+    match name {
+        Some(name) => {
+            let name = owned(alloc, name)?;
+            Ok(Some(name))
+        }
+        None => Ok(None),
+    }
+}
+
+// An instruction with these operands and labels.
+fn inst(
+    alloc: Global,
+    name: Option<&[u8]>,
+    op: Op,
+    ty: Ty,
+    operands: &[Operand],
+    labels: &[BlockId],
+) -> Result<Option<Inst>, AllocError>
+    ensures { IfOk result (λ made. made ≡ Some (instruction (option_copied name.entry) op ty operands.now labels.now)) }
+{
+    let name = named(alloc, name)?;
+    let operands = SmallVec::from_slice(alloc, operands)?;
+    let labels = Vec::from_slice(alloc, labels)?;
+    Ok(Some(Inst::of(name, op, ty, operands, labels, Vec::new(alloc))))
+}
+
+impl Local<'_> {
+    fn binary(
+        &self,
+        alloc: Global,
+        name: &[u8],
+        op: Binary,
+        width: u32,
+        left: &Value,
+        right: &Value,
+    ) -> Result<Option<Inst>, AllocError>
+        ensures { IfOk result (λ made. made ≡ Some (instruction (Some name.now) (binary_of op) (Ty.Int width)
+            (operand_in self.now.values (TypeWord.Int width) (seen_value left.now) ∷ operand_in self.now.values (TypeWord.Int width) (seen_value right.now) ∷ []) [])) }
+    {
+        let ty = TypeWord::Int(width);
+        let operands = [self.operand(ty, left), self.operand(ty, right)];
+        inst(
+            alloc,
+            Some(name),
+            binary_of(op),
+            type_of(ty),
+            &operands,
+            &[],
+        )
+    }
+
+    fn compare(
+        &self,
+        alloc: Global,
+        name: &[u8],
+        pred: ir_reader::Pred,
+        ty: TypeWord,
+        left: &Value,
+        right: &Value,
+    ) -> Result<Option<Inst>, AllocError>
+        ensures { IfOk result (λ made. made ≡ Some (instruction (Some name.now) (Op.Icmp (predicate_of pred)) (type_of ty)
+            (operand_in self.now.values ty (seen_value left.now) ∷ operand_in self.now.values ty (seen_value right.now) ∷ []) [])) }
+    {
+        let operands = [self.operand(ty, left), self.operand(ty, right)];
+        let op = Op::Icmp(predicate_of(pred));
+        inst(alloc, Some(name), op, type_of(ty), &operands, &[])
+    }
+
+    fn convert(
+        &self,
+        alloc: Global,
+        name: &[u8],
+        op: Conversion,
+        width: u32,
+        value: &Value,
+        to: u32,
+    ) -> Result<Option<Inst>, AllocError>
+        ensures { IfOk result (λ made. made ≡ Some (instruction (Some name.now) (conversion_of op to) (Ty.Int width)
+            (operand_in self.now.values (TypeWord.Int width) (seen_value value.now) ∷ []) [])) }
+    {
+        let ty = TypeWord::Int(width);
+        let operands = [self.operand(ty, value)];
+        inst(
+            alloc,
+            Some(name),
+            conversion_of(op, to),
+            type_of(ty),
+            &operands,
+            &[],
+        )
+    }
+
+    fn select(
+        &self,
+        alloc: Global,
+        name: &[u8],
+        condition: &Value,
+        left_ty: TypeWord,
+        left: &Value,
+        right_ty: TypeWord,
+        right: &Value,
+    ) -> Result<Option<Inst>, AllocError>
+        ensures { IfOk result (λ made. made ≡ Some (instruction (Some name.now) Op.Select (type_of left_ty)
+            (operand_in self.now.values (TypeWord.Int 1) (seen_value condition.now) ∷ operand_in self.now.values left_ty (seen_value left.now)
+            ∷ operand_in self.now.values right_ty (seen_value right.now) ∷ []) [])) }
+    {
+        let operands = [
+            self.operand(TypeWord::Int(1), condition),
+            self.operand(left_ty, left),
+            self.operand(right_ty, right),
+        ];
+        inst(
+            alloc,
+            Some(name),
+            Op::Select,
+            type_of(left_ty),
+            &operands,
+            &[],
+        )
+    }
+
+    fn step(
+        &self,
+        alloc: Global,
+        name: &[u8],
+        op: Op,
+        address: &Value,
+        width: u32,
+        index: &Value,
+    ) -> Result<Option<Inst>, AllocError>
+        ensures { IfOk result (λ made. made ≡ Some (instruction (Some name.now) op Ty.Ptr
+            (operand_in self.now.values TypeWord.Managed (seen_value address.now) ∷ operand_in self.now.values (TypeWord.Int width) (seen_value index.now) ∷ []) [])) }
+    {
+        let operands = [
+            self.operand(TypeWord::Managed, address),
+            self.operand(TypeWord::Int(width), index),
+        ];
+        inst(alloc, Some(name), op, Ty::Ptr, &operands, &[])
+    }
+
+    fn scalar_step(
+        &self,
+        alloc: Global,
+        name: &[u8],
+        element: TypeWord,
+        address: &Value,
+        width: u32,
+        index: &Value,
+    ) -> Result<Option<Inst>, AllocError>
+        ensures { IfOk result (λ made. made ≡ Some (instruction (Some name.now) (Op.Gep (element_of element) width None) Ty.Ptr
+            (operand_in self.now.values TypeWord.Managed (seen_value address.now) ∷ operand_in self.now.values (TypeWord.Int width) (seen_value index.now) ∷ []) [])) }
+    {
+        let op = Op::Gep {
+            elem: element_of(element),
+            index_width: width,
+            place: None,
+        };
+        self.step(alloc, name, op, address, width, index)
+    }
+
+    fn load(
+        &self,
+        alloc: Global,
+        name: &[u8],
+        ty: TypeWord,
+        address: &Value,
+    ) -> Result<Option<Inst>, AllocError>
+        ensures { IfOk result (λ made. made ≡ Some (instruction (Some name.now) Op.Load (type_of ty)
+            (operand_in self.now.values TypeWord.Managed (seen_value address.now) ∷ []) [])) }
+    {
+        let operands = [self.operand(TypeWord::Managed, address)];
+        inst(alloc, Some(name), Op::Load, type_of(ty), &operands, &[])
+    }
+
+    fn store(
+        &self,
+        alloc: Global,
+        ty: TypeWord,
+        value: &Value,
+        address: &Value,
+    ) -> Result<Option<Inst>, AllocError>
+        ensures { IfOk result (λ made. made ≡ Some (instruction None Op.Store (type_of ty)
+            (operand_in self.now.values ty (seen_value value.now) ∷ operand_in self.now.values TypeWord.Managed (seen_value address.now) ∷ []) [])) }
+    {
+        let operands = [
+            self.operand(ty, value),
+            self.operand(TypeWord::Managed, address),
+        ];
+        inst(alloc, None, Op::Store, type_of(ty), &operands, &[])
+    }
+
+    fn phi(
+        &self,
+        alloc: Global,
+        name: &[u8],
+        ty: TypeWord,
+        entries: &[Entry],
+    ) -> Result<Option<Inst>, AllocError>
+        ensures { IfOk result (λ made. made ≡ Some (instruction (Some name.now) Op.Phi (type_of ty)
+            (map (entry_operand self.now.values ty) (map seen_entry entries.now)) (map (entry_label self.now.blocks) (map seen_entry entries.now)))) }
+    {
+        let mut operands: Operands = SmallVec::new(alloc);
+        let mut labels = Vec::new(alloc);
+        for entry in entries {
+            operands.push(self.operand(ty, &entry.value))?;
+            labels.push(self.label(entry.label))?;
+        }
+        let name = owned(alloc, name)?;
+        let none = Vec::new(alloc);
+        Ok(Some(Inst::of(Some(name), Op::Phi, type_of(ty), operands, labels, none)))
+    }
+
+    fn jump(&self, alloc: Global, label: &[u8]) -> Result<Option<Inst>, AllocError>
+        ensures { IfOk result (λ made. made ≡ Some (instruction None Op.Br Ty.Void [] (label_in self.now.blocks label.now ∷ []))) }
+    {
+        let labels = [self.label(label)];
+        inst(alloc, None, Op::Br, Ty::Void, &[], &labels)
+    }
+
+    fn branch(
+        &self,
+        alloc: Global,
+        condition: &Value,
+        on_true: &[u8],
+        on_false: &[u8],
+    ) -> Result<Option<Inst>, AllocError>
+        ensures { IfOk result (λ made. made ≡ Some (instruction None Op.CondBr (Ty.Int 1)
+            (operand_in self.now.values (TypeWord.Int 1) (seen_value condition.now) ∷ [])
+            (label_in self.now.blocks on_true.now ∷ label_in self.now.blocks on_false.now ∷ []))) }
+    {
+        let operands = [self.operand(TypeWord::Int(1), condition)];
+        let labels = [self.label(on_true), self.label(on_false)];
+        inst(alloc, None, Op::CondBr, Ty::Int(1), &operands, &labels)
+    }
+
+    fn ret(&self, alloc: Global, ty: TypeWord, value: &Value) -> Result<Option<Inst>, AllocError>
+        ensures { IfOk result (λ made. made ≡ Some (instruction None Op.Ret (type_of ty) (operand_in self.now.values ty (seen_value value.now) ∷ []) [])) }
+    {
+        let operands = [self.operand(ty, value)];
+        inst(alloc, None, Op::Ret, type_of(ty), &operands, &[])
+    }
+
+    // A `switch` with the cases that stand behind it.
+    fn switch(
+        &self,
+        alloc: Global,
+        width: u32,
+        value: &Value,
+        default: &[u8],
+        behind: &[NumberedReading],
+    ) -> Result<Option<Inst>, AllocError>
+        ensures { IfOk result (λ made. made ≡ Some (instruction None Op.Switch (Ty.Int width)
+            (operand_in self.now.values (TypeWord.Int width) (seen_value value.now) ∷ case_values self.now.values width (seen_lines behind.now))
+            (label_in self.now.blocks default.now ∷ case_labels self.now.blocks (seen_lines behind.now)))) }
+    {
+        let ty = TypeWord::Int(width);
+        let mut operands: Operands = SmallVec::new(alloc);
+        let mut labels = Vec::new(alloc);
+        operands.push(self.operand(ty, value))?;
+        labels.push(self.label(default))?;
+        for line in behind {
+            let Reading::Case { value, label, .. } = &line.reading else {
+                break;
+            };
+            operands.push(self.operand(ty, value))?;
+            labels.push(self.label(label))?;
+        }
+        let none = Vec::new(alloc);
+        Ok(Some(Inst::of(None, Op::Switch, type_of(ty), operands, labels, none)))
+    }
+}
+
+impl Scope<'_, '_, '_, '_> {
+    fn layout(&self, name: &[u8]) -> u32
+        ensures { result ≡ number_in self.now.top.now.layouts name.now }
+    {
+        self.top.layouts.number(name)
+    }
+
+    fn external(&self, name: &[u8]) -> Callee
+        ensures { result ≡ external_callee (known_in self.now) name.now }
+    {
+        if is_text(name, b"print_i64") {
+            Callee::Print
+        } else if is_text(name, b"read_i64") {
+            Callee::Read
+        } else if is_text(name, b"task_start") {
+            Callee::TaskStart
+        } else if is_text(name, b"gc.safepoint_poll") {
+            Callee::Poll
+        } else if is_text(name, b"gc_check") {
+            Callee::Check
+        } else if is_text(name, b"gc_same") {
+            Callee::Same
+        } else {
+            Callee::New(self.layout(layout_made(name)))
+        }
+    }
+
+    fn callee(&self, name: &[u8]) -> Callee
+        ensures { result ≡ callee_of (known_in self.now) name.now }
+    {
+        match self.top.functions.find(name) {
+            Some(place) => Callee::Fun(FuncId(number_of(Some(place)))),
+            None => self.external(name),
+        }
+    }
+
+    fn passed_operand(&self, one: &Passed) -> Operand
+        ensures { result ≡ passed_operand (known_in self.now) (seen_passed one.now) }
+    {
+        match one {
+            Passed::Value(ty, value) => self.local.operand(*ty, value),
+            Passed::Function(name) => Operand::Fun(FuncId(self.top.functions.number(name))),
+        }
+    }
+
+    fn call(
+        &self,
+        alloc: Global,
+        name: Option<&[u8]>,
+        answer: TypeWord,
+        callee: &[u8],
+        passed: &[Passed],
+    ) -> Result<Option<Inst>, AllocError>
+        ensures { IfOk result (λ made. made ≡ Some (instruction (option_copied name.entry)
+            (Op.Call (callee_of (known_in self.now) callee.now) (map given_type (map seen_passed passed.now))) (type_of answer)
+            (map (passed_operand (known_in self.now)) (map seen_passed passed.now)) [])) }
+    {
+        let mut operands: Operands = SmallVec::new(alloc);
+        let mut types = Vec::new(alloc);
+        for one in passed {
+            operands.push(self.passed_operand(one))?;
+            types.push(type_of(passed_type(one)))?;
+        }
+        let op = Op::Call {
+            callee: self.callee(callee),
+            types: Types::of(types),
+        };
+        let name = named(alloc, name)?;
+        let labels = Vec::new(alloc);
+        let none = Vec::new(alloc);
+        Ok(Some(Inst::of(name, op, type_of(answer), operands, labels, none)))
+    }
+
+    fn layout_step(
+        &self,
+        alloc: Global,
+        name: &[u8],
+        layout: &[u8],
+        place: Option<Literal>,
+        address: &Value,
+        width: u32,
+        index: &Value,
+    ) -> Result<Option<Inst>, AllocError>
+        ensures { IfOk result (λ made. made ≡ Some (instruction (Some name.now)
+            (Op.Gep (Elem.Layout (number_in self.now.top.now.layouts layout.now)) width (option_map place_of place)) Ty.Ptr
+            (operand_in self.now.local.now.values TypeWord.Managed (seen_value address.now) ∷ operand_in self.now.local.now.values (TypeWord.Int width) (seen_value index.now) ∷ []) [])) }
+    {
+        let op = Op::Gep {
+            elem: Elem::Layout(self.layout(layout)),
+            index_width: width,
+            place: place_if_any(place),
+        };
+        self.local.step(alloc, name, op, address, width, index)
+    }
+
+    // The instruction of a line, where it is one; a `switch` has the cases that stand behind it.
+    fn instruction(
+        &self,
+        alloc: Global,
+        reading: &Reading,
+        behind: &[NumberedReading],
+    ) -> Result<Option<Inst>, AllocError>
+        ensures { IfOk result (λ made. made ≡ instruction_said (known_in self.now) (seen_lines behind.now) (said reading.now)) }
+    {
+        let local = self.local;
+        match reading {
+            Reading::Binary {
+                result,
+                op,
+                width,
+                left,
+                right,
+            } => local.binary(alloc, result, *op, *width, left, right),
+            Reading::Compare {
+                result,
+                pred,
+                ty,
+                left,
+                right,
+            } => local.compare(alloc, result, *pred, *ty, left, right),
+            Reading::Convert {
+                result,
+                op,
+                width,
+                value,
+                to,
+            } => local.convert(alloc, result, *op, *width, value, *to),
+            Reading::Select {
+                result,
+                condition,
+                left_ty,
+                left,
+                right_ty,
+                right,
+            } => local.select(alloc, result, condition, *left_ty, left, *right_ty, right),
+            Reading::Phi {
+                result,
+                ty,
+                entries,
+            } => local.phi(alloc, result, *ty, entries.as_slice()),
+            Reading::ScalarElement {
+                result,
+                element,
+                address,
+                width,
+                index,
+            } => local.scalar_step(alloc, result, *element, address, *width, index),
+            Reading::LayoutElement {
+                result,
+                layout,
+                address,
+                width,
+                index,
+                place,
+            } => self.layout_step(alloc, result, layout, *place, address, *width, index),
+            Reading::Load {
+                result,
+                ty,
+                address,
+            } => local.load(alloc, result, *ty, address),
+            Reading::Store { ty, value, address } => local.store(alloc, *ty, value, address),
+            Reading::ValueCall {
+                result,
+                answer,
+                callee,
+                passed,
+            } => self.call(alloc, Some(*result), *answer, callee, passed.as_slice()),
+            Reading::VoidCall { callee, passed } => {
+                self.call(alloc, None, TypeWord::Void, callee, passed.as_slice())
+            }
+            Reading::Jump { label } => local.jump(alloc, label),
+            Reading::Branch {
+                condition,
+                on_true,
+                on_false,
+            } => local.branch(alloc, condition, on_true, on_false),
+            Reading::Switch {
+                width,
+                value,
+                default,
+            } => local.switch(alloc, *width, value, default, behind),
+            Reading::ReturnVoid => inst(alloc, None, Op::Ret, Ty::Void, &[], &[]),
+            Reading::Return { ty, value } => local.ret(alloc, *ty, value),
+            Reading::Unreachable => inst(alloc, None, Op::Unreachable, Ty::Void, &[], &[]),
+            _ => Ok(None),
+        }
+    }
+
+    // A block, and the lines of its instructions behind the others.
+    fn block(
+        &self,
+        alloc: Global,
+        block: &BlockLines,
+        numbers: &mut Vec<u32>,
+    ) -> Result<Block, AllocError>
+        requires { EndsAtTerminator (insts_of (known_in self.now) (seen_lines block.now.lines.now)) }
+        ensures block { IfOk result (λ made. made ≡ record {
+          name = block.now.name.now;
+          insts = insts_of (known_in self.now) (seen_lines block.now.lines.now);
+        }) }
+        ensures numbers { OnOk result (numbers.new.items
+            ≡ numbers.old.items ++ numbers_of (known_in self.now) (seen_lines block.now.lines.now)) }
+    {
+        let insts = self.insts(alloc, block.lines, numbers)?;
+        let name = owned(alloc, block.name)?;
+        Ok(Block::of(name, insts))
+    }
+
+    fn insts(
+        &self,
+        alloc: Global,
+        lines: &[NumberedReading],
+        numbers: &mut Vec<u32>,
+    ) -> Result<Vec<Inst>, AllocError>
+        ensures insts { IfOk result (λ insts. insts.items ≡ insts_of (known_in self.now) (seen_lines lines.now)) }
+        ensures numbers { OnOk result (numbers.new.items ≡ numbers.old.items ++ numbers_of (known_in self.now) (seen_lines lines.now)) }
+    {
+        let mut insts = Vec::new(alloc);
+        for (i, line) in lines.iter().enumerate() {
+            let made = self.instruction(alloc, &line.reading, behind(lines, i))?;
+            keep(&mut insts, numbers, line.line, made)?;
+        }
+        Ok(insts)
+    }
+}
+
+// The lines behind one.
+fn behind<'t, 'a>(lines: &'t [NumberedReading<'a>], i: usize) -> &'t [NumberedReading<'a>]
+    requires { i < length lines.now }
+    ensures { result.now ≡ drop (i + 1) lines.now }
+{
+    &lines[i + 1..]
+}
+
+// Adds an instruction and its line behind the others, where there is one.
+fn keep(
+    insts: &mut Vec<Inst>,
+    numbers: &mut Vec<u32>,
+    line: u32,
+    made: Option<Inst>,
+) -> Result<(), AllocError>
+    ensures insts { OnOk result (insts.new.items ≡ insts.old.items ++ map (λ one. one.1) (with_line line made)) }
+    ensures numbers { OnOk result (numbers.new.items ≡ numbers.old.items ++ map (λ one. one.0) (with_line line made)) }
+{
+    match made {
+        Some(inst) => {
+            insts.push(inst)?;
+            numbers.push(line)?;
+            Ok(())
+        }
+        None => Ok(()),
+    }
+}
+
+fn arguments_of(
+    alloc: Global,
+    func: &Definition,
+    names: &HeadNames,
+) -> Result<Vec<Arg>, AllocError> {
+    let mut args = Vec::new(alloc);
+    for (argument, name) in func.arguments.iter().zip(names.arguments.iter()) {
+        args.push(Arg {
+            name: owned(alloc, name.as_slice())?,
+            ty: type_of(argument.ty),
+        })?;
+    }
+    Ok(args)
+}
+
+// The function that a definition stands for, with the lines of its instructions.
+fn function_of(alloc: Global, top: &Top, func: &Definition) -> Result<Func, AllocError> {
+    let names = HeadNames::of(alloc, func.arguments)?;
+    let sections = blocks(alloc, func, names.entry.as_slice())?;
+    let mut unused = First::NONE;
+    let local = Local::of(alloc, func, &names, sections.as_slice(), &mut unused)?;
+    let scope = Scope { top, local: &local };
+    let mut numbers = Vec::new(alloc);
+    let mut built = Vec::new(alloc);
+    for block in &sections {
+        built.push(scope.block(alloc, block, &mut numbers)?)?;
+    }
+    let whole = Func::of(
+        owned(alloc, func.name)?,
+        type_of(func.answer),
+        arguments_of(alloc, func, &names)?,
+        built,
+    );
+    Ok(whole.with_lines(numbers))
+}
+
+fn layout_of(alloc: Global, name: &[u8], fields: &[TypeWord]) -> Result<Layout, AllocError> {
+    let mut cells = Vec::new(alloc);
+    for field in fields {
+        cells.push(cell_of(*field))?;
+    }
+    Ok(Layout::of(owned(alloc, name)?, cells))
+}
+
+/// The module that these lines stand for, with the lines of its instructions.
+pub(crate) fn module_of(alloc: Global, lines: &[NumberedReading]) -> Result<Module, AllocError>
+    requires { IsPlaced (seen_lines lines.now) }
+    ensures { IfOk result (λ whole. whole ≡ module_of (seen_lines lines.now)) }
+{
+    let mut unused = First::NONE;
+    let top = Top::of(alloc, lines, &mut unused)?;
+    let mut layouts = Vec::new(alloc);
+    for line in lines {
+        if let Reading::Layout { name, fields } = &line.reading {
+            layouts.push(layout_of(alloc, name, fields.as_slice())?)?;
+        }
+    }
+    let mut funcs = Vec::new(alloc);
+    for func in &definitions(alloc, lines)? {
+        funcs.push(function_of(alloc, &top, func)?)?;
+    }
+    Ok(Module::of(layouts, funcs, Form::Source))
+}

@@ -1,0 +1,160 @@
+//! Derived pointers (Garbage Collection Safepoints in LLVM, "Base & Derived Pointers").
+
+use crate::best::First;
+use crate::parts::{call_parts, given, is_merge, is_step, uses};
+use crate::scope::Local;
+use ir_reader::{NumberedReading, Passed, Reading, Value};
+use std::alloc::{AllocError, Global};
+
+/// Which values of a function are derived, by number.
+#[derive(Drop)]
+struct Marks {
+    marked: Vec<bool>,
+    // Marked values whose users are still to be looked at.
+    open: Vec<usize>,
+}
+
+impl Marks {
+    fn is_marked(&self, value: usize) -> bool {
+        self.marked.get(value).copied().unwrap_or(false)
+    }
+
+    fn mark(&mut self, value: usize) -> Result<(), AllocError> {
+        if let Some(mark) = self.marked.get_mut(value) {
+            if !*mark {
+                *mark = true;
+                self.open.push(value)?;
+            }
+        }
+        Ok(())
+    }
+}
+
+// For each value the phis and selects that use it.
+type Users = Vec<Vec<usize>>;
+
+fn add_user(users: &mut Users, value: usize, user: usize) -> Result<(), AllocError> {
+    if let Some(users) = users.get_mut(value) {
+        users.push(user)?;
+    }
+    Ok(())
+}
+
+// Marks the result of a step, and adds the result of a phi or select to the users of its operands. The line gives
+// the value with this number.
+fn note_line(
+    alloc: Global,
+    local: &Local,
+    value: usize,
+    reading: &Reading,
+    marks: &mut Marks,
+    users: &mut Users,
+) -> Result<(), AllocError> {
+    if is_step(reading) {
+        marks.mark(value)?;
+    }
+    if is_merge(reading) {
+        let uses = uses(alloc, reading)?;
+        for (operand, _) in &uses {
+            if let Value::Local(name) = operand
+                && let Some(used) = local.values.find(name)
+            {
+                add_user(users, used, value)?;
+            }
+        }
+    }
+    Ok(())
+}
+
+// The number of the result of a line that is the first to give its name.
+fn first_given(local: &Local, number: usize, reading: &Reading) -> Option<usize> {
+    let (name, _) = given(reading)?;
+    let found = local.values.find(name)?;
+    if found == number { Some(found) } else { None }
+}
+
+/// Which values of a function are derived, by number: the results of `getelementptr`, and of each phi and select
+/// with a derived operand.
+fn derived(
+    alloc: Global,
+    local: &Local,
+    arguments: usize,
+    body: &[NumberedReading],
+) -> Result<Marks, AllocError> {
+    let mut marks = Marks {
+        marked: Vec::new(alloc),
+        open: Vec::new(alloc),
+    };
+    let mut users: Users = Vec::new(alloc);
+    for _ in local.values.list() {
+        marks.marked.push(false)?;
+        users.push(Vec::new(alloc))?;
+    }
+    let mut number = arguments;
+    for line in body {
+        if let Some(value) = first_given(local, number, &line.reading) {
+            note_line(alloc, local, value, &line.reading, &mut marks, &mut users)?;
+        }
+        if given(&line.reading).is_some() {
+            number = number.saturating_add(1);
+        }
+    }
+    while let Some(value) = marks.open.pop() {
+        if let Some(users) = users.get(value) {
+            for user in users {
+                marks.mark(*user)?;
+            }
+        }
+    }
+    Ok(marks)
+}
+
+impl Local<'_> {
+    fn is_derived(&self, marks: &Marks, value: &Value) -> bool {
+        match value {
+            Value::Local(name) => match self.values.find(name) {
+                Some(number) => marks.is_marked(number),
+                None => false,
+            },
+            _ => false,
+        }
+    }
+
+    fn passes_derived(&self, marks: &Marks, passed: &[Passed]) -> bool {
+        for one in passed {
+            if let Passed::Value(_, value) = one {
+                if self.is_derived(marks, value) {
+                    return true;
+                }
+            }
+        }
+        false
+    }
+
+    // Whether a derived value is stored, passed or returned.
+    fn lets_escape(&self, marks: &Marks, reading: &Reading) -> bool {
+        match reading {
+            Reading::Store { value, .. } => self.is_derived(marks, value),
+            Reading::Return { value, .. } => self.is_derived(marks, value),
+            _ => match call_parts(reading) {
+                Some(call) => self.passes_derived(marks, call.passed),
+                None => false,
+            },
+        }
+    }
+}
+
+/// Notes the lines where a derived value is stored, passed or returned.
+pub(crate) fn note_escapes(
+    alloc: Global,
+    local: &Local,
+    arguments: usize,
+    body: &[NumberedReading],
+    first: &mut First,
+) -> Result<(), AllocError> {
+    let marks = derived(alloc, local, arguments, body)?;
+    for line in body {
+        first.note_if(local.lets_escape(&marks, &line.reading), line.line, 9);
+    }
+    Ok(())
+}

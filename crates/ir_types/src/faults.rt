@@ -1,0 +1,42 @@
+use std::alloc::{AllocError, AllocFailed};
+use std::error::Error;
+use std::fmt;
+
+/// A fault of a module: the number of its line, from 1, or 0 where it has none, and its code.
+#[derive(Clone, Copy, Debug, PartialEq, Eq)]
+pub struct Fault {
+    pub line: u32,
+    pub code: u8,
+}
+
+/// Why readings stand for no source module.
+#[derive(Clone, Copy, Debug, PartialEq, Eq)]
+pub enum TypeFault {
+    /// The first fault: the least line, and of that the least code.
+    Fault(Fault),
+    /// Memory that was wanted and could not be had.
+    Memory,
+}
+
+impl fmt::Display for TypeFault {
+    fn fmt<W: fmt::Write>(&self, f: &mut fmt::Formatter<W>) -> fmt::Result {
+        match self {
+            TypeFault::Fault(fault) => write!(f, "line {}: fault {}", fault.line, fault.code),
+            TypeFault::Memory => f.write_str("out of memory"),
+        }
+    }
+}
+
+impl Error for TypeFault {}
+
+impl From<AllocError> for TypeFault {
+    fn from(_error: AllocError) -> Self {
+        TypeFault::Memory
+    }
+}
+
+impl<T: Drop> From<AllocFailed<T>> for TypeFault {
+    fn from(_failed: AllocFailed<T>) -> Self {
+        TypeFault::Memory
+    }
+}

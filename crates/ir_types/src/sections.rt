@@ -1,0 +1,184 @@
+//! The definitions of a text, and their blocks.
+
+ghost use Rattle.std.specs.Prelude.{◌≡◌, not, take_while, decimal, IfOk};
+ghost use Rattle.std.specs.Option.{option_copied};
+ghost use Rattle.ir_reader.specs.Seen.{seen_argument};
+ghost use Rattle.ir_types.specs.Sections.{is_close, is_label, label_said, is_digit, is_number, is_numbered};
+ghost use Rattle.std.specs.List.{list_all};
+ghost use Rattle.ir_types.specs.Views.{said, seen_lines};
+
+use crate::names::NOWHERE;
+use ir_reader::{Argument, NumberedReading, Reading, TypeWord};
+use std::alloc::{AllocError, Global};
+
+/// A definition: its head, and the lines between the head and the closing brace.
+#[derive(Clone, Copy)]
+pub(crate) struct Definition<'t, 'a> {
+    pub(crate) line: u32,
+    pub(crate) answer: TypeWord,
+    pub(crate) name: &'a [u8],
+    pub(crate) arguments: &'t [Argument<'a>],
+    pub(crate) strategy: Option<&'a [u8]>,
+    pub(crate) body: &'t [NumberedReading<'a>],
+}
+
+/// A block: the line and the name of its label, or of the head where the first block has none, and its lines.
+#[derive(Clone, Copy)]
+pub(crate) struct BlockLines<'t, 'a, 'n> {
+    pub(crate) line: u32,
+    pub(crate) name: &'n [u8],
+    pub(crate) lines: &'t [NumberedReading<'a>],
+}
+
+fn is_close(reading: &Reading) -> bool
+    ensures { result ≡ is_close (said reading.now) }
+{
+    matches!(reading, Reading::Close)
+}
+
+fn label_of<'a>(reading: &Reading<'a>) -> Option<&'a [u8]>
+    ensures { option_copied result ≡ label_said (said reading.now) }
+{
+    match reading {
+        Reading::Label { name } => Some(*name),
+        _ => None,
+    }
+}
+
+// The lines before the closing brace.
+fn body_of<'t, 'a>(lines: &'t [NumberedReading<'a>]) -> &'t [NumberedReading<'a>] {
+    for (i, line) in lines.iter().enumerate() {
+        if is_close(&line.reading) {
+            return &lines[..i];
+        }
+    }
+    lines
+}
+
+// The lines before the next label.
+fn until_label<'t, 'a>(lines: &'t [NumberedReading<'a>]) -> &'t [NumberedReading<'a>] {
+    for (i, line) in lines.iter().enumerate() {
+        if label_of(&line.reading).is_some() {
+            return &lines[..i];
+        }
+    }
+    lines
+}
+
+/// The definitions of a text, in its order.
+pub(crate) fn definitions<'t, 'a>(
+    alloc: Global,
+    lines: &'t [NumberedReading<'a>],
+) -> Result<Vec<Definition<'t, 'a>>, AllocError> {
+    let mut found = Vec::new(alloc);
+    for (i, line) in lines.iter().enumerate() {
+        if let Reading::Define {
+            answer,
+            name,
+            arguments,
+            strategy,
+        } = &line.reading
+        {
+            found.push(Definition {
+                line: line.line,
+                answer: *answer,
+                name,
+                arguments: arguments.as_slice(),
+                strategy: *strategy,
+                body: body_of(&lines[i + 1..]),
+            })?;
+        }
+    }
+    Ok(found)
+}
+
+fn is_digit(byte: u8) -> bool
+    ensures { result ≡ is_digit byte }
+{
+    48 <= byte && byte <= 57
+}
+
+fn are_digits(name: &[u8]) -> bool
+    ensures { result ≡ list_all is_digit name.now }
+{
+    name.iter().all(|byte| is_digit(*byte))
+}
+
+fn is_number(name: &[u8]) -> bool
+    ensures { result ≡ is_number name.now }
+{
+    name.len() != 0 && are_digits(name)
+}
+
+fn is_numbered(argument: &Argument) -> bool
+    ensures { result ≡ is_numbered (seen_argument argument.now).name }
+{
+    match argument.name {
+        Some(name) => is_number(name),
+        None => true,
+    }
+}
+
+fn decimal(alloc: Global, number: u32) -> Result<Vec<u8>, AllocError>
+    ensures { IfOk result (λ bytes. bytes.items ≡ decimal number) }
+{
+    Ok(number.to_string(alloc)?.into_bytes())
+}
+
+/// The names that a head gives: those of its arguments, and that of its first block where that has no label.
+#[derive(Drop)]
+pub(crate) struct HeadNames {
+    pub(crate) arguments: Vec<Vec<u8>>,
+    pub(crate) entry: Vec<u8>,
+}
+
+impl HeadNames {
+    /// The names that the head with these arguments gives.
+    pub(crate) fn of(alloc: Global, arguments: &[Argument]) -> Result<HeadNames, AllocError> {
+        let mut names = Vec::new(alloc);
+        let mut numbered = 0u32;
+        for argument in arguments {
+            names.push(match argument.name {
+                Some(name) => Vec::from_slice(alloc, name)?,
+                None => decimal(alloc, numbered)?,
+            })?;
+            if is_numbered(argument) && numbered < NOWHERE {
+                numbered += 1;
+            }
+        }
+        let entry = decimal(alloc, numbered)?;
+        Ok(HeadNames {
+            arguments: names,
+            entry,
+        })
+    }
+}
+
+/// The blocks of a definition, in its order.
+pub(crate) fn blocks<'t, 'a: 'n, 'n>(
+    alloc: Global,
+    func: &Definition<'t, 'a>,
+    entry: &'n [u8],
+) -> Result<Vec<BlockLines<'t, 'a, 'n>>, AllocError> {
+    let mut found = Vec::new(alloc);
+    let body = func.body;
+    if let Some(first) = body.first()
+        && label_of(&first.reading).is_none()
+    {
+        found.push(BlockLines {
+            line: func.line,
+            name: entry,
+            lines: until_label(body),
+        })?;
+    }
+    for (i, line) in body.iter().enumerate() {
+        if let Some(name) = label_of(&line.reading) {
+            found.push(BlockLines {
+                line: line.line,
+                name,
+                lines: until_label(&body[i + 1..]),
+            })?;
+        }
+    }
+    Ok(found)
+}

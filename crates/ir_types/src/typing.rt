@@ -1,0 +1,24 @@
+//! The module that readings stand for, or the first fault.
+
+ghost use Rattle.ir_types.specs.Answers.{Answers};
+ghost use Rattle.ir_types.specs.Views.{seen_lines};
+
+use crate::build::module_of;
+use crate::checks::first_fault;
+use crate::faults::TypeFault;
+use ir_ast::Module;
+use ir_reader::Raw;
+use std::alloc::Global;
+
+/// The source module that the readings of a text stand for, with the lines of its instructions; or the first of its
+/// faults, the least line and of that the least code. That uses are definite is judged apart, over the paths of the
+/// module. [`TypeFault::Memory`] says nothing of the text.
+pub fn typed(alloc: Global, raw: Raw) -> Result<Module, TypeFault>
+    ensures { Answers (seen_lines raw.entry.lines) result }
+{
+    let lines = raw.lines();
+    match first_fault(alloc, lines)? {
+        Some(fault) => Err(TypeFault::Fault(fault)),
+        None => Ok(module_of(alloc, lines)?),
+    }
+}
