@@ -14,3 +14,4 @@ pub mod Notes
 pub mod Placed
 pub mod Views
 pub mod Known
+pub mod Tables
