@@ -12,8 +12,6 @@ use Rattle.ir_ast.specs.declared.funcs.Arg.{Arg}
 use Rattle.ir_ast.specs.declared.modules.Form.TheVariants.{Source}
 use Rattle.ir_ast.specs.declared.ops.Op.{Op}
 use Rattle.ir_ast.specs.declared.ops.Op.TheVariants as ops
-use Rattle.ir_ast.specs.declared.ops.Pred.{Pred}
-use Rattle.ir_ast.specs.declared.ops.Pred.TheVariants as predicates
 use Rattle.ir_ast.specs.declared.ops.Operand.{Operand}
 use Rattle.ir_ast.specs.declared.ops.Operand.TheVariants as operands
 use Rattle.ir_ast.specs.declared.ops.Callee.{Callee}
@@ -32,8 +30,6 @@ use Rattle.ir_reader.specs.declared.words.Binary.{Binary}
 use Rattle.ir_reader.specs.declared.words.Binary.TheVariants as binaries
 use Rattle.ir_reader.specs.declared.words.Conversion.{Conversion}
 use Rattle.ir_reader.specs.declared.words.Conversion.TheVariants as conversions
-use Rattle.ir_reader.specs.declared.words.Pred.{Pred as PredWord}
-use Rattle.ir_reader.specs.declared.words.Pred.TheVariants as words
 use Rattle.ir_reader.specs.Parts.{Val}
 use Rattle.ir_reader.specs.Parts as values
 use Rattle.ir_reader.specs.Lists.{Given, given, function}
@@ -87,18 +83,6 @@ binary_of binaries.Xor = ops.Xor
 binary_of binaries.Shl = ops.Shl
 binary_of binaries.Lshr = ops.Lshr
 binary_of binaries.Ashr = ops.Ashr
-
-abbrev pub predicate_of : PredWord → Pred
-predicate_of words.Eq = predicates.Eq
-predicate_of words.Ne = predicates.Ne
-predicate_of words.Ugt = predicates.Ugt
-predicate_of words.Uge = predicates.Uge
-predicate_of words.Ult = predicates.Ult
-predicate_of words.Ule = predicates.Ule
-predicate_of words.Sgt = predicates.Sgt
-predicate_of words.Sge = predicates.Sge
-predicate_of words.Slt = predicates.Slt
-predicate_of words.Sle = predicates.Sle
 
 abbrev pub conversion_of : Conversion → ℕ → Op
 conversion_of conversions.Trunc to = ops.Trunc to
@@ -199,7 +183,7 @@ instruction_said known behind (binary result op width left right) =
     Some (instruction (Some result) (binary_of op) (tys.Int width)
     (operand_of known (types.Int width) left ∷ operand_of known (types.Int width) right ∷ []) [])
 instruction_said known behind (compare result predicate ty left right) =
-    Some (instruction (Some result) (ops.Icmp (predicate_of predicate)) (type_of ty)
+    Some (instruction (Some result) (ops.Icmp predicate) (type_of ty)
     (operand_of known ty left ∷ operand_of known ty right ∷ []) [])
 instruction_said known behind (convert result op width value to) =
     Some (instruction (Some result) (conversion_of op to) (tys.Int width) (operand_of known (types.Int width) value ∷ []) [])

@@ -5,8 +5,8 @@ use Rattle.ir_reader.specs.declared.forms.Form.TheVariants as forms
 use Rattle.ir_reader.specs.declared.words.Binary.{Binary}
 use Rattle.ir_reader.specs.declared.words.Conversion.{Conversion}
 use Rattle.ir_reader.specs.declared.words.Cast.{Cast}
-use Rattle.ir_reader.specs.declared.words.Pred.{Pred}
-use Rattle.ir_reader.specs.declared.words.Pred.TheVariants as preds
+use Rattle.ir_ast.specs.declared.ops.Pred.{Pred}
+use Rattle.ir_ast.specs.declared.ops.Pred.TheVariants as preds
 use Rattle.ir_reader.specs.declared.readings.TypeWord.{TypeWord}
 use Rattle.ir_reader.specs.declared.readings.TypeWord.TheVariants as types
 use Rattle.ir_reader.specs.declared.readings.Literal.{Literal}

@@ -8,17 +8,17 @@ ghost use Rattle.ir_types.specs.Places.{number_in};
 ghost use Rattle.ir_types.specs.Views.{said, seen_lines};
 ghost use Rattle.ir_types.specs.Known.{known_in};
 ghost use Rattle.ir_types.specs.Placed.{IsPlaced};
-ghost use Rattle.ir_types.specs.Modules.{module_of, instruction, instruction_said, with_line, insts_of, numbers_of, external_callee, callee_of, passed_operand, given_type, case_values, case_labels, element_of, entry_operand, entry_label, operand_in, label_in, type_of, binary_of, predicate_of, conversion_of, cell_of, place_of};
+ghost use Rattle.ir_types.specs.Modules.{module_of, instruction, instruction_said, with_line, insts_of, numbers_of, external_callee, callee_of, passed_operand, given_type, case_values, case_labels, element_of, entry_operand, entry_label, operand_in, label_in, type_of, binary_of, conversion_of, cell_of, place_of};
 
 use crate::best::First;
 use crate::lines::{Scope, passed_type};
 use crate::names::{NOWHERE, is_text, number_of};
-use crate::operands::{binary_of, conversion_of, element_of, predicate_of, type_of};
+use crate::operands::{binary_of, conversion_of, element_of, type_of};
 use crate::scope::{Local, Top};
 use crate::sections::{BlockLines, Definition, HeadNames, blocks, definitions};
 use ir_ast::{
     Arg, Block, Callee, Cell, Elem, Form, Func, Inst, Layout, Module, Name, Op, Operand, Operands,
-    Ty, Types,
+    Pred, Ty, Types,
 };
 use ir_reader::{
     Binary, Conversion, Entry, Literal, NumberedReading, Passed, Reading, TypeWord, Value,
@@ -125,16 +125,16 @@ impl Local<'_> {
         &self,
         alloc: Global,
         name: &[u8],
-        pred: ir_reader::Pred,
+        pred: Pred,
         ty: TypeWord,
         left: &Value,
         right: &Value,
     ) -> Result<Option<Inst>, AllocError>
-        ensures { IfOk result (λ made. made ≡ Some (instruction (Some name.now) (Op.Icmp (predicate_of pred)) (type_of ty)
+        ensures { IfOk result (λ made. made ≡ Some (instruction (Some name.now) (Op.Icmp pred) (type_of ty)
             (operand_in self.now.values ty (seen_value left.now) ∷ operand_in self.now.values ty (seen_value right.now) ∷ []) [])) }
     {
         let operands = [self.operand(ty, left), self.operand(ty, right)];
-        let op = Op::Icmp(predicate_of(pred));
+        let op = Op::Icmp(pred);
         inst(alloc, Some(name), op, type_of(ty), &operands, &[])
     }
 

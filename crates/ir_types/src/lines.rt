@@ -13,9 +13,8 @@ use crate::literals::is_cell;
 use crate::names::is_text;
 use crate::parts::{CallParts, Uses, call_parts, entries, targets, uses};
 use crate::scope::{Head, Local, Top};
-use ir_reader::{
-    Argument, Conversion, Literal, NumberedReading, Passed, Pred, Reading, TypeWord, Value,
-};
+use ir_ast::Pred;
+use ir_reader::{Argument, Conversion, Literal, NumberedReading, Passed, Reading, TypeWord, Value};
 use std::alloc::{AllocError, Global};
 
 /// What the lines of a function can name.

@@ -2,11 +2,11 @@
 
 ghost use Rattle.std.specs.Prelude.{◌≡◌};
 ghost use Rattle.ir_reader.specs.Seen.{seen_value};
-ghost use Rattle.ir_types.specs.Modules.{operand_in, label_in, type_of, element_of, binary_of, predicate_of, conversion_of, width_of};
+ghost use Rattle.ir_types.specs.Modules.{operand_in, label_in, type_of, element_of, binary_of, conversion_of, width_of};
 
 use crate::literals::wrapped;
 use crate::scope::Local;
-use ir_ast::{Elem, Op, Operand, Pred, Ty};
+use ir_ast::{Elem, Op, Operand, Ty};
 use ir_reader::{Binary, Conversion, TypeWord, Value};
 use sp_ids::{BlockId, ValueId};
 
@@ -48,23 +48,6 @@ pub(crate) fn binary_of(op: Binary) -> Op
         Binary::Shl => Op::Shl,
         Binary::Lshr => Op::Lshr,
         Binary::Ashr => Op::Ashr,
-    }
-}
-
-pub(crate) fn predicate_of(pred: ir_reader::Pred) -> Pred
-    ensures { result ≡ predicate_of pred }
-{
-    match pred {
-        ir_reader::Pred::Eq => Pred::Eq,
-        ir_reader::Pred::Ne => Pred::Ne,
-        ir_reader::Pred::Ugt => Pred::Ugt,
-        ir_reader::Pred::Uge => Pred::Uge,
-        ir_reader::Pred::Ult => Pred::Ult,
-        ir_reader::Pred::Ule => Pred::Ule,
-        ir_reader::Pred::Sgt => Pred::Sgt,
-        ir_reader::Pred::Sge => Pred::Sge,
-        ir_reader::Pred::Slt => Pred::Slt,
-        ir_reader::Pred::Sle => Pred::Sle,
     }
 }
 

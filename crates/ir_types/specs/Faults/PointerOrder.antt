@@ -2,8 +2,8 @@
 use Rattle.std.specs.Prelude.{ℕ, Bool, true, false, List}
 use Rattle.ir_reader.specs.declared.readings.TypeWord.{TypeWord}
 use Rattle.ir_reader.specs.declared.readings.TypeWord.TheVariants.{Managed}
-use Rattle.ir_reader.specs.declared.words.Pred.{Pred}
-use Rattle.ir_reader.specs.declared.words.Pred.TheVariants.{Eq, Ne}
+use Rattle.ir_ast.specs.declared.ops.Pred.{Pred}
+use Rattle.ir_ast.specs.declared.ops.Pred.TheVariants.{Eq, Ne}
 use Rattle.ir_types.specs.Statements.{Line, Statement, compare}
 use Rattle.ir_types.specs.Scope.{Scope}
 use Rattle.ir_types.specs.InBody.{InBody}
