@@ -4,3 +4,7 @@ pub mod Samples
 pub mod TypeLists
 pub mod CaseLemmas
 pub mod NoteLemmas
+pub mod Members
+pub mod AgainLemmas
+pub mod PlaceLemmas
+pub mod TopLemmas
