@@ -8,3 +8,4 @@ pub mod Members
 pub mod AgainLemmas
 pub mod PlaceLemmas
 pub mod TopLemmas
+pub mod FrontLemmas

@@ -5,11 +5,11 @@ ghost use Rattle.std.specs.Option.{option_copied};
 ghost use Rattle.std.specs.Str.{bytes_eq};
 ghost use Rattle.std.specs.List.{Contains, list_all};
 ghost use Rattle.ir_ast.specs.Lists.{HasFront};
-ghost use Rattle.ir_ast.specs.Faults.Reserved.{IsExternalName};
+ghost use Rattle.ir_ast.specs.Faults.Reserved.{externals, IsExternalName};
 ghost use Rattle.ir_reader.specs.Seen.{seen_argument};
 ghost use Rattle.ir_types.specs.Sections.{types_of};
 ghost use Rattle.ir_types.specs.Types.{same_type, same_types, is_cell};
-ghost use Rattle.ir_types.specs.Externals.{external, externals_of, own_externals, own_helpers, helpers, gc_new};
+ghost use Rattle.ir_types.specs.Externals.{external, externals_of, own_externals, own_basics, own_helpers, basics, helpers, gc_new};
 ghost use Rattle.ir_types.specs.Notes.{Notes};
 ghost use Rattle.ir_types.specs.Tables.{seen_definition};
 ghost use Rattle.ir_types.specs.TopFaults.{DeclareFault, DefineFault, OuterFault, OuterFaults, LacksMain};
@@ -68,15 +68,26 @@ fn is_of_llvm(name: &[u8]) -> bool
     name.starts_with(b"llvm.")
 }
 
+fn is_basic(name: &[u8]) -> bool
+    ensures { IsTrue result ↔ Contains basics name.now }
+{
+    is_text(name, b"print_i64") || is_text(name, b"read_i64") || is_text(name, b"task_start")
+}
+
+// Whether it is the name of an external whose name is whole.
+fn is_whole_name(name: &[u8]) -> bool
+    ensures { IsTrue result ↔ Contains externals name.now }
+{
+    if is_basic(name) {
+        return true;
+    }
+    is_helper(name)
+}
+
 fn is_external_name(name: &[u8]) -> bool
     ensures { IsTrue result ↔ IsExternalName name.now }
 {
-    is_text(name, b"print_i64")
-        || is_text(name, b"read_i64")
-        || is_text(name, b"task_start")
-        || is_helper(name)
-        || name.starts_with(GC_NEW)
-        || is_of_llvm(name)
+    is_whole_name(name) || has_gc_new(name) || is_of_llvm(name)
 }
 
 // Whether the declaration is the external of this name, with its answer and its parameters.
@@ -90,7 +101,13 @@ fn is_same(
 ) -> bool
     ensures { IsTrue result ↔ (external name.now answer (types_of (map seen_argument parameters.now)) ≡ external due.now gives takes.now) }
 {
-    is_text(name, due) && answer == gives && has_types(parameters, takes)
+    if !is_text(name, due) {
+        return false;
+    }
+    if answer != gives {
+        return false;
+    }
+    has_types(parameters, takes)
 }
 
 fn has_gc_new(name: &[u8]) -> bool
@@ -110,6 +127,15 @@ fn is_gc_new(answer: TypeWord, parameters: &[Argument]) -> bool
 fn is_own(name: &[u8], answer: TypeWord, parameters: &[Argument]) -> bool
     ensures { IsTrue result ↔ Contains own_externals (external name.now answer (types_of (map seen_argument parameters.now))) }
 {
+    if is_own_basic(name, answer, parameters) {
+        return true;
+    }
+    is_own_helper(name, answer, parameters)
+}
+
+fn is_own_basic(name: &[u8], answer: TypeWord, parameters: &[Argument]) -> bool
+    ensures { IsTrue result ↔ Contains own_basics (external name.now answer (types_of (map seen_argument parameters.now))) }
+{
     is_same(name, answer, parameters, b"print_i64", TypeWord::Void, &[TypeWord::Int(64)])
         || is_same(name, answer, parameters, b"read_i64", TypeWord::Int(64), &[])
         || is_same(
@@ -120,7 +146,6 @@ fn is_own(name: &[u8], answer: TypeWord, parameters: &[Argument]) -> bool
             TypeWord::Void,
             &[TypeWord::Plain, TypeWord::Managed],
         )
-        || is_own_helper(name, answer, parameters)
 }
 
 fn is_own_helper(name: &[u8], answer: TypeWord, parameters: &[Argument]) -> bool
@@ -155,14 +180,23 @@ impl Top<'_, '_> {
     fn makes_layout(&self, name: &[u8]) -> bool
         ensures { IsTrue result ↔ Contains (map gc_new self.now.layouts) name.now }
     {
-        has_gc_new(name) && self.layouts.find(&name[GC_NEW.len()..]).is_some()
+        match name.strip_prefix(GC_NEW) {
+            Some(layout) => self.layouts.find(layout).is_some(),
+            None => false,
+        }
     }
 
     // Whether it is one of the externals, with its answer and its parameters.
     fn is_external(&self, answer: TypeWord, name: &[u8], parameters: &[Argument]) -> bool
         ensures { IsTrue result ↔ Contains (externals_of self.now.layouts) (external name.now answer (types_of (map seen_argument parameters.now))) }
     {
-        (self.makes_layout(name) && is_gc_new(answer, parameters)) || is_own(name, answer, parameters)
+        if is_own(name, answer, parameters) {
+            return true;
+        }
+        if !is_gc_new(answer, parameters) {
+            return false;
+        }
+        self.makes_layout(name)
     }
 
     // Notes the faults of a declaration.
