@@ -9,3 +9,4 @@ pub mod AgainLemmas
 pub mod PlaceLemmas
 pub mod TopLemmas
 pub mod FrontLemmas
+pub mod TableLemmas

@@ -47,25 +47,25 @@ pub record IsDefined (lines : List Line) (number : ℕ) (name : List ℕ) : Type
   pub line : func.line ≡ number
   pub named : func.name ≡ name
 
+abbrev here-definition : List Line → ℕ → TypeWord → List ℕ → List Named → Option (List ℕ) → Definition
+here-definition ls number answer name arguments strategy = record {
+  line = number;
+  answer = answer;
+  name = name;
+  arguments = arguments;
+  strategy = strategy;
+  body = take_while (λ one. not (is_close one.says)) ls;
+}
+
 here-defined : (l : Line) (ls : List Line) (number : ℕ) (answer : TypeWord) (name : List ℕ) (arguments : List Named) (strategy : Option (List ℕ))
     → l ≡ at number (define answer name arguments strategy) → IsDefined (l ∷ ls) number name
 here-defined l ls number answer name arguments strategy e =
     subst (λ (one : Line). IsDefined (one ∷ ls) number name) (sym e) (record {
-      func = here-definition;
-      defined = contains-here here-definition (definitions_of ls);
+      func = here-definition ls number answer name arguments strategy;
+      defined = contains-here (here-definition ls number answer name arguments strategy) (definitions_of ls);
       line = refl;
       named = refl;
     })
-  where
-    abbrev here-definition : Definition
-    here-definition = record {
-      line = number;
-      answer = answer;
-      name = name;
-      arguments = arguments;
-      strategy = strategy;
-      body = take_while (λ one. not (is_close one.says)) ls;
-    }
 
 pub line-definition : (lines : List Line) (number : ℕ) (answer : TypeWord) (name : List ℕ) (arguments : List Named) (strategy : Option (List ℕ))
     → Contains lines (at number (define answer name arguments strategy)) → IsDefined lines number name
