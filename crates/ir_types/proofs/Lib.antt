@@ -10,3 +10,4 @@ pub mod PlaceLemmas
 pub mod TopLemmas
 pub mod FrontLemmas
 pub mod TableLemmas
+pub mod ExternalLemmas

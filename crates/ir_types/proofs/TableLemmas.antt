@@ -1,8 +1,9 @@
 -- One more line, argument or block in a table, and what is noted of its names.
 use Rattle.std.proofs.Common.{◌≡◌, ◌∙◌, ℕ, ◌+◌, ◌<◌, zero, suc, ◌⊎◌, inl, inr, Bool, true, false, List, [], ◌∷◌, ◌++◌, length, get_or, take, refl, ap, sym, subst, arith, append_assoc}
 use Rattle.std.specs.Prelude.{map, flat_map, filter, Option}
-use Rattle.std.proofs.lemmas.List.{append-nil, map-append, length-map}
+use Rattle.std.proofs.lemmas.List.{append-nil, map-append, length-map, take_more}
 use Rattle.std.proofs.lemmas.List.Elements.{filter-append}
+use Rattle.ir_reader.specs.declared.readings.TypeWord.{TypeWord}
 use Rattle.ir_reader.specs.Lists.{Named}
 use Rattle.ir_types.specs.declared.faults.Fault.{Fault}
 use Rattle.ir_types.specs.declared.scope.Top.{Top}
@@ -108,6 +109,9 @@ blocks-more old between new f g h xs ys one e b values types blocks answer n =
     })
 
 -- the arguments of a head by their places
+abbrev naming : ℕ → List ℕ → TypeWord → Naming
+naming line name ty = record { line = line; name = name; ty = ty }
+
 pub argument-at : (line : ℕ) (before args : List Named) (i : ℕ) (d : Naming) (e : Named) → i < length args
     → get_or (arguments_named line before args) i d
       ≡ record { line = line; name = get_or (map (λ one. one.name) (arguments_named line before args)) i []; ty = (get_or args i e).ty }
@@ -119,6 +123,16 @@ argument-at line before (x ∷ xs) (suc i) d e below =
 pub length-arguments : (line : ℕ) (before args : List Named) → length (arguments_named line before args) ≡ length args
 length-arguments line before [] = refl
 length-arguments line before (x ∷ xs) = ap suc (length-arguments line (before ++ x ∷ []) xs)
+
+pub argument-push : (line : ℕ) (args : List Named) (i : ℕ) (name : List ℕ) (ty : TypeWord) (d : Naming) (e : Named) → i < length args
+    → get_or (map (λ one. one.name) (arguments_named line [] args)) i [] ≡ name → (get_or args i e).ty ≡ ty
+    → take (i + 1) (arguments_named line [] args) ≡ take i (arguments_named line [] args) ++ record { line = line; name = name; ty = ty } ∷ []
+argument-push line args i name ty d e below named typed =
+    let inside : i < length (arguments_named line [] args) = (let as_many = length-arguments line [] args in omega arith) in
+    let here : get_or (arguments_named line [] args) i d ≡ record { line = line; name = name; ty = ty }
+    = argument-at line [] args i d e below
+      ∙ ap (λ (n : List ℕ). naming line n (get_or args i e).ty) named ∙ ap (λ (t : TypeWord). naming line name t) typed in
+    take_more (arguments_named line [] args) i d inside ∙ ap (λ one. take i (arguments_named line [] args) ++ one ∷ []) here
 
 pub same-length : {X Y Z : Type 0} (f : X → Z) (g : Y → Z) (xs : List X) (ys : List Y) → map f xs ≡ map g ys → length xs ≡ length ys
 same-length f g xs ys e = sym (length-map xs f) ∙ ap length e ∙ length-map ys g
