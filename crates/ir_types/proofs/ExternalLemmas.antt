@@ -5,11 +5,12 @@ use Rattle.std.specs.Str.{bytes_eq}
 use Rattle.std.specs.List.{Contains}
 use Rattle.std.proofs.lemmas.Bool.Decides.{Decides-eqb}
 use Rattle.std.proofs.lemmas.Slice.Eq.{bytes_eq-Decides}
+use Rattle.std.proofs.lemmas.List.{append_cancel_left}
 use Rattle.std.proofs.lemmas.List.Elements.{Contains-append_left, Contains-append_right, Contains-append_cases}
 use Rattle.ir_reader.specs.declared.readings.TypeWord.{TypeWord}
 use Rattle.ir_reader.specs.declared.readings.TypeWord.TheVariants.{Void, Int, Managed, Plain}
 use Rattle.ir_types.specs.Types.{same_type, same_types}
-use Rattle.ir_types.specs.Externals.{External, external, gc_new, own_externals, externals_of}
+use Rattle.ir_types.specs.Externals.{External, external, gc_new, makers_of, own_externals, externals_of}
 use Rattle.ir_types.proofs.Members.{contains-map, contains-image}
 
 or-right : {X : Type 0} (xs ys : List X) (x : X) → ¬ Contains xs x → Contains xs x ⊎ Contains ys x → Contains ys x
@@ -73,3 +74,41 @@ pub external-answer : (name due : List ℕ) (answer gives : TypeWord) (types tak
 external-answer name due answer gives types takes other =
     ((λ t. absurd (let bad : false ≡ true = t in cc)),
     (λ e. sym other ∙ ap (λ (a : TypeWord). same_type a gives) (ap (λ (one : External). one.answer) e) ∙ same_type-self gives))
+
+-- `gc_new` of a layout
+pub maker-is : (layouts : List (List ℕ)) (name : List ℕ) (answer : TypeWord) (types : List TypeWord) (r : Bool)
+    → true ≡ (same_type answer Managed && same_types types (Int 64 ∷ [])) → (IsTrue r ↔ Contains (map gc_new layouts) name)
+    → (IsTrue r ↔ Contains (makers_of layouts) (external name answer types))
+maker-is layouts name answer types r agrees is =
+    let both = and-true (same_type answer Managed) (same_types types (Int 64 ∷ [])) (sym agrees) in
+    let answered : answer ≡ Managed = same_type-is answer Managed both.0 in
+    let taken : types ≡ Int 64 ∷ [] = same_types-are types (Int 64 ∷ []) both.1 in
+    ((λ t. let i = contains-image gc_new layouts name (is.0 t) in
+      subst (λ (one : External). Contains (makers_of layouts) one)
+      (ap (λ (n : List ℕ). external n Managed (Int 64 ∷ [])) i.is ∙ ap (λ (a : TypeWord). external name a (Int 64 ∷ [])) (sym answered)
+      ∙ ap (λ (ts : List TypeWord). external name answer ts) (sym taken))
+      (contains-map (λ (layout : List ℕ). external (gc_new layout) Managed (Int 64 ∷ [])) layouts i.of i.inside)),
+    (λ k. let i = contains-image (λ (layout : List ℕ). external (gc_new layout) Managed (Int 64 ∷ [])) layouts (external name answer types) k in
+      is.1 (subst (λ (n : List ℕ). Contains (map gc_new layouts) n) (ap (λ (one : External). one.name) i.is) (contains-map gc_new layouts i.of i.inside))))
+
+pub maker-differs : (layouts : List (List ℕ)) (name : List ℕ) (answer : TypeWord) (types : List TypeWord)
+    → false ≡ (same_type answer Managed && same_types types (Int 64 ∷ []))
+    → (IsTrue false ↔ Contains (makers_of layouts) (external name answer types))
+maker-differs layouts name answer types differs =
+    ((λ t. absurd (let bad : false ≡ true = t in cc)),
+    (λ k. let i = contains-image (λ (layout : List ℕ). external (gc_new layout) Managed (Int 64 ∷ [])) layouts (external name answer types) k in
+      differs ∙ ap (λ (one : External). same_type one.answer Managed && same_types one.parameters (Int 64 ∷ [])) (sym i.is)))
+
+-- names with the front of `gc_new`
+pub made-layout : (layouts : List (List ℕ)) (name layout : List ℕ) (r : Bool) → name ≡ gc_new layout → (IsTrue r ↔ Contains layouts layout)
+    → (IsTrue r ↔ Contains (map gc_new layouts) name)
+made-layout layouts name layout r e is =
+    ((λ t. subst (λ (n : List ℕ). Contains (map gc_new layouts) n) (sym e) (contains-map gc_new layouts layout (is.0 t))),
+    (λ k. let i = contains-image gc_new layouts name k in
+      is.1 (subst (λ (n : List ℕ). Contains layouts n) (append_cancel_left (codes "gc_new.") i.of layout (i.is ∙ e)) i.inside)))
+
+pub made-nothing : (layouts : List (List ℕ)) (name : List ℕ) → ((rest : List ℕ) → ¬ (name ≡ gc_new rest))
+    → (IsTrue false ↔ Contains (map gc_new layouts) name)
+made-nothing layouts name other =
+    ((λ t. absurd (let bad : false ≡ true = t in cc)),
+    (λ k. let i = contains-image gc_new layouts name k in absurd (other i.of (sym i.is))))

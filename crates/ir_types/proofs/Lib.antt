@@ -11,3 +11,4 @@ pub mod TopLemmas
 pub mod FrontLemmas
 pub mod TableLemmas
 pub mod ExternalLemmas
+pub mod OuterLemmas

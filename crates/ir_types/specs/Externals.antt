@@ -33,8 +33,11 @@ abbrev pub own_externals : List External
 own_externals = own_basics ++ own_helpers
 
 -- each layout has its own `gc_new`
+abbrev pub makers_of : List (List ℕ) → List External
+makers_of layouts = map (λ layout. external (gc_new layout) Managed (Int 64 ∷ [])) layouts
+
 abbrev pub externals_of : List (List ℕ) → List External
-externals_of layouts = map (λ layout. external (gc_new layout) Managed (Int 64 ∷ [])) layouts ++ own_externals
+externals_of layouts = makers_of layouts ++ own_externals
 
 abbrev pub basics : List (List ℕ)
 basics = codes "print_i64" ∷ codes "read_i64" ∷ codes "task_start" ∷ []

@@ -9,7 +9,7 @@ ghost use Rattle.ir_ast.specs.Faults.Reserved.{externals, IsExternalName};
 ghost use Rattle.ir_reader.specs.Seen.{seen_argument};
 ghost use Rattle.ir_types.specs.Sections.{types_of};
 ghost use Rattle.ir_types.specs.Types.{same_type, same_types, is_cell};
-ghost use Rattle.ir_types.specs.Externals.{external, externals_of, own_externals, own_basics, own_helpers, basics, helpers, gc_new};
+ghost use Rattle.ir_types.specs.Externals.{external, externals_of, makers_of, own_externals, own_basics, own_helpers, basics, helpers, gc_new};
 ghost use Rattle.ir_types.specs.Notes.{Notes};
 ghost use Rattle.ir_types.specs.Tables.{seen_definition};
 ghost use Rattle.ir_types.specs.TopFaults.{DeclareFault, DefineFault, OuterFault, OuterFaults, LacksMain};
@@ -68,6 +68,13 @@ fn is_of_llvm(name: &[u8]) -> bool
     name.starts_with(b"llvm.")
 }
 
+// Whether only rewritten modules declare it.
+fn is_of_rewritten(name: &[u8]) -> bool
+    ensures { IsTrue result ↔ (Contains helpers name.now ⊎ HasFront (codes "llvm.") name.now) }
+{
+    is_helper(name) || is_of_llvm(name)
+}
+
 fn is_basic(name: &[u8]) -> bool
     ensures { IsTrue result ↔ Contains basics name.now }
 {
@@ -90,6 +97,12 @@ fn is_external_name(name: &[u8]) -> bool
     is_whole_name(name) || has_gc_new(name) || is_of_llvm(name)
 }
 
+fn is_type(ty: TypeWord, other: TypeWord) -> bool
+    ensures { result ≡ same_type ty other }
+{
+    ty == other
+}
+
 // Whether the declaration is the external of this name, with its answer and its parameters.
 fn is_same(
     name: &[u8],
@@ -104,7 +117,7 @@ fn is_same(
     if !is_text(name, due) {
         return false;
     }
-    if answer != gives {
+    if !is_type(answer, gives) {
         return false;
     }
     has_types(parameters, takes)
@@ -181,22 +194,29 @@ impl Top<'_, '_> {
         ensures { IsTrue result ↔ Contains (map gc_new self.now.layouts) name.now }
     {
         match name.strip_prefix(GC_NEW) {
-            Some(layout) => self.layouts.find(layout).is_some(),
+            Some(layout) => self.layouts.has(layout),
             None => false,
         }
+    }
+
+    // Whether it is `gc_new` of a layout, with its answer and its parameters.
+    fn is_made(&self, answer: TypeWord, name: &[u8], parameters: &[Argument]) -> bool
+        ensures { IsTrue result ↔ Contains (makers_of self.now.layouts) (external name.now answer (types_of (map seen_argument parameters.now))) }
+    {
+        if !is_gc_new(answer, parameters) {
+            return false;
+        }
+        self.makes_layout(name)
     }
 
     // Whether it is one of the externals, with its answer and its parameters.
     fn is_external(&self, answer: TypeWord, name: &[u8], parameters: &[Argument]) -> bool
         ensures { IsTrue result ↔ Contains (externals_of self.now.layouts) (external name.now answer (types_of (map seen_argument parameters.now))) }
     {
-        if is_own(name, answer, parameters) {
+        if self.is_made(answer, name, parameters) {
             return true;
         }
-        if !is_gc_new(answer, parameters) {
-            return false;
-        }
-        self.makes_layout(name)
+        is_own(name, answer, parameters)
     }
 
     // Notes the faults of a declaration.
@@ -211,9 +231,9 @@ impl Top<'_, '_> {
         ensures { Notes first.old.found first.new.found (λ at code. (at ≡ line)
             × DeclareFault self.now.functions self.now.layouts answer name.now (map seen_argument parameters.now) code) }
     {
-        first.note_if(self.functions.find(name).is_some(), line, 3);
+        first.note_if(self.functions.has(name), line, 3);
         first.note_if(!self.is_external(answer, name, parameters), line, 12);
-        first.note_if(is_helper(name) || is_of_llvm(name), line, 14);
+        first.note_if(is_of_rewritten(name), line, 14);
     }
 
     // Notes the faults of a line outside functions.
