@@ -115,10 +115,11 @@ found-one F names at one line code f = of f.before f.name f.after f.whole f.faul
     of : (before : List Given) (name : List ℕ) (after : List Given) → (at, one) ∷ [] ≡ before ++ (line, name) ∷ after
         → F (names ++ names_of before) name code → (line ≡ at) × F names one code
     of [] name after e faulty =
-        let same : (at, one) ≡ (line, name) = cc in
-        (sym (ap (λ (p : Given). p.0) same),
-        subst (λ (xs : List (List ℕ)). F xs one code) (append-nil names)
-        (subst (λ (n : List ℕ). F (names ++ []) n code) (sym (ap (λ (p : Given). p.1) same)) faulty))
+        let same : (at, one) ≡ (line, name) = cc in (
+          sym (ap (λ (p : Given). p.0) same),
+          subst (λ (xs : List (List ℕ)). F xs one code) (append-nil names)
+              (subst (λ (n : List ℕ). F (names ++ []) n code) (sym (ap (λ (p : Given). p.1) same)) faulty),
+        )
     of (b ∷ bs) name after e faulty =
         absurd (not-nil bs (line, name) after (let rest : [] ≡ bs ++ (line, name) ∷ after = cc in rest))
 
@@ -158,7 +159,7 @@ again-notes names name line is_new old new known n =
     notes-same old new (λ l c. IsTrue (not is_new) × Is line 3 l c) (FoundAfter IsAgain names ((line, name) ∷ []))
     (λ l c f. one-found IsAgain names line name l c f.1.0 (f.1.1, place-contains names name (sym known ∙ not-true is_new f.0)))
     (λ l c f. let g = found-one IsAgain names line name l c f in
-      (ap not (known ∙ contains-place names name g.1.1), (g.0, g.1.0)))
+    (ap not (known ∙ contains-place names name g.1.1), (g.0, g.1.0)))
     n
 
 abbrev pub NameNoted : ℕ → List ℕ → Bool → ℕ → ℕ → Type 0
@@ -175,6 +176,7 @@ name-notes line name is_new inserted old between new known m n =
     to : (l c : ℕ) → Either (λ l c. IsTrue (not is_new) × Is line 3 l c) (λ l c. IsTrue inserted × Is line 14 l c) l c → NameNoted line name is_new l c
     to l c (inl f) = (f.1.0, inl (f.1.1, not-true is_new f.0))
     to l c (inr f) = (f.1.0, inr (f.1.1, known.0 f.0))
+
     from : (l c : ℕ) → NameNoted line name is_new l c → Either (λ l c. IsTrue (not is_new) × Is line 3 l c) (λ l c. IsTrue inserted × Is line 14 l c) l c
     from l c (e, inl f) = inl (ap not f.1, (e, f.0))
     from l c (e, inr f) = inr (known.1 f.1, (e, f.0))
@@ -188,9 +190,11 @@ bad-notes names name line is_new old new known n =
     to : (l c : ℕ) → NameNoted line name is_new l c → FoundAfter IsBadName names ((line, name) ∷ []) l c
     to l c (e, inl f) = one-found IsBadName names line name l c e (inl (f.0, place-contains names name (sym known ∙ f.1)))
     to l c (e, inr f) = one-found IsBadName names line name l c e (inr f)
+
     by : (l c : ℕ) → (l ≡ line) × IsBadName names name c → NameNoted line name is_new l c
     by l c (e, inl f) = (e, inl (f.0, known ∙ contains-place names name f.1))
     by l c (e, inr f) = (e, inr f)
+
     from : (l c : ℕ) → FoundAfter IsBadName names ((line, name) ∷ []) l c → NameNoted line name is_new l c
     from l c f = by l c (found-one IsBadName names line name l c f)
 

@@ -58,22 +58,25 @@ same_types-self (x ∷ xs) = ap (λ b. b && same_types xs xs) (same_type-self x)
 
 pub external-is : (name due : List ℕ) (answer gives : TypeWord) (types takes : List TypeWord) (r : Bool) → name ≡ due → answer ≡ gives
     → r ≡ same_types types takes → (IsTrue r ↔ (external name answer types ≡ external due gives takes))
-external-is name due answer gives types takes r named answered is =
-    ((λ t. ap (λ (n : List ℕ). external n answer types) named ∙ ap (λ (a : TypeWord). external due a types) answered
-    ∙ ap (λ (ts : List TypeWord). external due gives ts) (same_types-are types takes (sym is ∙ t))),
-    (λ e. is ∙ ap (λ (ts : List TypeWord). same_types ts takes) (ap (λ (one : External). one.parameters) e) ∙ same_types-self takes))
+external-is name due answer gives types takes r named answered is = (
+  (λ t. ap (λ (n : List ℕ). external n answer types) named ∙ ap (λ (a : TypeWord). external due a types) answered
+      ∙ ap (λ (ts : List TypeWord). external due gives ts) (same_types-are types takes (sym is ∙ t))),
+  (λ e. is ∙ ap (λ (ts : List TypeWord). same_types ts takes) (ap (λ (one : External). one.parameters) e) ∙ same_types-self takes),
+)
 
 pub external-name : (name due : List ℕ) (answer gives : TypeWord) (types takes : List TypeWord) → bytes_eq name due ≡ false
     → (IsTrue false ↔ (external name answer types ≡ external due gives takes))
-external-name name due answer gives types takes other =
-    ((λ t. absurd (let bad : false ≡ true = t in cc)),
-    (λ e. sym other ∙ (bytes_eq-Decides name due).1 (ap (λ (one : External). one.name) e)))
+external-name name due answer gives types takes other = (
+  (λ t. absurd (let bad : false ≡ true = t in cc)),
+  (λ e. sym other ∙ (bytes_eq-Decides name due).1 (ap (λ (one : External). one.name) e)),
+)
 
 pub external-answer : (name due : List ℕ) (answer gives : TypeWord) (types takes : List TypeWord) → same_type answer gives ≡ false
     → (IsTrue false ↔ (external name answer types ≡ external due gives takes))
-external-answer name due answer gives types takes other =
-    ((λ t. absurd (let bad : false ≡ true = t in cc)),
-    (λ e. sym other ∙ ap (λ (a : TypeWord). same_type a gives) (ap (λ (one : External). one.answer) e) ∙ same_type-self gives))
+external-answer name due answer gives types takes other = (
+  (λ t. absurd (let bad : false ≡ true = t in cc)),
+  (λ e. sym other ∙ ap (λ (a : TypeWord). same_type a gives) (ap (λ (one : External). one.answer) e) ∙ same_type-self gives),
+)
 
 -- `gc_new` of a layout
 pub maker-is : (layouts : List (List ℕ)) (name : List ℕ) (answer : TypeWord) (types : List TypeWord) (r : Bool)
@@ -82,33 +85,37 @@ pub maker-is : (layouts : List (List ℕ)) (name : List ℕ) (answer : TypeWord)
 maker-is layouts name answer types r agrees is =
     let both = and-true (same_type answer Managed) (same_types types (Int 64 ∷ [])) (sym agrees) in
     let answered : answer ≡ Managed = same_type-is answer Managed both.0 in
-    let taken : types ≡ Int 64 ∷ [] = same_types-are types (Int 64 ∷ []) both.1 in
-    ((λ t. let i = contains-image gc_new layouts name (is.0 t) in
-      subst (λ (one : External). Contains (makers_of layouts) one)
-      (ap (λ (n : List ℕ). external n Managed (Int 64 ∷ [])) i.is ∙ ap (λ (a : TypeWord). external name a (Int 64 ∷ [])) (sym answered)
-      ∙ ap (λ (ts : List TypeWord). external name answer ts) (sym taken))
-      (contains-map (λ (layout : List ℕ). external (gc_new layout) Managed (Int 64 ∷ [])) layouts i.of i.inside)),
-    (λ k. let i = contains-image (λ (layout : List ℕ). external (gc_new layout) Managed (Int 64 ∷ [])) layouts (external name answer types) k in
-      is.1 (subst (λ (n : List ℕ). Contains (map gc_new layouts) n) (ap (λ (one : External). one.name) i.is) (contains-map gc_new layouts i.of i.inside))))
+    let taken : types ≡ Int 64 ∷ [] = same_types-are types (Int 64 ∷ []) both.1 in (
+      (λ t. let i = contains-image gc_new layouts name (is.0 t) in
+          subst (λ (one : External). Contains (makers_of layouts) one)
+          (ap (λ (n : List ℕ). external n Managed (Int 64 ∷ [])) i.is ∙ ap (λ (a : TypeWord). external name a (Int 64 ∷ [])) (sym answered)
+          ∙ ap (λ (ts : List TypeWord). external name answer ts) (sym taken))
+          (contains-map (λ (layout : List ℕ). external (gc_new layout) Managed (Int 64 ∷ [])) layouts i.of i.inside)),
+      (λ k. let i = contains-image (λ (layout : List ℕ). external (gc_new layout) Managed (Int 64 ∷ [])) layouts (external name answer types) k in
+          is.1 (subst (λ (n : List ℕ). Contains (map gc_new layouts) n) (ap (λ (one : External). one.name) i.is) (contains-map gc_new layouts i.of i.inside))),
+    )
 
 pub maker-differs : (layouts : List (List ℕ)) (name : List ℕ) (answer : TypeWord) (types : List TypeWord)
     → false ≡ (same_type answer Managed && same_types types (Int 64 ∷ []))
     → (IsTrue false ↔ Contains (makers_of layouts) (external name answer types))
-maker-differs layouts name answer types differs =
-    ((λ t. absurd (let bad : false ≡ true = t in cc)),
-    (λ k. let i = contains-image (λ (layout : List ℕ). external (gc_new layout) Managed (Int 64 ∷ [])) layouts (external name answer types) k in
-      differs ∙ ap (λ (one : External). same_type one.answer Managed && same_types one.parameters (Int 64 ∷ [])) (sym i.is)))
+maker-differs layouts name answer types differs = (
+  (λ t. absurd (let bad : false ≡ true = t in cc)),
+  (λ k. let i = contains-image (λ (layout : List ℕ). external (gc_new layout) Managed (Int 64 ∷ [])) layouts (external name answer types) k in
+      differs ∙ ap (λ (one : External). same_type one.answer Managed && same_types one.parameters (Int 64 ∷ [])) (sym i.is)),
+)
 
 -- names with the front of `gc_new`
 pub made-layout : (layouts : List (List ℕ)) (name layout : List ℕ) (r : Bool) → name ≡ gc_new layout → (IsTrue r ↔ Contains layouts layout)
     → (IsTrue r ↔ Contains (map gc_new layouts) name)
-made-layout layouts name layout r e is =
-    ((λ t. subst (λ (n : List ℕ). Contains (map gc_new layouts) n) (sym e) (contains-map gc_new layouts layout (is.0 t))),
-    (λ k. let i = contains-image gc_new layouts name k in
-      is.1 (subst (λ (n : List ℕ). Contains layouts n) (append_cancel_left (codes "gc_new.") i.of layout (i.is ∙ e)) i.inside)))
+made-layout layouts name layout r e is = (
+  (λ t. subst (λ (n : List ℕ). Contains (map gc_new layouts) n) (sym e) (contains-map gc_new layouts layout (is.0 t))),
+  (λ k. let i = contains-image gc_new layouts name k in
+      is.1 (subst (λ (n : List ℕ). Contains layouts n) (append_cancel_left (codes "gc_new.") i.of layout (i.is ∙ e)) i.inside)),
+)
 
 pub made-nothing : (layouts : List (List ℕ)) (name : List ℕ) → ((rest : List ℕ) → ¬ (name ≡ gc_new rest))
     → (IsTrue false ↔ Contains (map gc_new layouts) name)
-made-nothing layouts name other =
-    ((λ t. absurd (let bad : false ≡ true = t in cc)),
-    (λ k. let i = contains-image gc_new layouts name k in absurd (other i.of (sym i.is))))
+made-nothing layouts name other = (
+  (λ t. absurd (let bad : false ≡ true = t in cc)),
+  (λ k. let i = contains-image gc_new layouts name k in absurd (other i.of (sym i.is))),
+)

@@ -105,6 +105,7 @@ not-iff P r is = (absent r is, present r is)
     absent : (r : Bool) → (IsTrue r ↔ P) → IsTrue (not r) → ¬ P
     absent false is t p = let bad : false ≡ true = is.1 p in cc
     absent true is t p = let bad : false ≡ true = t in cc
+
     present : (r : Bool) → (IsTrue r ↔ P) → (¬ P) → IsTrue (not r)
     present false is n = refl
     present true is n = absurd (n (is.0 refl))
@@ -135,6 +136,7 @@ two-noted line k m a b P Q f g h is other x y =
     to : (l c : ℕ) → Either (Tested a line k) (Tested b line m) l c → (l ≡ line) × (((c ≡ k) × P) ⊎ ((c ≡ m) × Q))
     to l c (inl t) = (t.1.0, inl (t.1.1, is.0 t.0))
     to l c (inr t) = (t.1.0, inr (t.1.1, other.0 t.0))
+
     from : (l c : ℕ) → (l ≡ line) × (((c ≡ k) × P) ⊎ ((c ≡ m) × Q)) → Either (Tested a line k) (Tested b line m) l c
     from l c (e, inl t) = inl (is.1 t.1, (e, t.0))
     from l c (e, inr t) = inr (other.1 t.1, (e, t.0))
@@ -153,6 +155,7 @@ three-noted line k m n a b d P Q R f g h i is other third x y z =
         → (l ≡ line) × (((c ≡ k) × P) ⊎ (((c ≡ m) × Q) ⊎ ((c ≡ n) × R)))
     to l c (inl t) = (t.1.0, inl (t.1.1, is.0 t.0))
     to l c (inr t) = (t.0, inr t.1)
+
     from : (l c : ℕ) → (l ≡ line) × (((c ≡ k) × P) ⊎ (((c ≡ m) × Q) ⊎ ((c ≡ n) × R)))
         → Either (Tested a line k) (λ l c. (l ≡ line) × (((c ≡ m) × Q) ⊎ ((c ≡ n) × R))) l c
     from l c (e, inl t) = inl (is.1 t.1, (e, t.0))

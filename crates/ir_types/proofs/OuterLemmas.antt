@@ -23,11 +23,15 @@ outer-more functions layouts lines more l f g h e m n =
     to : (i c : ℕ) → Either (OuterFaults functions layouts lines) (LineFault functions layouts l) i c → OuterFaults functions layouts (lines ++ l ∷ []) i c
     to i c (inl o) = record { found = o.found; inside = Contains-append_left lines (l ∷ []) o.found o.inside; number = o.number; faulty = o.faulty }
     to i c (inr o) = record { found = l; inside = Contains-push lines l; number = sym o.0; faulty = o.1 }
+
     of : (i c : ℕ) (found : Line) → found.number ≡ i → OuterFault functions layouts found.says c → Contains lines found ⊎ (l ≡ found)
         → Either (OuterFaults functions layouts lines) (LineFault functions layouts l) i c
     of i c found number faulty (inl inside) = inl (record { found = found; inside = inside; number = number; faulty = faulty })
     of i c found number faulty (inr is) =
-        inr (sym (ap (λ (one : Line). one.number) is ∙ number),
-        subst (λ (one : Line). OuterFault functions layouts one.says c) (sym is) faulty)
+        inr (
+          sym (ap (λ (one : Line). one.number) is ∙ number),
+          subst (λ (one : Line). OuterFault functions layouts one.says c) (sym is) faulty,
+        )
+
     from : (i c : ℕ) → OuterFaults functions layouts (lines ++ l ∷ []) i c → Either (OuterFaults functions layouts lines) (LineFault functions layouts l) i c
     from i c o = of i c o.found o.number o.faulty (Contains-push_cases lines l o.found o.inside)

@@ -59,9 +59,10 @@ some-not None e = let bad : true ≡ false = e in cc
 
 pub is-one : (names : List (List ℕ)) (name : List ℕ) (found : Option ℕ) (r : Bool) → found ≡ place_in names name → r ≡ is_some found
     → (IsTrue r ↔ Contains names name)
-is-one names name found r at is =
-    ((λ t. place-contains names name (not-none (place_in names name) (ap is_some (sym at) ∙ sym is ∙ t))),
-    (λ c. is ∙ ap is_some at ∙ some-not (place_in names name) (contains-place names name c)))
+is-one names name found r at is = (
+  (λ t. place-contains names name (not-none (place_in names name) (ap is_some (sym at) ∙ sym is ∙ t))),
+  (λ c. is ∙ ap is_some at ∙ some-not (place_in names name) (contains-place names name c)),
+)
 
 -- ---- what stands beside the first of a name
 

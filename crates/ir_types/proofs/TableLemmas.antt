@@ -114,7 +114,7 @@ naming line name ty = record { line = line; name = name; ty = ty }
 
 pub argument-at : (line : ℕ) (before args : List Named) (i : ℕ) (d : Naming) (e : Named) → i < length args
     → get_or (arguments_named line before args) i d
-      ≡ record { line = line; name = get_or (map (λ one. one.name) (arguments_named line before args)) i []; ty = (get_or args i e).ty }
+    ≡ record { line = line; name = get_or (map (λ one. one.name) (arguments_named line before args)) i []; ty = (get_or args i e).ty }
 argument-at line before [] i d e below = absurd (let b : i < 0 = below in omega arith)
 argument-at line before (x ∷ xs) zero d e below = refl
 argument-at line before (x ∷ xs) (suc i) d e below =
@@ -131,7 +131,7 @@ argument-push line args i name ty d e below named typed =
     let inside : i < length (arguments_named line [] args) = (let as_many = length-arguments line [] args in omega arith) in
     let here : get_or (arguments_named line [] args) i d ≡ record { line = line; name = name; ty = ty }
     = argument-at line [] args i d e below
-      ∙ ap (λ (n : List ℕ). naming line n (get_or args i e).ty) named ∙ ap (λ (t : TypeWord). naming line name t) typed in
+    ∙ ap (λ (n : List ℕ). naming line n (get_or args i e).ty) named ∙ ap (λ (t : TypeWord). naming line name t) typed in
     take_more (arguments_named line [] args) i d inside ∙ ap (λ one. take i (arguments_named line [] args) ++ one ∷ []) here
 
 pub same-length : {X Y Z : Type 0} (f : X → Z) (g : Y → Z) (xs : List X) (ys : List Y) → map f xs ≡ map g ys → length xs ≡ length ys
@@ -152,9 +152,11 @@ names-noted func args results f g h i values e known m n o =
     both =
         subst (λ (all : List Naming). Notes f h (FoundAfter IsBadName [] (named_values all))) (sym e)
         (notes-behind (λ (one : Naming). one.line) (λ (one : Naming). one.name) IsBadName [] values args results f g h known m n)
+
     to : (l c : ℕ) → Either (FoundAfter IsBadName [] (named_values (values_of func))) (FoundAfter IsBadName [] (named_blocks (blocks_of func))) l c → FoundByNames func l c
     to l c (inl v) = inl (names-found (named_values (values_of func)) l c v)
     to l c (inr b) = inr (names-found (named_blocks (blocks_of func)) l c b)
+
     from : (l c : ℕ) → FoundByNames func l c → Either (FoundAfter IsBadName [] (named_values (values_of func))) (FoundAfter IsBadName [] (named_blocks (blocks_of func))) l c
     from l c (inl v) = inl (found-names (named_values (values_of func)) l c v)
     from l c (inr b) = inr (found-names (named_blocks (blocks_of func)) l c b)
@@ -242,16 +244,22 @@ two-more L l H h ls hs f₀ f₁ f₂ f₃ e k m n o =
   where
     layouts-joined : named_layouts (L ++ l) ≡ named_layouts L ++ named_layouts l
     layouts-joined = map-append (λ (one : LayoutLine). (one.line, one.name)) L l
+
     heads-joined : named_heads (H ++ h) ≡ named_heads H ++ named_heads h
     heads-joined = map-append (λ (one : Head). (one.line, one.name)) H h
+
     layout-names : ls ≡ names_of (named_layouts L)
     layout-names = e ∙ sym (names-named (λ (one : LayoutLine). one.line) (λ (one : LayoutLine). one.name) L)
+
     head-names : hs ≡ names_of (named_heads H)
     head-names = k ∙ sym (names-named (λ (one : Head). one.line) (λ (one : Head). one.name) H)
+
     to-layouts : (i c : ℕ) → FoundAfter IsAgain [] (named_layouts L ++ named_layouts l) i c → LayoutAgain (L ++ l) i c
     to-layouts i c v = subst (λ (all : List (ℕ × List ℕ)). FoundAfter IsAgain [] all i c) (sym layouts-joined) v
+
     to-heads : (i c : ℕ) → FoundAfter IsAgain [] (named_heads H ++ named_heads h) i c → HeadAgain (H ++ h) i c
     to-heads i c v = subst (λ (all : List (ℕ × List ℕ)). FoundAfter IsAgain [] all i c) (sym heads-joined) v
+
     to : (i c : ℕ) → Either (Either (Either (LayoutAgain L) (HeadAgain H)) (FoundAfter IsAgain ls (named_layouts l))) (FoundAfter IsAgain hs (named_heads h)) i c
         → Either (LayoutAgain (L ++ l)) (HeadAgain (H ++ h)) i c
     to i c (inl (inl (inl v))) = inl (to-layouts i c (found-left IsAgain [] (named_layouts L) (named_layouts l) i c v))
@@ -262,15 +270,18 @@ two-more L l H h ls hs f₀ f₁ f₂ f₃ e k m n o =
     to i c (inr v) =
         inr (to-heads i c (found-right IsAgain [] (named_heads H) (named_heads h) i c
         (subst (λ (names : List (List ℕ)). FoundAfter IsAgain names (named_heads h) i c) head-names v)))
+
     of-layouts : (i c : ℕ) → FoundAfter IsAgain [] (named_layouts L) i c ⊎ FoundAfter IsAgain (names_of (named_layouts L)) (named_layouts l) i c
         → Either (Either (Either (LayoutAgain L) (HeadAgain H)) (FoundAfter IsAgain ls (named_layouts l))) (FoundAfter IsAgain hs (named_heads h)) i c
     of-layouts i c (inl v) = inl (inl (inl v))
     of-layouts i c (inr v) =
         inl (inr (subst (λ (names : List (List ℕ)). FoundAfter IsAgain names (named_layouts l) i c) (sym layout-names) v))
+
     of-heads : (i c : ℕ) → FoundAfter IsAgain [] (named_heads H) i c ⊎ FoundAfter IsAgain (names_of (named_heads H)) (named_heads h) i c
         → Either (Either (Either (LayoutAgain L) (HeadAgain H)) (FoundAfter IsAgain ls (named_layouts l))) (FoundAfter IsAgain hs (named_heads h)) i c
     of-heads i c (inl v) = inl (inl (inr v))
     of-heads i c (inr v) = inr (subst (λ (names : List (List ℕ)). FoundAfter IsAgain names (named_heads h) i c) (sym head-names) v)
+
     from : (i c : ℕ) → Either (LayoutAgain (L ++ l)) (HeadAgain (H ++ h)) i c
         → Either (Either (Either (LayoutAgain L) (HeadAgain H)) (FoundAfter IsAgain ls (named_layouts l))) (FoundAfter IsAgain hs (named_heads h)) i c
     from i c (inl v) =
@@ -301,6 +312,7 @@ again-noted lines f g n =
     to : (l c : ℕ) → Either (LayoutAgain (layouts_of lines)) (HeadAgain (heads_of lines)) l c → TopAgain lines l c
     to l c (inl v) = let r = again-repeats (named_layouts (layouts_of lines)) l c v in (r.0, inl r.1)
     to l c (inr v) = let r = again-repeats (named_heads (heads_of lines)) l c v in (r.0, inr r.1)
+
     from : (l c : ℕ) → TopAgain lines l c → Either (LayoutAgain (layouts_of lines)) (HeadAgain (heads_of lines)) l c
     from l c (e, inl r) = inl (repeats-again (named_layouts (layouts_of lines)) l c e r)
     from l c (e, inr r) = inr (repeats-again (named_heads (heads_of lines)) l c e r)

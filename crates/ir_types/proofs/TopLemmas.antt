@@ -252,7 +252,7 @@ defined-found lines line d =
     let o = contains-joined said_at lines d.other d.other_stands in
     let known : Contains (function_names lines) d.declared.name
     = subst (λ (n : List ℕ). Contains (function_names lines) n) d.same
-      (head-defined lines o.of.number o.of.says d.other o.inside o.given d.is_defined) in
+    (head-defined lines o.of.number o.of.says d.other o.inside o.given d.is_defined) in
     declares-found lines line i.of.number i.of.says d.declared i.inside i.given d.is_declared d.number known
 
 pub name_twice-found : (lines : List Line) (line : ℕ) → NameTwice lines line → FoundByNamesOrTop lines line 3
@@ -303,20 +303,26 @@ reserved-found lines line (declares_helper answer name parameters stands h) =
 reserved-found lines line (names_value func one defined inside e inserted) = inr (record {
   func = func;
   defined = defined;
-  found = inl (inr (refl, record {
-    name = one.name;
-    given = subst (λ (n : ℕ). Contains (named_values (values_of func)) (n, one.name)) e
-        (contains-map {Y = ℕ × List ℕ} (λ (one : Naming). (one.line, one.name)) (values_of func) one inside);
-    inserted = inserted;
-  }));
+  found = inl (inr (
+    refl,
+    record {
+      name = one.name;
+      given = subst (λ (n : ℕ). Contains (named_values (values_of func)) (n, one.name)) e
+          (contains-map {Y = ℕ × List ℕ} (λ (one : Naming). (one.line, one.name)) (values_of func) one inside);
+      inserted = inserted;
+    },
+  ));
 })
 reserved-found lines line (names_label func one defined inside e inserted) = inr (record {
   func = func;
   defined = defined;
-  found = inr (inr (refl, record {
-    name = one.name;
-    given = subst (λ (n : ℕ). Contains (named_blocks (blocks_of func)) (n, one.name)) e
-        (contains-map {Y = ℕ × List ℕ} (λ (one : BlockLines). (one.line, one.name)) (blocks_of func) one inside);
-    inserted = inserted;
-  }));
+  found = inr (inr (
+    refl,
+    record {
+      name = one.name;
+      given = subst (λ (n : ℕ). Contains (named_blocks (blocks_of func)) (n, one.name)) e
+          (contains-map {Y = ℕ × List ℕ} (λ (one : BlockLines). (one.line, one.name)) (blocks_of func) one inside);
+      inserted = inserted;
+    },
+  ));
 })

@@ -149,43 +149,60 @@ fn is_own(name: &[u8], answer: TypeWord, parameters: &[Argument]) -> bool
 fn is_own_basic(name: &[u8], answer: TypeWord, parameters: &[Argument]) -> bool
     ensures { IsTrue result ↔ Contains own_basics (external name.now answer (types_of (map seen_argument parameters.now))) }
 {
-    is_same(name, answer, parameters, b"print_i64", TypeWord::Void, &[TypeWord::Int(64)])
-        || is_same(name, answer, parameters, b"read_i64", TypeWord::Int(64), &[])
-        || is_same(
-            name,
-            answer,
-            parameters,
-            b"task_start",
-            TypeWord::Void,
-            &[TypeWord::Plain, TypeWord::Managed],
-        )
+    is_same(
+        name,
+        answer,
+        parameters,
+        b"print_i64",
+        TypeWord::Void,
+        &[TypeWord::Int(64)],
+    ) || is_same(
+        name,
+        answer,
+        parameters,
+        b"read_i64",
+        TypeWord::Int(64),
+        &[],
+    ) || is_same(
+        name,
+        answer,
+        parameters,
+        b"task_start",
+        TypeWord::Void,
+        &[TypeWord::Plain, TypeWord::Managed],
+    )
 }
 
 fn is_own_helper(name: &[u8], answer: TypeWord, parameters: &[Argument]) -> bool
     ensures { IsTrue result ↔ Contains own_helpers (external name.now answer (types_of (map seen_argument parameters.now))) }
 {
-    is_same(name, answer, parameters, b"gc.safepoint_poll", TypeWord::Void, &[])
-        || is_same(
-            name,
-            answer,
-            parameters,
-            b"gc_check",
-            TypeWord::Void,
-            &[TypeWord::Managed, TypeWord::Managed, TypeWord::Int(64)],
-        )
-        || is_same(
-            name,
-            answer,
-            parameters,
-            b"gc_same",
-            TypeWord::Int(1),
-            &[
-                TypeWord::Managed,
-                TypeWord::Managed,
-                TypeWord::Managed,
-                TypeWord::Managed,
-            ],
-        )
+    is_same(
+        name,
+        answer,
+        parameters,
+        b"gc.safepoint_poll",
+        TypeWord::Void,
+        &[],
+    ) || is_same(
+        name,
+        answer,
+        parameters,
+        b"gc_check",
+        TypeWord::Void,
+        &[TypeWord::Managed, TypeWord::Managed, TypeWord::Int(64)],
+    ) || is_same(
+        name,
+        answer,
+        parameters,
+        b"gc_same",
+        TypeWord::Int(1),
+        &[
+            TypeWord::Managed,
+            TypeWord::Managed,
+            TypeWord::Managed,
+            TypeWord::Managed,
+        ],
+    )
 }
 
 impl Top<'_, '_> {

@@ -22,17 +22,17 @@ loop-i-preserved c =
     = ap (λ ls. definitions_of (seen_lines ls)) (dropped lines i one c.loop-i-test.true c.index-lines-i.is) in
     let before = map seen_definition c.loop-i.found.items in
     elim c.match-definition_at.branch [
-      in-Some+in_ok-push w ↦
-        (let given : seen_definition w.in-Some.func ∷ [] ≡ here = w.in-Some.ensures ∙ cut in
-        rest-moved before (map seen_definition c.match-definition_at.found.items) here (definitions_of rest) (definitions_of (seen_lines (drop i lines)))
-        (definitions_of (seen_lines lines))
-        (ap (λ (v : Vec Definition Global). map seen_definition v.items) w.found-is ∙ ap (map seen_definition) w.in_ok-push.ensures.items
-        ∙ map-append seen_definition c.loop-i.found.items (w.in-Some.func ∷ []) ∙ ap (λ zs. before ++ zs) given)
-        next c.loop-i.invariant)
+      | in-Some+in_ok-push w ↦
+          (let given : seen_definition w.in-Some.func ∷ [] ≡ here = w.in-Some.ensures ∙ cut in
+          rest-moved before (map seen_definition c.match-definition_at.found.items) here (definitions_of rest) (definitions_of (seen_lines (drop i lines)))
+          (definitions_of (seen_lines lines))
+          (ap (λ (v : Vec Definition Global). map seen_definition v.items) w.found-is ∙ ap (map seen_definition) w.in_ok-push.ensures.items
+          ∙ map-append seen_definition c.loop-i.found.items (w.in-Some.func ∷ []) ∙ ap (λ zs. before ++ zs) given)
+          next c.loop-i.invariant)
       | in_default w ↦
-        (let given : [] ≡ here = w.in_default.ensures ∙ cut in
-        rest-moved before (map seen_definition c.match-definition_at.found.items) here (definitions_of rest) (definitions_of (seen_lines (drop i lines)))
-        (definitions_of (seen_lines lines))
-        (ap (λ (v : Vec Definition Global). map seen_definition v.items) w.found-is ∙ sym (append-nil before) ∙ ap (λ zs. before ++ zs) given)
-        next c.loop-i.invariant)
+          (let given : [] ≡ here = w.in_default.ensures ∙ cut in
+          rest-moved before (map seen_definition c.match-definition_at.found.items) here (definitions_of rest) (definitions_of (seen_lines (drop i lines)))
+          (definitions_of (seen_lines lines))
+          (ap (λ (v : Vec Definition Global). map seen_definition v.items) w.found-is ∙ sym (append-nil before) ∙ ap (λ zs. before ++ zs) given)
+          next c.loop-i.invariant)
     ]

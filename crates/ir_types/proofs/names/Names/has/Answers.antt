@@ -1,5 +1,4 @@
 use Rattle.ir_types.proofs.PlaceLemmas.{is-one}
-use Rattle.ir_types.proofs.TopLemmas.{found_by_top-fault}
 use Rattle.ir_types.proofs.names.Names.has.Goals as goal
 
 pub returns : goal.returns

@@ -43,7 +43,7 @@ loop-i-preserved c =
     let inside : i < length names = (let n = length-arguments c.args.line [] args in omega arith) in
     let named : get_or (map (λ (one : Naming). one.name) all) i [] ≡ c.as_slice.result.now
     = ap (λ (xs : List (List ℕ)). get_or xs i []) (sym c.requires) ∙ get-map (λ (v : Vec ℕ Global). v.items) names i vec [] inside
-      ∙ ap (λ (v : Vec ℕ Global). v.items) (sym c.index-names-i.is) ∙ sym c.as_slice.ensures.value in
+    ∙ ap (λ (v : Vec ℕ Global). v.items) (sym c.index-names-i.is) ∙ sym c.as_slice.ensures.value in
     let typed : (get_or args i (seen_argument blank)).ty ≡ ty
     = ap (λ (one : Named). one.ty) (get-map seen_argument arguments i blank (seen_argument blank) c.loop-i-test.true) in
     let more : take (i + 1) all ≡ take i all ++ record { line = c.args.line; name = c.as_slice.result.now; ty = ty } ∷ []
@@ -51,8 +51,8 @@ loop-i-preserved c =
     let before : Values c.args.self.now c.loop-i.self c.args.first.now.found c.loop-i.first.found (take i all)
     = record { added = c.loop-i.invariant.added; noted = c.loop-i.invariant.noted } in
     let v = values-more c.args.self.now c.loop-i.self c.add_value.new.self c.args.first.now.found c.loop-i.first.found
-      c.add_value.new.first.found (take i all) (record { line = c.args.line; name = c.as_slice.result.now; ty = ty } ∷ [])
-      (take (i + 1) all) more before c.in_ok-add_value.ensures.added c.in_ok-add_value.ensures.noted in
+    c.add_value.new.first.found (take i all) (record { line = c.args.line; name = c.as_slice.result.now; ty = ty } ∷ [])
+    (take (i + 1) all) more before c.in_ok-add_value.ensures.added c.in_ok-add_value.ensures.noted in
     record { added = v.added; noted = v.noted }
 
 pub returns-clause-added : goal.returns-clause-added

@@ -21,7 +21,7 @@ loop-block-preserved c =
     let before : Blocks c.args.self.now c.loop-block.self c.args.first.now.found c.loop-block.first.found (map seen_block (take i blocks))
     = record { added = c.loop-block.invariant.added; noted = c.loop-block.invariant.noted } in
     let b = blocks-more c.args.self.now c.loop-block.self c.add_block.new.self c.args.first.now.found c.loop-block.first.found
-      c.add_block.new.first.found (map seen_block (take i blocks)) (map seen_block (take (i + 1) blocks)) (seen_block one) more before
-      c.in_ok-add_block.ensures.values c.in_ok-add_block.ensures.types c.in_ok-add_block.ensures.blocks
-      c.in_ok-add_block.ensures.answer c.in_ok-add_block.ensures.noted in
+    c.add_block.new.first.found (map seen_block (take i blocks)) (map seen_block (take (i + 1) blocks)) (seen_block one) more before
+    c.in_ok-add_block.ensures.values c.in_ok-add_block.ensures.types c.in_ok-add_block.ensures.blocks
+    c.in_ok-add_block.ensures.answer c.in_ok-add_block.ensures.noted in
     record { added = b.added; noted = b.noted }

@@ -12,5 +12,5 @@ pub returns-in-None-clause-noted : goal.returns-in-None-clause-noted
 returns-in-None-clause-noted c =
     let none : [] ≡ head_said c.args.line.now.line (said c.args.line.now.reading) = c.in-None.ensures in
     subst (λ (given : List Head). Notes c.args.first.now.found c.args.first.now.found
-      (FoundAfter IsAgain c.args.self.now.heads (named_heads given))) none
+    (FoundAfter IsAgain c.args.self.now.heads (named_heads given))) none
     (notes-nothing c.args.first.now.found (FoundAfter IsAgain c.args.self.now.heads []) (found-none IsAgain c.args.self.now.heads))

@@ -12,5 +12,5 @@ pub returns-in-None-clause-noted : goal.returns-in-None-clause-noted
 returns-in-None-clause-noted c =
     let none : [] ≡ layout_said c.args.line.now.line (said c.args.line.now.reading) = c.in-None.ensures in
     subst (λ (given : List LayoutLine). Notes c.args.first.now.found c.args.first.now.found
-      (FoundAfter IsAgain c.args.self.now.layouts (named_layouts given))) none
+    (FoundAfter IsAgain c.args.self.now.layouts (named_layouts given))) none
     (notes-nothing c.args.first.now.found (FoundAfter IsAgain c.args.self.now.layouts []) (found-none IsAgain c.args.self.now.layouts))
