@@ -4,3 +4,8 @@ pub mod Samples
 pub mod TypeLists
 pub mod CaseLemmas
 pub mod NoteLemmas
+pub mod Runs
+pub mod Bodies
+pub mod Sizes
+pub mod ReadTexts
+pub mod Placing
