@@ -16,3 +16,5 @@ pub mod Views
 pub mod Known
 pub mod Tables
 pub mod ReadLines
+pub mod Again
+pub mod TopFaults

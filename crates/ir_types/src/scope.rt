@@ -1,5 +1,15 @@
 //! What names stand for.
 
+ghost use Rattle.std.specs.Prelude.{◌≡◌, ◌↔◌, ◌⊎◌, IsTrue, [], ◌∷◌, ◌++◌, map, option_map, MatchOption, IfOk, OnOk};
+ghost use Rattle.ir_ast.specs.Faults.Reserved.{IsInsertedName};
+ghost use Rattle.ir_reader.specs.Seen.{seen_argument};
+ghost use Rattle.ir_types.specs.Again.{at_name, named_layouts, named_heads, named_values, named_blocks, AgainAfter, NamesFound, TopAgain, FoundByNames, results_of};
+ghost use Rattle.ir_types.specs.Notes.{Notes};
+ghost use Rattle.ir_types.specs.Parts.{gives};
+ghost use Rattle.ir_types.specs.Sections.{layout_said, head_said, arguments_named, result_named, blocks_of};
+ghost use Rattle.ir_types.specs.Tables.{seen_definition, seen_block, seen_head, IsTop, IsLocal, AddsLayouts, AddsHeads, AddsValues, AddsBlocks};
+ghost use Rattle.ir_types.specs.Views.{said, seen_lines};
+
 use crate::best::First;
 use crate::names::Names;
 use crate::parts::given;
@@ -30,7 +40,10 @@ pub(crate) struct Top<'t, 'a> {
 }
 
 /// The head of a line that is one.
-pub(crate) fn head_of<'t, 'a>(line: &'t NumberedReading<'a>) -> Option<Head<'t, 'a>> {
+pub(crate) fn head_of<'t, 'a>(line: &'t NumberedReading<'a>) -> Option<Head<'t, 'a>>
+    ensures { MatchOption result (head_said line.now.line (said line.now.reading) ≡ [])
+        (λ head. head_said line.now.line (said line.now.reading) ≡ seen_head head ∷ []) }
+{
     match &line.reading {
         Reading::Declare {
             answer,
@@ -65,7 +78,10 @@ impl<'t, 'a> Top<'t, 'a> {
         alloc: Global,
         lines: &'t [NumberedReading<'a>],
         first: &mut First,
-    ) -> Result<Top<'t, 'a>, AllocError> {
+    ) -> Result<Top<'t, 'a>, AllocError>
+        ensures is { IfOk result (λ top. IsTop (seen_lines lines.now) top) }
+        ensures noted { OnOk result (Notes first.old.found first.new.found (TopAgain (seen_lines lines.now))) }
+    {
         let mut top = Top {
             layouts: Names::new(alloc),
             fields: Vec::new(alloc),
@@ -84,7 +100,11 @@ impl<'t, 'a> Top<'t, 'a> {
         &mut self,
         line: &NumberedReading<'a>,
         first: &mut First,
-    ) -> Result<(), AllocError> {
+    ) -> Result<(), AllocError>
+        ensures added { OnOk result (AddsLayouts self.old self.new (layout_said line.now.line (said line.now.reading))) }
+        ensures noted { OnOk result (Notes first.old.found first.new.found
+            (AgainAfter self.old.layouts (named_layouts (layout_said line.now.line (said line.now.reading))))) }
+    {
         if let Reading::Layout { name, fields } = &line.reading {
             let is_new = self.layouts.add(name)?;
             self.fields.push(fields.len())?;
@@ -97,7 +117,11 @@ impl<'t, 'a> Top<'t, 'a> {
         &mut self,
         line: &'t NumberedReading<'a>,
         first: &mut First,
-    ) -> Result<(), AllocError> {
+    ) -> Result<(), AllocError>
+        ensures added { OnOk result (AddsHeads self.old self.new (head_said line.now.line (said line.now.reading))) }
+        ensures noted { OnOk result (Notes first.old.found first.new.found
+            (AgainAfter self.old.heads (named_heads (head_said line.now.line (said line.now.reading))))) }
+    {
         if let Some(head) = head_of(line) {
             let is_new = self.heads.add(head.name)?;
             self.head_list.push(head)?;
@@ -110,13 +134,17 @@ impl<'t, 'a> Top<'t, 'a> {
     }
 
     /// What the first head of this name says.
-    pub(crate) fn head(&self, name: &[u8]) -> Option<&Head<'t, 'a>> {
+    pub(crate) fn head(&self, name: &[u8]) -> Option<&Head<'t, 'a>>
+        ensures { option_map (λ head. seen_head head.now) result ≡ at_name self.now.heads (map seen_head self.now.head_list.items) name.now }
+    {
         let place = self.heads.find(name)?;
         self.head_list.get(place)
     }
 
     /// How many fields the first layout of this name has.
-    pub(crate) fn field_count(&self, name: &[u8]) -> Option<usize> {
+    pub(crate) fn field_count(&self, name: &[u8]) -> Option<usize>
+        ensures { result ≡ at_name self.now.layouts self.now.fields.items name.now }
+    {
         let place = self.layouts.find(name)?;
         self.fields.get(place).copied()
     }
@@ -131,7 +159,9 @@ pub(crate) struct Local<'n> {
     pub(crate) answer: TypeWord,
 }
 
-fn is_inserted(name: &[u8]) -> bool {
+fn is_inserted(name: &[u8]) -> bool
+    ensures { IsTrue result ↔ IsInsertedName name.now }
+{
     name.starts_with(b"sp.")
 }
 
@@ -144,25 +174,88 @@ impl<'n> Local<'n> {
         names: &'n HeadNames,
         blocks: &[BlockLines<'t, 'a, 'n>],
         first: &mut First,
-    ) -> Result<Local<'n>, AllocError> {
+    ) -> Result<Local<'n>, AllocError>
+        requires names { map (λ n. n.items) names.now.arguments.items
+            ≡ map (λ one. one.name) (arguments_named func.now.line [] (map seen_argument func.now.arguments.now)) }
+        requires blocks { map seen_block blocks.now ≡ blocks_of (seen_definition func.now) }
+        ensures is { IfOk result (λ local. IsLocal (seen_definition func.now) local) }
+        ensures noted { OnOk result (Notes first.old.found first.new.found (FoundByNames (seen_definition func.now))) }
+    {
         let mut local = Local {
             values: Names::new(alloc),
             types: Vec::new(alloc),
             blocks: Names::new(alloc),
             answer: func.answer,
         };
-        for (argument, name) in func.arguments.iter().zip(names.arguments.iter()) {
-            local.add_value(func.line, name.as_slice(), argument.ty, first)?;
-        }
-        for line in func.body {
-            if let Some((name, ty)) = given(&line.reading) {
-                local.add_value(line.line, name, ty, first)?;
-            }
-        }
-        for block in blocks {
-            local.add_block(block.line, block.name, first)?;
-        }
+        local.add_arguments(func.line, func.arguments, names.arguments.as_slice(), first)?;
+        local.add_results(func.body, first)?;
+        local.add_blocks(blocks, first)?;
         Ok(local)
+    }
+
+    // The arguments, which have these names.
+    fn add_arguments(
+        &mut self,
+        line: u32,
+        arguments: &[Argument],
+        names: &'n [Vec<u8>],
+        first: &mut First,
+    ) -> Result<(), AllocError>
+        requires { map (λ n. n.items) names.now ≡ map (λ one. one.name) (arguments_named line [] (map seen_argument arguments.now)) }
+        ensures added { OnOk result (AddsValues self.old self.new (arguments_named line [] (map seen_argument arguments.now))) }
+        ensures noted { OnOk result (Notes first.old.found first.new.found
+            (NamesFound self.old.values (named_values (arguments_named line [] (map seen_argument arguments.now))))) }
+    {
+        for (argument, name) in arguments.iter().zip(names.iter()) {
+            self.add_value(line, name.as_slice(), argument.ty, first)?;
+        }
+        Ok(())
+    }
+
+    // The results of lines.
+    fn add_results<'a: 'n>(
+        &mut self,
+        lines: &[NumberedReading<'a>],
+        first: &mut First,
+    ) -> Result<(), AllocError>
+        ensures added { OnOk result (AddsValues self.old self.new (results_of (seen_lines lines.now))) }
+        ensures noted { OnOk result (Notes first.old.found first.new.found
+            (NamesFound self.old.values (named_values (results_of (seen_lines lines.now))))) }
+    {
+        for line in lines {
+            self.add_result(line, first)?;
+        }
+        Ok(())
+    }
+
+    fn add_result<'a: 'n>(
+        &mut self,
+        line: &NumberedReading<'a>,
+        first: &mut First,
+    ) -> Result<(), AllocError>
+        ensures added { OnOk result (AddsValues self.old self.new (result_named line.now.line (gives (said line.now.reading)))) }
+        ensures noted { OnOk result (Notes first.old.found first.new.found
+            (NamesFound self.old.values (named_values (result_named line.now.line (gives (said line.now.reading)))))) }
+    {
+        match given(&line.reading) {
+            Some((name, ty)) => self.add_value(line.line, name, ty, first),
+            None => Ok(()),
+        }
+    }
+
+    fn add_blocks<'t, 'a>(
+        &mut self,
+        blocks: &[BlockLines<'t, 'a, 'n>],
+        first: &mut First,
+    ) -> Result<(), AllocError>
+        ensures added { OnOk result (AddsBlocks self.old self.new (map seen_block blocks.now)) }
+        ensures noted { OnOk result (Notes first.old.found first.new.found
+            (NamesFound self.old.blocks (named_blocks (map seen_block blocks.now)))) }
+    {
+        for block in blocks {
+            self.add_block(block.line, block.name, first)?;
+        }
+        Ok(())
     }
 
     fn add_value(
@@ -171,7 +264,10 @@ impl<'n> Local<'n> {
         name: &'n [u8],
         ty: TypeWord,
         first: &mut First,
-    ) -> Result<(), AllocError> {
+    ) -> Result<(), AllocError>
+        ensures added { OnOk result (AddsValues self.old self.new (record { line = line; name = name.now; ty = ty } ∷ [])) }
+        ensures noted { OnOk result (Notes first.old.found first.new.found (NamesFound self.old.values ((line, name.now) ∷ []))) }
+    {
         let is_new = self.values.add(name)?;
         self.types.push(ty)?;
         first.note_if(!is_new, line, 3);
@@ -184,7 +280,13 @@ impl<'n> Local<'n> {
         line: u32,
         name: &'n [u8],
         first: &mut First,
-    ) -> Result<(), AllocError> {
+    ) -> Result<(), AllocError>
+        ensures values { OnOk result (self.new.values ≡ self.old.values) }
+        ensures types { OnOk result (self.new.types.items ≡ self.old.types.items) }
+        ensures blocks { OnOk result (self.new.blocks ≡ self.old.blocks ++ name.now ∷ []) }
+        ensures answer { OnOk result (self.new.answer ≡ self.old.answer) }
+        ensures noted { OnOk result (Notes first.old.found first.new.found (NamesFound self.old.blocks ((line, name.now) ∷ []))) }
+    {
         let is_new = self.blocks.add(name)?;
         first.note_if(!is_new, line, 3);
         first.note_if(is_inserted(name), line, 14);
@@ -192,7 +294,9 @@ impl<'n> Local<'n> {
     }
 
     /// The type of the first value of this name.
-    pub(crate) fn type_of(&self, name: &[u8]) -> Option<TypeWord> {
+    pub(crate) fn type_of(&self, name: &[u8]) -> Option<TypeWord>
+        ensures { result ≡ at_name self.now.values self.now.types.items name.now }
+    {
         let place = self.values.find(name)?;
         self.types.get(place).copied()
     }

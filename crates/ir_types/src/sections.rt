@@ -1,13 +1,13 @@
 //! The definitions of a text, and their blocks.
 
-ghost use Rattle.std.specs.Prelude.{◌≡◌, not, take_while, decimal, IfOk};
+ghost use Rattle.std.specs.Prelude.{◌≡◌, ℕ, [], not, take_while, map, decimal, IfOk};
 ghost use Rattle.std.specs.Option.{option_copied};
 ghost use Rattle.ir_reader.specs.Seen.{seen_argument};
-ghost use Rattle.ir_types.specs.Sections.{is_close, is_label, label_said, is_digit, is_number, is_numbered};
+ghost use Rattle.ir_types.specs.Sections.{is_close, is_label, label_said, until_label, is_digit, is_number, is_numbered, count_numbered, arguments_named, definitions_of, blocks_of};
+ghost use Rattle.ir_types.specs.Tables.{seen_definition, seen_block};
 ghost use Rattle.std.specs.List.{list_all};
 ghost use Rattle.ir_types.specs.Views.{said, seen_lines};
 
-use crate::names::NOWHERE;
 use ir_reader::{Argument, NumberedReading, Reading, TypeWord};
 use std::alloc::{AllocError, Global};
 
@@ -46,7 +46,9 @@ fn label_of<'a>(reading: &Reading<'a>) -> Option<&'a [u8]>
 }
 
 // The lines before the closing brace.
-fn body_of<'t, 'a>(lines: &'t [NumberedReading<'a>]) -> &'t [NumberedReading<'a>] {
+fn body_of<'t, 'a>(lines: &'t [NumberedReading<'a>]) -> &'t [NumberedReading<'a>]
+    ensures { seen_lines result.now ≡ take_while (λ l. not (is_close l.says)) (seen_lines lines.now) }
+{
     for (i, line) in lines.iter().enumerate() {
         if is_close(&line.reading) {
             return &lines[..i];
@@ -56,7 +58,9 @@ fn body_of<'t, 'a>(lines: &'t [NumberedReading<'a>]) -> &'t [NumberedReading<'a>
 }
 
 // The lines before the next label.
-fn until_label<'t, 'a>(lines: &'t [NumberedReading<'a>]) -> &'t [NumberedReading<'a>] {
+fn until_label<'t, 'a>(lines: &'t [NumberedReading<'a>]) -> &'t [NumberedReading<'a>]
+    ensures { seen_lines result.now ≡ until_label (seen_lines lines.now) }
+{
     for (i, line) in lines.iter().enumerate() {
         if label_of(&line.reading).is_some() {
             return &lines[..i];
@@ -69,7 +73,9 @@ fn until_label<'t, 'a>(lines: &'t [NumberedReading<'a>]) -> &'t [NumberedReading
 pub(crate) fn definitions<'t, 'a>(
     alloc: Global,
     lines: &'t [NumberedReading<'a>],
-) -> Result<Vec<Definition<'t, 'a>>, AllocError> {
+) -> Result<Vec<Definition<'t, 'a>>, AllocError>
+    ensures { IfOk result (λ found. map seen_definition found.items ≡ definitions_of (seen_lines lines.now)) }
+{
     let mut found = Vec::new(alloc);
     for (i, line) in lines.iter().enumerate() {
         if let Reading::Define {
@@ -119,7 +125,7 @@ fn is_numbered(argument: &Argument) -> bool
     }
 }
 
-fn decimal(alloc: Global, number: u32) -> Result<Vec<u8>, AllocError>
+fn decimal(alloc: Global, number: usize) -> Result<Vec<u8>, AllocError>
     ensures { IfOk result (λ bytes. bytes.items ≡ decimal number) }
 {
     Ok(number.to_string(alloc)?.into_bytes())
@@ -134,15 +140,19 @@ pub(crate) struct HeadNames {
 
 impl HeadNames {
     /// The names that the head with these arguments gives.
-    pub(crate) fn of(alloc: Global, arguments: &[Argument]) -> Result<HeadNames, AllocError> {
+    pub(crate) fn of(alloc: Global, arguments: &[Argument]) -> Result<HeadNames, AllocError>
+        ensures arguments { IfOk result (λ names. (line : ℕ) → map (λ n. n.items) names.arguments.items
+            ≡ map (λ one. one.name) (arguments_named line [] (map seen_argument arguments.now))) }
+        ensures entry { IfOk result (λ names. names.entry.items ≡ decimal (count_numbered (map seen_argument arguments.now))) }
+    {
         let mut names = Vec::new(alloc);
-        let mut numbered = 0u32;
+        let mut numbered = 0;
         for argument in arguments {
             names.push(match argument.name {
                 Some(name) => Vec::from_slice(alloc, name)?,
                 None => decimal(alloc, numbered)?,
             })?;
-            if is_numbered(argument) && numbered < NOWHERE {
+            if is_numbered(argument) {
                 numbered += 1;
             }
         }
@@ -159,7 +169,10 @@ pub(crate) fn blocks<'t, 'a: 'n, 'n>(
     alloc: Global,
     func: &Definition<'t, 'a>,
     entry: &'n [u8],
-) -> Result<Vec<BlockLines<'t, 'a, 'n>>, AllocError> {
+) -> Result<Vec<BlockLines<'t, 'a, 'n>>, AllocError>
+    requires { entry.now ≡ decimal (count_numbered (map seen_argument func.now.arguments.now)) }
+    ensures { IfOk result (λ found. map seen_block found.items ≡ blocks_of (seen_definition func.now)) }
+{
     let mut found = Vec::new(alloc);
     let body = func.body;
     if let Some(first) = body.first()
