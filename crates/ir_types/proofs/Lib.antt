@@ -9,3 +9,6 @@ pub mod Bodies
 pub mod Sizes
 pub mod ReadTexts
 pub mod Placing
+pub mod Steps
+pub mod ArgumentLists
+pub mod BuiltLemmas

@@ -18,3 +18,4 @@ pub mod Tables
 pub mod ReadLines
 pub mod Again
 pub mod TopFaults
+pub mod Built
