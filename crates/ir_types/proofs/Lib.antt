@@ -5,6 +5,7 @@ pub mod TypeLists
 pub mod CaseLemmas
 pub mod NoteLemmas
 pub mod Runs
+pub mod Formed
 pub mod Bodies
 pub mod Sizes
 pub mod ReadTexts

@@ -4,7 +4,7 @@ use Rattle.std.specs.Prelude.{map, take_while, nat_le}
 use Rattle.std.specs.List.{All, list_all}
 use Rattle.std.proofs.lemmas.List.{length-map}
 use Rattle.std.proofs.lemmas.List.Elements.{All-nil, All-cons, All-append, All-head, All-tail, All-weaker}
-use borrow.Author.Tests.{leb-true}
+use Rattle.std.proofs.lemmas.Bool.{leb-true}
 use Rattle.ir_reader.specs.declared.forms.Place.{Place}
 use Rattle.ir_reader.specs.declared.forms.Place.TheVariants as places
 use Rattle.ir_reader.specs.declared.readings.TypeWord.{TypeWord}

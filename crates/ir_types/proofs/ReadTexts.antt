@@ -21,7 +21,8 @@ use Rattle.ir_reader.specs.Text.{is_top, opening, text_readings}
 use Rattle.ir_reader.specs.Text as texts
 use Rattle.ir_types.specs.Statements.{Line}
 use Rattle.ir_types.specs.Views.{said, seen_line, seen_lines}
-use Rattle.ir_types.specs.ReadLines.{place_behind, Stand, statement_fits, IsReadLines}
+use Rattle.ir_types.specs.ReadLines.{place_behind, Stand, statement_fits, is_formed, IsReadLines}
+use Rattle.ir_types.proofs.Formed.{said_suits, spelled-suits}
 use Rattle.ir_types.proofs.Runs.{said_behind, Runs, readings-run, readings-few}
 
 -- ---- line by line
@@ -64,6 +65,29 @@ fit-of [] s top = All-nil Fits
 fit-of (r ∷ rs) s run =
     All-cons Fits (seen_line r) (map seen_line rs) (sym (same-limits r.reading) ∙ run.step.fits) (fit-of rs run.next run.more)
 
+same-forms : (r : Reading) → said_suits (seen r) ≡ is_formed (said r)
+same-forms readings.Close = refl
+same-forms (readings.Label n) = refl
+same-forms readings.SwitchEnd = refl
+same-forms readings.ReturnVoid = refl
+same-forms readings.Unreachable = refl
+same-forms (readings.Jump l) = refl
+same-forms (readings.Branch c l m) = refl
+same-forms (readings.Switch n v d) = refl
+same-forms (readings.Binary x op n l m) = refl
+same-forms (readings.Convert x op n v to) = refl
+same-forms (readings.LayoutElement x l a n i p) = refl
+same-forms r = simp and-true
+
+abbrev Formed : Line → Type 0
+Formed l = is_formed l.says ≡ true
+
+formed-of : (rs : List NumberedReading) (s : State) → Runs s (map seen_numbered rs) → All Formed (map seen_line rs)
+formed-of [] s top = All-nil Formed
+formed-of (r ∷ rs) s run =
+    All-cons Formed (seen_line r) (map seen_line rs) (sym (same-forms r.reading) ∙ spelled-suits (seen r.reading) run.step.spelled)
+    (formed-of rs run.next run.more)
+
 -- ---- few lines
 
 length-numbered : (n : ℕ) (ls : List (List ℕ)) → length (numbered n ls) ≡ length ls
@@ -102,5 +126,6 @@ read-lines r read =
     record {
       placed = stand-of r.lines opening run;
       fit = fit-of r.lines opening run;
+      formed = formed-of r.lines opening run;
       few = omega (arith, a, b, c, d, e);
     }
