@@ -66,7 +66,7 @@ closed-is places.Closed e = refl
 closed-is place e = absurd (let bad : false ≡ true = e in cc)
 
 closes : (place : Place) (what : Statement) (next : Place) → Inside place → is_close what ≡ true → place_behind place what ≡ Some next → place ≡ places.Closed
-closes place what next in' c e = closed-is place (sym (closes-at place what in' c) ∙ ap is_some e)
+closes place what next in' c e = closed-is place (sym (closes-at place what in' c) ∙ ap (λ (o : Option Place). is_some o) e)
 
 body-at : (b : Bool) (l : Line) (rest : List Line) (place : Place) → Inside place → is_close l.says ≡ b
     → Goes (place_behind place l.says) (λ next. Inside next → Body next rest) → Body place (cond (not b) (l ∷ rest) [])
@@ -190,7 +190,7 @@ no-label (label name) c = refl
 no-label what c = absurd (let bad : false ≡ true = c in cc)
 
 label-ends : (known : Known) (place : Place) (what : Statement) (next : Place) → is_label what ≡ true → place_behind place what ≡ Some next → Ends known place []
-label-ends known places.Block what next c e = absurd (let bad : true ≡ false = sym (ap is_some e) ∙ no-label what c in cc)
+label-ends known places.Block what next c e = absurd (let bad : true ≡ false = sym (ap (λ (o : Option Place). is_some o) e) ∙ no-label what c in cc)
 label-ends known places.Closed what next c e = refl
 label-ends known places.Cases what next c e = refl
 label-ends known place what next c e = tt
@@ -246,7 +246,7 @@ block-ends : (known : Known) (number : ℕ) (place : Place) (what : Statement) (
     → label_said what ≡ name → place_behind place what ≡ Some next → Ends known next (until_label ls) → All (BlockEnds known) (block_at number name ls)
 block-ends known number place what None next ls n e ends = All-nil (BlockEnds known)
 block-ends known number place what (Some name) next ls n e ends =
-    let is = opens-is next (sym (ap opens e) ∙ label-opens place what (ap is_some n)) in
+    let is = opens-is next (sym (ap opens e) ∙ label-opens place what (ap (λ (o : Option (List ℕ)). is_some o) n)) in
     All-cons (BlockEnds known) (record { line = number; name = name; lines = until_label ls }) []
     (subst (λ (p : Place). Ends known p (until_label ls)) is ends) (All-nil (BlockEnds known))
 

@@ -129,27 +129,38 @@ abbrev pub Runs : State → List Numbered → Type 0
 Runs s [] = is_top s.place ≡ true
 Runs s (x ∷ xs) = Steps s x.said (λ next. Runs next xs)
 
+abbrev as_read : List Numbered → Result (List Numbered) Fault
+as_read xs = Ok xs
+
+abbrev as_fault : Fault → Result (List Numbered) Fault
+as_fault fault = Err fault
+
+read-is : (xs ys : List Numbered) → as_read xs ≡ as_read ys → xs ≡ ys
+read-is xs ys e = cc
+
+no-fault : (fault : Fault) (xs : List Numbered) → as_fault fault ≡ as_read xs → ⊥
+no-fault fault xs e = cc
+
 runs-is : (s : State) (xs ys : List Numbered) → xs ≡ ys → Runs s xs → Runs s ys
 runs-is s xs ys e h = rw (← e) h
 
 end-runs : (s : State) (number : ℕ) (b : Bool) (xs : List Numbered) → is_top s.place ≡ b
     → (if b then Ok [] else Err (syntax_fault number)) ≡ Ok xs → Runs s xs
-end-runs s number true xs top e = let none : [] ≡ xs = (let is : Ok [] ≡ Ok xs = e in cc) in runs-is s [] xs none top
-end-runs s number false xs top e = absurd (let bad : Err (syntax_fault number) ≡ Ok xs = e in cc)
+end-runs s number true xs top e = let none = read-is [] xs e in runs-is s [] xs none top
+end-runs s number false xs top e = absurd (no-fault (syntax_fault number) xs e)
 
 first-runs : (s : State) (x : Numbered) (next : State) (read : Result (List Numbered) Fault) (xs : List Numbered)
     → IsStep s x.said next → with_first x read ≡ Ok xs → ((ys : List Numbered) → read ≡ Ok ys → Runs next ys) → Runs s xs
 first-runs s x next (Ok ys) xs step e rest =
-    let is : Ok (x ∷ ys) ≡ Ok xs = e in
-    let same : x ∷ ys ≡ xs = cc in
+    let same = read-is (x ∷ ys) xs e in
     runs-is s (x ∷ ys) xs same (record { next = next; step = step; more = rest ys refl })
-first-runs s x next (Err fault) xs step e rest = absurd (let bad : Err fault ≡ Ok xs = e in cc)
+first-runs s x next (Err fault) xs step e rest = absurd (no-fault fault xs e)
 
 outcome-runs : (s : State) (bytes : List ℕ) (number : ℕ) (o : Outcome) (more : State → Result (List Numbered) Fault) (xs : List Numbered)
     → outcome s bytes ≡ o → readings_by o number more s ≡ Ok xs
     → ((next : State) (ys : List Numbered) → more next ≡ Ok ys → Runs next ys) → Runs s xs
-outcome-runs s bytes number no_reading more xs o e rest = absurd (let bad : Err (syntax_fault number) ≡ Ok xs = e in cc)
-outcome-runs s bytes number over_limit more xs o e rest = absurd (let bad : Err (limit_fault number) ≡ Ok xs = e in cc)
+outcome-runs s bytes number no_reading more xs o e rest = absurd (no-fault (syntax_fault number) xs e)
+outcome-runs s bytes number over_limit more xs o e rest = absurd (no-fault (limit_fault number) xs e)
 outcome-runs s bytes number nothing more xs o e rest = rest s xs e
 outcome-runs s bytes number (said what next) more xs o e rest =
     first-runs s (record { line = number; said = what }) next (more next) xs (outcome-step s bytes what next o) e (rest next)
@@ -166,25 +177,24 @@ readings-run (l ∷ ls) s number xs e =
 first-few : (x : Numbered) (read : Result (List Numbered) Fault) (xs : List Numbered) (n : ℕ)
     → with_first x read ≡ Ok xs → ((ys : List Numbered) → read ≡ Ok ys → length ys ≤ n) → length xs ≤ suc n
 first-few x (Ok ys) xs n e few =
-    let is : Ok (x ∷ ys) ≡ Ok xs = e in
-    let same : x ∷ ys ≡ xs = cc in
+    let same = read-is (x ∷ ys) xs e in
     let h : length ys ≤ n = few ys refl in
     let k : suc (length ys) ≡ length xs = ap length same in omega arith
-first-few x (Err fault) xs n e few = absurd (let bad : Err fault ≡ Ok xs = e in cc)
+first-few x (Err fault) xs n e few = absurd (no-fault fault xs e)
 
 outcome-few : (s : State) (number : ℕ) (o : Outcome) (more : State → Result (List Numbered) Fault) (xs : List Numbered) (n : ℕ)
     → readings_by o number more s ≡ Ok xs
     → ((next : State) (ys : List Numbered) → more next ≡ Ok ys → length ys ≤ n) → length xs ≤ suc n
-outcome-few s number no_reading more xs n e few = absurd (let bad : Err (syntax_fault number) ≡ Ok xs = e in cc)
-outcome-few s number over_limit more xs n e few = absurd (let bad : Err (limit_fault number) ≡ Ok xs = e in cc)
+outcome-few s number no_reading more xs n e few = absurd (no-fault (syntax_fault number) xs e)
+outcome-few s number over_limit more xs n e few = absurd (no-fault (limit_fault number) xs e)
 outcome-few s number nothing more xs n e few = let h : length xs ≤ n = few s xs e in omega arith
 outcome-few s number (said what next) more xs n e few = first-few (record { line = number; said = what }) (more next) xs n e (few next)
 
 end-few : (b : Bool) (number : ℕ) (xs : List Numbered) → (if b then Ok [] else Err (syntax_fault number)) ≡ Ok xs → length xs ≤ 0
 end-few true number xs e =
-    let none : [] ≡ xs = (let is : Ok [] ≡ Ok xs = e in cc) in
+    let none = read-is [] xs e in
     let k : 0 ≡ length xs = ap length none in omega arith
-end-few false number xs e = absurd (let bad : Err (syntax_fault number) ≡ Ok xs = e in cc)
+end-few false number xs e = absurd (no-fault (syntax_fault number) xs e)
 
 pub readings-few : (ls : List NumberedLine) (s : State) (number : ℕ) (xs : List Numbered) → readings s number ls ≡ Ok xs → length xs ≤ length ls
 unfolding readings

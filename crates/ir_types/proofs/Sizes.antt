@@ -11,14 +11,15 @@ use Rattle.ir_types.specs.Sections.{Definition, BlockLines, is_close, is_label, 
 use Rattle.ir_types.specs.Modules.{Known, block_of, instruction_said, with_line, instructions_of as lined_instructions, insts_of}
 use Rattle.ir_types.proofs.Bodies.{in_block, inside_function}
 
+while-more : (b : Bool) (l : Line) (rest : List Line) (n : ℕ) → length rest ≤ n → length (cond b (l ∷ rest) []) ≤ suc n
+while-more true l rest n few = omega (arith, few)
+while-more false l rest n few = omega arith
+
 pub few-while : (test : Line → Bool) (ls : List Line) → length (take_while test ls) ≤ length ls
 few-while test [] = omega arith
 few-while test (l ∷ ls) =
-    subst (λ (xs : List Line). length xs ≤ suc (length ls)) (sym (take_while-cons test l ls)) (by (test l))
-  where
-    by : (b : Bool) → length (cond b (l ∷ take_while test ls) []) ≤ suc (length ls)
-    by true = let h = few-while test ls in omega (arith, h)
-    by false = omega arith
+    subst (λ (xs : List Line). length xs ≤ suc (length ls)) (sym (take_while-cons test l ls))
+    (while-more (test l) l (take_while test ls) (length ls) (few-while test ls))
 
 few-layout : (line : ℕ) (what : Statement) → length (layout_said line what) ≤ 1
 few-layout line (layout name fields) = omega arith
