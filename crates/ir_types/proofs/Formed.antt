@@ -17,7 +17,7 @@ use Rattle.ir_reader.specs.Slots.{Item, Slot, part, parse, blank, m, w, dropped,
 use Rattle.ir_reader.specs.Slots as items
 use Rattle.ir_reader.specs.Forms.{slots}
 use Rattle.ir_reader.specs.Seen.{Said, label, line}
-use Rattle.ir_types.specs.ReadLines.{given_is_formed}
+use Rattle.ir_types.specs.TextLines.{given_is_formed}
 use Rattle.ir_types.proofs.Runs.{IsSpelled}
 
 -- ---- one part after another

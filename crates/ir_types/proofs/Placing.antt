@@ -14,7 +14,7 @@ use Rattle.ir_types.specs.Statements.{Statement, Line, define}
 use Rattle.ir_types.specs.Sections.{Definition, definition_said, definitions_of, arguments_named, blocks_of, layouts_of}
 use Rattle.ir_types.specs.Modules.{Known, known_of, block_of, argument_of}
 use Rattle.ir_types.specs.Placed.{IsPlacedFunction, IsPlaced}
-use Rattle.ir_types.specs.ReadLines.{behind_top, place_behind, Stand, statement_fits, IsReadLines}
+use Rattle.ir_types.specs.TextLines.{behind_top, place_behind, Stand, statement_fits, IsTextLines}
 use Rattle.ir_types.proofs.Bodies.{Body, body-of, blocks-end, inside_function}
 use Rattle.ir_types.proofs.Sizes.{few-while, few-layouts, few-definitions, few-arguments, few-blocks, few-instructions}
 
@@ -101,7 +101,7 @@ body-placed known func h =
       };
     }
 
-pub read-placed : (lines : List Line) → IsReadLines lines → IsPlaced lines
+pub read-placed : (lines : List Line) → IsTextLines lines → IsPlaced lines
 read-placed lines read =
     let layouts = few-layouts lines in
     let functions = few-definitions lines in

@@ -21,7 +21,7 @@ use Rattle.ir_reader.specs.Text.{is_top, opening, text_readings}
 use Rattle.ir_reader.specs.Text as texts
 use Rattle.ir_types.specs.Statements.{Line}
 use Rattle.ir_types.specs.Views.{said, seen_line, seen_lines}
-use Rattle.ir_types.specs.ReadLines.{place_behind, Stand, statement_fits, is_formed, IsReadLines}
+use Rattle.ir_types.specs.TextLines.{place_behind, Stand, statement_fits, is_formed, IsTextLines}
 use Rattle.ir_types.proofs.Formed.{said_suits, spelled-suits}
 use Rattle.ir_types.proofs.Runs.{said_behind, Runs, readings-run, readings-few}
 
@@ -114,7 +114,7 @@ lines-few text =
 
 -- ---- the text
 
-pub read-lines : (r : Readings) → IsRead r → IsReadLines (seen_lines r.lines)
+pub read-lines : (r : Readings) → IsRead r → IsTextLines (seen_lines r.lines)
 unfolding text_readings
 read-lines r read =
     let run : Runs opening (map seen_numbered r.lines) = readings-run (text_lines r.text) opening 1 (map seen_numbered r.lines) read.lines in

@@ -1,4 +1,4 @@
--- What the lines of a text that was read are like: each stands where it may, and passes no limit of a line.
+-- What the lines of a text that was read are like: each stands where it may, is formed as its form asks, and passes no limit of a line.
 use Rattle.std.specs.Prelude.{◌≡◌, ℕ, ◌≤◌, Bool, true, false, ◌&&◌, nat_le, List, [], ◌∷◌, length, Option, Some, None}
 use Rattle.std.specs.List.{All, list_all}
 use Rattle.ir_reader.specs.declared.forms.Place.{Place}
@@ -125,7 +125,7 @@ is_formed _ = true
 
 -- ---- the lines of a text
 
-pub record IsReadLines (lines : List Line) : Type 0 where
+pub record IsTextLines (lines : List Line) : Type 0 where
   pub placed : Stand places.Top lines
   pub fit : All (λ l. statement_fits l.says ≡ true) lines
   pub formed : All (λ l. is_formed l.says ≡ true) lines
