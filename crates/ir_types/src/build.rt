@@ -10,7 +10,7 @@ ghost use Rattle.ir_types.specs.Views.{said, seen_lines};
 ghost use Rattle.ir_types.specs.Known.{known_in};
 ghost use Rattle.ir_types.specs.Placed.{IsPlacedFunction, IsPlaced};
 ghost use Rattle.ir_types.specs.Tables.{seen_definition, seen_block};
-ghost use Rattle.ir_types.specs.Sections.{arguments_named, layout_said, layouts_of};
+ghost use Rattle.ir_types.specs.Sections.{arguments_named, blocks_of, layout_said, layouts_of};
 ghost use Rattle.ir_types.specs.Built.{known_with, lined_function};
 ghost use Rattle.ir_types.specs.Modules.{module_of, instruction, instruction_said, with_line, insts_of, numbers_of, external_callee, callee_of, passed_operand, given_type, case_values, case_labels, element_of, entry_operand, entry_label, operand_in, label_in, type_of, block_of, argument_of, layout_of, binary_of, conversion_of, cell_of, place_of};
 
