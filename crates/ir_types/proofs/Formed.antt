@@ -36,20 +36,26 @@ went (Some p) next whole e = record { x = p.0; rest = p.1; is = refl; more = e }
 the-same : {A : Type 0} (x y : A) → Some x ≡ Some y → x ≡ y
 the-same x y e = cc
 
-first-is : {A : Type 0} (x y : A) (r s : List Tok) → Some (x, r) ≡ Some (y, s) → x ≡ y
-first-is {A} x y r s e = ap (λ (p : A × List Tok). p.0) (the-same (x, r) (y, s) e)
+abbrev found : {A : Type 0} → A → List Tok → Found A
+found x rest = Some (x, rest)
+
+first-of : {A : Type 0} (p q : A × List Tok) → Some p ≡ Some q → p.0 ≡ q.0
+first-of {A} p q e = ap (λ (one : A × List Tok). one.0) (the-same p q e)
+
+first-is : {A : Type 0} (x y : A) (r s : List Tok) → found x r ≡ found y s → x ≡ y
+first-is x y r s e = first-of (x, r) (y, s) e
 
 -- ---- what a test allows
 
 chosen-by : {A : Type 0} (allows : A → Bool) (b : Bool) (x y : A) (r s : List Tok) → allows x ≡ b
-    → (if b then Some (x, r) else None) ≡ Some (y, s) → allows y ≡ true
+    → (if b then found x r else None) ≡ found y s → allows y ≡ true
 chosen-by allows true x y r s c e = sym (ap allows (first-is x y r s e)) ∙ c
-chosen-by {A} allows false x y r s c e = absurd (let bad : None ≡ Some (y, s) = e in cc)
+chosen-by {A} allows false x y r s c e = absurd (let bad : None ≡ found y s = e in cc)
 
-chosen : {A : Type 0} (allows : A → Bool) (found : Found A) (y : A) (s : List Tok)
-    → after found (λ x rest. if allows x then Some (x, rest) else None) ≡ Some (y, s) → allows y ≡ true
-chosen allows found y s e =
-    let h = went found (λ x rest. if allows x then Some (x, rest) else None) (y, s) e in
+chosen : {A : Type 0} (allows : A → Bool) (what : Found A) (y : A) (s : List Tok)
+    → after what (λ x rest. if allows x then found x rest else None) ≡ found y s → allows y ≡ true
+chosen allows what y s e =
+    let h = went what (λ x rest. if allows x then found x rest else None) (y, s) e in
     chosen-by allows (allows h.x) h.x y h.rest s refl h.more
 
 allowed-type : (allows : TypeWord → Bool) (ts : List Tok) (ty : TypeWord) (rest : List Tok) → allowed_type_at allows ts ≡ Some (ty, rest) → allows ty ≡ true
@@ -90,7 +96,7 @@ at_most-listed : {A : Type 0} (test : A → Bool) (element : List Tok → Found 
     → ((ts : List Tok) (x : A) (rest : List Tok) → element ts ≡ Some (x, rest) → test x ≡ true)
     → (n : ℕ) (ts : List Tok) (xs : List A) (rest : List Tok) → at_most_at element goes_on n ts ≡ Some (xs, rest) → Listed test xs
 unfolding at_most_at
-at_most-listed test element goes_on one zero ts xs rest e = absurd (let bad : None ≡ Some (xs, rest) = e in cc)
+at_most-listed test element goes_on one zero ts xs rest e = absurd (let bad : None ≡ found xs rest = e in cc)
 at_most-listed test element goes_on one (suc n) ts xs rest e =
     let h = went (element ts) (λ x mid.
         if goes_on mid then after (at_most_at element goes_on n (past (is_mark (codes ",")) mid)) (λ xs end. Some (x ∷ xs, end))
