@@ -653,8 +653,8 @@ fn arguments_of(
     ensures { IfOk result (λ args. args.items ≡ map argument_of (arguments_named line [] (map seen_argument arguments.now))) }
 {
     let mut args = Vec::new(alloc);
-    for (argument, name) in arguments.iter().zip(names.iter()) {
-        let name = owned(alloc, name.as_slice())?;
+    for (i, argument) in arguments.iter().enumerate() {
+        let name = owned(alloc, names[i].as_slice())?;
         args.push(Arg {
             name,
             ty: type_of(argument.ty),
@@ -693,11 +693,18 @@ fn functions_of(
     Ok(made)
 }
 
+fn cells_of(alloc: Global, fields: &[TypeWord]) -> Result<Vec<Cell>, AllocError>
+    ensures { IfOk result (λ cells. cells.items ≡ map cell_of fields.now) }
+{
+    fields.iter().map(|field| cell_of(*field)).collect(alloc)
+}
+
 fn layout_of(alloc: Global, name: &[u8], fields: &[TypeWord]) -> Result<Layout, AllocError>
     ensures { IfOk result (λ made. made ≡ record { name = name.now; fields = map cell_of fields.now }) }
 {
-    let cells = fields.iter().map(|field| cell_of(*field)).collect(alloc)?;
-    Ok(Layout::of(owned(alloc, name)?, cells))
+    let cells = cells_of(alloc, fields)?;
+    let name = owned(alloc, name)?;
+    Ok(Layout::of(name, cells))
 }
 
 // Adds the layout of a line behind the others, where it is one.
