@@ -10,8 +10,8 @@ use Rattle.ir_types.proofs.Steps.{made-more, all-at}
 use Rattle.ir_types.proofs.BuiltLemmas.{lined_with}
 use Rattle.ir_types.proofs.build.functions_of.Goals as goal
 
-pub function_of-one-requires : goal.function_of-one-requires
-function_of-one-requires c =
+pub function_of-requires : goal.function_of-one-requires
+function_of-requires c =
     all-at (λ (func : Definition). IsPlacedFunction (known_with c.args.top.now func) func) seen_definition c.args.funcs.now
     c.loop-func.func-index c.func-item.result c.requires c.loop-func-test.true c.func-item.is
 

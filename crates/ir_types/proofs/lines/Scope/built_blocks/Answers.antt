@@ -9,8 +9,8 @@ use Rattle.ir_types.specs.Known.{known_in}
 use Rattle.ir_types.proofs.Steps.{made-more, all-at}
 use Rattle.ir_types.proofs.lines.Scope.built_blocks.Goals as goal
 
-pub block-made-requires : goal.block-made-requires
-block-made-requires c =
+pub block-requires : goal.block-made-requires
+block-requires c =
     all-at (λ (one : BlockLines). EndsAtTerminator (insts_of (known_in c.args.self.now) one.lines)) seen_block c.args.blocks.now
     c.loop-block.block-index c.block-item.result c.requires c.loop-block-test.true c.block-item.is
 
@@ -24,7 +24,7 @@ loop-block-preserved c = record {
       c.loop-block.invariant.made;
   numbered = made-more (λ (bs : List BlockTable). flat_map (λ (one : BlockLines). numbers_of (known_in c.args.self.now) one.lines) (map seen_block bs))
       (λ (one : BlockTable). numbers_of (known_in c.args.self.now) (seen_block one).lines) (λ x xs. refl) c.args.blocks.now
-      c.loop-block.block-index c.block-item.result c.loop-block.numbers.items c.block-made.new.numbers.items
+      c.loop-block.block-index c.block-item.result c.loop-block.numbers.items c.block.new.numbers.items
       (c.args.numbers.now.items ++ flat_map (λ (one : BlockLines). numbers_of (known_in c.args.self.now) one.lines) (map seen_block c.args.blocks.now))
       c.loop-block-test.true c.block-item.is c.in_ok-made.ensures.numbers c.loop-block.invariant.numbered;
 }
