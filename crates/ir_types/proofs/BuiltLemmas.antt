@@ -4,6 +4,7 @@ use Rattle.std.specs.Prelude.{map, flat_map}
 use Rattle.std.proofs.lemmas.List.{length-map, length-append}
 use Rattle.std.specs.List.{All}
 use Rattle.std.proofs.lemmas.List.Elements.{All-weaker, All-same}
+use Rattle.ir_ast.specs.declared.types.Ty.{Ty}
 use Rattle.ir_ast.specs.declared.funcs.Arg.{Arg}
 use Rattle.ir_ast.specs.declared.modules.Form.TheVariants.{Source}
 use Rattle.ir_ast.specs.Insts.{Instruction}
@@ -13,8 +14,8 @@ use Rattle.ir_ast.specs.Funcs.{Function, LinedFunction, IsSmall, instructions_of
 use Rattle.ir_ast.specs.Modules.{ModuleContent, LinedModule}
 use Rattle.ir_types.specs.declared.scope.Top.{Top}
 use Rattle.ir_types.specs.Statements.{Line}
-use Rattle.ir_types.specs.Sections.{Definition, BlockLines, values_of, blocks_of, layouts_of, definitions_of}
-use Rattle.ir_types.specs.Modules.{Known, known_of, layout_of, function_of, instruction_lines, module_of, block_of, numbers_of, insts_of, instructions_of as lined_instructions}
+use Rattle.ir_types.specs.Sections.{Definition, BlockLines, arguments_named, values_of, blocks_of, layouts_of, definitions_of}
+use Rattle.ir_types.specs.Modules.{Known, known_of, type_of, argument_of, layout_of, function_of, instruction_lines, module_of, block_of, numbers_of, insts_of, instructions_of as lined_instructions}
 use Rattle.ir_types.specs.Tables.{IsTop}
 use Rattle.ir_types.specs.Placed.{IsPlacedFunction}
 use Rattle.ir_types.specs.Built.{known_with, lined_function}
@@ -86,10 +87,6 @@ built-module lines top h whole layouts funcs l f content numbers =
 
 -- ---- a function
 
-pub small-is : (args other_args : List Arg) (blocks other_blocks : List BasicBlock) → args ≡ other_args → blocks ≡ other_blocks
-    → IsSmall other_args other_blocks → IsSmall args blocks
-small-is args other_args blocks other_blocks e f h = rw (e, f) h
-
 pub all-placed : (lines : List Line) (top : Top) (funcs : List Definition) → IsTop lines top → funcs ≡ definitions_of lines
     → All (λ (func : Definition). IsPlacedFunction (known_of lines func) func) (definitions_of lines)
     → All (λ (func : Definition). IsPlacedFunction (known_with top func) func) funcs
@@ -98,3 +95,9 @@ all-placed lines top funcs h e placed =
     let Q : Definition → Type 0 = λ func. IsPlacedFunction (known_with top func) func in
     All-weaker P Q (λ func one. subst (λ (known : Known). IsPlacedFunction known func) (sym (known-top lines top func h)) one) funcs
     (All-same P funcs (definitions_of lines) e placed)
+
+pub lines-many : (known : Known) (blocks : List BlockLines) (numbers : List ℕ) (built : List BasicBlock)
+    → numbers ≡ flat_map (λ (block : BlockLines). numbers_of known block.lines) blocks → built ≡ map (block_of known) blocks
+    → length numbers ≡ length (instructions_of built)
+lines-many known blocks numbers built n b =
+    ap length n ∙ one-line_each known blocks ∙ ap (λ (bs : List BasicBlock). length (instructions_of bs)) (sym b)
