@@ -138,6 +138,9 @@ argument-type plain ts one rest e =
 abbrev head_types : Bool → List ℕ × List Named → Bool
 head_types declared head = list_all (λ one. is_argument_type (declared && is_task_start head.0) one.ty) head.1
 
+head-types-is : (declared : Bool) (head other : List ℕ × List Named) → head ≡ other → head_types declared head ≡ true → head_types declared other ≡ true
+head-types-is declared head other e h = rw (← e) h
+
 head-types : (declared : Bool) (ts : List Tok) (head : List ℕ × List Named) (rest : List Tok) → head_at declared ts ≡ Some (head, rest) → head_types declared head ≡ true
 unfolding head_at
 head-types declared ts head rest e =
@@ -151,9 +154,9 @@ head-types declared ts head rest e =
         Some ((a.x, arguments), ts))) (head, rest) b.more in
     let d = went (mark_at (codes ")") c.rest) (λ _ ts. Some ((a.x, c.x), ts)) (head, rest) c.more in
     let is : (a.x, c.x) ≡ head = first-is (a.x, c.x) head d.rest rest d.more in
-    ap (head_types declared) (sym is)
-    ∙ list-all (λ (one : Named). is_argument_type (declared && is_task_start a.x) one.ty) (argument_at (declared && is_task_start a.x)) (codes ")")
-      (argument-type (declared && is_task_start a.x)) b.rest c.x c.rest c.is
+    head-types-is declared (a.x, c.x) head is
+    (list-all (λ (one : Named). is_argument_type (declared && is_task_start a.x) one.ty) (argument_at (declared && is_task_start a.x)) (codes ")")
+      (argument-type (declared && is_task_start a.x)) b.rest c.x c.rest c.is)
 
 -- what a call of this name passes
 abbrev passes : Bool → Given → Bool
@@ -191,6 +194,9 @@ same-given callee (function name) = refl
 abbrev call_types : List ℕ × List Given → Bool
 call_types call = list_all (given_is_formed call.0) call.1
 
+call-types-is : (call other : List ℕ × List Given) → call ≡ other → call_types call ≡ true → call_types other ≡ true
+call-types-is call other e h = rw (← e) h
+
 called-types : (ts : List Tok) (call : List ℕ × List Given) (rest : List Tok) → called_at ts ≡ Some (call, rest) → call_types call ≡ true
 unfolding called_at
 called-types ts call rest e =
@@ -204,9 +210,9 @@ called-types ts call rest e =
         Some ((a.x, passed), ts))) (call, rest) b.more in
     let d = went (mark_at (codes ")") c.rest) (λ _ ts. Some ((a.x, c.x), ts)) (call, rest) c.more in
     let is : (a.x, c.x) ≡ call = first-is (a.x, c.x) call d.rest rest d.more in
-    ap call_types (sym is)
-    ∙ list-all (given_is_formed a.x) (passed_at (is_task_start a.x)) (codes ")")
-      (λ ts one rest f. sym (same-given a.x one) ∙ passed-type (is_task_start a.x) ts one rest f) b.rest c.x c.rest c.is
+    call-types-is (a.x, c.x) call is
+    (list-all (given_is_formed a.x) (passed_at (is_task_start a.x)) (codes ")")
+      (λ ts one rest f. sym (same-given a.x one) ∙ passed-type (is_task_start a.x) ts one rest f) b.rest c.x c.rest c.is)
 
 -- ---- slots
 
