@@ -77,12 +77,12 @@ pub built-module : (lines : List Line) (top : Top) → IsTop lines top → (whol
     → whole ≡ module_of lines
 built-module lines top h whole layouts funcs l f content numbers =
     let contents : map content_of funcs ≡ (module_of lines).content.funcs =
-        ap (λ (fs : List LinedFunction). map content_of fs) f ∙ built-contents lines top h (definitions_of lines) in
+    ap (λ (fs : List LinedFunction). map content_of fs) f ∙ built-contents lines top h (definitions_of lines) in
     let same : whole.content ≡ (module_of lines).content =
-        content ∙ ap (λ (ls : List ObjectLayout). content_with ls (map content_of funcs)) l
-        ∙ ap (λ (fs : List Function). content_with (map layout_of (layouts_of lines)) fs) contents in
+    content ∙ ap (λ (ls : List ObjectLayout). content_with ls (map content_of funcs)) l
+    ∙ ap (λ (fs : List Function). content_with (map layout_of (layouts_of lines)) fs) contents in
     let lined : whole.lines ≡ (module_of lines).lines =
-        numbers ∙ ap (λ (fs : List LinedFunction). map lines_of fs) f ∙ built-lines lines top h (definitions_of lines) in
+    numbers ∙ ap (λ (fs : List LinedFunction). map lines_of fs) f ∙ built-lines lines top h (definitions_of lines) in
     ap (λ (one : ModuleContent). module_with one whole.lines) same ∙ ap (λ (ns : List (List ℕ)). module_with (module_of lines).content ns) lined
 
 -- ---- a function

@@ -99,8 +99,8 @@ unfolding at_most_at
 at_most-listed test element goes_on one zero ts xs rest e = absurd (let bad : None ≡ found xs rest = e in cc)
 at_most-listed test element goes_on one (suc n) ts xs rest e =
     let h = went (element ts) (λ x mid.
-        if goes_on mid then after (at_most_at element goes_on n (past (is_mark (codes ",")) mid)) (λ xs end. Some (x ∷ xs, end))
-        else Some (x ∷ [], mid)) (xs, rest) e in
+    if goes_on mid then after (at_most_at element goes_on n (past (is_mark (codes ",")) mid)) (λ xs end. Some (x ∷ xs, end))
+    else Some (x ∷ [], mid)) (xs, rest) e in
     listed-by test element goes_on (goes_on h.rest) n h.x h.rest xs rest (one ts h.x h.rest h.is)
     (λ ys end f. at_most-listed test element goes_on one n (past (is_mark (codes ",")) h.rest) ys end f) h.more
 
@@ -130,7 +130,7 @@ argument-type : (plain : Bool) (ts : List Tok) (one : Named) (rest : List Tok) �
 unfolding argument_at
 argument-type plain ts one rest e =
     let h = went (allowed_type_at (is_argument_type plain) ts) (λ ty ts.
-        let named = name_if_any (past_all drops.Groups ts) in Some (record { ty = ty; name = named.0 }, named.1)) (one, rest) e in
+    let named = name_if_any (past_all drops.Groups ts) in Some (record { ty = ty; name = named.0 }, named.1)) (one, rest) e in
     let named = name_if_any (past_all drops.Groups h.rest) in
     let is : record { ty = h.x; name = named.0 } ≡ one = first-is (record { ty = h.x; name = named.0 }) one named.1 rest h.more in
     ap (λ (a : Named). is_argument_type plain a.ty) (sym is) ∙ allowed-type (is_argument_type plain) ts h.x h.rest h.is
@@ -145,18 +145,18 @@ head-types : (declared : Bool) (ts : List Tok) (head : List ℕ × List Named) (
 unfolding head_at
 head-types declared ts head rest e =
     let a = went (global_at ts) (λ name ts. after (mark_at (codes "(") ts) (λ _ ts.
-        after (arguments_at (declared && is_task_start name) ts) (λ arguments ts. after (mark_at (codes ")") ts) (λ _ ts.
-        Some ((name, arguments), ts))))) (head, rest) e in
+    after (arguments_at (declared && is_task_start name) ts) (λ arguments ts. after (mark_at (codes ")") ts) (λ _ ts.
+    Some ((name, arguments), ts))))) (head, rest) e in
     let b = went (mark_at (codes "(") a.rest) (λ _ ts.
-        after (arguments_at (declared && is_task_start a.x) ts) (λ arguments ts. after (mark_at (codes ")") ts) (λ _ ts.
-        Some ((a.x, arguments), ts)))) (head, rest) a.more in
+    after (arguments_at (declared && is_task_start a.x) ts) (λ arguments ts. after (mark_at (codes ")") ts) (λ _ ts.
+    Some ((a.x, arguments), ts)))) (head, rest) a.more in
     let c = went (arguments_at (declared && is_task_start a.x) b.rest) (λ arguments ts. after (mark_at (codes ")") ts) (λ _ ts.
-        Some ((a.x, arguments), ts))) (head, rest) b.more in
+    Some ((a.x, arguments), ts))) (head, rest) b.more in
     let d = went (mark_at (codes ")") c.rest) (λ _ ts. Some ((a.x, c.x), ts)) (head, rest) c.more in
     let is : (a.x, c.x) ≡ head = first-is (a.x, c.x) head d.rest rest d.more in
     head-types-is declared (a.x, c.x) head is
     (list-all (λ (one : Named). is_argument_type (declared && is_task_start a.x) one.ty) (argument_at (declared && is_task_start a.x)) (codes ")")
-      (argument-type (declared && is_task_start a.x)) b.rest c.x c.rest c.is)
+    (argument-type (declared && is_task_start a.x)) b.rest c.x c.rest c.is)
 
 -- what a call of this name passes
 abbrev passes : Bool → Given → Bool
@@ -201,18 +201,18 @@ called-types : (ts : List Tok) (call : List ℕ × List Given) (rest : List Tok)
 unfolding called_at
 called-types ts call rest e =
     let a = went (global_at ts) (λ name ts. after (mark_at (codes "(") ts) (λ _ ts.
-        after (all_passed_at (is_task_start name) ts) (λ passed ts. after (mark_at (codes ")") ts) (λ _ ts.
-        Some ((name, passed), ts))))) (call, rest) e in
+    after (all_passed_at (is_task_start name) ts) (λ passed ts. after (mark_at (codes ")") ts) (λ _ ts.
+    Some ((name, passed), ts))))) (call, rest) e in
     let b = went (mark_at (codes "(") a.rest) (λ _ ts.
-        after (all_passed_at (is_task_start a.x) ts) (λ passed ts. after (mark_at (codes ")") ts) (λ _ ts.
-        Some ((a.x, passed), ts)))) (call, rest) a.more in
+    after (all_passed_at (is_task_start a.x) ts) (λ passed ts. after (mark_at (codes ")") ts) (λ _ ts.
+    Some ((a.x, passed), ts)))) (call, rest) a.more in
     let c = went (all_passed_at (is_task_start a.x) b.rest) (λ passed ts. after (mark_at (codes ")") ts) (λ _ ts.
-        Some ((a.x, passed), ts))) (call, rest) b.more in
+    Some ((a.x, passed), ts))) (call, rest) b.more in
     let d = went (mark_at (codes ")") c.rest) (λ _ ts. Some ((a.x, c.x), ts)) (call, rest) c.more in
     let is : (a.x, c.x) ≡ call = first-is (a.x, c.x) call d.rest rest d.more in
     call-types-is (a.x, c.x) call is
     (list-all (given_is_formed a.x) (passed_at (is_task_start a.x)) (codes ")")
-      (λ ts one rest f. sym (same-given a.x one) ∙ passed-type (is_task_start a.x) ts one rest f) b.rest c.x c.rest c.is)
+    (λ ts one rest f. sym (same-given a.x one) ∙ passed-type (is_task_start a.x) ts one rest f) b.rest c.x c.rest c.is)
 
 -- ---- slots
 

@@ -677,11 +677,7 @@ fn function_of(alloc: Global, top: &Top, func: &Definition) -> Result<Func, Allo
 }
 
 // The functions that definitions stand for, in their order.
-fn functions_of(
-    alloc: Global,
-    top: &Top,
-    funcs: &[Definition],
-) -> Result<Vec<Func>, AllocError>
+fn functions_of(alloc: Global, top: &Top, funcs: &[Definition]) -> Result<Vec<Func>, AllocError>
     requires { All (λ func. IsPlacedFunction (known_with top.now func) func) (map seen_definition funcs.now) }
     ensures { IfOk result (λ made. made.items ≡ map (λ func. lined_function (known_with top.now func) func) (map seen_definition funcs.now)) }
 {
