@@ -13,3 +13,7 @@ pub mod Placing
 pub mod Steps
 pub mod ArgumentLists
 pub mod BuiltLemmas
+pub mod Members
+pub mod AgainLemmas
+pub mod PlaceLemmas
+pub mod TopLemmas
