@@ -13,7 +13,7 @@ use Rattle.ir_reader.specs.declared.words.Conversion.TheVariants as conversions
 use Rattle.ir_ast.specs.Insts.{Instruction}
 use Rattle.ir_ast.specs.Ops.{is_terminator}
 use Rattle.ir_ast.specs.Blocks.{EndsAtTerminator}
-use Rattle.ir_types.specs.Statements.{Statement, Line, layout, declare, define, close, label, binary, compare, convert, select, phi, scalar_step, layout_step, load, store, call, jump, branch, switch, switch_case, switch_end, ret_void, ret, unreachable, cast}
+use Rattle.ir_types.specs.Statements.{Statement, Line, close, label, binary, compare, convert, select, phi, scalar_step, layout_step, load, store, call, jump, branch, switch, switch_case, switch_end, ret_void, ret, unreachable}
 use Rattle.ir_types.specs.Sections.{Definition, BlockLines, is_close, is_label, label_said, until_label, block_at, labelled_blocks, first_block, blocks_of, count_numbered}
 use Rattle.ir_types.specs.Modules.{Known, binary_of, conversion_of, instruction_said, with_line, instructions_of, insts_of}
 use Rattle.ir_types.specs.TextLines.{behind_instruction, behind_head, behind_closed, behind_case, place_behind, Goes, Stand}

@@ -1,21 +1,19 @@
 -- What building a function relies on: one line for each instruction, and the names of its tables.
-use Rattle.std.proofs.Common.{◌≡◌, ◌∙◌, ℕ, List, [], ◌∷◌, ◌++◌, length, refl, ap, sym, subst, arith}
+use Rattle.std.proofs.Common.{◌≡◌, ◌∙◌, ℕ, List, [], ◌∷◌, length, refl, ap, sym, subst, arith}
 use Rattle.std.specs.Prelude.{map, flat_map}
 use Rattle.std.proofs.lemmas.List.{length-map, length-append}
 use Rattle.std.specs.List.{All}
 use Rattle.std.proofs.lemmas.List.Elements.{All-weaker, All-same}
-use Rattle.ir_ast.specs.declared.types.Ty.{Ty}
-use Rattle.ir_ast.specs.declared.funcs.Arg.{Arg}
 use Rattle.ir_ast.specs.declared.modules.Form.TheVariants.{Source}
 use Rattle.ir_ast.specs.Insts.{Instruction}
 use Rattle.ir_ast.specs.Blocks.{BasicBlock}
 use Rattle.ir_ast.specs.Layouts.{ObjectLayout}
-use Rattle.ir_ast.specs.Funcs.{Function, LinedFunction, IsSmall, instructions_of, content_of, lines_of}
+use Rattle.ir_ast.specs.Funcs.{Function, LinedFunction, instructions_of, content_of, lines_of}
 use Rattle.ir_ast.specs.Modules.{ModuleContent, LinedModule}
 use Rattle.ir_types.specs.declared.scope.Top.{Top}
 use Rattle.ir_types.specs.Statements.{Line}
-use Rattle.ir_types.specs.Sections.{Definition, BlockLines, arguments_named, values_of, blocks_of, layouts_of, definitions_of}
-use Rattle.ir_types.specs.Modules.{Known, known_of, type_of, argument_of, layout_of, function_of, instruction_lines, module_of, block_of, numbers_of, insts_of, instructions_of as lined_instructions}
+use Rattle.ir_types.specs.Sections.{Definition, BlockLines, values_of, blocks_of, layouts_of, definitions_of}
+use Rattle.ir_types.specs.Modules.{Known, known_of, layout_of, function_of, instruction_lines, module_of, block_of, numbers_of, insts_of, instructions_of as lined_instructions}
 use Rattle.ir_types.specs.Tables.{IsTop}
 use Rattle.ir_types.specs.Placed.{IsPlacedFunction}
 use Rattle.ir_types.specs.Built.{known_with, lined_function}

@@ -1,6 +1,6 @@
 -- The lines of a text that was read are in their places.
-use Rattle.std.proofs.Common.{◌≡◌, ◌∙◌, ℕ, ◌+◌, ◌≤◌, suc, refl, sym, ap, subst, Bool, true, false, ◌&&◌, List, [], ◌∷◌, ◌++◌, length, Option, Some, None, arith}
-use Rattle.std.specs.Prelude.{map, take_while, nat_le}
+use Rattle.std.proofs.Common.{◌≡◌, ◌∙◌, ℕ, ◌≤◌, refl, sym, ap, subst, Bool, true, false, ◌&&◌, List, [], ◌∷◌, length, Option, Some, None, arith}
+use Rattle.std.specs.Prelude.{take_while, nat_le}
 use Rattle.std.specs.List.{All, list_all}
 use Rattle.std.proofs.lemmas.List.{length-map}
 use Rattle.std.proofs.lemmas.List.Elements.{All-nil, All-cons, All-append, All-head, All-tail, All-weaker}
@@ -11,10 +11,10 @@ use Rattle.ir_reader.specs.declared.readings.TypeWord.{TypeWord}
 use Rattle.ir_reader.specs.Lists.{Named}
 use Rattle.ir_reader.specs.Limits.{type_fits, name_fits, argument_fits}
 use Rattle.ir_types.specs.Statements.{Statement, Line, define}
-use Rattle.ir_types.specs.Sections.{Definition, definition_said, definitions_of, arguments_named, blocks_of, layouts_of}
+use Rattle.ir_types.specs.Sections.{Definition, definition_said, definitions_of, arguments_named, blocks_of}
 use Rattle.ir_types.specs.Modules.{Known, known_of, block_of, argument_of}
 use Rattle.ir_types.specs.Placed.{IsPlacedFunction, IsPlaced}
-use Rattle.ir_types.specs.TextLines.{behind_top, place_behind, Stand, statement_fits, IsTextLines}
+use Rattle.ir_types.specs.TextLines.{place_behind, Stand, statement_fits, IsTextLines}
 use Rattle.ir_types.proofs.Bodies.{Body, body-of, blocks-end, inside_function}
 use Rattle.ir_types.proofs.Sizes.{few-while, few-layouts, few-definitions, few-arguments, few-blocks, few-instructions}
 

@@ -1,8 +1,8 @@
 -- The lines of a text that was read stand where they may, pass no limit of a line, and are few.
-use Rattle.std.proofs.Common.{◌≡◌, ◌∙◌, ℕ, ◌+◌, ◌≤◌, suc, refl, sym, ap, Bool, true, false, ◌&&◌, cond, List, [], ◌∷◌, length, Ok, Option, arith}
+use Rattle.std.proofs.Common.{◌≡◌, ◌∙◌, ℕ, ◌+◌, ◌≤◌, suc, refl, sym, ap, Bool, true, false, ◌&&◌, List, [], ◌∷◌, length, arith}
 use Rattle.std.specs.Prelude.{map, ◌==◌, if◌then◌else◌}
-use Rattle.std.specs.List.{All, slice_split, count_by}
-use Rattle.std.specs.Str.Lines.{lines, lines_of_parts, strip_carriage_return}
+use Rattle.std.specs.List.{All, slice_split}
+use Rattle.std.specs.Str.Lines.{lines, lines_of_parts}
 use Rattle.std.proofs.lemmas.List.{length-map}
 use Rattle.std.proofs.lemmas.List.Elements.{All-nil, All-cons}
 use Rattle.std.proofs.lemmas.List.Splits.{length-slice_split}
@@ -18,7 +18,6 @@ use Rattle.ir_reader.specs.Limits.{said_fits}
 use Rattle.ir_reader.specs.Seen.{seen}
 use Rattle.ir_reader.specs.Raws.{Readings, IsRead, seen_numbered}
 use Rattle.ir_reader.specs.Text.{is_top, opening, text_readings}
-use Rattle.ir_reader.specs.Text as texts
 use Rattle.ir_types.specs.Statements.{Line}
 use Rattle.ir_types.specs.Views.{said, seen_line, seen_lines}
 use Rattle.ir_types.specs.TextLines.{place_behind, Stand, statement_fits, is_formed, IsTextLines}

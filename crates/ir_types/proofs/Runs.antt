@@ -1,5 +1,5 @@
 -- The readings of a text one behind the other: what a line comes to in its place says of the line.
-use Rattle.std.proofs.Common.{◌≡◌, ◌∙◌, ℕ, ◌+◌, ◌≤◌, suc, refl, sym, ap, Bool, true, false, ◌&&◌, List, [], ◌∷◌, length, Ok, Err, Result, Option, Some, None, arith, add-one}
+use Rattle.std.proofs.Common.{◌≡◌, ℕ, ◌+◌, ◌≤◌, suc, refl, ap, Bool, true, false, ◌&&◌, List, [], ◌∷◌, length, Ok, Err, Result, Option, Some, None, arith}
 use Rattle.std.specs.Prelude.{if◌then◌else◌}
 use Rattle.sp_text.specs.Tokens.{Tok, tokens}
 use Rattle.sp_text.specs.Lines.{NumberedLine}
@@ -7,7 +7,7 @@ use Rattle.sp_text.specs.Labels.{label_of, is_metadata}
 use Rattle.ir_reader.specs.declared.forms.Form.{Form}
 use Rattle.ir_reader.specs.declared.forms.Place.{Place}
 use Rattle.ir_reader.specs.declared.forms.State.{State}
-use Rattle.ir_reader.specs.Gives.{Found, after, is_nil}
+use Rattle.ir_reader.specs.Gives.{Found, after}
 use Rattle.ir_reader.specs.Forms.{slots, form_of}
 use Rattle.ir_reader.specs.Slots.{Item, parse}
 use Rattle.ir_reader.specs.Places.{behind, behind_label, is_dropped_form}

@@ -7,9 +7,9 @@ use Rattle.ir_ast.specs.Insts.{Instruction}
 use Rattle.ir_ast.specs.Funcs.{instructions_of}
 use Rattle.ir_reader.specs.Lists.{Named}
 use Rattle.ir_types.specs.Statements.{Statement, Line, layout, define, label}
-use Rattle.ir_types.specs.Sections.{Definition, BlockLines, is_close, is_label, label_said, until_label, block_at, labelled_blocks, first_block, blocks_of, layout_said, layouts_of, definition_said, definitions_of, arguments_named, count_numbered}
+use Rattle.ir_types.specs.Sections.{Definition, BlockLines, is_label, label_said, until_label, block_at, labelled_blocks, first_block, blocks_of, layout_said, layouts_of, definition_said, definitions_of, arguments_named, count_numbered}
 use Rattle.ir_types.specs.Modules.{Known, block_of, instruction_said, with_line, instructions_of as lined_instructions, insts_of}
-use Rattle.ir_types.proofs.Bodies.{in_block, inside_function}
+use Rattle.ir_types.proofs.Bodies.{in_block}
 
 while-more : (b : Bool) (l : Line) (rest : List Line) (n : ℕ) → length rest ≤ n → length (cond b (l ∷ rest) []) ≤ suc n
 while-more true l rest n few = omega (arith, few)

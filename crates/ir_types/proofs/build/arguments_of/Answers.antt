@@ -1,4 +1,4 @@
-use Rattle.std.proofs.Common.{◌≡◌, ◌∙◌, ◌<◌, None, arith, length}
+use Rattle.std.proofs.Common.{◌∙◌, ◌<◌, None, arith, length}
 use Rattle.std.specs.Prelude.{map}
 use Rattle.std.proofs.lemmas.List.{length-map}
 use Rattle.ir_reader.specs.declared.readings.TypeWord.TheVariants.{Void}
