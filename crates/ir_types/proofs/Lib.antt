@@ -4,6 +4,15 @@ pub mod Samples
 pub mod TypeLists
 pub mod CaseLemmas
 pub mod NoteLemmas
+pub mod Runs
+pub mod Formed
+pub mod Bodies
+pub mod Sizes
+pub mod ReadTexts
+pub mod Placing
+pub mod Steps
+pub mod ArgumentLists
+pub mod BuiltLemmas
 pub mod Members
 pub mod AgainLemmas
 pub mod PlaceLemmas

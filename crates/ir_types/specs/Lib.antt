@@ -15,5 +15,7 @@ pub mod Placed
 pub mod Views
 pub mod Known
 pub mod Tables
+pub mod TextLines
 pub mod Again
 pub mod TopFaults
+pub mod Built
