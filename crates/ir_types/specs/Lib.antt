@@ -15,3 +15,5 @@ pub mod Placed
 pub mod Views
 pub mod Known
 pub mod Tables
+pub mod ReadLines
+pub mod TypedModules
