@@ -4,3 +4,8 @@ pub mod Samples
 pub mod TypeLists
 pub mod CaseLemmas
 pub mod NoteLemmas
+pub mod LawBodies
+pub mod LawNames
+pub mod LawFacts
+pub mod LawValues
+pub mod LawHeads

@@ -1,6 +1,6 @@
 -- Lines as a reader gives them: with names that are names, widths from 1 to 64, the types that each form may have,
 -- in their places and within the limits.
-use Rattle.std.specs.Prelude.{◌≡◌, ℕ, ◌+◌, ◌≤◌, ◌<◌, ⊤, Bool, true, false, List, [], ◌∷◌, length, count_by, Option, Some, None}
+use Rattle.std.specs.Prelude.{◌≡◌, ℕ, ◌+◌, ◌≤◌, ◌<◌, ◌^◌, ⊤, Bool, true, false, List, [], ◌∷◌, length, count_by, Option, Some, None}
 use Rattle.std.specs.List.{All, sum_by}
 use Rattle.ir_ast.specs.Widths.{IsWidth}
 use Rattle.ir_cfg.specs.Limits.{IsName}
@@ -9,7 +9,7 @@ use Rattle.ir_reader.specs.declared.readings.TypeWord.TheVariants.{Void, Int, Ma
 use Rattle.ir_reader.specs.Parts.{is_case_value, is_scalar_type}
 use Rattle.ir_reader.specs.Lists.{Named, Given, given, function}
 use Rattle.ir_types.specs.Statements.{Statement, Line, layout, define, label, binary, compare, convert, select, phi, scalar_step, layout_step, load, call, switch, switch_case, ret, cast, jump, branch, store, ret_void, unreachable}
-use Rattle.ir_types.specs.Sections.{Definition, layouts_of, definitions_of, is_case}
+use Rattle.ir_types.specs.Sections.{Definition, layouts_of, definitions_of, blocks_of, is_case}
 
 -- `iN` of a width, or `ptr addrspace(1)`
 abbrev pub IsValueType : TypeWord → Type 0
@@ -102,6 +102,7 @@ pub record IsReadFunction (func : Definition) : Type 0 where
   pub has_line : 0 < length func.body
   pub cases : CasesStand false func.body
   pub values : length func.arguments + instruction_count func.body ≤ 4096
+  pub few_blocks : length (blocks_of func) < 2 ^ 30
 
 pub record IsReadLines (lines : List Line) : Type 0 where
   pub says : All (λ l. SaysRead l.says) lines
