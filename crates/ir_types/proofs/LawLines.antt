@@ -1,5 +1,5 @@
 -- What is known of each line of a function of faultless lines.
-use Rattle.std.proofs.Common.{◌≡◌, ◌≢◌, ◌∙◌, ℕ, ◌<◌, ◌≤◌, ◌+◌, ◌^◌, ◌%◌, Bool, true, false, not, ◌&&◌, ◌||◌, List, [], ◌∷◌, ◌++◌, map, length, get_or, refl, ap, sym, subst, arith, replicate}
+use Rattle.std.proofs.Common.{◌≡◌, ◌≢◌, ◌∙◌, ℕ, ◌<◌, ◌≤◌, ◌+◌, ◌^◌, ◌%◌, ◌-◌, Bool, true, false, not, ◌&&◌, ◌||◌, List, [], ◌∷◌, ◌++◌, map, length, get_or, refl, ap, sym, subst, arith, replicate}
 use Rattle.std.specs.Prelude.{Option, Some, None, IfSome, is_none, filter_map, ⊤, slice_get, find, option_map, if◌then◌else◌}
 use Rattle.std.specs.List.{All, AllByRecursion, AllZip, Contains, list_any}
 use Rattle.std.specs.Str.{bytes_eq}
@@ -26,11 +26,11 @@ use Rattle.ir_reader.specs.declared.readings.Literal.{Literal}
 use Rattle.ir_reader.specs.Parts.{Val}
 use Rattle.ir_reader.specs.Parts as values
 use Rattle.ir_types.specs.Statements.{Line, Statement, cast, compare}
-use Rattle.ir_types.specs.Parts.{uses, local_name, values_named, targets, entry_labels, functions_named, layouts_named}
+use Rattle.ir_types.specs.Parts.{uses, entry_use, local_name, values_named, targets, entry_labels, functions_named, layouts_named}
 use Rattle.ir_types.specs.Sections.{Definition, Naming, definitions_of, values_of, blocks_of}
 use Rattle.ir_types.specs.Scope.{Scope, scope_of, value_named, block_named, head_named, layout_named, value_names}
 use Rattle.ir_types.specs.Types.{same_type, fits, naming_fits}
-use Rattle.ir_types.specs.Modules.{Known, known_of, type_of, operand_in, operand_of, wrapped, instruction_said, function_of}
+use Rattle.ir_types.specs.Modules.{Known, known_of, type_of, operand_in, operand_of, wrapped, instruction_said, function_of, entry_operand}
 use Rattle.ir_types.specs.ReadLines.{IsReadLines, IsReadFunction, SaysRead, IsValueType, instruction_count}
 use Rattle.ir_types.specs.FaultSet.{HasNoFault, unknown_name, type_clash, entry_has_pred, pointer_order, pointer_cast}
 use Rattle.ir_types.specs.Faults.TypeClash.{by_line, clashes, misfits, keeps_rule}
@@ -39,7 +39,7 @@ use Rattle.ir_types.specs.Faults.EntryHasPred.{names_entry}
 use Rattle.ir_types.specs.Faults.PointerOrder.{orders_pointers}
 use Rattle.ir_types.specs.Faults.PointerCast.{is_cast}
 use Rattle.ir_types.proofs.LawNames.{Stands, stands, stands_below, number-is}
-use Rattle.ir_types.proofs.LawFacts.{not-false, or-left, or-right, body_clear, same_type-is, IsGoodUse, good_uses}
+use Rattle.ir_types.proofs.LawFacts.{not-false, or-left, or-right, body_clear, same_type-is, IsKnownUse, IsGoodUse, good_uses}
 use Rattle.ir_types.proofs.LawValues.{is_cast_line, values-are, few_values}
 use Rattle.ir_types.proofs.LawHeads.{SaysOf, says-defined}
 
@@ -138,7 +138,7 @@ is_value_in names ty values.null = refl
 
 pub wrapped_below : (width : ℕ) (literal : Literal) → wrapped width literal < 2 ^ width
 wrapped_below width literal =
-    mod-lt (if literal.negative then (2 ^ 64 Rattle.std.proofs.Common.- literal.magnitude) % 2 ^ 64 else literal.magnitude) (pow_pos 2 width (omega arith))
+    mod-lt (if literal.negative then (2 ^ 64 - literal.magnitude) % 2 ^ 64 else literal.magnitude) (pow_pos width)
 
 pub truth_below : (width : ℕ) (said : Bool) → 1 ≤ width → (if said then 1 else 0) < 2 ^ width
 truth_below width said wide = let p : 2 ^ 1 ≤ 2 ^ width = pow_mono wide in by said p
@@ -146,3 +146,40 @@ truth_below width said wide = let p : 2 ^ 1 ≤ 2 ^ width = pow_mono wide in by 
     by : (b : Bool) → 2 ^ 1 ≤ 2 ^ width → (if b then 1 else 0) < 2 ^ width
     by true p = omega arith
     by false p = omega arith
+
+-- among values that are few, a use that is good is an operand that fits
+pub fit_in : (scope : Scope) → length scope.values < 2 ^ 32 → (ty : TypeWord) (v : Val) → IsValueType ty → fits scope ty v ≡ true → IsKnownUse scope v
+    → Fits (map (λ one. type_of one.ty) scope.values) (operand_in (value_names scope) ty v) (type_of ty)
+fit_in scope few ty (values.local name) read e known =
+    let s = stands (λ (one : Naming). one.name) scope.values name known in
+    let same : s.one.ty ≡ ty = same_type-is s.one.ty ty (sym (ap (naming_fits ty) s.found) ∙ e) in
+    let type : Naming → Ty = λ one. type_of one.ty in
+    ap (slice_get (map type scope.values)) (number-is (λ (one : Naming). one.name) scope.values name s few)
+    ∙ slice_get-map type scope.values s.place ∙ ap (option_map type) s.there ∙ ap (λ (t : TypeWord). Some (type_of t)) same
+fit_in scope few (Int width) (values.number literal) read e known = (width, refl, wrapped_below width literal)
+fit_in scope few _ (values.number literal) read e known = absurd (let bad : false ≡ true = e in cc)
+fit_in scope few (Int width) (values.truth said) read e known = (width, refl, truth_below width said read.0)
+fit_in scope few _ (values.truth said) read e known = absurd (let bad : false ≡ true = e in cc)
+fit_in scope few Managed values.null read e known = refl
+fit_in scope few Plain values.null read e known = absurd read
+fit_in scope few _ values.null read e known = absurd (let bad : false ≡ true = e in cc)
+
+pub fit : (lines : List Line) (func : Definition) → InLaw lines func → (ty : TypeWord) (v : Val) → IsValueType ty → IsGoodUse (scope_of lines func) (v, ty)
+    → Fits (defs.value_types (made lines func)) (operand_of (known_of lines func) ty v) (type_of ty)
+fit lines func law ty v read good =
+    subst (λ (types : List Ty). Fits types (operand_of (known_of lines func) ty v) (type_of ty)) (sym (types-are lines func law))
+    (fit_in (scope_of lines func) (let few = few_numbers lines func law in omega arith) ty v read good.0 good.1)
+
+abbrev pub FitsAll : (List Line) → Definition → Type 0
+FitsAll lines func = (ty : TypeWord) (v : Val) → IsValueType ty → IsGoodUse (scope_of lines func) (v, ty)
+    → Fits (defs.value_types (made lines func)) (operand_of (known_of lines func) ty v) (type_of ty)
+
+pub all_zip_same : (T : List Ty) (ty : Ty) (ops : List Operand) → AllByRecursion (λ op. Fits T op ty) ops → AllZip (Fits T) ops (replicate (length ops) ty)
+all_zip_same T ty [] all = tt
+all_zip_same T ty (op ∷ ops) all = (all.0, all_zip_same T ty ops all.1)
+
+pub entries_fit : (lines : List Line) (func : Definition) → InLaw lines func → (ty : TypeWord) → IsValueType ty → (es : List (Val × List ℕ))
+    → AllByRecursion (IsGoodUse (scope_of lines func)) (map (entry_use ty) es)
+    → AllByRecursion (λ op. Fits (defs.value_types (made lines func)) op (type_of ty)) (map (entry_operand (known_of lines func).values ty) es)
+entries_fit lines func law ty read [] good = tt
+entries_fit lines func law ty read (e ∷ es) good = (fit lines func law ty e.0 read good.0, entries_fit lines func law ty read es good.1)

@@ -110,7 +110,7 @@ split_at [] k x e = absurd (let bad : None ≡ Some x = e in cc)
 split_at (y ∷ ys) zero x e = ap (λ z. z ∷ ys) (same_Some y x e)
 split_at (y ∷ ys) (suc k) x e = ap (λ zs. y ∷ zs) (split_at ys k x e)
 
-get_taken : {A : Type 0} (xs : List A) (j k : ℕ) → j < k → slice_get (take k xs) j ≡ slice_get xs j
+pub get_taken : {A : Type 0} (xs : List A) (j k : ℕ) → j < k → slice_get (take k xs) j ≡ slice_get xs j
 get_taken xs j zero below = absurd (omega arith)
 get_taken [] j (suc k) below = refl
 get_taken (x ∷ xs) zero (suc k) below = refl

@@ -9,3 +9,5 @@ pub mod LawNames
 pub mod LawFacts
 pub mod LawValues
 pub mod LawHeads
+pub mod LawLines
+pub mod LawCases
