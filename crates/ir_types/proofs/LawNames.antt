@@ -14,7 +14,7 @@ use Rattle.std.proofs.lemmas.Slice.Eq.{bytes_eq-Decides}
 bytes_same : (a b : List ℕ) → bytes_eq a b ≡ true → a ≡ b
 bytes_same a b e = (bytes_eq-Decides a b).0 e
 
-position-cons : {X : Type 0} (p : X → Bool) (x : X) (xs : List X)
+pub position-cons : {X : Type 0} (p : X → Bool) (x : X) (xs : List X)
     → position p (x ∷ xs) ≡ cond (p x) (Some 0) (option_map suc (position p xs))
 position-cons {X} p x xs = by (p x) refl (nat_lt (position_or_len p xs) (length xs)) refl
   where

@@ -11,3 +11,5 @@ pub mod LawValues
 pub mod LawHeads
 pub mod LawLines
 pub mod LawCases
+pub mod LawCalls
+pub mod LawExternals
