@@ -13,3 +13,5 @@ pub mod LawLines
 pub mod LawCases
 pub mod LawCalls
 pub mod LawExternals
+pub mod LawTyped
+pub mod LawInsts
