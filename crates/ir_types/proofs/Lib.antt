@@ -15,3 +15,4 @@ pub mod LawCalls
 pub mod LawExternals
 pub mod LawTyped
 pub mod LawInsts
+pub mod LawFunctions
