@@ -346,7 +346,7 @@ values_named lines func law P all =
 pub blocks_named : (lines : List Line) (func : Definition) (P : List ℕ → Type 0) → All (λ one. P one.name) (blocks_of func) → All (λ block. P block.name) (made lines func).blocks
 blocks_named lines func P all = All-map (λ (block : BasicBlock). P block.name) (block_of (known_of lines func)) (blocks_of func) all
 
-contained : {A : Type 0} (P : A → Type 0) (xs : List A) → ((x : A) → Contains xs x → P x) → All P xs
+pub contained : {A : Type 0} (P : A → Type 0) (xs : List A) → ((x : A) → Contains xs x → P x) → All P xs
 contained P xs h = λ k d within. h (Rattle.std.specs.Prelude.slice_index_or xs k d) (Rattle.std.proofs.lemmas.List.Elements.Contains-get_or xs k d within)
 
 pub function_source : (lines : List Line) (func : Definition) → InLaw lines func → IsSource (made lines func)

@@ -32,13 +32,13 @@ seen_value f given = f (definition_name given) (definition_type given)
 abbrev pub seen_naming : {X : Type 0} → (List ℕ → Ty → X) → Naming → X
 seen_naming f one = f one.name (type_of one.ty)
 
-abbrev has_result : Instruction → Bool
+abbrev pub has_result : Instruction → Bool
 has_result inst = is_some inst.result
 
 results : List Instruction → List defs.Definition
 results insts = map outcome (filter has_result insts)
 
-one_result : {X : Type 0} (f : List ℕ → Ty → X) (known : Known) (rest : List Line) (n : ℕ) (s : Statement) → is_cast_line s ≡ false
+pub one_result : {X : Type 0} (f : List ℕ → Ty → X) (known : Known) (rest : List Line) (n : ℕ) (s : Statement) → is_cast_line s ≡ false
     → map (seen_value f) (map outcome (filter has_result (insts_said (instruction_said known rest s)))) ≡ map (seen_naming f) (result_named n (gives s))
 one_result f known rest n (binary result Add width left right) e = refl
 one_result f known rest n (binary result Sub width left right) e = refl
@@ -61,7 +61,7 @@ one_result f known rest n (call (Some result) answer callee passed) e = refl
 one_result f known rest n (cast result op from value to) e = absurd (let bad : true ≡ false = e in cc)
 one_result f known rest n _ e = refl
 
-abbrev given_by : List Line → List Naming
+abbrev pub given_by : List Line → List Naming
 given_by ls = flat_map (λ (l : Line). result_named l.number (gives l.says)) ls
 
 all_results : {X : Type 0} (f : List ℕ → Ty → X) (known : Known) (ls : List Line) → AllByRecursion (λ l. is_cast_line l.says ≡ false) ls

@@ -16,3 +16,5 @@ pub mod LawExternals
 pub mod LawTyped
 pub mod LawInsts
 pub mod LawFunctions
+pub mod LawPhis
+pub mod LawModules
