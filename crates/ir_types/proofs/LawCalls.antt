@@ -111,7 +111,7 @@ pub called : (lines : List Line) → IsReadLines lines → HasNoFault lines → 
 called lines read none d name c e =
     let s = stands (λ (one : Definition). one.name) (definitions_of lines) name (found_by_name (λ (one : Definition). one.name) (definitions_of lines) d name c e) in
     let is : s.one ≡ d = same_by_name (λ (one : Definition). one.name) (definitions_of lines) s.one d (definitions-distinct lines none)
-        (contains_get (definitions_of lines) s.place s.one s.there) c (s.same ∙ sym e) in
+    (contains_get (definitions_of lines) s.place s.one s.there) c (s.same ∙ sym e) in
     let within = slice_get_within (definitions_of lines) s.place s.one s.there in
     let few = read.few_functions in
     let number : number_of (Some s.place) ≡ s.place = (let m : min s.place (2 ^ 32 - 1) ≡ s.place = omega arith in m) in
@@ -216,10 +216,10 @@ calls_definition lines func law name answer passed d c e same_answer same_params
     let at = called lines law.read law.none d name c e in
     let head = head_read lines law.read d c in
     let value_types : AllByRecursion IsValueType (map passed_type passed) =
-        subst (AllByRecursion IsValueType) (sym same_params) (types_read d.arguments (recursion_from_All IsReadArgument d.arguments head.each)) in
+    subst (AllByRecursion IsValueType) (sym same_params) (types_read d.arguments (recursion_from_All IsReadArgument d.arguments head.each)) in
     let all_given = given_from_types passed value_types in
     let within : number_of (Some at.place) < length (funcs_of lines) =
-        (let b = at.below in let n = at.number in omega (arith, length-map (definitions_of lines) (λ (one : Definition). function_of (known_of lines one) one))) in
+    (let b = at.below in let n = at.number in omega (arith, length-map (definitions_of lines) (λ (one : Definition). function_of (known_of lines one) one))) in
     record {
       callee = callees.Fun (record { 0 = number_of (Some at.place) });
       is = ap (callee_at known name) at.placed;
@@ -269,6 +269,7 @@ contains_external (y ∷ ys) x = by (same_external y x) (contains_external ys x)
     neither : (y ≡ x) ⊎ Contains ys x → y ≢ x → (¬ (Contains ys x)) → ⊥
     neither (inl e) f g = f e
     neither (inr c) f g = g c
+
     by : (y ≡ x) ⊎ (y ≢ x) → Contains ys x ⊎ (¬ (Contains ys x)) → Contains (y ∷ ys) x ⊎ (¬ (Contains (y ∷ ys) x))
     by (inl e) later = inl (subst (λ (z : External). Contains (y ∷ ys) z) e (contains_first y ys))
     by (inr f) (inl c) = inl (contains_later y x ys c)

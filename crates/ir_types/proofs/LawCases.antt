@@ -149,7 +149,7 @@ numbers-distinct lines none func defined before number width value default behin
     let at_k = get_some numbers k within in
     let at = case_at width (cases_of behind) k at_k.0 at_k.1 in
     let inside : Contains (take k numbers) at_k.0 =
-        contains_get (take k numbers) j at_k.0 (get_taken numbers j k below ∙ same ∙ at_k.1) in
+    contains_get (take k numbers) j at_k.0 (get_taken numbers j k below ∙ same ∙ at_k.1) in
     let told : CaseClash lines at.number = record {
       func = func;
       defined = defined;
@@ -175,7 +175,7 @@ distinct-map ns distinct = λ j k below within e.
     let at_k = get_some ns k inside in
     let at_j = get_some ns j (omega arith) in
     let f : Some (operands.Int at_j.0) ≡ Some (operands.Int at_k.0) =
-        sym (slice_get-map operands.Int ns j ∙ ap (option_map operands.Int) at_j.1) ∙ e ∙ slice_get-map operands.Int ns k ∙ ap (option_map operands.Int) at_k.1 in
+    sym (slice_get-map operands.Int ns j ∙ ap (option_map operands.Int) at_j.1) ∙ e ∙ slice_get-map operands.Int ns k ∙ ap (option_map operands.Int) at_k.1 in
     let g : at_j.0 ≡ at_k.0 = cc in
     distinct j k below inside (at_j.1 ∙ ap Some g ∙ sym at_k.1)
 

@@ -46,9 +46,10 @@ pub declared : (lines : List Line) → HasNoFault lines → (l : Line) → Conta
     → Contains (externals_of (map (λ one. one.name) (layouts_of lines))) (external name answer (types_of parameters)) × (¬ (Contains helpers name))
 declared lines none l inside answer name parameters e =
     let stands_there : Contains lines (record { number = l.number; says = declare answer name parameters }) =
-        subst (λ (s : Statement). Contains lines (record { number = l.number; says = s })) e inside in
-    (by (contains_external (externals_of (map (λ one. one.name) (layouts_of lines))) (external name answer (types_of parameters))) stands_there,
-    λ c. none l.number 14 (reserved (declares_helper answer name parameters stands_there (inl c))))
+    subst (λ (s : Statement). Contains lines (record { number = l.number; says = s })) e inside in (
+      by (contains_external (externals_of (map (λ one. one.name) (layouts_of lines))) (external name answer (types_of parameters))) stands_there,
+      λ c. none l.number 14 (reserved (declares_helper answer name parameters stands_there (inl c))),
+    )
   where
     by : Contains (externals_of (map (λ one. one.name) (layouts_of lines))) (external name answer (types_of parameters))
         ⊎ (¬ (Contains (externals_of (map (λ one. one.name) (layouts_of lines))) (external name answer (types_of parameters))))
@@ -124,9 +125,9 @@ calls_new lines func name answer passed layout there c =
     let s = stands (λ (l : LayoutLine). l.name) (layouts_of lines) layout (found_by_name (λ (l : LayoutLine). l.name) (layouts_of lines) one.0 layout one.1 one.2) in
     let few = c.law.read.few_layouts in
     let within : number_in known.layouts layout < length (module_of lines).content.layouts =
-        (let b = stands_below (λ (l : LayoutLine). l.name) (layouts_of lines) layout s in
-        let n = number-is (λ (l : LayoutLine). l.name) (layouts_of lines) layout s (omega arith) in
-        omega (arith, n, length-map (layouts_of lines) layout_of)) in
+    (let b = stands_below (λ (l : LayoutLine). l.name) (layouts_of lines) layout s in
+    let n = number-is (λ (l : LayoutLine). l.name) (layouts_of lines) layout s (omega arith) in
+    omega (arith, n, length-map (layouts_of lines) layout_of)) in
     plain_external lines func name answer passed (external (gc_new layout) Managed (Int 64 ∷ [])) c (callees.New (number_in known.layouts layout)) refl refl (wide, tt) tt refl
     (All-cons (λ layout. layout < length (module_of lines).content.layouts) (number_in known.layouts layout) [] within
     (All-nil (λ layout. layout < length (module_of lines).content.layouts))) refl
@@ -175,22 +176,25 @@ task_call lines func name answer to v c =
     let known = known_of lines func in
     let passed : List Given = function to ∷ given Managed v ∷ [] in
     let starts : starts_task (scope_of lines func) passed ≡ true =
-        sym (ap (λ (n : List ℕ). not (bytes_eq n (codes "task_start")) || starts_task (scope_of lines func) passed) c.named) ∙ c.starts in
+    sym (ap (λ (n : List ℕ). not (bytes_eq n (codes "task_start")) || starts_task (scope_of lines func) passed) c.named) ∙ c.starts in
     let at = starts_at lines func to starts in
     let d = at.definition in
     let found = called lines c.law.read c.law.none d to at.there at.named in
     let number : number_in (names_defined lines) to ≡ number_of (Some found.place) = ap number_of found.placed in
     let within : number_in (names_defined lines) to < length (funcs_of lines) =
-        (let b = found.below in let n = found.number in
-        omega (arith, number, length-map (definitions_of lines) (λ (one : Definition). function_of (known_of lines one) one))) in
+    (let b = found.below in let n = found.number in
+    omega (arith, number, length-map (definitions_of lines) (λ (one : Definition). function_of (known_of lines one) one))) in
     record {
       callee = callees.TaskStart;
       is = ap (callee_at known name) c.no_definition ∙ ap (external_callee known) c.named;
       signature = ap Some (signed Void answer (Plain ∷ Managed ∷ []) passed c.answers c.takes);
-      takes = (record { 0 = number_in (names_defined lines) to }, refl,
-      ap (λ (n : ℕ). called_in (funcs_of lines) (callees.Fun (record { 0 = n }))) number ∙ found.signature
-      ∙ ap (λ (t : TypeWord). let sig : Signature = record { answer = type_of t; params = map type_of (types_of d.arguments) } in Some sig) at.answers
-      ∙ ap (λ (ts : List TypeWord). let sig : Signature = record { answer = tys.Void; params = map type_of ts } in Some sig) at.takes);
+      takes = (
+        record { 0 = number_in (names_defined lines) to },
+        refl,
+        ap (λ (n : ℕ). called_in (funcs_of lines) (callees.Fun (record { 0 = n }))) number ∙ found.signature
+            ∙ ap (λ (t : TypeWord). let sig : Signature = record { answer = type_of t; params = map type_of (types_of d.arguments) } in Some sig) at.answers
+            ∙ ap (λ (ts : List TypeWord). let sig : Signature = record { answer = tys.Void; params = map type_of ts } in Some sig) at.takes,
+      );
       helper = refl;
       arguments = (refl, (argument-value callees.TaskStart (passed_operand known (given Managed v)) tys.Ptr (is_value_in known.values Managed v), tt));
       layouts = All-nil (λ layout. layout < length (module_of lines).content.layouts);
@@ -306,7 +310,7 @@ no_definition_of lines none h there undefined name same =
     by false e =
         let s = stands (λ (one : Definition). one.name) (definitions_of lines) name e in
         let headed = All-contains (λ (d : Definition). Contains (heads_of lines) (head_of d)) (definitions_of lines) s.one (heads-have lines)
-            (contains_get (definitions_of lines) s.place s.one s.there) in
+        (contains_get (definitions_of lines) s.place s.one s.there) in
         let is : head_of s.one ≡ h = same_by_name (λ (x : Head). x.name) (heads_of lines) (head_of s.one) h (heads-distinct lines none) headed there (s.same ∙ sym same) in
         absurd (true-false h.defined (sym (ap (λ (x : Head). x.defined) is)) undefined)
 
@@ -345,11 +349,11 @@ pub good_call : (lines : List Line) (func : Definition) → InLaw lines func →
 good_call lines func law name answer passed known rule read =
     let scope = scope_of lines func in
     let s = stands (λ (one : Head). one.name) (heads_of lines) name
-        (or-left (is_none (head_named scope name)) (list_any (λ n. is_none (head_named scope n)) (filter_map passed_function passed)) known) in
+    (or-left (is_none (head_named scope name)) (list_any (λ n. is_none (head_named scope n)) (filter_map passed_function passed)) known) in
     let h = s.one in
     let start = not (bytes_eq name (codes "task_start")) || starts_task scope passed in
     let agreed : agrees answer passed (Some h) ≡ true =
-        sym (ap (agrees answer passed) s.found) ∙ and-left (agrees answer passed (head_named scope name)) start rule in
+    sym (ap (agrees answer passed) s.found) ∙ and-left (agrees answer passed (head_named scope name)) start rule in
     let there = contains_get (heads_of lines) s.place h s.there in
     calls_head lines func name answer passed h (record {
       law = law;

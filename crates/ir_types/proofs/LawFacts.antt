@@ -91,9 +91,10 @@ IsGoodUse scope used = (fits scope used.1 used.0 ≡ true) × IsKnownUse scope u
 known_first : (scope : Scope) (v : Val) (rest : List (List ℕ))
     → list_any (λ name. is_none (value_named scope name)) (cons_option (local_name v) rest) ≡ false
     → IsKnownUse scope v × (list_any (λ name. is_none (value_named scope name)) rest ≡ false)
-known_first scope (values.local name) rest e =
-    (or-left (is_none (value_named scope name)) (list_any (λ n. is_none (value_named scope n)) rest) e,
-    or-right (is_none (value_named scope name)) (list_any (λ n. is_none (value_named scope n)) rest) e)
+known_first scope (values.local name) rest e = (
+  or-left (is_none (value_named scope name)) (list_any (λ n. is_none (value_named scope n)) rest) e,
+  or-right (is_none (value_named scope name)) (list_any (λ n. is_none (value_named scope n)) rest) e,
+)
 known_first scope _ rest e = (tt, e)
 
 pub good_uses : (scope : Scope) (us : List (Val × TypeWord))
@@ -102,6 +103,7 @@ pub good_uses : (scope : Scope) (us : List (Val × TypeWord))
     → AllByRecursion (IsGoodUse scope) us
 good_uses scope [] misfit unknown = tt
 good_uses scope (u ∷ us) misfit unknown =
-    let known = known_first scope u.0 (filter_map (λ used. local_name used.0) us) unknown in
-    ((not-false (fits scope u.1 u.0) (or-left (not (fits scope u.1 u.0)) (list_any (λ used. not (fits scope used.1 used.0)) us) misfit), known.0),
-    good_uses scope us (or-right (not (fits scope u.1 u.0)) (list_any (λ used. not (fits scope used.1 used.0)) us) misfit) known.1)
+    let known = known_first scope u.0 (filter_map (λ used. local_name used.0) us) unknown in (
+      (not-false (fits scope u.1 u.0) (or-left (not (fits scope u.1 u.0)) (list_any (λ used. not (fits scope used.1 used.0)) us) misfit), known.0),
+      good_uses scope us (or-right (not (fits scope u.1 u.0)) (list_any (λ used. not (fits scope used.1 used.0)) us) misfit) known.1,
+    )

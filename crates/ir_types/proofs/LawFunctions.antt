@@ -110,9 +110,13 @@ good_said lines func law before n (select result condition left_ty left right_ty
     let fits_right = fit lines func law right_ty right read_right facts.uses.1.1.0 in
     good_select lines func result left_ty c a b
     (both (Rattle.ir_ast.specs.Operands.is_value c) (Rattle.std.specs.List.list_all Rattle.ir_ast.specs.Operands.is_value (a ∷ b ∷ [])) (is_value_in names (Int 1) condition)
-    (two_values a b (is_value_in names left_ty left) (is_value_in names right_ty right)))
-    (fit lines func law (Int 1) condition (omega arith, omega arith) facts.uses.0, (fit lines func law left_ty left facts.read.1 facts.uses.1.0,
-    (subst (λ (t : TypeWord). Fits (defs.value_types (made lines func)) b (type_of t)) (sym same) fits_right, tt))) facts.read.1
+    (two_values a b (is_value_in names left_ty left) (is_value_in names right_ty right))) (
+      fit lines func law (Int 1) condition (omega arith, omega arith) facts.uses.0,
+      (
+        fit lines func law left_ty left facts.read.1 facts.uses.1.0,
+        (subst (λ (t : TypeWord). Fits (defs.value_types (made lines func)) b (type_of t)) (sym same) fits_right, tt),
+      ),
+    ) facts.read.1
 good_said lines func law before n (phi result ty entries) after whole facts behind =
     good_phi lines func law result ty entries facts.read.1 facts.read.2 facts.uses facts.labels
 good_said lines func law before n (scalar_step result element address width index) after whole facts behind =
@@ -173,7 +177,7 @@ pub good_insts : (lines : List Line) (func : Definition) → InLaw lines func �
 good_insts lines func law =
     func_insts (known_of lines func) (GoodInst lines func) func (λ before l after whole inst is.
     let split = behind_of (λ (one : Line). LineFacts (scope_of lines func) one.says) before l after
-        (subst (AllByRecursion (λ (one : Line). LineFacts (scope_of lines func) one.says)) whole (facts_of lines func law)) in
+    (subst (AllByRecursion (λ (one : Line). LineFacts (scope_of lines func) one.says)) whole (facts_of lines func law)) in
     if_some (GoodInst lines func) (instruction_said (known_of lines func) after l.says)
     (good_said lines func law before l.number l.says after whole split.0 split.1) inst is)
 
@@ -387,8 +391,13 @@ function_formed lines func law =
       };
       widths = function_widths lines func law;
       values = (let v = read.values in
-      omega (arith, length-map (arguments_named func.line [] func.arguments) argument_of, length-named func.line [] func.arguments,
-      ap length (body_insts (known_of lines func) func), few_insts (known_of lines func) func.body));
+          omega (
+            arith,
+            length-map (arguments_named func.line [] func.arguments) argument_of,
+            length-named func.line [] func.arguments,
+            ap length (body_insts (known_of lines func) func),
+            few_insts (known_of lines func) func.body,
+          ));
       no_bundle = each_inst lines func law (λ inst. inst.bundle ≡ []) (λ inst good. good.bundle);
     }
 

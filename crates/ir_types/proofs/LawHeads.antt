@@ -110,7 +110,7 @@ names_headed (d ∷ ds) = ap (λ ns. d.name ∷ ns) (names_headed ds)
 pub definitions-distinct : (lines : List Line) → HasNoFault lines → Distinct (map (λ one. one.name) (definitions_of lines))
 definitions-distinct lines none =
     let heads = apart-filter (λ (h : Head). h.defined) (λ (h : Head). h.name) (heads_of lines)
-        (apart-distinct (map (λ (h : Head). h.name) (heads_of lines)) (heads-distinct lines none)) in
+    (apart-distinct (map (λ (h : Head). h.name) (heads_of lines)) (heads-distinct lines none)) in
     distinct-apart (map (λ (one : Definition). one.name) (definitions_of lines))
     (subst Rattle.ir_types.proofs.LawNames.Apart
     (ap (map (λ (h : Head). h.name)) (sym (definitions-heads lines)) ∙ names_headed (definitions_of lines)) heads)

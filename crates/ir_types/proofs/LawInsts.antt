@@ -67,9 +67,10 @@ label_below lines func law name e =
 
 pub good_label : (lines : List Line) (func : Definition) → InLaw lines func → (name : List ℕ) → is_none (block_named (scope_of lines func) name) ≡ false
     → (block_number (scope_of lines func) name == 0) ≡ false → IsGoodLabel lines func (label_of (known_of lines func) name)
-good_label lines func law name e f =
-    (label_below lines func law name e,
-    not_from_Decides (block_number (scope_of lines func) name == 0) (Decides-eqb (block_number (scope_of lines func) name) 0) f)
+good_label lines func law name e f = (
+  label_below lines func law name e,
+  not_from_Decides (block_number (scope_of lines func) name == 0) (Decides-eqb (block_number (scope_of lines func) name) 0) f,
+)
 
 -- ---- phis
 
@@ -96,8 +97,10 @@ good_phi lines func law result ty es read some uses known =
     let count : length os ≡ length es = length-map es (entry_operand names ty) in
     let label_count : length labels ≡ length os = length-map es (entry_label blocks) ∙ sym count in
     record {
-      line = (record { result = refl; type = is_first ty read; operand_count = refl; values = vals; label_count = label_count; no_bundle = refl },
-      (let n : 0 < length os = omega (arith, count) in n));
+      line = (
+        record { result = refl; type = is_first ty read; operand_count = refl; values = vals; label_count = label_count; no_bundle = refl },
+        (let n : 0 < length os = omega (arith, count) in n),
+      );
       typed = record {
         operands = all_zip_same (defs.value_types (made lines func)) (type_of ty) os (entries_fit lines func law ty read es uses);
         bundle = All-nil (λ (entry : Ty × Operand). Fits (scope_made lines func).values entry.1 entry.0);
@@ -183,9 +186,10 @@ good_labels : (lines : List Line) (func : Definition) (labels : List BlockId) �
     → All (λ label. label.0 < length (made lines func).blocks) labels × All (λ label. label.0 ≢ 0) labels
 good_labels lines func [] all = (All-nil (λ (label : BlockId). label.0 < length (made lines func).blocks), All-nil (λ (label : BlockId). label.0 ≢ 0))
 good_labels lines func (label ∷ labels) all =
-    let more = good_labels lines func labels all.1 in
-    (All-cons (λ (label : BlockId). label.0 < length (made lines func).blocks) label labels all.0.0 more.0,
-    All-cons (λ (label : BlockId). label.0 ≢ 0) label labels all.0.1 more.1)
+    let more = good_labels lines func labels all.1 in (
+      All-cons (λ (label : BlockId). label.0 < length (made lines func).blocks) label labels all.0.0 more.0,
+      All-cons (λ (label : BlockId). label.0 ≢ 0) label labels all.0.1 more.1,
+    )
 
 pub good_jump : (lines : List Line) (func : Definition) (label : BlockId) → IsGoodLabel lines func label
     → GoodInst lines func (instruction None ops.Br tys.Void [] (label ∷ []))
@@ -250,9 +254,11 @@ good_switch lines func width a cases label labels read v literal count fits dist
 one_case_label : (lines : List Line) (func : Definition) → InLaw lines func → (n : ℕ) (s : Statement) (ls : List Line) → LineFacts (scope_of lines func) s
     → AllByRecursion (IsGoodLabel lines func) (case_labels (known_of lines func).blocks ls)
     → AllByRecursion (IsGoodLabel lines func) (case_labels (known_of lines func).blocks (record { number = n; says = s } ∷ ls))
-one_case_label lines func law n (switch_case width value to) ls facts ih =
-    (good_label lines func law to (or-left (is_none (block_named (scope_of lines func) to)) false facts.labels)
-    (or-left (block_number (scope_of lines func) to == 0) false facts.entry), ih)
+one_case_label lines func law n (switch_case width value to) ls facts ih = (
+  good_label lines func law to (or-left (is_none (block_named (scope_of lines func) to)) false facts.labels)
+      (or-left (block_number (scope_of lines func) to == 0) false facts.entry),
+  ih,
+)
 one_case_label lines func law n _ ls facts ih = tt
 
 pub good_case_labels : (lines : List Line) (func : Definition) → InLaw lines func → (ls : List Line)
@@ -292,20 +298,22 @@ good_switch_line lines func law before n width value default after whole facts b
     (both (is_value first) (list_all is_value cases) (is_value_in known.values (Int width) value)
     (all-list is_value cases (each_case (λ (op : Operand). is_value op ≡ true) known.values width (λ v _. is_value_in known.values (Int width) v) after read)))
     (all-list is_literal cases (each_case (λ (op : Operand). is_literal op ≡ true) known.values width (case_literal known.values width) after read))
-    (labels-cases known.values known.blocks width after)
-    (fit lines func law (Int width) value facts.read facts.uses.0,
-    each_case (λ (op : Operand). Fits T op (tys.Int width)) known.values width (case_fits T known.values width facts.read) after read)
-    (values-distinct_in lines law.none func law.defined known.values before n width value default after whole read)
-    (good_label lines func law default (or-left (is_none (block_named (scope_of lines func) default)) false facts.labels)
-    (or-left (block_number (scope_of lines func) default == 0) false facts.entry),
-    good_case_labels lines func law after behind)
+    (labels-cases known.values known.blocks width after) (
+      fit lines func law (Int width) value facts.read facts.uses.0,
+      each_case (λ (op : Operand). Fits T op (tys.Int width)) known.values width (case_fits T known.values width facts.read) after read,
+    )
+    (values-distinct_in lines law.none func law.defined known.values before n width value default after whole read) (
+      good_label lines func law default (or-left (is_none (block_named (scope_of lines func) default)) false facts.labels)
+          (or-left (block_number (scope_of lines func) default == 0) false facts.entry),
+      good_case_labels lines func law after behind,
+    )
 
 -- ---- `getelementptr` over a layout
 
 place_below : (place : Literal) (count : ℕ) → is_field place count ≡ true → place_of place < count
 place_below place count e =
     let less : place.magnitude < count = (Decides-ltb place.magnitude count).0
-        (and-right (not place.negative || not (Rattle.std.specs.Prelude.nat_lt 0 place.magnitude)) (Rattle.std.specs.Prelude.nat_lt place.magnitude count) e) in
+    (and-right (not place.negative || not (Rattle.std.specs.Prelude.nat_lt 0 place.magnitude)) (Rattle.std.specs.Prelude.nat_lt place.magnitude count) e) in
     let m : min place.magnitude (2 ^ 32 - 1) < count = omega arith in m
 
 field_by : (fields : List ℕ) (number : ℕ) (one : LayoutLine) (place : Option Literal) → slice_get fields number ≡ Some (length one.fields)
@@ -327,11 +335,11 @@ good_layout_line lines func law result named address width index place facts =
     let n = number-is (λ (l : LayoutLine). l.name) (layouts_of lines) named s (omega arith) in
     let fields = (scope_made lines func).fields in
     let within : number_in known.layouts named < length (content lines).layouts =
-        (let below = stands_below (λ (l : LayoutLine). l.name) (layouts_of lines) named s in omega (arith, n, length-map (layouts_of lines) layout_of)) in
+    (let below = stands_below (λ (l : LayoutLine). l.name) (layouts_of lines) named s in omega (arith, n, length-map (layouts_of lines) layout_of)) in
     let count : slice_get fields (number_in known.layouts named) ≡ Some (length s.one.fields) =
-        ap (slice_get fields) n ∙ slice_get-map (λ (layout : Rattle.ir_ast.specs.Layouts.ObjectLayout). length layout.fields) (map layout_of (layouts_of lines)) s.place
-        ∙ ap (option_map (λ (layout : Rattle.ir_ast.specs.Layouts.ObjectLayout). length layout.fields)) (slice_get-map layout_of (layouts_of lines) s.place ∙ ap (option_map layout_of) s.there)
-        ∙ ap Some (length-map s.one.fields Rattle.ir_types.specs.Modules.cell_of) in
+    ap (slice_get fields) n ∙ slice_get-map (λ (layout : Rattle.ir_ast.specs.Layouts.ObjectLayout). length layout.fields) (map layout_of (layouts_of lines)) s.place
+    ∙ ap (option_map (λ (layout : Rattle.ir_ast.specs.Layouts.ObjectLayout). length layout.fields)) (slice_get-map layout_of (layouts_of lines) s.place ∙ ap (option_map layout_of) s.there)
+    ∙ ap Some (length-map s.one.fields Rattle.ir_types.specs.Modules.cell_of) in
     good_layout lines func result (number_in known.layouts named) width (option_map place_of place) a b
     (two_values a b (is_value_in known.values Managed address) (is_value_in known.values (Int width) index))
     (fit lines func law Managed address tt facts.uses.0, (fit lines func law (Int width) index facts.read.1 facts.uses.1.0, tt))

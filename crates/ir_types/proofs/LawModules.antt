@@ -169,7 +169,7 @@ main_in lines (d ∷ ds) e = by (bytes_eq d.name (codes "main")) refl (main_in l
     }
     by false is ih =
         let skip : find (λ (func : Definition). bytes_eq func.name (codes "main")) (d ∷ ds) ≡ find (λ (func : Definition). bytes_eq func.name (codes "main")) ds =
-            ap (λ (b : Bool). cond b (Some d) (find (λ (func : Definition). bytes_eq func.name (codes "main")) ds)) is in
+        ap (λ (b : Bool). cond b (Some d) (find (λ (func : Definition). bytes_eq func.name (codes "main")) ds)) is in
         let more = ih (sym (ap is_main skip) ∙ e) in
         record {
           earlier = d ∷ more.earlier;
@@ -206,8 +206,8 @@ pub has_main : (lines : List Line) → HasNoFault lines → HasMain (content lin
 has_main lines none =
     let F : Definition → Function = λ func. function_of (known_of lines func) func in
     let is : is_main (find (λ func. bytes_eq func.name (codes "main")) (definitions_of lines)) ≡ true =
-        found_main (is_main (find (λ func. bytes_eq func.name (codes "main")) (definitions_of lines))) (λ lacks.
-        let told : NoMain lines 0 = record { at_no_line = refl; lacks = lacks } in none 0 11 (no_main told)) in
+    found_main (is_main (find (λ func. bytes_eq func.name (codes "main")) (definitions_of lines))) (λ lacks.
+    let told : NoMain lines 0 = record { at_no_line = refl; lacks = lacks } in none 0 11 (no_main told)) in
     let m = main_in lines (definitions_of lines) is in
     let right : (takes_nothing m.main.arguments && is_status m.main.answer) ≡ true = sym (ap is_main m.found) ∙ is in
     record {
@@ -232,10 +232,13 @@ total : (lines : List Line) (defs : List Definition)
 total lines [] = omega arith
 total lines (d ∷ ds) =
     let here : length (instructions_of (function_of (known_of lines d) d).blocks) ≤ instruction_count d.body =
-        (let few = few_insts (known_of lines d) d.body in omega (arith, ap length (body_insts (known_of lines d) d))) in
+    (let few = few_insts (known_of lines d) d.body in omega (arith, ap length (body_insts (known_of lines d) d))) in
     let more = total lines ds in
-    omega (arith, length-append (instructions_of (function_of (known_of lines d) d).blocks) (flat_map (λ (func : Definition). instructions_of (function_of (known_of lines func) func).blocks) ds),
-    sum_by-cons (λ (func : Definition). instruction_count func.body) d ds)
+    omega (
+      arith,
+      length-append (instructions_of (function_of (known_of lines d) d).blocks) (flat_map (λ (func : Definition). instructions_of (function_of (known_of lines func) func).blocks) ds),
+      sum_by-cons (λ (func : Definition). instruction_count func.body) d ds,
+    )
 
 pub few_in_all : (lines : List Line) → IsReadLines lines → length (flat_map (λ func. instructions_of func.blocks) (content lines).funcs) ≤ 65536
 few_in_all lines read =

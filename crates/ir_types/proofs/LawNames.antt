@@ -50,7 +50,7 @@ stands {X} f (x ∷ xs) name e = by (bytes_eq name (f x)) refl (stands f xs name
     }
     by false is ih =
         let skip : find (λ y. bytes_eq name (f y)) (x ∷ xs) ≡ find (λ y. bytes_eq name (f y)) xs =
-            ap (λ (b : Bool). cond b (Some x) (find (λ y. bytes_eq name (f y)) xs)) is in
+        ap (λ (b : Bool). cond b (Some x) (find (λ y. bytes_eq name (f y)) xs)) is in
         let more = ih (sym (ap (is_none {T = X}) skip) ∙ e) in
         record {
           place = suc more.place;
@@ -127,10 +127,10 @@ distinct-once {X} xs line name once = λ j k below within same.
     let pair : X → ℕ × List ℕ = λ x. (line x, name x) in
     let pairs = map pair xs in
     let names_same : name first.0 ≡ name later.0 =
-        same_Some (name first.0) (name later.0)
-        (sym (slice_get-map name xs j ∙ ap (option_map name) first.1) ∙ same ∙ (slice_get-map name xs k ∙ ap (option_map name) later.1)) in
+    same_Some (name first.0) (name later.0)
+    (sym (slice_get-map name xs j ∙ ap (option_map name) first.1) ∙ same ∙ (slice_get-map name xs k ∙ ap (option_map name) later.1)) in
     let at_j : slice_get (take k pairs) j ≡ Some (pair first.0) =
-        get_taken pairs j k below ∙ slice_get-map pair xs j ∙ ap (option_map pair) first.1 in
+    get_taken pairs j k below ∙ slice_get-map pair xs j ∙ ap (option_map pair) first.1 in
     let told : Repeats pairs (line later.0) = record {
       before = take k pairs;
       what = name later.0;
@@ -155,7 +155,7 @@ same_by_name name xs x y distinct cx cy e =
     let nx : slice_get (map name xs) gx.0 ≡ Some (name x) = slice_get-map name xs gx.0 ∙ ap (option_map name) gx.1 in
     let ny : slice_get (map name xs) gy.0 ≡ Some (name y) = slice_get-map name xs gy.0 ∙ ap (option_map name) gy.1 in
     let at : gx.0 ≡ gy.0 = same_place (map name xs) gx.0 gy.0 distinct (slice_get_within (map name xs) gx.0 (name x) nx)
-        (slice_get_within (map name xs) gy.0 (name y) ny) (nx ∙ ap Some e ∙ sym ny) in
+    (slice_get_within (map name xs) gy.0 (name y) ny) (nx ∙ ap Some e ∙ sym ny) in
     same_Some x y (sym gx.1 ∙ ap (slice_get xs) at ∙ gy.1)
 
 abbrev pub Apart : List (List ℕ) → Type 0
@@ -164,10 +164,11 @@ Apart (x ∷ xs) = (¬ (Contains xs x)) × Apart xs
 
 pub apart-distinct : (xs : List (List ℕ)) → Distinct xs → Apart xs
 apart-distinct [] distinct = tt
-apart-distinct (x ∷ xs) distinct =
-    (λ c. let g = get_contained xs x c in
-    distinct 0 (suc g.0) (omega arith) (let w = slice_get_within xs g.0 x g.1 in omega arith) (sym g.1),
-    apart-distinct xs (λ j k below within e. distinct (suc j) (suc k) (omega arith) (omega arith) e))
+apart-distinct (x ∷ xs) distinct = (
+  λ c. let g = get_contained xs x c in
+      distinct 0 (suc g.0) (omega arith) (let w = slice_get_within xs g.0 x g.1 in omega arith) (sym g.1),
+  apart-distinct xs (λ j k below within e. distinct (suc j) (suc k) (omega arith) (omega arith) e),
+)
 
 pub distinct-apart : (xs : List (List ℕ)) → Apart xs → Distinct xs
 distinct-apart [] apart j k below within e = omega arith
@@ -182,6 +183,7 @@ kept_names {X} p name (x ∷ xs) n c = by (p x) refl (kept_names p name xs n)
     with_later : (name x ≡ n) ⊎ Contains (map name (filter p xs)) n → (Contains (map name (filter p xs)) n → Contains (map name xs) n) → Contains (map name (x ∷ xs)) n
     with_later (inl e) ih = subst (λ (m : List ℕ). Contains (name x ∷ map name xs) m) e (contains_first (name x) (map name xs))
     with_later (inr d) ih = contains_later (name x) n (map name xs) (ih d)
+
     by : (b : Bool) → p x ≡ b → (Contains (map name (filter p xs)) n → Contains (map name xs) n) → Contains (map name (x ∷ xs)) n
     by true e ih = with_later (contains_cons (name x) n (map name (filter p xs))
         (subst (λ (b : Bool). Contains (map name (cond b (x ∷ filter p xs) (filter p xs))) n) e c)) ih

@@ -169,15 +169,18 @@ same_step known n (switch width value default) ls ih =
     ((λ h. ap (λ (xs : List BlockId). label_of known default ∷ xs) (ih.1 h.1)), (λ h. ap (λ (xs : List BlockId). label_of known default ∷ xs) (ih.1 h.1)))
 same_step known n (jump to) ls ih =
     ((λ h. ap (λ (xs : List BlockId). label_of known to ∷ xs) (ih.0 h.1)), (λ h. ap (λ (xs : List BlockId). label_of known to ∷ xs) (ih.0 h.1)))
-same_step known n (branch condition on_true on_false) ls ih =
-    ((λ h. ap (λ (xs : List BlockId). label_of known on_true ∷ label_of known on_false ∷ xs) (ih.0 h.1)),
-    (λ h. ap (λ (xs : List BlockId). label_of known on_true ∷ label_of known on_false ∷ xs) (ih.0 h.1)))
-same_step known n (binary result op width left right') ls ih =
-    ((λ h. ap (λ (xs : List BlockId). xs ++ made_targets known ls) (none_if (is_terminator (binary_of op))) ∙ ih.0 h.1),
-    (λ h. ap (λ (xs : List BlockId). xs ++ made_targets known ls) (none_if (is_terminator (binary_of op))) ∙ ih.0 h.1))
-same_step known n (convert result op width value to) ls ih =
-    ((λ h. ap (λ (xs : List BlockId). xs ++ made_targets known ls) (none_if (is_terminator (conversion_of op to))) ∙ ih.0 h.1),
-    (λ h. ap (λ (xs : List BlockId). xs ++ made_targets known ls) (none_if (is_terminator (conversion_of op to))) ∙ ih.0 h.1))
+same_step known n (branch condition on_true on_false) ls ih = (
+  (λ h. ap (λ (xs : List BlockId). label_of known on_true ∷ label_of known on_false ∷ xs) (ih.0 h.1)),
+  (λ h. ap (λ (xs : List BlockId). label_of known on_true ∷ label_of known on_false ∷ xs) (ih.0 h.1)),
+)
+same_step known n (binary result op width left right') ls ih = (
+  (λ h. ap (λ (xs : List BlockId). xs ++ made_targets known ls) (none_if (is_terminator (binary_of op))) ∙ ih.0 h.1),
+  (λ h. ap (λ (xs : List BlockId). xs ++ made_targets known ls) (none_if (is_terminator (binary_of op))) ∙ ih.0 h.1),
+)
+same_step known n (convert result op width value to) ls ih = (
+  (λ h. ap (λ (xs : List BlockId). xs ++ made_targets known ls) (none_if (is_terminator (conversion_of op to))) ∙ ih.0 h.1),
+  (λ h. ap (λ (xs : List BlockId). xs ++ made_targets known ls) (none_if (is_terminator (conversion_of op to))) ∙ ih.0 h.1),
+)
 same_step known n _ ls ih = ((λ h. ih.0 h.1), (λ h. ih.0 h.1))
 
 same_targets : (known : Known) (ls : List Line) → SameTargets known ls
@@ -228,6 +231,7 @@ edges-same lines func law from to = by (slice_get (blocks_of func) from) refl
   where
     known : Known
     known = known_of lines func
+
     by : (o : Option BlockLines) → slice_get (blocks_of func) from ≡ o → edged.edges (made lines func) from to ≡ wrong.edges (scope_of lines func) from to
     by None e =
         ap (λ (o : Option BasicBlock). option_map_or (λ block. edged.count_of to (edged.targets block)) o 0) (slice_get-map (block_of (known_of lines func)) (blocks_of func) from ∙ ap (option_map (block_of (known_of lines func))) e)
@@ -343,9 +347,10 @@ phis_right lines func law number block before after inst there whole is_phi_op =
           whole = split.whole ∙ ap (λ (s : Statement). split.earlier ++ (record { number = split.line.number; says = s }) ∷ split.later) said.is;
         } in
         let is : phi_made lines func said.result said.ty said.entries ≡ inst =
-            same_Some (phi_made lines func said.result said.ty said.entries) inst (sym (ap (instruction_said known split.later) said.is) ∙ split.said) in
+        same_Some (phi_made lines func said.result said.ty said.entries) inst (sym (ap (instruction_said known split.later) said.is) ∙ split.said) in
         subst (λ (i : Instruction). PhiIsRight (made lines func) number before i) is
         (phi_right lines func number at before (split.first (all_phis lines func number at)))
+
     by : (o : Option BlockLines) → slice_get (blocks_of func) number ≡ o → PhiIsRight (made lines func) number before inst
     by None e =
         absurd (let bad : None ≡ Some block = sym (slice_get-map (block_of (known_of lines func)) (blocks_of func) number ∙ ap (option_map (block_of (known_of lines func))) e) ∙ there in cc)

@@ -163,7 +163,7 @@ one_value a e = both (is_value a) true e refl
 -- ---- each form
 
 binary_by : (lines : List Line) (func : Definition) (result : List ℕ) (op : Op) (width : ℕ) (a b : Operand)
-    → list_all is_value (a ∷ b ∷ []) ≡ true → (IsLine (Plain_inst (Some result) op (tys.Int width) (a ∷ b ∷ [])) )
+    → list_all is_value (a ∷ b ∷ []) ≡ true → (IsLine (Plain_inst (Some result) op (tys.Int width) (a ∷ b ∷ [])))
     → AllZip (Fits (defs.value_types (made lines func))) (a ∷ b ∷ []) (asked op (tys.Int width) 2)
     → Rattle.ir_ast.specs.Faults.TypeClash.RuleOf (scope_made lines func) op (Plain_inst (Some result) op (tys.Int width) (a ∷ b ∷ []))
     → All IsWidth (operator_widths op) → IsWidth width → is_rewritten op ≡ false → orders_pointers op (tys.Int width) ≡ false
@@ -261,6 +261,7 @@ scalar_width width e = by (width == 8) refl (width == 16) refl (width == 32) ref
   where
     is : (n : ℕ) → (width == n) ≡ true → width ≡ n
     is n f = (Decides-eqb width n).0 f
+
     by : (a : Bool) → (width == 8) ≡ a → (b : Bool) → (width == 16) ≡ b → (c : Bool) → (width == 32) ≡ c → (d : Bool) → (width == 64) ≡ d
         → ((width == 8) || (width == 16) || (width == 32) || (width == 64)) ≡ true → IsWidth width
     by true f b g c h d k e = let w = is 8 f in (omega arith, omega arith)
@@ -269,7 +270,7 @@ scalar_width width e = by (width == 8) refl (width == 16) refl (width == 32) ref
     by false f false g false h true k e = let w = is 64 k in (omega arith, omega arith)
     by false f false g false h false k e =
         let bad : false ≡ true = sym (ap (λ (x : Bool). x || (width == 16) || (width == 32) || (width == 64)) f ∙ ap (λ (x : Bool). false || x || (width == 32) || (width == 64)) g
-            ∙ ap (λ (x : Bool). false || false || x || (width == 64)) h ∙ ap (λ (x : Bool). false || false || false || x) k) ∙ e in absurd (cc)
+        ∙ ap (λ (x : Bool). false || false || x || (width == 64)) h ∙ ap (λ (x : Bool). false || false || false || x) k) ∙ e in absurd (cc)
 
 element_width : (ty : TypeWord) (width : ℕ) → is_scalar_type ty ≡ true → IsWidth width → All IsWidth (operator_widths (ops.Gep (element_of ty) width None))
 element_width (Int own) width e read = All-cons IsWidth own (width ∷ []) (scalar_width own e) (width_one width read)

@@ -18,3 +18,5 @@ pub mod LawInsts
 pub mod LawFunctions
 pub mod LawPhis
 pub mod LawModules
+pub mod LawDerived
+pub mod LawSource
