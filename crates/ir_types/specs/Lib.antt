@@ -17,3 +17,7 @@ pub mod Known
 pub mod Tables
 pub mod ReadLines
 pub mod TypedModules
+pub mod TextLines
+pub mod Again
+pub mod TopFaults
+pub mod Built

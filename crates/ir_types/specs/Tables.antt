@@ -1,5 +1,5 @@
 -- What the tables of the code hold: the definitions, blocks and heads that they list, and when they are those of lines.
-use Rattle.std.specs.Prelude.{◌≡◌, ℕ, List, map, length}
+use Rattle.std.specs.Prelude.{◌≡◌, ℕ, List, ◌++◌, map, filter, length}
 use Rattle.std.specs.Option.{option_copied}
 use Rattle.ir_reader.specs.Seen.{seen_argument}
 use Rattle.ir_types.specs.declared.sections.Definition.{Definition as DefinitionTable}
@@ -8,7 +8,7 @@ use Rattle.ir_types.specs.declared.scope.Head.{Head as HeadTable}
 use Rattle.ir_types.specs.declared.scope.Top.{Top}
 use Rattle.ir_types.specs.declared.scope.Local.{Local}
 use Rattle.ir_types.specs.Statements.{Line}
-use Rattle.ir_types.specs.Sections.{Head, Definition, BlockLines, types_of, layouts_of, heads_of, definitions_of, values_of, blocks_of}
+use Rattle.ir_types.specs.Sections.{LayoutLine, Head, Definition, Naming, BlockLines, types_of, layouts_of, heads_of, definitions_of, values_of, blocks_of}
 use Rattle.ir_types.specs.Views.{seen_lines}
 
 abbrev pub seen_definition : DefinitionTable → Definition
@@ -47,3 +47,31 @@ pub record IsLocal (func : Definition) (local : Local) : Type 0 where
   pub types : local.types.items ≡ map (λ one. one.ty) (values_of func)
   pub blocks : local.blocks ≡ map (λ one. one.name) (blocks_of func)
   pub answer : local.answer ≡ func.answer
+
+-- ---- one step of filling a table
+
+pub record AddsLayouts (old new : Top) (added : List LayoutLine) : Type 0 where
+  pub layouts : new.layouts ≡ old.layouts ++ map (λ one. one.name) added
+  pub fields : new.fields.items ≡ old.fields.items ++ map (λ one. length one.fields) added
+  pub heads : new.heads ≡ old.heads
+  pub head_list : new.head_list.items ≡ old.head_list.items
+  pub functions : new.functions ≡ old.functions
+
+pub record AddsHeads (old new : Top) (added : List Head) : Type 0 where
+  pub layouts : new.layouts ≡ old.layouts
+  pub fields : new.fields.items ≡ old.fields.items
+  pub heads : new.heads ≡ old.heads ++ map (λ one. one.name) added
+  pub head_list : map seen_head new.head_list.items ≡ map seen_head old.head_list.items ++ added
+  pub functions : new.functions ≡ old.functions ++ map (λ one. one.name) (filter (λ one. one.defined) added)
+
+pub record AddsValues (old new : Local) (added : List Naming) : Type 0 where
+  pub values : new.values ≡ old.values ++ map (λ one. one.name) added
+  pub types : new.types.items ≡ old.types.items ++ map (λ one. one.ty) added
+  pub blocks : new.blocks ≡ old.blocks
+  pub answer : new.answer ≡ old.answer
+
+pub record AddsBlocks (old new : Local) (added : List BlockLines) : Type 0 where
+  pub values : new.values ≡ old.values
+  pub types : new.types.items ≡ old.types.items
+  pub blocks : new.blocks ≡ old.blocks ++ map (λ one. one.name) added
+  pub answer : new.answer ≡ old.answer

@@ -1,14 +1,18 @@
 //! The module that lines stand for.
 
-ghost use Rattle.std.specs.Prelude.{◌≡◌, [], ◌∷◌, ◌++◌, ◌+◌, ◌<◌, length, map, option_map, drop, IfOk, OnOk};
+ghost use Rattle.std.specs.Prelude.{◌≡◌, [], ◌∷◌, ◌++◌, ◌+◌, ◌<◌, length, map, flat_map, option_map, drop, IfOk, OnOk};
+ghost use Rattle.std.specs.List.{All};
 ghost use Rattle.ir_ast.specs.Blocks.{EndsAtTerminator};
 ghost use Rattle.std.specs.Option.{option_copied};
-ghost use Rattle.ir_reader.specs.Seen.{seen_value, seen_entry, seen_passed};
+ghost use Rattle.ir_reader.specs.Seen.{seen_value, seen_argument, seen_entry, seen_passed};
 ghost use Rattle.ir_types.specs.Places.{number_in};
 ghost use Rattle.ir_types.specs.Views.{said, seen_lines};
 ghost use Rattle.ir_types.specs.Known.{known_in};
-ghost use Rattle.ir_types.specs.Placed.{IsPlaced};
-ghost use Rattle.ir_types.specs.Modules.{module_of, instruction, instruction_said, with_line, insts_of, numbers_of, external_callee, callee_of, passed_operand, given_type, case_values, case_labels, element_of, entry_operand, entry_label, operand_in, label_in, type_of, binary_of, conversion_of, cell_of, place_of};
+ghost use Rattle.ir_types.specs.Placed.{IsPlacedFunction, IsPlaced};
+ghost use Rattle.ir_types.specs.Tables.{seen_definition, seen_block};
+ghost use Rattle.ir_types.specs.Sections.{arguments_named, blocks_of, layout_said, layouts_of};
+ghost use Rattle.ir_types.specs.Built.{known_with, lined_function};
+ghost use Rattle.ir_types.specs.Modules.{module_of, instruction, instruction_said, with_line, insts_of, numbers_of, external_callee, callee_of, passed_operand, given_type, case_values, case_labels, element_of, entry_operand, entry_label, operand_in, label_in, type_of, block_of, argument_of, layout_of, binary_of, conversion_of, cell_of, place_of};
 
 use crate::best::First;
 use crate::lines::{Scope, passed_type};
@@ -21,7 +25,7 @@ use ir_ast::{
     Pred, Ty, Types,
 };
 use ir_reader::{
-    Binary, Conversion, Entry, Literal, NumberedReading, Passed, Reading, TypeWord, Value,
+    Argument, Binary, Conversion, Entry, Literal, NumberedReading, Passed, Reading, TypeWord, Value,
 };
 use smallvec::SmallVec;
 use sp_ids::{BlockId, FuncId};
@@ -566,6 +570,48 @@ impl Scope<'_, '_, '_, '_> {
         }
         Ok(insts)
     }
+
+    // The blocks, and the lines of their instructions behind the others.
+    fn built_blocks(
+        &self,
+        alloc: Global,
+        blocks: &[BlockLines],
+        numbers: &mut Vec<u32>,
+    ) -> Result<Vec<Block>, AllocError>
+        requires { All (λ block. EndsAtTerminator (insts_of (known_in self.now) block.lines)) (map seen_block blocks.now) }
+        ensures blocks { IfOk result (λ built. built.items ≡ map (block_of (known_in self.now)) (map seen_block blocks.now)) }
+        ensures numbers { OnOk result (numbers.new.items ≡ numbers.old.items
+            ++ flat_map (λ block. numbers_of (known_in self.now) block.lines) (map seen_block blocks.now)) }
+    {
+        let mut built = Vec::new(alloc);
+        for block in blocks {
+            let made = self.block(alloc, block, numbers)?;
+            built.push(made)?;
+        }
+        Ok(built)
+    }
+
+    // The function that a definition with these names and blocks stands for, with the lines of its instructions.
+    fn function(
+        &self,
+        alloc: Global,
+        func: &Definition,
+        names: &HeadNames,
+        blocks: &[BlockLines],
+    ) -> Result<Func, AllocError>
+        requires names { map (λ n. n.items) names.now.arguments.items
+            ≡ map (λ one. one.name) (arguments_named func.now.line [] (map seen_argument func.now.arguments.now)) }
+        requires blocks { map seen_block blocks.now ≡ blocks_of (seen_definition func.now) }
+        requires placed { IsPlacedFunction (known_in self.now) (seen_definition func.now) }
+        ensures { IfOk result (λ made. made ≡ lined_function (known_in self.now) (seen_definition func.now)) }
+    {
+        let mut numbers = Vec::new(alloc);
+        let built = self.built_blocks(alloc, blocks, &mut numbers)?;
+        let name = owned(alloc, func.name)?;
+        let args = arguments_of(alloc, func.line, func.arguments, names.arguments.as_slice())?;
+        let whole = Func::of(name, type_of(func.answer), args, built);
+        Ok(whole.with_lines(numbers))
+    }
 }
 
 // The lines behind one.
@@ -596,15 +642,21 @@ fn keep(
     }
 }
 
+// The arguments of a head, which have these names.
 fn arguments_of(
     alloc: Global,
-    func: &Definition,
-    names: &HeadNames,
-) -> Result<Vec<Arg>, AllocError> {
+    line: u32,
+    arguments: &[Argument],
+    names: &[Vec<u8>],
+) -> Result<Vec<Arg>, AllocError>
+    requires { map (λ n. n.items) names.now ≡ map (λ one. one.name) (arguments_named line [] (map seen_argument arguments.now)) }
+    ensures { IfOk result (λ args. args.items ≡ map argument_of (arguments_named line [] (map seen_argument arguments.now))) }
+{
     let mut args = Vec::new(alloc);
-    for (argument, name) in func.arguments.iter().zip(names.arguments.iter()) {
+    for (i, argument) in arguments.iter().enumerate() {
+        let name = owned(alloc, names[i].as_slice())?;
         args.push(Arg {
-            name: owned(alloc, name.as_slice())?,
+            name,
             ty: type_of(argument.ty),
         })?;
     }
@@ -612,32 +664,72 @@ fn arguments_of(
 }
 
 // The function that a definition stands for, with the lines of its instructions.
-fn function_of(alloc: Global, top: &Top, func: &Definition) -> Result<Func, AllocError> {
+fn function_of(alloc: Global, top: &Top, func: &Definition) -> Result<Func, AllocError>
+    requires { IsPlacedFunction (known_with top.now (seen_definition func.now)) (seen_definition func.now) }
+    ensures { IfOk result (λ made. made ≡ lined_function (known_with top.now (seen_definition func.now)) (seen_definition func.now)) }
+{
     let names = HeadNames::of(alloc, func.arguments)?;
     let sections = blocks(alloc, func, names.entry.as_slice())?;
     let mut unused = First::NONE;
     let local = Local::of(alloc, func, &names, sections.as_slice(), &mut unused)?;
     let scope = Scope { top, local: &local };
-    let mut numbers = Vec::new(alloc);
-    let mut built = Vec::new(alloc);
-    for block in &sections {
-        built.push(scope.block(alloc, block, &mut numbers)?)?;
-    }
-    let whole = Func::of(
-        owned(alloc, func.name)?,
-        type_of(func.answer),
-        arguments_of(alloc, func, &names)?,
-        built,
-    );
-    Ok(whole.with_lines(numbers))
+    scope.function(alloc, func, &names, sections.as_slice())
 }
 
-fn layout_of(alloc: Global, name: &[u8], fields: &[TypeWord]) -> Result<Layout, AllocError> {
-    let mut cells = Vec::new(alloc);
-    for field in fields {
-        cells.push(cell_of(*field))?;
+// The functions that definitions stand for, in their order.
+fn functions_of(alloc: Global, top: &Top, funcs: &[Definition]) -> Result<Vec<Func>, AllocError>
+    requires { All (λ func. IsPlacedFunction (known_with top.now func) func) (map seen_definition funcs.now) }
+    ensures { IfOk result (λ made. made.items ≡ map (λ func. lined_function (known_with top.now func) func) (map seen_definition funcs.now)) }
+{
+    let mut made = Vec::new(alloc);
+    for func in funcs {
+        let one = function_of(alloc, top, func)?;
+        made.push(one)?;
     }
-    Ok(Layout::of(owned(alloc, name)?, cells))
+    Ok(made)
+}
+
+fn cells_of(alloc: Global, fields: &[TypeWord]) -> Result<Vec<Cell>, AllocError>
+    ensures { IfOk result (λ cells. cells.items ≡ map cell_of fields.now) }
+{
+    fields.iter().map(|field| cell_of(*field)).collect(alloc)
+}
+
+fn layout_of(alloc: Global, name: &[u8], fields: &[TypeWord]) -> Result<Layout, AllocError>
+    ensures { IfOk result (λ made. made ≡ record { name = name.now; fields = map cell_of fields.now }) }
+{
+    let cells = cells_of(alloc, fields)?;
+    let name = owned(alloc, name)?;
+    Ok(Layout::of(name, cells))
+}
+
+// Adds the layout of a line behind the others, where it is one.
+fn keep_layout(
+    alloc: Global,
+    line: &NumberedReading,
+    layouts: &mut Vec<Layout>,
+) -> Result<(), AllocError>
+    ensures { OnOk result (layouts.new.items ≡ layouts.old.items ++ map layout_of (layout_said line.now.line (said line.now.reading))) }
+{
+    match &line.reading {
+        Reading::Layout { name, fields } => {
+            let made = layout_of(alloc, name, fields.as_slice())?;
+            layouts.push(made)?;
+            Ok(())
+        }
+        _ => Ok(()),
+    }
+}
+
+// The layouts of lines, in their order.
+fn layouts_of(alloc: Global, lines: &[NumberedReading]) -> Result<Vec<Layout>, AllocError>
+    ensures { IfOk result (λ made. made.items ≡ map layout_of (layouts_of (seen_lines lines.now))) }
+{
+    let mut layouts = Vec::new(alloc);
+    for line in lines {
+        keep_layout(alloc, line, &mut layouts)?;
+    }
+    Ok(layouts)
 }
 
 /// The module that these lines stand for, with the lines of its instructions.
@@ -647,15 +739,8 @@ pub(crate) fn module_of(alloc: Global, lines: &[NumberedReading]) -> Result<Modu
 {
     let mut unused = First::NONE;
     let top = Top::of(alloc, lines, &mut unused)?;
-    let mut layouts = Vec::new(alloc);
-    for line in lines {
-        if let Reading::Layout { name, fields } = &line.reading {
-            layouts.push(layout_of(alloc, name, fields.as_slice())?)?;
-        }
-    }
-    let mut funcs = Vec::new(alloc);
-    for func in &definitions(alloc, lines)? {
-        funcs.push(function_of(alloc, &top, func)?)?;
-    }
+    let layouts = layouts_of(alloc, lines)?;
+    let found = definitions(alloc, lines)?;
+    let funcs = functions_of(alloc, &top, found.as_slice())?;
     Ok(Module::of(layouts, funcs, Form::Source))
 }

@@ -45,9 +45,7 @@ pub(crate) fn first_fault(
 {
     let mut first = First::NONE;
     let top = Top::of(alloc, lines, &mut first)?;
-    for line in lines {
-        top.note_line(line, &mut first);
-    }
+    top.note_lines(lines, &mut first);
     let funcs = definitions(alloc, lines)?;
     note_main(funcs.as_slice(), &mut first);
     for func in &funcs {

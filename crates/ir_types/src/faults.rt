@@ -1,3 +1,6 @@
+ghost use Rattle.std.specs.Prelude.{◌≡◌};
+ghost use Rattle.ir_types.specs.declared.faults.TypeFault.TheVariants.{Memory};
+
 use std::alloc::{AllocError, AllocFailed};
 use std::error::Error;
 use std::fmt;
@@ -30,12 +33,16 @@ impl fmt::Display for TypeFault {
 impl Error for TypeFault {}
 
 impl From<AllocError> for TypeFault {
+    ghost from_gives = { λ _ fault. fault ≡ Memory };
+
     fn from(_error: AllocError) -> Self {
         TypeFault::Memory
     }
 }
 
 impl<T: Drop> From<AllocFailed<T>> for TypeFault {
+    ghost from_gives = { λ _ fault. fault ≡ Memory };
+
     fn from(_failed: AllocFailed<T>) -> Self {
         TypeFault::Memory
     }
