@@ -49,8 +49,8 @@ read_law r read names =
             cases = cases_stand (Rattle.std.specs.Prelude.slice_index_or (definitions_of lines) k d).body places.Entry own.body;
             values = few k d below own.body;
             few_blocks = (let b = (built.functions k d below).small.few_blocks in
-            let func = Rattle.std.specs.Prelude.slice_index_or (definitions_of lines) k d in
-            omega (arith, b, length-map (blocks_of func) (block_of (known_of lines func))));
+                let func = Rattle.std.specs.Prelude.slice_index_or (definitions_of lines) k d in
+                omega (arith, b, length-map (blocks_of func) (block_of (known_of lines func))));
           };
       few_layouts = (let t = layouts_total lines opening.counts counts in omega arith);
       few_functions = (let t = functions_total lines opening.counts counts in omega arith);
