@@ -1,10 +1,10 @@
 -- A call of faultless lines calls what there is to call, by its types.
-use Rattle.std.proofs.Common.{◌≡◌, ◌≢◌, ◌∙◌, ◌⊎◌, inl, inr, ℕ, suc, ◌<◌, ◌≤◌, ◌-◌, ◌^◌, Bool, true, false, not, cond, ◌&&◌, ◌||◌, List, [], ◌∷◌, ◌++◌, map, length, drop, min, refl, ap, sym, subst, arith}
+use Rattle.std.proofs.Common.{◌≡◌, ◌≢◌, ◌∙◌, ◌⊎◌, inl, inr, ℕ, suc, ◌<◌, ◌-◌, ◌^◌, Bool, true, false, cond, ◌&&◌, List, [], ◌∷◌, ◌++◌, map, length, min, refl, ap, sym, subst, arith}
 use Rattle.std.specs.Prelude.{Option, Some, None, is_none, find, slice_get, option_map, filter_map, ⊤, codes}
 use Rattle.std.specs.List.{All, AllByRecursion, AllZip, Contains, list_any, cons_option}
 use Rattle.std.specs.Str.{bytes_eq}
 use Rattle.std.proofs.lemmas.List.{length-map}
-use Rattle.std.proofs.lemmas.List.Elements.{All-nil, All-cons, All-contains, All-from_recursion, recursion_from_All, Contains-append_cases, Contains-get_or}
+use Rattle.std.proofs.lemmas.List.Elements.{All-nil, All-cons, All-contains, All-from_recursion, recursion_from_All}
 use Rattle.std.proofs.lemmas.Option.{slice_get-map, slice_get_within, same_Some}
 use Rattle.std.proofs.lemmas.Slice.Eq.{bytes_eq-Decides}
 use Rattle.ir_ast.specs.declared.types.Ty.{Ty}
@@ -28,21 +28,17 @@ use Rattle.ir_reader.specs.declared.readings.TypeWord.TheVariants.{Void, Int, Ma
 use Rattle.ir_reader.specs.Parts.{Val}
 use Rattle.ir_reader.specs.Parts as values
 use Rattle.ir_reader.specs.Lists.{Named, Given, given, function}
-use Rattle.ir_types.specs.Statements.{Line, Statement, declare, define}
-use Rattle.ir_types.specs.Sections.{Head, Definition, Naming, LayoutLine, types_of, heads_of, definitions_of, layouts_of, arguments_named}
-use Rattle.ir_types.specs.Scope.{Scope, scope_of, head_named}
-use Rattle.ir_types.specs.Places.{place_in, number_of, number_in}
+use Rattle.ir_types.specs.Statements.{Line}
+use Rattle.ir_types.specs.Sections.{Definition, types_of, definitions_of, arguments_named}
+use Rattle.ir_types.specs.Places.{place_in, number_of}
 use Rattle.ir_types.specs.Types.{same_type, same_types}
-use Rattle.ir_types.specs.Externals.{External, external, gc_new, externals_of, helpers}
-use Rattle.ir_types.specs.Modules.{Known, known_of, type_of, argument_of, operand_in, passed_operand, passed_type, given_type, external_callee, callee_at, callee_of, instruction, function_of, module_of}
-use Rattle.ir_types.specs.FaultSet.{HasNoFault, unknown_extern, reserved}
-use Rattle.ir_types.specs.Faults.UnknownExtern.{UnknownExtern}
-use Rattle.ir_types.specs.Faults.Reserved.{declares_helper}
-use Rattle.ir_types.specs.Faults.TypeClash.{agrees, starts_task, is_task, call_agrees}
-use Rattle.ir_types.specs.ReadLines.{IsReadLines, IsReadFunction, SaysRead, IsReadHead, IsReadArgument, IsReadPassed, IsValueType}
-use Rattle.ir_types.proofs.LawNames.{Stands, stands, contains_get, get_contained, contains_first, contains_later, contains_cons, same_by_name, position-cons}
-use Rattle.ir_types.proofs.LawFacts.{and-left, and-right, same_type-is, same_types-is, true-false}
-use Rattle.ir_types.proofs.LawHeads.{HeadFrom, from_definition, from_declaration, head_of, heads-have, heads-from, heads-distinct, definitions-distinct, layouts-distinct, SaysOf, says-defined}
+use Rattle.ir_types.specs.Externals.{External, external}
+use Rattle.ir_types.specs.Modules.{Known, known_of, type_of, argument_of, operand_in, passed_operand, passed_type, given_type, callee_at, callee_of, instruction, function_of, module_of}
+use Rattle.ir_types.specs.FaultSet.{HasNoFault}
+use Rattle.ir_types.specs.ReadLines.{IsReadLines, SaysRead, IsReadHead, IsReadArgument, IsValueType}
+use Rattle.ir_types.proofs.LawNames.{stands, contains_get, get_contained, contains_first, contains_later, contains_cons, same_by_name, position-cons}
+use Rattle.ir_types.proofs.LawFacts.{same_type-is, same_types-is, true-false}
+use Rattle.ir_types.proofs.LawHeads.{definitions-distinct, SaysOf, says-defined}
 use Rattle.ir_types.proofs.LawLines.{InLaw, made, is_value_in}
 
 -- ---- names that are found or not

@@ -1,8 +1,8 @@
 -- The cases of a `switch`: each is a number of its width, and no two are one.
-use Rattle.std.proofs.Common.{◌≡◌, ◌≢◌, ◌∙◌, inl, inr, ℕ, zero, suc, ◌<◌, ◌≤◌, ◌^◌, Bool, true, false, if◌then◌else◌, List, [], ◌∷◌, ◌++◌, map, length, take, refl, ap, sym, subst, arith}
-use Rattle.std.specs.Prelude.{Option, Some, None, ⊤, filter_map, slice_get, option_map}
+use Rattle.std.proofs.Common.{◌≡◌, ◌∙◌, inr, ℕ, zero, suc, ◌<◌, true, false, if◌then◌else◌, List, [], ◌∷◌, ◌++◌, map, length, take, refl, ap, sym, subst, arith}
+use Rattle.std.specs.Prelude.{Option, Some, None, slice_get, option_map}
 use Rattle.std.specs.List.{AllByRecursion, Contains, cons_option}
-use Rattle.std.proofs.lemmas.Option.{slice_get-map, slice_get_within, same_Some}
+use Rattle.std.proofs.lemmas.Option.{slice_get-map, same_Some}
 use Rattle.std.proofs.lemmas.List.{length-map}
 use Rattle.ir_ast.specs.Lists.{Distinct}
 use Rattle.ir_ast.specs.declared.ops.Operand.{Operand}
@@ -11,8 +11,8 @@ use Rattle.ir_reader.specs.declared.readings.TypeWord.TheVariants.{Int}
 use Rattle.ir_reader.specs.Parts.{Val, is_case_value}
 use Rattle.ir_reader.specs.Parts as values
 use Rattle.ir_types.specs.Statements.{Line, Statement, switch, switch_case}
-use Rattle.ir_types.specs.Sections.{Definition, definitions_of, is_case, cases_of}
-use Rattle.ir_types.specs.Modules.{operand_in, wrapped, case_value, case_label, case_values, case_labels}
+use Rattle.ir_types.specs.Sections.{Definition, definitions_of, cases_of}
+use Rattle.ir_types.specs.Modules.{operand_in, wrapped, case_values, case_labels}
 use Rattle.ir_types.specs.Faults.TypeClash.{number_said, case_number, case_numbers, CaseClash, by_case}
 use Rattle.ir_types.specs.FaultSet.{HasNoFault, type_clash}
 use Rattle.ir_types.specs.ReadLines.{SaysRead}

@@ -1,19 +1,13 @@
 -- The derived pointers of faultless lines stay in registers.
-use Rattle.std.proofs.Common.{◌≡◌, ◌≢◌, ◌∙◌, ◌⊎◌, inl, inr, ℕ, zero, suc, ◌<◌, ◌≤◌, ◌+◌, ◌-◌, ◌^◌, Bool, true, false, cond, List, [], ◌∷◌, ◌++◌, map, length, take, refl, ap, sym, subst, arith, append_assoc, append-nil, length-append}
-use Rattle.std.specs.Prelude.{Option, Some, None, IfSome, is_some, flat_map, filter, filter_map, slice_get, option_map, unwrap_or, ⊤}
-use Rattle.std.specs.List.{All, AllByRecursion, Contains, cons_option}
+use Rattle.std.proofs.Common.{◌≡◌, ◌∙◌, ◌⊎◌, inl, inr, ℕ, zero, suc, ◌+◌, Bool, true, false, cond, List, [], ◌∷◌, ◌++◌, map, length, refl, ap, sym, subst, arith, append_assoc, length-append}
+use Rattle.std.specs.Prelude.{Option, Some, None, IfSome, filter, filter_map, slice_get, option_map, unwrap_or}
+use Rattle.std.specs.List.{AllByRecursion, Contains, cons_option}
 use Rattle.std.proofs.lemmas.List.{length-map, map-append}
 use Rattle.std.proofs.lemmas.List.Elements.{filter-append}
 use Rattle.std.proofs.lemmas.List.Concat.{flat_map-append}
 use Rattle.std.proofs.lemmas.Option.{slice_get-map, slice_get_within, same_Some}
-use Rattle.ir_ast.specs.declared.types.Ty.{Ty}
-use Rattle.ir_ast.specs.declared.ops.Op.{Op}
-use Rattle.ir_ast.specs.declared.ops.Op.TheVariants as ops
 use Rattle.ir_ast.specs.declared.ops.Operand.{Operand}
-use Rattle.ir_ast.specs.declared.ops.Operand.TheVariants as operands
 use Rattle.ir_ast.specs.Insts.{Instruction}
-use Rattle.ir_ast.specs.Funcs.{Function, instructions_of}
-use Rattle.ir_ast.specs.Lists.{Distinct}
 use Rattle.ir_ast.specs.Values as defs
 use Rattle.ir_ast.specs.Operands.{value_in, values_used}
 use Rattle.ir_ast.specs.Derived as made_derived
@@ -22,26 +16,26 @@ use Rattle.ir_ast.specs.Faults.DerivedEscapes as stays
 use Rattle.ir_reader.specs.declared.readings.TypeWord.{TypeWord}
 use Rattle.ir_reader.specs.declared.readings.TypeWord.TheVariants.{Int}
 use Rattle.ir_reader.specs.declared.words.Binary.{Binary}
-use Rattle.ir_reader.specs.declared.words.Binary.TheVariants.{Add, Sub, Mul, Udiv, Sdiv, Urem, Srem, And, Or, Xor, Shl, Lshr, Ashr}
+use Rattle.ir_reader.specs.declared.words.Binary.TheVariants.{Add}
 use Rattle.ir_reader.specs.declared.words.Conversion.{Conversion}
-use Rattle.ir_reader.specs.declared.words.Conversion.TheVariants.{Trunc, Zext, Sext}
+use Rattle.ir_reader.specs.declared.words.Conversion.TheVariants.{Trunc}
 use Rattle.ir_reader.specs.Parts.{Val}
 use Rattle.ir_reader.specs.Parts as values
 use Rattle.ir_reader.specs.Lists.{Given, given, function}
-use Rattle.ir_types.specs.Statements.{Line, Statement, layout, declare, define, close, label, binary, compare, convert, select, phi, scalar_step, layout_step, load, store, call, jump, branch, switch, switch_case, switch_end, ret_void, ret, unreachable, cast}
+use Rattle.ir_types.specs.Statements.{Line, Statement, layout, declare, define, close, label, binary, convert, select, phi, scalar_step, layout_step, store, call, switch_case, switch_end, ret, cast}
 use Rattle.ir_types.specs.Parts.{gives, uses, entry_use, local_name, values_named, leaving, is_step, is_merge, passed_value}
-use Rattle.ir_types.specs.Sections.{Definition, Naming, arguments_named, result_named, values_of, definitions_of}
+use Rattle.ir_types.specs.Sections.{Definition, Naming, arguments_named, result_named, values_of}
 use Rattle.ir_types.specs.Places.{number_in}
-use Rattle.ir_types.specs.Scope.{Scope, scope_of, value_named, value_names}
-use Rattle.ir_types.specs.Modules.{Known, known_of, type_of, argument_of, operand_in, entry_operand, passed_operand, instruction_said, insts_of, binary_of, conversion_of}
+use Rattle.ir_types.specs.Scope.{scope_of, value_names}
+use Rattle.ir_types.specs.Modules.{Known, known_of, argument_of, operand_in, entry_operand, passed_operand, instruction_said, insts_of, binary_of, conversion_of}
 use Rattle.ir_types.specs.FaultSet.{derived_escapes}
 use Rattle.ir_types.specs.Faults.DerivedEscapes.{StandsFor, Derived, by_step, by_merge, DerivedEscapes}
 use Rattle.ir_types.proofs.LawBodies.{insts_said, insts-cons, body_insts, func_insts}
 use Rattle.ir_types.proofs.LawFacts.{IsGoodUse, IsKnownUse, true-false}
 use Rattle.ir_types.proofs.LawValues.{is_cast_line, one_result, has_result, given_by}
-use Rattle.ir_types.proofs.LawNames.{Stands, stands, number-is, contains_get, get_contained, contains_first, contains_later, contains_cons, contains_middle}
+use Rattle.ir_types.proofs.LawNames.{stands, number-is, get_contained, contains_first, contains_later, contains_cons, contains_middle}
 use Rattle.ir_types.proofs.LawHeads.{values-distinct}
-use Rattle.ir_types.proofs.LawLines.{InLaw, LineFacts, made, few_numbers, no_casts, names-are, line_facts}
+use Rattle.ir_types.proofs.LawLines.{InLaw, made, few_numbers, no_casts, names-are, line_facts}
 use Rattle.ir_types.proofs.LawFunctions.{contained}
 
 -- ---- the line that gives a value

@@ -1,13 +1,11 @@
 -- A call of an external, and a call of either kind.
-use Rattle.std.proofs.Common.{◌≡◌, ◌≢◌, ◌∙◌, ◌⊎◌, inl, inr, ℕ, suc, ◌<◌, ◌≤◌, ◌^◌, Bool, true, false, not, ◌&&◌, ◌||◌, List, [], ◌∷◌, ◌++◌, map, length, refl, ap, sym, subst, arith}
-use Rattle.std.specs.Prelude.{Option, Some, None, is_none, find, slice_get, ⊤, codes, filter_map}
+use Rattle.std.proofs.Common.{◌≡◌, ◌∙◌, ◌⊎◌, inl, inr, ℕ, ◌<◌, Bool, true, false, not, ◌&&◌, ◌||◌, List, [], ◌∷◌, map, length, refl, ap, sym, subst, arith}
+use Rattle.std.specs.Prelude.{Option, Some, None, is_none, find, codes, filter_map}
 use Rattle.std.specs.List.{All, AllByRecursion, Contains, list_any}
 use Rattle.std.specs.Str.{bytes_eq}
 use Rattle.std.proofs.lemmas.List.{length-map}
 use Rattle.std.proofs.lemmas.List.Elements.{All-nil, All-cons, All-contains, All-from_recursion, recursion_from_All, Contains-append_cases}
-use Rattle.ir_ast.specs.declared.types.Ty.{Ty}
 use Rattle.ir_ast.specs.declared.types.Ty.TheVariants as tys
-use Rattle.ir_ast.specs.declared.ops.Operand.{Operand}
 use Rattle.ir_ast.specs.declared.ops.Callee.{Callee}
 use Rattle.ir_ast.specs.declared.ops.Callee.TheVariants as callees
 use Rattle.ir_ast.specs.Callees.{is_helper}
@@ -18,24 +16,24 @@ use Rattle.ir_reader.specs.declared.readings.TypeWord.{TypeWord}
 use Rattle.ir_reader.specs.declared.readings.TypeWord.TheVariants.{Void, Int, Managed, Plain}
 use Rattle.ir_reader.specs.Parts.{Val}
 use Rattle.ir_reader.specs.Lists.{Named, Given, given, function}
-use Rattle.ir_types.specs.Statements.{Line, Statement, declare, call}
+use Rattle.ir_types.specs.Statements.{Line, Statement, declare}
 use Rattle.ir_types.specs.Parts.{passed_function}
 use Rattle.ir_types.specs.Sections.{Head, Definition, LayoutLine, types_of, heads_of, definitions_of, layouts_of}
-use Rattle.ir_types.specs.Scope.{Scope, scope_of, head_named}
+use Rattle.ir_types.specs.Scope.{scope_of, head_named}
 use Rattle.ir_types.specs.Places.{place_in, number_of, number_in}
 use Rattle.ir_types.specs.Types.{same_type, same_types}
 use Rattle.ir_types.specs.Externals.{External, external, gc_new, externals_of, helpers}
-use Rattle.ir_types.specs.Modules.{Known, known_of, type_of, layout_of, passed_operand, passed_type, given_type, external_callee, callee_at, callee_of, function_of, module_of}
+use Rattle.ir_types.specs.Modules.{known_of, type_of, layout_of, passed_operand, passed_type, external_callee, callee_at, function_of, module_of}
 use Rattle.ir_types.specs.FaultSet.{HasNoFault, unknown_extern, reserved}
 use Rattle.ir_types.specs.Faults.UnknownExtern.{UnknownExtern}
 use Rattle.ir_types.specs.Faults.Reserved.{declares_helper}
 use Rattle.ir_types.specs.Faults.TypeClash.{agrees, starts_task, is_task, call_agrees}
 use Rattle.ir_types.specs.ReadLines.{IsReadPassed, IsValueType}
 use Rattle.ir_types.proofs.LawNames.{Stands, stands, stands_below, number-is, contains_get, contains_first, contains_later, contains_cons, same_by_name}
-use Rattle.ir_types.proofs.LawFacts.{not-true, or-left, and-left, and-right, same_type-is, same_types-is, true-false}
+use Rattle.ir_types.proofs.LawFacts.{or-left, and-left, and-right, same_type-is, same_types-is, true-false}
 use Rattle.ir_types.proofs.LawHeads.{HeadFrom, from_definition, from_declaration, head_of, heads-have, heads-from, heads-distinct}
 use Rattle.ir_types.proofs.LawLines.{InLaw, made, is_value_in}
-use Rattle.ir_types.proofs.LawCalls.{IsGoodCall, found_by_name, unplaced, contains_mapped, funcs_of, names_defined, called, given_from_types, args_fit, argument-value, first_class, over, no_function, no_functions, call_made, signed, calls_definition, contains_external}
+use Rattle.ir_types.proofs.LawCalls.{IsGoodCall, found_by_name, unplaced, contains_mapped, funcs_of, names_defined, called, given_from_types, args_fit, argument-value, over, no_function, no_functions, call_made, signed, calls_definition, contains_external}
 
 layout_names : List Line → List (List ℕ)
 layout_names lines = map (λ one. one.name) (layouts_of lines)

@@ -1,14 +1,14 @@
 -- What the absence of faults tells of the lines of a function.
-use Rattle.std.proofs.Common.{◌≡◌, ◌≢◌, ◌∙◌, ℕ, ◌<◌, ◌≤◌, ◌+◌, ◌^◌, Bool, true, false, not, ◌&&◌, ◌||◌, ◌==◌, eqb, List, [], ◌∷◌, ◌++◌, map, length, refl, ap, sym, subst, arith}
-use Rattle.std.specs.Prelude.{Option, Some, None, is_none, filter_map, ⊤, slice_get}
-use Rattle.std.specs.List.{All, AllByRecursion, Contains, list_any, list_all, cons_option}
+use Rattle.std.proofs.Common.{◌≡◌, ◌∙◌, ℕ, Bool, true, false, not, ◌&&◌, ◌||◌, List, [], ◌∷◌, refl, ap, sym}
+use Rattle.std.specs.Prelude.{is_none, filter_map, ⊤}
+use Rattle.std.specs.List.{AllByRecursion, Contains, list_any, cons_option}
 use Rattle.std.proofs.lemmas.Bool.Decides.{Decides-eqb}
 use Rattle.ir_reader.specs.declared.readings.TypeWord.{TypeWord}
 use Rattle.ir_reader.specs.declared.readings.TypeWord.TheVariants.{Void, Int, Managed, Plain}
 use Rattle.ir_reader.specs.Parts.{Val}
 use Rattle.ir_reader.specs.Parts as values
 use Rattle.ir_types.specs.Statements.{Line, Statement}
-use Rattle.ir_types.specs.Parts.{uses, local_name, values_named}
+use Rattle.ir_types.specs.Parts.{local_name}
 use Rattle.ir_types.specs.Sections.{Definition, definitions_of}
 use Rattle.ir_types.specs.Scope.{Scope, scope_of, value_named}
 use Rattle.ir_types.specs.Types.{same_type, same_types, fits}

@@ -1,5 +1,5 @@
 -- The function of a definition of faultless lines, but for its phis and its derived pointers.
-use Rattle.std.proofs.Common.{◌≡◌, ◌≢◌, ◌∙◌, inl, inr, ℕ, suc, ◌<◌, ◌≤◌, ◌+◌, ◌^◌, Bool, true, false, not, cond, ◌||◌, if◌then◌else◌, List, [], ◌∷◌, ◌++◌, map, length, refl, ap, sym, subst, arith, length-append}
+use Rattle.std.proofs.Common.{◌≡◌, ◌∙◌, ℕ, ◌<◌, ◌≤◌, ◌+◌, Bool, true, false, if◌then◌else◌, List, [], ◌∷◌, ◌++◌, map, length, refl, ap, sym, subst, arith, length-append}
 use Rattle.std.specs.Prelude.{Option, Some, None, IfSome, filter_map, flat_map, count_by, decimal, unwrap_or, ⊤, slice_get}
 use Rattle.std.specs.List.{All, AllByRecursion, AllZip, Contains, cons_option}
 use Rattle.std.proofs.lemmas.List.{length-map, get_or-map}
@@ -8,7 +8,6 @@ use Rattle.std.proofs.lemmas.List.Sums.{count_by-le-length}
 use Rattle.std.proofs.lemmas.Option.{slice_get_within}
 use Rattle.std.proofs.lemmas.Bool.{agree_below_at}
 use Rattle.ir_ast.specs.declared.types.Ty.{Ty}
-use Rattle.ir_ast.specs.declared.types.Ty.TheVariants as tys
 use Rattle.ir_ast.specs.declared.funcs.Arg.{Arg}
 use Rattle.ir_ast.specs.declared.ops.Op.TheVariants as ops
 use Rattle.ir_ast.specs.declared.ops.Operand.{Operand}
@@ -17,42 +16,38 @@ use Rattle.ir_ast.specs.declared.ops.Pred.{Pred}
 use Rattle.ir_ast.specs.declared.ops.Pred.TheVariants.{Eq, Ne}
 use Rattle.ir_ast.specs.Insts.{Instruction}
 use Rattle.ir_ast.specs.Blocks.{BasicBlock}
-use Rattle.ir_ast.specs.Funcs.{Function, instructions_of}
+use Rattle.ir_ast.specs.Funcs.{instructions_of}
 use Rattle.ir_ast.specs.Values as defs
-use Rattle.ir_ast.specs.Types.{is_first_class, is_answer}
+use Rattle.ir_ast.specs.Types.{is_first_class}
 use Rattle.ir_ast.specs.Lines.{IsLine, is_rewritten}
 use Rattle.ir_ast.specs.Operands.{value_in, values_used}
 use Rattle.ir_ast.specs.Widths.{IsWidth, type_widths, line_widths, widths_of}
-use Rattle.ir_ast.specs.Bundles.{HasNoBundle}
 use Rattle.ir_ast.specs.Faults.TypeClash.{Fits, IsTyped, FunctionIsTyped}
 use Rattle.ir_ast.specs.Faults.EntryHasPred.{LeavesEntry, EntryHasNoPred}
 use Rattle.ir_ast.specs.Faults.PointerOrder.{orders_pointers, PointersAreUnordered}
 use Rattle.ir_ast.specs.Faults.PointerOrder as order
 use Rattle.ir_ast.specs.Faults.UnknownName.{NamesOfFunction, NamesOfModule, LocalNamesAreKnown, GlobalNamesAreKnown}
 use Rattle.ir_ast.specs.Faults.Reserved.{IsInsertedName, IsSource}
-use Rattle.ir_cfg.specs.Limits.{IsName, HasNames}
+use Rattle.ir_cfg.specs.Limits.{IsName}
 use Rattle.std.specs.Fmt.{digits}
 use Rattle.sp_text.specs.Tokens.{is_name}
 use Rattle.ir_reader.specs.declared.readings.TypeWord.{TypeWord}
 use Rattle.ir_reader.specs.declared.readings.TypeWord.TheVariants.{Void, Int, Managed, Plain}
-use Rattle.ir_reader.specs.Parts.{Val}
-use Rattle.ir_reader.specs.Lists.{Named, Given}
+use Rattle.ir_reader.specs.Lists.{Named}
 use Rattle.ir_types.specs.Statements.{Line, Statement, label, binary, compare, convert, select, phi, scalar_step, layout_step, load, store, call, jump, branch, switch, ret_void, ret, unreachable, cast}
 use Rattle.ir_types.specs.Parts.{gives}
 use Rattle.ir_types.specs.Sections.{Definition, Naming, BlockLines, arguments_named, result_named, values_of, blocks_of, labelled_blocks, first_block, block_at, label_said, is_label, until_label, count_numbered, is_numbered}
 use Rattle.ir_types.specs.Scope.{scope_of, block_number}
-use Rattle.ir_types.specs.Modules.{Known, known_of, type_of, operand_of, label_of, argument_of, block_of, function_of, instruction_said, insts_of}
+use Rattle.ir_types.specs.Modules.{known_of, type_of, operand_of, label_of, argument_of, block_of, instruction_said}
 use Rattle.ir_types.specs.Faults.PointerOrder as words
 use Rattle.ir_types.specs.Faults.Reserved.{names_value, names_label}
-use Rattle.ir_types.specs.FaultSet.{HasNoFault, reserved}
-use Rattle.ir_types.specs.ReadLines.{SaysRead, IsReadHead, IsReadArgument, IsNameIfAny, IsValueType, IsAnswerType, IsReadCall, instruction_count}
+use Rattle.ir_types.specs.FaultSet.{reserved}
+use Rattle.ir_types.specs.ReadLines.{SaysRead, IsReadArgument, IsNameIfAny, IsValueType, IsReadCall}
 use Rattle.ir_types.specs.TypedModules.{IsTypedFunction}
-use Rattle.ir_types.proofs.LawBodies.{body_insts, func_insts, until-label, until-other}
-use Rattle.ir_types.proofs.LawFacts.{or-left, or-right, same_type-is, IsGoodUse}
+use Rattle.ir_types.proofs.LawBodies.{body_insts, func_insts}
+use Rattle.ir_types.proofs.LawFacts.{or-left, or-right, same_type-is}
 use Rattle.ir_types.proofs.LawValues.{few_insts, length-named}
-use Rattle.ir_types.proofs.LawNames.{contains_middle}
-use Rattle.ir_types.proofs.LawHeads.{SaysOf}
-use Rattle.ir_types.proofs.LawLines.{InLaw, LineFacts, line_facts, all_lines, made, read_function, said_function, is_value_in, fit, names-are, count-is}
+use Rattle.ir_types.proofs.LawLines.{InLaw, LineFacts, line_facts, all_lines, made, read_function, said_function, is_value_in, fit, names-are}
 use Rattle.ir_types.proofs.LawTyped.{GoodInst, content, scope_made, two_values, one_value, both, type_width, answer_width, answers, good_binary, good_compare, good_convert, good_select, good_scalar, good_load, good_store, good_ret_void, good_ret, good_unreachable, is_first}
 use Rattle.ir_types.proofs.LawInsts.{IsGoodLabel, good_label, good_phi, good_call_line, good_jump, good_branch, good_switch_line, good_layout_line}
 

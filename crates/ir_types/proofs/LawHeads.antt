@@ -1,18 +1,15 @@
 -- Heads and definitions: a name that a definition has is that of one head.
-use Rattle.std.proofs.Common.{◌≡◌, ◌≢◌, ◌∙◌, ◌⊎◌, inl, inr, ℕ, ◌<◌, ◌^◌, Bool, true, false, List, [], ◌∷◌, ◌++◌, map, length, refl, ap, sym, subst, arith}
-use Rattle.std.specs.Prelude.{Option, Some, None, is_none, is_some, filter, find, slice_get, ⊤, take_while, not}
+use Rattle.std.proofs.Common.{◌≡◌, ◌∙◌, ℕ, true, false, List, [], ◌∷◌, ◌++◌, map, refl, ap, sym, subst}
+use Rattle.std.specs.Prelude.{filter, take_while, not}
 use Rattle.std.specs.List.{All, Contains}
 use Rattle.std.specs.Str.{bytes_eq}
 use Rattle.std.proofs.lemmas.List.Elements.{All-nil, All-cons, All-append, All-weaker, All-contains, All-contains_itself, All-take, Contains-append_left, Contains-append_right}
 use Rattle.ir_ast.specs.Lists.{Distinct}
 use Rattle.ir_types.specs.Statements.{Line, Statement, layout, declare, define}
 use Rattle.ir_types.specs.Sections.{Head, Definition, LayoutLine, types_of, head_said, heads_of, definition_said, definitions_of, layout_said, layouts_of, is_close}
-use Rattle.ir_types.specs.Faults.NameTwice.{NameTwice, layout_again, head_again, declares_defined, label_again, value_again}
+use Rattle.ir_types.specs.Faults.NameTwice.{layout_again, head_again, label_again, value_again}
 use Rattle.ir_types.specs.FaultSet.{HasNoFault, name_twice}
-use Rattle.ir_types.specs.InBody.{Repeats}
-use Rattle.ir_types.specs.Places.{place_in}
 use Rattle.ir_types.proofs.LawNames.{Stands, stands, contains_get, get_contained, contains_first, contains_later, contains_map, distinct-once, same_by_name, apart-distinct, distinct-apart, apart-filter}
-use Rattle.ir_types.specs.ReadLines.{SaysRead}
 
 abbrev pub head_of : Definition → Head
 head_of func = record { line = func.line; defined = true; name = func.name; answer = func.answer; parameters = types_of func.arguments }

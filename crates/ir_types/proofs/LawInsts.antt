@@ -1,5 +1,5 @@
 -- Phis, calls and terminators; and the instruction of any line.
-use Rattle.std.proofs.Common.{◌≡◌, ◌≢◌, ◌∙◌, ℕ, suc, ◌<◌, ◌≤◌, ◌+◌, ◌-◌, ◌^◌, Bool, true, false, not, ◌&&◌, ◌||◌, ◌==◌, if◌then◌else◌, List, [], ◌∷◌, ◌++◌, map, length, drop, replicate, min, refl, ap, sym, subst, arith}
+use Rattle.std.proofs.Common.{◌≡◌, ◌≢◌, ◌∙◌, ℕ, suc, ◌<◌, ◌-◌, ◌^◌, true, false, not, ◌||◌, ◌==◌, List, [], ◌∷◌, ◌++◌, map, length, min, refl, ap, sym, subst, arith}
 use Rattle.std.specs.Prelude.{Option, Some, None, IfSome, is_none, is_some, find, slice_get, option_map, filter_map, flat_map, ⊤}
 use Rattle.std.specs.List.{All, AllByRecursion, AllZip, Contains, list_any, list_all}
 use Rattle.std.proofs.lemmas.List.{length-map}
@@ -9,23 +9,15 @@ use Rattle.std.proofs.lemmas.Bool.Decides.{Decides-eqb, Decides-ltb, not_from_De
 use Rattle.sp_ids.specs.declared.ids.BlockId.{BlockId}
 use Rattle.ir_ast.specs.declared.types.Ty.{Ty}
 use Rattle.ir_ast.specs.declared.types.Ty.TheVariants as tys
-use Rattle.ir_ast.specs.declared.ops.Op.{Op}
 use Rattle.ir_ast.specs.declared.ops.Op.TheVariants as ops
 use Rattle.ir_ast.specs.declared.ops.Operand.{Operand}
 use Rattle.ir_ast.specs.declared.ops.Callee.{Callee}
-use Rattle.ir_ast.specs.Insts.{Instruction}
-use Rattle.ir_ast.specs.Funcs.{Function}
-use Rattle.ir_ast.specs.Blocks.{BasicBlock}
-use Rattle.ir_ast.specs.Ops.{is_terminator}
 use Rattle.ir_ast.specs.Values as defs
 use Rattle.ir_ast.specs.Lists.{Distinct}
-use Rattle.ir_ast.specs.Types.{is_void, is_integer, is_first_class, is_answer}
-use Rattle.ir_ast.specs.Lines.{IsLine, Has, is_rewritten}
-use Rattle.ir_ast.specs.Operands.{is_value, is_literal, functions_named as functions_in, layouts_named as layouts_in}
-use Rattle.ir_ast.specs.Widths.{IsWidth, type_widths, operator_widths, line_widths}
-use Rattle.ir_ast.specs.Faults.TypeClash.{Fits, IsTyped, asked, RuleOf, HasField}
-use Rattle.ir_ast.specs.Faults.EntryHasPred.{LeavesEntry}
-use Rattle.ir_ast.specs.Faults.PointerOrder.{orders_pointers}
+use Rattle.ir_ast.specs.Types.{is_void}
+use Rattle.ir_ast.specs.Operands.{is_value, is_literal}
+use Rattle.ir_ast.specs.Widths.{IsWidth, type_widths}
+use Rattle.ir_ast.specs.Faults.TypeClash.{Fits, HasField}
 use Rattle.ir_ast.specs.declared.ops.Elem.TheVariants as elements
 use Rattle.ir_reader.specs.declared.readings.TypeWord.{TypeWord}
 use Rattle.ir_reader.specs.declared.readings.TypeWord.TheVariants.{Void, Int, Managed, Plain}
@@ -33,23 +25,21 @@ use Rattle.ir_reader.specs.declared.readings.Literal.{Literal}
 use Rattle.ir_reader.specs.Parts.{Val, is_case_value}
 use Rattle.ir_reader.specs.Parts as values
 use Rattle.ir_reader.specs.Lists.{Given, given, function}
-use Rattle.ir_types.specs.Statements.{Line, Statement, binary, compare, convert, select, phi, scalar_step, layout_step, load, store, call, jump, branch, switch, switch_case, ret_void, ret, unreachable}
+use Rattle.ir_types.specs.Statements.{Line, Statement, layout_step, call, switch, switch_case}
 use Rattle.ir_types.specs.Parts.{passed_value, entry_use}
-use Rattle.ir_types.specs.Sections.{Definition, LayoutLine, BlockLines, blocks_of, layouts_of, definitions_of, cases_of}
-use Rattle.ir_types.specs.Scope.{Scope, scope_of, layout_named, block_named, block_number}
+use Rattle.ir_types.specs.Sections.{Definition, LayoutLine, BlockLines, blocks_of, layouts_of}
+use Rattle.ir_types.specs.Scope.{scope_of, layout_named, block_named, block_number}
 use Rattle.ir_types.specs.Places.{number_in}
-use Rattle.ir_types.specs.Types.{same_type, is_cell}
 use Rattle.ir_types.specs.Modules.{Known, known_of, type_of, layout_of, operand_in, operand_of, entry_operand, entry_label, label_of, label_in, passed_operand, given_type, instruction, instruction_said, place_of, block_of, callee_of, case_values, case_labels}
 use Rattle.ir_types.specs.Faults.TypeClash.{place_fits, is_field}
-use Rattle.ir_types.specs.Faults.PointerOrder as words
 use Rattle.ir_types.specs.ReadLines.{SaysRead, IsValueType, IsReadCall, IsReadPassed}
-use Rattle.ir_types.proofs.LawNames.{Stands, stands, stands_below, number-is}
-use Rattle.ir_types.proofs.LawFacts.{not-false, or-left, or-right, and-left, and-right, none_any, same_type-is, IsGoodUse}
+use Rattle.ir_types.proofs.LawNames.{stands, stands_below, number-is}
+use Rattle.ir_types.proofs.LawFacts.{or-left, and-right, none_any, IsGoodUse}
 use Rattle.ir_types.proofs.LawLines.{InLaw, LineFacts, made, read_function, is_value_in, fit, entries_fit, all_zip_same, wrapped_below, truth_below}
 use Rattle.ir_types.proofs.LawCases.{each_case, labels-cases, values-distinct_in}
-use Rattle.ir_types.proofs.LawCalls.{IsGoodCall, funcs_of, over, call_made}
+use Rattle.ir_types.proofs.LawCalls.{IsGoodCall}
 use Rattle.ir_types.proofs.LawExternals.{good_call}
-use Rattle.ir_types.proofs.LawTyped.{GoodInst, content, scope_made, Plain_inst, both, all-list, type_width, answers, is_first, widths_made, no_names, no_layout, good_plain, two_values, one_value, width_one, good_binary, good_compare, good_convert, good_select, good_scalar, good_layout, good_load, good_store, good_ret_void, good_ret, good_unreachable}
+use Rattle.ir_types.proofs.LawTyped.{GoodInst, content, scope_made, both, all-list, type_width, answers, is_first, widths_made, no_names, no_layout, two_values, width_one, good_layout}
 
 -- ---- labels
 

@@ -1,44 +1,38 @@
 -- What is known of each line of a function of faultless lines.
-use Rattle.std.proofs.Common.{◌≡◌, ◌≢◌, ◌∙◌, ℕ, ◌<◌, ◌≤◌, ◌+◌, ◌^◌, ◌%◌, ◌-◌, Bool, true, false, not, ◌&&◌, ◌||◌, List, [], ◌∷◌, ◌++◌, map, length, get_or, refl, ap, sym, subst, arith, replicate}
-use Rattle.std.specs.Prelude.{Option, Some, None, IfSome, is_none, filter_map, ⊤, slice_get, find, option_map, if◌then◌else◌}
+use Rattle.std.proofs.Common.{◌≡◌, ◌∙◌, ℕ, ◌<◌, ◌≤◌, ◌^◌, ◌%◌, ◌-◌, Bool, true, false, not, ◌||◌, List, [], ◌∷◌, ◌++◌, map, length, get_or, refl, ap, sym, subst, arith, replicate}
+use Rattle.std.specs.Prelude.{Some, is_none, slice_get, option_map, if◌then◌else◌}
 use Rattle.std.specs.List.{All, AllByRecursion, AllZip, Contains, list_any}
-use Rattle.std.specs.Str.{bytes_eq}
 use Rattle.std.proofs.lemmas.List.{length-map}
 use Rattle.std.proofs.lemmas.List.Elements.{All-contains, Contains-get_or, recursion_from_All}
-use Rattle.std.proofs.lemmas.Option.{slice_get-map, slice_get_within}
-use Rattle.std.proofs.lemmas.Bool.Decides.{Decides-eqb}
+use Rattle.std.proofs.lemmas.Option.{slice_get-map}
 use Rattle.std.proofs.Common.{mod-lt}
 use Rattle.std.proofs.lemmas.Nat.{pow_pos}
 use Rattle.std.proofs.Math.Pow.{pow_mono}
 use Rattle.ir_ast.specs.declared.types.Ty.{Ty}
-use Rattle.ir_ast.specs.declared.types.Ty.TheVariants as tys
 use Rattle.ir_ast.specs.declared.ops.Operand.{Operand}
-use Rattle.ir_ast.specs.declared.ops.Operand.TheVariants as operands
-use Rattle.ir_ast.specs.Insts.{Instruction}
 use Rattle.ir_ast.specs.Funcs.{Function}
 use Rattle.ir_ast.specs.Values as defs
-use Rattle.ir_ast.specs.Operands.{value_in, is_value}
-use Rattle.ir_ast.specs.Widths.{IsWidth}
+use Rattle.ir_ast.specs.Operands.{is_value}
 use Rattle.ir_ast.specs.Faults.TypeClash.{Fits}
 use Rattle.ir_reader.specs.declared.readings.TypeWord.{TypeWord}
-use Rattle.ir_reader.specs.declared.readings.TypeWord.TheVariants.{Void, Int, Managed, Plain}
+use Rattle.ir_reader.specs.declared.readings.TypeWord.TheVariants.{Int, Managed, Plain}
 use Rattle.ir_reader.specs.declared.readings.Literal.{Literal}
 use Rattle.ir_reader.specs.Parts.{Val}
 use Rattle.ir_reader.specs.Parts as values
-use Rattle.ir_types.specs.Statements.{Line, Statement, cast, compare}
-use Rattle.ir_types.specs.Parts.{uses, entry_use, local_name, values_named, targets, entry_labels, functions_named, layouts_named}
-use Rattle.ir_types.specs.Sections.{Definition, Naming, definitions_of, values_of, blocks_of}
+use Rattle.ir_types.specs.Statements.{Line, Statement, cast}
+use Rattle.ir_types.specs.Parts.{uses, entry_use, values_named, targets, entry_labels, functions_named, layouts_named}
+use Rattle.ir_types.specs.Sections.{Definition, Naming, definitions_of, values_of}
 use Rattle.ir_types.specs.Scope.{Scope, scope_of, value_named, block_named, head_named, layout_named, value_names}
-use Rattle.ir_types.specs.Types.{same_type, fits, naming_fits}
-use Rattle.ir_types.specs.Modules.{Known, known_of, type_of, operand_in, operand_of, wrapped, instruction_said, function_of, entry_operand}
-use Rattle.ir_types.specs.ReadLines.{IsReadLines, IsReadFunction, SaysRead, IsValueType, instruction_count}
+use Rattle.ir_types.specs.Types.{fits, naming_fits}
+use Rattle.ir_types.specs.Modules.{known_of, type_of, operand_in, operand_of, wrapped, function_of, entry_operand}
+use Rattle.ir_types.specs.ReadLines.{IsReadLines, IsReadFunction, SaysRead, IsValueType}
 use Rattle.ir_types.specs.FaultSet.{HasNoFault, unknown_name, type_clash, entry_has_pred, pointer_order, pointer_cast}
 use Rattle.ir_types.specs.Faults.TypeClash.{by_line, clashes, misfits, keeps_rule}
 use Rattle.ir_types.specs.Faults.UnknownName.{names_unknown}
 use Rattle.ir_types.specs.Faults.EntryHasPred.{names_entry}
 use Rattle.ir_types.specs.Faults.PointerOrder.{orders_pointers}
 use Rattle.ir_types.specs.Faults.PointerCast.{is_cast}
-use Rattle.ir_types.proofs.LawNames.{Stands, stands, stands_below, number-is}
+use Rattle.ir_types.proofs.LawNames.{stands, number-is}
 use Rattle.ir_types.proofs.LawFacts.{not-false, or-left, or-right, body_clear, same_type-is, IsKnownUse, IsGoodUse, good_uses}
 use Rattle.ir_types.proofs.LawValues.{is_cast_line, values-are, few_values}
 use Rattle.ir_types.proofs.LawHeads.{SaysOf, says-defined}

@@ -1,23 +1,18 @@
 -- The module of faultless lines that were read: its names, its layouts, its first function and its limits.
-use Rattle.std.proofs.Common.{◌≡◌, ◌≢◌, ◌∙◌, ◌⊎◌, inl, inr, ℕ, ◌<◌, ◌≤◌, ◌+◌, Bool, true, false, not, cond, ◌&&◌, ◌||◌, ◌==◌, List, [], ◌∷◌, ◌++◌, map, length, refl, ap, sym, subst, arith, length-append}
-use Rattle.std.specs.Prelude.{Option, Some, None, find, flat_map, codes, ⊤}
-use Rattle.std.specs.List.{All, AllByRecursion, Contains, sum_by, list_all}
+use Rattle.std.proofs.Common.{◌≡◌, ◌≢◌, ◌∙◌, ◌⊎◌, inl, inr, ℕ, ◌<◌, ◌≤◌, Bool, true, false, not, cond, ◌&&◌, ◌||◌, ◌==◌, List, [], ◌∷◌, ◌++◌, map, length, refl, ap, sym, subst, arith, length-append}
+use Rattle.std.specs.Prelude.{Some, find, flat_map, codes}
+use Rattle.std.specs.List.{All, AllByRecursion, sum_by}
 use Rattle.std.specs.Str.{bytes_eq}
 use Rattle.std.proofs.lemmas.List.{length-map}
 use Rattle.std.proofs.lemmas.List.Sums.{sum_by-cons}
 use Rattle.std.proofs.lemmas.List.Folds.{flat_map-map}
-use Rattle.std.proofs.lemmas.List.Elements.{All-nil, All-cons, All-map, All-weaker, All-contains, All-same, All-from_recursion, recursion_from_All}
+use Rattle.std.proofs.lemmas.List.Elements.{All-map, All-contains, All-from_recursion}
 use Rattle.std.proofs.lemmas.Slice.Eq.{bytes_eq-Decides}
 use Rattle.std.proofs.lemmas.Bool.Decides.{Decides-eqb}
-use Rattle.ir_ast.specs.declared.types.Ty.{Ty}
 use Rattle.ir_ast.specs.declared.types.Ty.TheVariants as tys
-use Rattle.ir_ast.specs.declared.modules.Form.TheVariants.{Source}
-use Rattle.ir_ast.specs.declared.cells.Cell.{Cell}
-use Rattle.ir_ast.specs.Insts.{Instruction}
 use Rattle.ir_ast.specs.Blocks.{BasicBlock}
 use Rattle.ir_ast.specs.Funcs.{Function, instructions_of}
 use Rattle.ir_ast.specs.Layouts.{ObjectLayout}
-use Rattle.ir_ast.specs.Modules.{ModuleContent}
 use Rattle.ir_ast.specs.Values as defs
 use Rattle.ir_ast.specs.Lists.{Distinct}
 use Rattle.ir_ast.specs.Formed.{IsFormed, IsFormedModule}
@@ -27,29 +22,26 @@ use Rattle.ir_ast.specs.Faults.UnknownName.{GlobalNamesAreKnown}
 use Rattle.ir_ast.specs.Faults.BadLayout.{LayoutsHaveFields}
 use Rattle.ir_ast.specs.Faults.NoMain.{HasMain}
 use Rattle.ir_ast.specs.Faults.Reserved.{IsExternalName, FunctionNamesAreFree}
-use Rattle.ir_cfg.specs.Limits.{IsName, IsWithinLimits, LayoutsHaveNames}
+use Rattle.ir_cfg.specs.Limits.{IsName, IsWithinLimits}
 use Rattle.ir_reader.specs.declared.readings.TypeWord.{TypeWord}
 use Rattle.ir_reader.specs.declared.readings.TypeWord.TheVariants.{Void, Int, Managed, Plain}
 use Rattle.ir_reader.specs.Lists.{Named}
-use Rattle.ir_types.specs.Statements.{Line, Statement, layout, define}
-use Rattle.ir_types.specs.Sections.{Definition, LayoutLine, Naming, BlockLines, layouts_of, definitions_of, values_of, blocks_of, arguments_named}
-use Rattle.ir_types.specs.Modules.{Known, known_of, type_of, cell_of, layout_of, argument_of, block_of, function_of, insts_of, module_of}
-use Rattle.ir_types.specs.Types.{is_cell}
+use Rattle.ir_types.specs.Statements.{Line}
+use Rattle.ir_types.specs.Sections.{Definition, LayoutLine, BlockLines, layouts_of, definitions_of, blocks_of, arguments_named}
+use Rattle.ir_types.specs.Modules.{known_of, type_of, cell_of, layout_of, argument_of, block_of, function_of}
 use Rattle.ir_types.specs.FaultSet.{HasNoFault, bad_layout, no_main, reserved}
 use Rattle.ir_types.specs.Faults.BadLayout.{is_bad_layout, are_cells}
 use Rattle.ir_types.specs.Faults.NoMain.{is_main, takes_nothing, is_status, NoMain}
 use Rattle.ir_types.specs.Faults.Reserved.{defines_external}
 use Rattle.ir_types.specs.InBody.{InText}
-use Rattle.ir_types.specs.ReadLines.{IsReadLines, IsReadFunction, IsReadHead, SaysRead, instruction_count}
-use Rattle.ir_types.specs.TypedModules.{IsTypedFunction, IsTypedModule}
+use Rattle.ir_types.specs.ReadLines.{IsReadLines, IsReadHead, SaysRead, instruction_count}
 use Rattle.ir_types.proofs.LawBodies.{body_insts}
-use Rattle.ir_types.proofs.LawFacts.{not-true, not-false, and-left, and-right, true-false}
-use Rattle.ir_types.proofs.LawNames.{contains_get}
+use Rattle.ir_types.proofs.LawFacts.{not-true, and-left, and-right, true-false}
 use Rattle.ir_types.proofs.LawHeads.{SaysOf, says-defined, says-layouts, layouts-distinct, definitions-distinct, values-distinct, blocks-distinct}
 use Rattle.ir_types.proofs.LawValues.{few_insts, length-named}
 use Rattle.ir_types.proofs.LawLines.{InLaw, made, names-are, all_lines}
-use Rattle.ir_types.proofs.LawTyped.{content, scope_made}
-use Rattle.ir_types.proofs.LawFunctions.{contained, local_known, global_known, function_typed, function_formed, function_entry, function_pointers, function_source}
+use Rattle.ir_types.proofs.LawTyped.{content}
+use Rattle.ir_types.proofs.LawFunctions.{contained, local_known, global_known, function_typed, function_formed, function_entry}
 use Rattle.ir_types.proofs.LawPhis.{phis_right}
 
 -- ---- each function

@@ -1,9 +1,8 @@
 -- The phis of faultless lines are right.
-use Rattle.std.proofs.Common.{◌≡◌, ◌≢◌, ◌∙◌, ℕ, zero, suc, ◌<◌, ◌≤◌, ◌+◌, Bool, true, false, cond, ◌==◌, if◌then◌else◌, List, [], ◌∷◌, ◌++◌, map, length, take, drop, refl, ap, sym, subst, arith, append_assoc, length-take-le}
+use Rattle.std.proofs.Common.{◌≡◌, ◌≢◌, ◌∙◌, ℕ, suc, ◌+◌, Bool, true, false, cond, ◌==◌, if◌then◌else◌, List, [], ◌∷◌, ◌++◌, map, length, take, drop, refl, ap, sym, subst, arith, length-take-le}
 use Rattle.std.specs.Prelude.{Option, Some, None, IfSome, flat_map, count_by, slice_get, option_map, ⊤}
 use Rattle.std.specs.Option.{option_map_or}
 use Rattle.std.specs.List.{All, AllByRecursion, Contains, list_all}
-use Rattle.std.proofs.lemmas.List.{length-map, map-append}
 use Rattle.std.proofs.lemmas.List.Folds.{fold-map}
 use Rattle.std.proofs.lemmas.List.Elements.{All-nil, All-cons, All-append, All-contains, recursion_from_All}
 use Rattle.std.proofs.lemmas.Option.{slice_get-map, slice_get_within, same_Some}
@@ -11,34 +10,32 @@ use Rattle.std.proofs.lemmas.Bool.Decides.{Decides-eqb, not_from_Decides}
 use Rattle.sp_ids.specs.declared.ids.BlockId.{BlockId}
 use Rattle.sp_ids.specs.declared.ids.ValueId.{ValueId}
 use Rattle.sp_ids.specs.declared.ids.FuncId.{FuncId}
-use Rattle.ir_ast.specs.declared.ops.Op.{Op}
 use Rattle.ir_ast.specs.declared.ops.Op.TheVariants as ops
 use Rattle.ir_ast.specs.declared.ops.Operand.{Operand}
 use Rattle.ir_ast.specs.declared.ops.Operand.TheVariants as operands
 use Rattle.ir_ast.specs.Insts.{Instruction}
 use Rattle.ir_ast.specs.Blocks.{BasicBlock}
-use Rattle.ir_ast.specs.Funcs.{Function}
 use Rattle.ir_ast.specs.Ops.{is_terminator}
 use Rattle.ir_ast.specs.Edges as edged
 use Rattle.ir_ast.specs.Faults.PhiEdges.{PhiIsRight, PhisAreRight}
 use Rattle.ir_ast.specs.Faults.PhiEdges as right
 use Rattle.ir_reader.specs.declared.readings.TypeWord.{TypeWord}
 use Rattle.ir_reader.specs.declared.words.Binary.{Binary}
-use Rattle.ir_reader.specs.declared.words.Binary.TheVariants.{Add, Sub, Mul, Udiv, Sdiv, Urem, Srem, And, Or, Xor, Shl, Lshr, Ashr}
+use Rattle.ir_reader.specs.declared.words.Binary.TheVariants.{Add}
 use Rattle.ir_reader.specs.declared.words.Conversion.{Conversion}
-use Rattle.ir_reader.specs.declared.words.Conversion.TheVariants.{Trunc, Zext, Sext}
+use Rattle.ir_reader.specs.declared.words.Conversion.TheVariants.{Trunc}
 use Rattle.ir_reader.specs.Parts.{Val}
-use Rattle.ir_types.specs.Statements.{Line, Statement, layout, declare, define, close, label, binary, convert, call, phi, jump, branch, switch, switch_case, switch_end, cast}
+use Rattle.ir_types.specs.Statements.{Line, Statement, layout, declare, define, close, label, binary, convert, phi, jump, branch, switch, switch_case, switch_end, cast}
 use Rattle.ir_types.specs.Parts.{targets, is_phi}
-use Rattle.ir_types.specs.Sections.{Definition, BlockLines, blocks_of, labelled_blocks, first_block, block_at, label_said, is_label, until_label, is_case, cases_of, definitions_of, count_numbered}
-use Rattle.ir_types.specs.Scope.{Scope, scope_of, block_number, value_names}
-use Rattle.ir_types.specs.Modules.{Known, known_of, type_of, operand_in, entry_operand, entry_label, label_in, label_of, instruction, instruction_said, insts_of, block_of, binary_of, conversion_of, case_labels}
+use Rattle.ir_types.specs.Sections.{Definition, BlockLines, blocks_of, labelled_blocks, first_block, block_at, label_said, is_label, until_label, count_numbered}
+use Rattle.ir_types.specs.Scope.{scope_of, block_number}
+use Rattle.ir_types.specs.Modules.{Known, known_of, type_of, entry_operand, entry_label, label_in, label_of, instruction, instruction_said, insts_of, block_of, binary_of, conversion_of, case_labels}
 use Rattle.ir_types.specs.Faults.PhiEdges as wrong
 use Rattle.ir_types.specs.Faults.PhiEdges.{PhiEdges, PhiIsWrong, late, uncounted, differ}
-use Rattle.ir_types.specs.FaultSet.{HasNoFault, phi_edges}
+use Rattle.ir_types.specs.FaultSet.{phi_edges}
 use Rattle.ir_types.specs.ReadLines.{CasesStand, opens_case}
 use Rattle.ir_types.proofs.LawBodies.{insts_said, insts-cons, until-label, until-other}
-use Rattle.ir_types.proofs.LawFacts.{not-true, true-false}
+use Rattle.ir_types.proofs.LawFacts.{true-false}
 use Rattle.ir_types.proofs.LawNames.{split_at, contains_get}
 use Rattle.ir_types.proofs.LawLines.{InLaw, made, read_function, all_lines}
 

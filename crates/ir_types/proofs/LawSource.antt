@@ -1,13 +1,11 @@
 -- The law: the module of faultless lines that were read is a typed module, and a source module once its uses are definite.
-use Rattle.std.proofs.Common.{◌≡◌, List, refl}
+use Rattle.std.proofs.Common.{List, refl}
 use Rattle.std.specs.List.{All}
-use Rattle.std.proofs.lemmas.List.Elements.{All-weaker}
-use Rattle.ir_ast.specs.Funcs.{Function}
 use Rattle.ir_ast.specs.Modules.{ModuleContent}
-use Rattle.ir_ast.specs.Formed.{IsFormed, IsFormedModule}
+use Rattle.ir_ast.specs.Formed.{IsFormedModule}
 use Rattle.ir_ast.specs.Faultless.{FunctionHasNoFault, HasNoFault}
 use Rattle.ir_cfg.specs.DefiniteUses.{UsesAreDefinite}
-use Rattle.ir_cfg.specs.SourceModules.{IsSourceFunction, IsSourceModule}
+use Rattle.ir_cfg.specs.SourceModules.{IsSourceModule}
 use Rattle.ir_types.specs.Statements.{Line}
 use Rattle.ir_types.specs.Sections.{Definition}
 use Rattle.ir_types.specs.FaultSet.{HasNoFault as TextHasNoFault}

@@ -1,10 +1,8 @@
 -- The instruction of each line of faultless lines has the parts of its form, its types and its names.
-use Rattle.std.proofs.Common.{◌≡◌, ◌≢◌, ◌∙◌, ℕ, suc, ◌<◌, ◌≤◌, ◌+◌, ◌-◌, ◌^◌, Bool, true, false, not, ◌&&◌, ◌||◌, ◌==◌, if◌then◌else◌, List, [], ◌∷◌, ◌++◌, map, length, drop, min, refl, ap, sym, subst, arith}
-use Rattle.std.specs.Prelude.{Option, Some, None, IfSome, is_none, is_some, find, slice_get, option_map, filter_map, flat_map, ⊤, nat_lt}
-use Rattle.std.specs.List.{All, AllByRecursion, AllZip, Contains, list_any, list_all}
-use Rattle.std.proofs.lemmas.List.{length-map}
-use Rattle.std.proofs.lemmas.List.Elements.{All-nil, All-cons, All-append, All-from_recursion, recursion_from_All}
-use Rattle.std.proofs.lemmas.Option.{slice_get-map}
+use Rattle.std.proofs.Common.{◌≡◌, ◌≢◌, ◌∙◌, ℕ, ◌<◌, Bool, true, false, ◌&&◌, ◌||◌, ◌==◌, if◌then◌else◌, List, [], ◌∷◌, ◌++◌, length, refl, ap, sym, arith}
+use Rattle.std.specs.Prelude.{Option, Some, None}
+use Rattle.std.specs.List.{All, AllByRecursion, AllZip, list_all}
+use Rattle.std.proofs.lemmas.List.Elements.{All-nil, All-cons, All-append, All-from_recursion}
 use Rattle.std.proofs.lemmas.Bool.Decides.{Decides-eqb, Decides-ltb}
 use Rattle.sp_ids.specs.declared.ids.BlockId.{BlockId}
 use Rattle.ir_ast.specs.declared.types.Ty.{Ty}
@@ -14,16 +12,12 @@ use Rattle.ir_ast.specs.declared.ops.Op.{Op}
 use Rattle.ir_ast.specs.declared.ops.Op.TheVariants as ops
 use Rattle.ir_ast.specs.declared.ops.Operand.{Operand}
 use Rattle.ir_ast.specs.declared.ops.Operand.TheVariants as operands
-use Rattle.ir_ast.specs.declared.ops.Callee.{Callee}
 use Rattle.ir_ast.specs.declared.ops.Elem.TheVariants as elements
 use Rattle.ir_ast.specs.Insts.{Instruction}
-use Rattle.ir_ast.specs.Funcs.{Function}
-use Rattle.ir_ast.specs.Ops.{is_terminator}
 use Rattle.ir_ast.specs.Values as defs
-use Rattle.ir_ast.specs.Lists.{Distinct}
 use Rattle.ir_ast.specs.Types.{is_void, is_integer, is_first_class, is_answer}
-use Rattle.ir_ast.specs.Lines.{IsLine, Has, IsCall, is_element, is_rewritten}
-use Rattle.ir_ast.specs.Operands.{is_value, is_literal, functions_named as functions_in, layouts_named as layouts_in}
+use Rattle.ir_ast.specs.Lines.{IsLine, Has, is_element, is_rewritten}
+use Rattle.ir_ast.specs.Operands.{is_value, functions_named as functions_in, layouts_named as layouts_in}
 use Rattle.ir_ast.specs.Widths.{IsWidth, type_widths, operator_widths, line_widths}
 use Rattle.ir_ast.specs.Scope.{scope_of as module_scope}
 use Rattle.ir_ast.specs.Faults.TypeClash.{Fits, IsTyped, IsCallOf, HasField, IsCellType, asked}
@@ -31,25 +25,18 @@ use Rattle.ir_ast.specs.Faults.EntryHasPred.{LeavesEntry}
 use Rattle.ir_ast.specs.Faults.PointerOrder.{orders_pointers}
 use Rattle.ir_reader.specs.declared.readings.TypeWord.{TypeWord}
 use Rattle.ir_reader.specs.declared.readings.TypeWord.TheVariants.{Void, Int, Managed, Plain}
-use Rattle.ir_reader.specs.declared.readings.Literal.{Literal}
 use Rattle.ir_reader.specs.declared.words.Binary.{Binary}
 use Rattle.ir_reader.specs.declared.words.Binary.TheVariants.{Add, Sub, Mul, Udiv, Sdiv, Urem, Srem, And, Or, Xor, Shl, Lshr, Ashr}
 use Rattle.ir_reader.specs.declared.words.Conversion.{Conversion}
 use Rattle.ir_reader.specs.declared.words.Conversion.TheVariants.{Trunc, Zext, Sext}
 use Rattle.ir_reader.specs.Parts.{Val, is_scalar_type}
-use Rattle.ir_reader.specs.Lists.{Given, given, function}
-use Rattle.ir_types.specs.Statements.{Line, Statement}
-use Rattle.ir_types.specs.Parts.{passed_value}
-use Rattle.ir_types.specs.Sections.{Definition, LayoutLine, BlockLines, blocks_of, layouts_of, definitions_of}
-use Rattle.ir_types.specs.Scope.{Scope, scope_of, layout_named, block_named}
-use Rattle.ir_types.specs.Places.{number_in}
-use Rattle.ir_types.specs.Types.{same_type, is_cell}
+use Rattle.ir_types.specs.Statements.{Line}
+use Rattle.ir_types.specs.Sections.{Definition}
+use Rattle.ir_types.specs.Types.{is_cell}
 use Rattle.ir_types.specs.Modules.{Known, known_of, type_of, element_of, layout_of, operand_in, operand_of, label_of, label_in, passed_operand, given_type, instruction, place_of, block_of, callee_of, module_of}
 use Rattle.ir_types.specs.Faults.TypeClash.{place_fits, is_field}
-use Rattle.ir_types.specs.ReadLines.{IsValueType, IsAnswerType, IsReadCall, IsReadPassed}
-use Rattle.ir_types.proofs.LawNames.{Stands, stands, stands_below, number-is}
-use Rattle.ir_types.proofs.LawFacts.{and-right, same_type-is, IsGoodUse}
-use Rattle.ir_types.proofs.LawLines.{InLaw, made, read_function, is_value_in, fit}
+use Rattle.ir_types.specs.ReadLines.{IsValueType, IsAnswerType}
+use Rattle.ir_types.proofs.LawLines.{made}
 use Rattle.ir_types.proofs.LawCalls.{IsGoodCall, funcs_of, over, call_made}
 
 abbrev pub content : List Line → Rattle.ir_ast.specs.Modules.ModuleContent

@@ -36,3 +36,4 @@ pub mod TopLemmas
 pub mod ReadCounts
 pub mod ReadTypes
 pub mod ReadLaw
+pub mod ReadNames

@@ -1,6 +1,6 @@
 -- Lines that stand in their places and were counted: each body has a line, its cases stand behind their `switch`,
 -- and no count passes its limit.
-use Rattle.std.proofs.Common.{◌≡◌, ◌∙◌, ℕ, suc, ◌<◌, ◌≤◌, ◌+◌, refl, sym, ap, subst, Bool, true, false, not, cond, ◌&&◌, List, [], ◌∷◌, ◌++◌, length, map, length-append, Option, Some, None, arith}
+use Rattle.std.proofs.Common.{◌≡◌, ◌∙◌, ℕ, ◌<◌, ◌≤◌, ◌+◌, refl, sym, ap, subst, Bool, true, false, not, cond, ◌&&◌, List, [], ◌∷◌, ◌++◌, length, map, length-append, Option, Some, None, arith}
 use Rattle.std.specs.Prelude.{take_while, nat_le}
 use Rattle.std.specs.List.{All, sum_by}
 use Rattle.std.proofs.lemmas.Bool.{leb-true}
@@ -18,7 +18,7 @@ use Rattle.ir_reader.specs.declared.raw.NumberedReading.{NumberedReading}
 use Rattle.ir_reader.specs.Limits.{said_counts_as, counted, counts_fit}
 use Rattle.ir_reader.specs.Seen.{seen}
 use Rattle.ir_reader.specs.Raws.{seen_numbered}
-use Rattle.ir_types.specs.Statements.{Statement, Line, layout, declare, define, close, label, switch, switch_case, switch_end}
+use Rattle.ir_types.specs.Statements.{Statement, Line, layout, declare, define, close, label, switch_case, switch_end}
 use Rattle.ir_types.specs.Sections.{Definition, layouts_of, layout_said, definitions_of, definition_said, is_case, is_close}
 use Rattle.ir_types.specs.Views.{said, seen_line}
 use Rattle.ir_types.specs.TextLines.{place_behind, Goes, Stand}
@@ -92,10 +92,9 @@ pub cases_stand : (ls : List Line) (place : Place) → Body place ls → CasesSt
 cases_stand [] place body = tt
 cases_stand (l ∷ ls) place body =
     let next = body.next in
-    let agree : is_cases next ≡ opens_case l.says = subst (CasesAgree l.says) body.is (cases_agree place l.says) in (
-      subst (CaseNeeds place l.says) body.is (case_needs place l.says),
-      subst (λ (b : Bool). CasesStand b ls) agree (cases_stand ls next body.more.1),
-    )
+    let agree : is_cases next ≡ opens_case l.says = subst (CasesAgree l.says) body.is (cases_agree place l.says) in
+    (subst (CaseNeeds place l.says) body.is (case_needs place l.says),
+    subst (λ (b : Bool). CasesStand b ls) agree (cases_stand ls next body.more.1))
 
 pub has_line : (ls : List Line) → Body places.Entry ls → 0 < length ls
 has_line [] body = absurd (let bad : places.Entry ≡ places.Closed = body in cc)
@@ -119,12 +118,10 @@ Run c (l ∷ ls) = (counts_fit c ≡ true) × Run (counted (kind_said l.says) c)
 
 pub runs-counted : (rs : List NumberedReading) (s : State) → counts_fit s.counts ≡ true → Runs s (map seen_numbered rs) → Run s.counts (map seen_line rs)
 runs-counted [] s fits run = fits
-runs-counted (r ∷ rs) s fits run = (
-  fits,
-  subst (λ (c : Counts). Run c (map seen_line rs))
-      (run.step.counts ∙ ap (λ (k : Counted). counted k s.counts) (same_kind r.reading))
-      (runs-counted rs run.next (run.step.few fits) run.more),
-)
+runs-counted (r ∷ rs) s fits run =
+    (fits, subst (λ (c : Counts). Run c (map seen_line rs))
+    (run.step.counts ∙ ap (λ (k : Counted). counted k s.counts) (same_kind r.reading))
+    (runs-counted rs run.next (run.step.few fits) run.more))
 
 record Fit (c : Counts) : Type 0 where
   layouts : c.layouts ≤ 4096
@@ -295,25 +292,17 @@ plain_total place s n ls next plain same stays total = by place (is_close s) ref
     part : (next : Place) → Inside next → body_part next ls ≡ instruction_count (take_while inside_function ls)
     part places.Top in' = absurd in'
     part next in' = refl
-
     cut : (b : Bool) → is_close s ≡ b → instruction_count (take_while inside_function (record { number = n; says = s } ∷ ls))
         ≡ instruction_count (cond (not b) (record { number = n; says = s } ∷ take_while inside_function ls) [])
     cut b e = ap instruction_count (take_while-cons inside_function (record { number = n; says = s }) ls
         ∙ ap (λ (x : Bool). cond (not x) (record { number = n; says = s } ∷ take_while inside_function ls) []) e)
-
     by : (p : Place) (b : Bool) → is_close s ≡ b → (Inside p → is_close s ≡ false → Inside next) → body_part p (record { number = n; says = s } ∷ ls) + in_all (record { number = n; says = s } ∷ ls) ≤ instruction_count (record { number = n; says = s } ∷ ls)
     by places.Top b e stays = omega (arith, count-cons (record { number = n; says = s }) ls, same)
     by p true e stays = omega (arith, cut true e, count-cons (record { number = n; says = s }) ls, same)
     by p false e stays =
         let inside = stays tt e in
-        omega (
-          arith,
-          cut false e,
-          part next inside,
-          count-cons (record { number = n; says = s }) ls,
-          count-cons (record { number = n; says = s }) (take_while inside_function ls),
-          same,
-        )
+        omega (arith, cut false e, part next inside, count-cons (record { number = n; says = s }) ls,
+        count-cons (record { number = n; says = s }) (take_while inside_function ls), same)
 
 abbrev StaysIn : Option Place → Type 0
 StaysIn None = Unit {0}
@@ -354,11 +343,8 @@ total_step place (define answer name arguments strategy) n ls next is total =
     } in
     let t : Total places.Entry ls = subst (λ (p : Place). Total p ls) at.1 total in
     subst (λ (p : Place). Total p (record { number = n; says = define answer name arguments strategy } ∷ ls)) (sym at.0)
-    (omega (
-      arith,
-      count-cons (record { number = n; says = define answer name arguments strategy }) ls,
-      sum_by-cons (λ (one : Definition). instruction_count one.body) func (definitions_of ls),
-    ))
+    (omega (arith, count-cons (record { number = n; says = define answer name arguments strategy }) ls,
+    sum_by-cons (λ (one : Definition). instruction_count one.body) func (definitions_of ls)))
 total_step place s n ls next is total = total_plain place s n ls next is refl refl total
 
 pub total_all : (ls : List Line) (place : Place) → Stand place ls → Total place ls

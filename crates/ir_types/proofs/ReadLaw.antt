@@ -1,25 +1,28 @@
--- The lines of a text that was read are as a reader gives them, where their names are names.
-use Rattle.std.proofs.Common.{◌≡◌, ◌∙◌, ℕ, ◌<◌, ◌≤◌, ◌+◌, ◌^◌, refl, sym, ap, Bool, true, false, List, [], ◌∷◌, length, map, arith}
+-- The lines of a text that was read are as a reader gives them, so that the law of the typer is one of texts.
+use Rattle.std.proofs.Common.{◌≡◌, refl, true, List, [], ◌∷◌, map, arith}
 use Rattle.std.specs.List.{All, AllByRecursion}
 use Rattle.std.proofs.lemmas.List.{length-map}
-use Rattle.std.proofs.lemmas.List.Elements.{All-from_recursion, recursion_from_All, All-contains}
+use Rattle.std.proofs.lemmas.List.Elements.{All-from_recursion, recursion_from_All}
 use Rattle.ir_reader.specs.declared.forms.Place.TheVariants as places
 use Rattle.ir_reader.specs.declared.raw.NumberedReading.{NumberedReading}
 use Rattle.ir_reader.specs.Raws.{Readings, IsRead, seen_numbered}
 use Rattle.ir_reader.specs.Text.{opening, text_readings}
 use Rattle.sp_text.specs.Lines.{lines_of as text_lines}
 use Rattle.ir_types.specs.Statements.{Line}
-use Rattle.ir_types.specs.Sections.{Definition, definitions_of, layouts_of, blocks_of}
-use Rattle.ir_types.specs.Modules.{known_of, block_of}
-use Rattle.ir_types.specs.Placed.{IsPlacedFunction}
+use Rattle.ir_types.specs.Sections.{definitions_of, blocks_of}
+use Rattle.ir_types.specs.Modules.{known_of, block_of, module_of}
+use Rattle.ir_types.specs.FaultSet.{HasNoFault}
+use Rattle.ir_types.specs.TypedModules.{IsTypedModule}
+use Rattle.ir_types.proofs.LawSource.{typed_module}
 use Rattle.ir_types.specs.Views.{seen_line, seen_lines}
-use Rattle.ir_types.specs.TextLines.{statement_fits, is_formed, IsTextLines}
-use Rattle.ir_types.specs.ReadLines.{IsReadLines, IsReadFunction, SaysRead}
+use Rattle.ir_types.specs.TextLines.{statement_fits, is_formed}
+use Rattle.ir_types.specs.ReadLines.{IsReadLines, SaysRead}
 use Rattle.ir_types.proofs.Runs.{Runs, readings-run}
-use Rattle.ir_types.proofs.Placing.{IsPlacedBody, definitions-placed, read-placed}
+use Rattle.ir_types.proofs.Placing.{definitions-placed, read-placed}
 use Rattle.ir_types.proofs.ReadTexts.{read-lines}
+use Rattle.ir_types.proofs.ReadNames.{runs_names}
 use Rattle.ir_types.proofs.ReadTypes.{SaysNames, calls_void, said_read}
-use Rattle.ir_types.proofs.ReadCounts.{Run, runs-counted, layouts_total, functions_total, total_all, instructions_total, few_values_each, FewValues, cases_stand, has_line}
+use Rattle.ir_types.proofs.ReadCounts.{runs-counted, layouts_total, functions_total, total_all, instructions_total, few_values_each, cases_stand, has_line}
 
 all_read : (rs : List NumberedReading) → AllByRecursion (λ l. is_formed l.says ≡ true) (map seen_line rs) → AllByRecursion (λ l. statement_fits l.says ≡ true) (map seen_line rs)
     → AllByRecursion (λ l. SaysNames l.says) (map seen_line rs) → AllByRecursion (λ l. SaysRead l.says) (map seen_line rs)
@@ -27,9 +30,9 @@ all_read [] formed fit names = tt
 all_read (r ∷ rs) formed fit names =
     (said_read (seen_line r).says formed.0 fit.0 (calls_void r.reading) names.0, all_read rs formed.1 fit.1 names.1)
 
-pub read_law : (r : Readings) → IsRead r → All (λ l. SaysNames l.says) (seen_lines r.lines) → IsReadLines (seen_lines r.lines)
+pub read_law : (r : Readings) → IsRead r → IsReadLines (seen_lines r.lines)
 unfolding text_readings
-read_law r read names =
+read_law r read =
     let lines = seen_lines r.lines in
     let text = read-lines r read in
     let run : Runs opening (map seen_numbered r.lines) = readings-run (text_lines r.text) opening 1 (map seen_numbered r.lines) read.lines in
@@ -41,7 +44,7 @@ read_law r read names =
       says = All-from_recursion (λ (l : Line). SaysRead l.says) lines (all_read r.lines
           (recursion_from_All (λ (l : Line). is_formed l.says ≡ true) lines text.formed)
           (recursion_from_All (λ (l : Line). statement_fits l.says ≡ true) lines text.fit)
-          (recursion_from_All (λ (l : Line). SaysNames l.says) lines names));
+          (runs_names r.lines opening run));
       functions = λ k d below.
           let own = placed k d below in
           record {
@@ -56,3 +59,7 @@ read_law r read names =
       few_functions = (let t = functions_total lines opening.counts counts in omega arith);
       few_instructions = (let t = instructions_total lines opening.counts counts in let u = total_all lines places.Top text.placed in omega arith);
     }
+
+-- the law of the typer: a text that was read, without a fault, stands for a typed module
+pub typed_text : (r : Readings) → IsRead r → HasNoFault (seen_lines r.lines) → IsTypedModule (module_of (seen_lines r.lines)).content
+typed_text r read none = typed_module (seen_lines r.lines) (read_law r read) none

@@ -1,22 +1,22 @@
 -- What a line of a text that was read says, by its limits, its form and its names.
-use Rattle.std.proofs.Common.{◌≡◌, ◌∙◌, ℕ, ◌<◌, ◌≤◌, refl, sym, ap, Bool, true, false, ◌&&◌, List, [], ◌∷◌, length, Option, Some, None, arith}
+use Rattle.std.proofs.Common.{◌≡◌, ℕ, refl, Bool, true, false, ◌&&◌, List, [], ◌∷◌, length, Option, Some, None}
 use Rattle.std.specs.Prelude.{nat_le, ⊤}
 use Rattle.std.specs.List.{All, AllByRecursion, list_all}
 use Rattle.std.proofs.lemmas.Bool.{leb-true}
-use Rattle.std.proofs.lemmas.List.Elements.{All-nil, All-cons, All-from_recursion, recursion_from_All}
+use Rattle.std.proofs.lemmas.List.Elements.{All-from_recursion, recursion_from_All}
 use Rattle.ir_ast.specs.Widths.{IsWidth}
 use Rattle.ir_cfg.specs.Limits.{IsName}
 use Rattle.ir_reader.specs.declared.readings.TypeWord.{TypeWord}
 use Rattle.ir_reader.specs.declared.readings.TypeWord.TheVariants.{Void, Int, Managed, Plain}
 use Rattle.ir_reader.specs.declared.readings.Reading.{Reading}
 use Rattle.ir_reader.specs.declared.readings.Reading.TheVariants as readings
-use Rattle.ir_reader.specs.Parts.{Val, is_value_type, is_answer_type, is_case_value, is_scalar_type}
+use Rattle.ir_reader.specs.Parts.{is_value_type, is_answer_type}
 use Rattle.ir_reader.specs.Lists.{Named, Given, given, function, is_argument_type}
 use Rattle.ir_reader.specs.Limits.{width_fits, type_fits, value_fits, place_fits, argument_fits, given_fits, entry_value_fits, name_fits}
-use Rattle.ir_types.specs.Statements.{Statement, Line, layout, declare, define, close, label, binary, compare, convert, select, phi, scalar_step, layout_step, load, store, call, jump, branch, switch, switch_case, switch_end, ret_void, ret, unreachable, cast}
+use Rattle.ir_types.specs.Statements.{Statement, layout, define, label, binary, compare, convert, select, phi, scalar_step, layout_step, load, store, call, switch, switch_case, ret}
 use Rattle.ir_types.specs.TextLines.{statement_fits, is_formed, given_is_formed}
 use Rattle.ir_types.specs.Views.{said}
-use Rattle.ir_types.specs.ReadLines.{IsValueType, IsAnswerType, IsNameIfAny, IsReadArgument, IsReadPassed, IsReadCall, IsReadHead, SaysRead}
+use Rattle.ir_types.specs.ReadLines.{IsValueType, IsAnswerType, IsNameIfAny, IsReadArgument, IsReadPassed, SaysRead}
 
 both : (x y : Bool) → (x && y) ≡ true → (x ≡ true) × (y ≡ true)
 both true y e = (refl, e)
