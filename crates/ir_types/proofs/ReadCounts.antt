@@ -92,9 +92,10 @@ pub cases_stand : (ls : List Line) (place : Place) → Body place ls → CasesSt
 cases_stand [] place body = tt
 cases_stand (l ∷ ls) place body =
     let next = body.next in
-    let agree : is_cases next ≡ opens_case l.says = subst (CasesAgree l.says) body.is (cases_agree place l.says) in
-    (subst (CaseNeeds place l.says) body.is (case_needs place l.says),
-    subst (λ (b : Bool). CasesStand b ls) agree (cases_stand ls next body.more.1))
+    let agree : is_cases next ≡ opens_case l.says = subst (CasesAgree l.says) body.is (cases_agree place l.says) in (
+      subst (CaseNeeds place l.says) body.is (case_needs place l.says),
+      subst (λ (b : Bool). CasesStand b ls) agree (cases_stand ls next body.more.1),
+    )
 
 pub has_line : (ls : List Line) → Body places.Entry ls → 0 < length ls
 has_line [] body = absurd (let bad : places.Entry ≡ places.Closed = body in cc)
@@ -118,10 +119,12 @@ Run c (l ∷ ls) = (counts_fit c ≡ true) × Run (counted (kind_said l.says) c)
 
 pub runs-counted : (rs : List NumberedReading) (s : State) → counts_fit s.counts ≡ true → Runs s (map seen_numbered rs) → Run s.counts (map seen_line rs)
 runs-counted [] s fits run = fits
-runs-counted (r ∷ rs) s fits run =
-    (fits, subst (λ (c : Counts). Run c (map seen_line rs))
-    (run.step.counts ∙ ap (λ (k : Counted). counted k s.counts) (same_kind r.reading))
-    (runs-counted rs run.next (run.step.few fits) run.more))
+runs-counted (r ∷ rs) s fits run = (
+  fits,
+  subst (λ (c : Counts). Run c (map seen_line rs))
+      (run.step.counts ∙ ap (λ (k : Counted). counted k s.counts) (same_kind r.reading))
+      (runs-counted rs run.next (run.step.few fits) run.more),
+)
 
 record Fit (c : Counts) : Type 0 where
   layouts : c.layouts ≤ 4096
@@ -292,17 +295,25 @@ plain_total place s n ls next plain same stays total = by place (is_close s) ref
     part : (next : Place) → Inside next → body_part next ls ≡ instruction_count (take_while inside_function ls)
     part places.Top in' = absurd in'
     part next in' = refl
+
     cut : (b : Bool) → is_close s ≡ b → instruction_count (take_while inside_function (record { number = n; says = s } ∷ ls))
         ≡ instruction_count (cond (not b) (record { number = n; says = s } ∷ take_while inside_function ls) [])
     cut b e = ap instruction_count (take_while-cons inside_function (record { number = n; says = s }) ls
         ∙ ap (λ (x : Bool). cond (not x) (record { number = n; says = s } ∷ take_while inside_function ls) []) e)
+
     by : (p : Place) (b : Bool) → is_close s ≡ b → (Inside p → is_close s ≡ false → Inside next) → body_part p (record { number = n; says = s } ∷ ls) + in_all (record { number = n; says = s } ∷ ls) ≤ instruction_count (record { number = n; says = s } ∷ ls)
     by places.Top b e stays = omega (arith, count-cons (record { number = n; says = s }) ls, same)
     by p true e stays = omega (arith, cut true e, count-cons (record { number = n; says = s }) ls, same)
     by p false e stays =
         let inside = stays tt e in
-        omega (arith, cut false e, part next inside, count-cons (record { number = n; says = s }) ls,
-        count-cons (record { number = n; says = s }) (take_while inside_function ls), same)
+        omega (
+          arith,
+          cut false e,
+          part next inside,
+          count-cons (record { number = n; says = s }) ls,
+          count-cons (record { number = n; says = s }) (take_while inside_function ls),
+          same,
+        )
 
 abbrev StaysIn : Option Place → Type 0
 StaysIn None = Unit {0}
@@ -343,8 +354,11 @@ total_step place (define answer name arguments strategy) n ls next is total =
     } in
     let t : Total places.Entry ls = subst (λ (p : Place). Total p ls) at.1 total in
     subst (λ (p : Place). Total p (record { number = n; says = define answer name arguments strategy } ∷ ls)) (sym at.0)
-    (omega (arith, count-cons (record { number = n; says = define answer name arguments strategy }) ls,
-    sum_by-cons (λ (one : Definition). instruction_count one.body) func (definitions_of ls)))
+    (omega (
+      arith,
+      count-cons (record { number = n; says = define answer name arguments strategy }) ls,
+      sum_by-cons (λ (one : Definition). instruction_count one.body) func (definitions_of ls),
+    ))
 total_step place s n ls next is total = total_plain place s n ls next is refl refl total
 
 pub total_all : (ls : List Line) (place : Place) → Stand place ls → Total place ls

@@ -448,10 +448,12 @@ label_name bs name e = by (is_label bs) refl e
   where
     first : List ℕ
     first = Rattle.std.specs.List.before_first Rattle.sp_text.specs.Labels.is_colon bs
+
     middle : (a b c : Bool) → (a && b && c) ≡ true → b ≡ true
     middle true true c f = refl
     middle true false c f = absurd (let bad : false ≡ true = f in cc)
     middle false b c f = absurd (let bad : false ≡ true = f in cc)
+
     by : (b : Bool) → is_label bs ≡ b → (if b then Some (Rattle.std.specs.List.before_first Rattle.sp_text.specs.Labels.is_colon bs) else None) ≡ Some name → IsName name
     by true is f =
         let same : Rattle.std.specs.List.before_first Rattle.sp_text.specs.Labels.is_colon bs ≡ name = cc in
