@@ -3,7 +3,7 @@ use Rattle.std.proofs.Common.{◌≡◌, ◌∙◌, ℕ, zero, suc, refl, sym, a
 use Rattle.std.specs.Prelude.{nat_le, codes, if◌then◌else◌}
 use Rattle.std.specs.List.{list_all}
 use Rattle.std.proofs.lemmas.Bool.{and_from, le-leb}
-use Rattle.sp_text.specs.Tokens.{Tok}
+use Rattle.sp_text.specs.Tokens.{Tok, tokens}
 use Rattle.ir_reader.specs.declared.readings.TypeWord.{TypeWord}
 use Rattle.ir_reader.specs.declared.readings.TypeWord.TheVariants as types
 use Rattle.ir_reader.specs.Gives.{Found, after, one_at}
@@ -331,4 +331,4 @@ said_suits (line l) = suits (slots l.form) l.items
 
 pub spelled-suits : (what : Said) → IsSpelled what → said_suits what ≡ true
 spelled-suits (label name) h = refl
-spelled-suits (line l) h = parse-suits (slots l.form) h.0 l.items [] h.1
+spelled-suits (line l) h = parse-suits (slots l.form) (tokens h.0) l.items [] h.1

@@ -1,13 +1,13 @@
 -- The readings of a text one behind the other: what a line comes to in its place says of the line.
 use Rattle.std.proofs.Common.{◌≡◌, ℕ, ◌+◌, ◌≤◌, suc, refl, ap, Bool, true, false, ◌&&◌, List, [], ◌∷◌, length, Ok, Err, Result, Option, Some, None, arith}
 use Rattle.std.specs.Prelude.{if◌then◌else◌}
-use Rattle.sp_text.specs.Tokens.{Tok, tokens}
+use Rattle.sp_text.specs.Tokens.{tokens}
 use Rattle.sp_text.specs.Lines.{NumberedLine}
 use Rattle.sp_text.specs.Labels.{label_of, is_metadata}
 use Rattle.ir_reader.specs.declared.forms.Form.{Form}
 use Rattle.ir_reader.specs.declared.forms.Place.{Place}
 use Rattle.ir_reader.specs.declared.forms.State.{State}
-use Rattle.ir_reader.specs.Gives.{Found, after}
+use Rattle.ir_reader.specs.Gives.{Found, after, is_nil}
 use Rattle.ir_reader.specs.Forms.{slots, form_of}
 use Rattle.ir_reader.specs.Slots.{Item, parse}
 use Rattle.ir_reader.specs.Places.{behind, behind_label, is_dropped_form}
@@ -21,10 +21,10 @@ abbrev pub said_behind : Place → Said → Option Place
 said_behind place (label name) = behind_label place
 said_behind place (line l) = behind place l.form
 
--- some line spells it
+-- the bytes of some line spell it
 abbrev pub IsSpelled : Said → Type 0
-IsSpelled (label name) = Unit {0}
-IsSpelled (line l) = (ts : List Tok) × (parse (slots l.form) ts ≡ Some (l.items, []))
+IsSpelled (label name) = (bytes : List ℕ) × (label_of bytes ≡ Some name)
+IsSpelled (line l) = (bytes : List ℕ) × (parse (slots l.form) (tokens bytes) ≡ Some (l.items, []))
 
 pub record IsStep (s : State) (what : Said) (next : State) : Type 0 where
   pub place : said_behind s.place what ≡ Some next.place
@@ -40,13 +40,13 @@ both : (x y : Bool) → (x && y) ≡ true → (x ≡ true) × (y ≡ true)
 both true y e = (refl, e)
 both false y e = absurd (let bad : false ≡ true = e in cc)
 
-within-step : (s : State) (form : Form) (place : Place) (items : List Item) (ts : List Tok) (b : Bool) (what : Said) (next : State)
-    → parse (slots form) ts ≡ Some (items, []) → behind s.place form ≡ Some place
+within-step : (s : State) (form : Form) (place : Place) (items : List Item) (bytes : List ℕ) (b : Bool) (what : Said) (next : State)
+    → parse (slots form) (tokens bytes) ≡ Some (items, []) → behind s.place form ≡ Some place
     → (said_fits (of_form form items) && counts_fit (next_state s place (of_form form items)).counts) ≡ b
     → (if b then said (of_form form items) (next_state s place (of_form form items)) else over_limit) ≡ said what next
     → IsStep s what next
-within-step s form place items ts false what next p e fits o = absurd (let bad : over_limit ≡ said what next = o in cc)
-within-step s form place items ts true what next p e fits o =
+within-step s form place items bytes false what next p e fits o = absurd (let bad : over_limit ≡ said what next = o in cc)
+within-step s form place items bytes true what next p e fits o =
     let is : said (of_form form items) (next_state s place (of_form form items)) ≡ said what next = o in
     let w : of_form form items ≡ what = cc in
     let n : next_state s place (of_form form items) ≡ next = cc in
@@ -56,62 +56,65 @@ within-step s form place items ts true what next p e fits o =
       fits = h.0;
       counts = refl;
       few = λ _. h.1;
-      spelled = (ts, p);
+      spelled = (bytes, p);
     })
 
-dropped-step : (s : State) (form : Form) (place : Place) (items : List Item) (ts : List Tok) (b : Bool) (what : Said) (next : State)
-    → parse (slots form) ts ≡ Some (items, []) → behind s.place form ≡ Some place
+dropped-step : (s : State) (form : Form) (place : Place) (items : List Item) (bytes : List ℕ) (b : Bool) (what : Said) (next : State)
+    → parse (slots form) (tokens bytes) ≡ Some (items, []) → behind s.place form ≡ Some place
     → (if b then nothing else within s place (of_form form items)) ≡ said what next
     → IsStep s what next
-dropped-step s form place items ts true what next p e o = absurd (let bad : nothing ≡ said what next = o in cc)
-dropped-step s form place items ts false what next p e o =
-    within-step s form place items ts (said_fits (of_form form items) && counts_fit (next_state s place (of_form form items)).counts) what next p e refl o
+dropped-step s form place items bytes true what next p e o = absurd (let bad : nothing ≡ said what next = o in cc)
+dropped-step s form place items bytes false what next p e o =
+    within-step s form place items bytes (said_fits (of_form form items) && counts_fit (next_state s place (of_form form items)).counts) what next p e refl o
 
 -- what the tokens of a form come to
-found-step : (s : State) (form : Form) (place : Place) (ts : List Tok) (found : Found (List Item)) (what : Said) (next : State)
-    → parse (slots form) ts ≡ found → behind s.place form ≡ Some place
+found-step : (s : State) (form : Form) (place : Place) (bytes : List ℕ) (found : Found (List Item)) (what : Said) (next : State)
+    → parse (slots form) (tokens bytes) ≡ found → behind s.place form ≡ Some place
     → said_by s form place (ended (after found (λ items rest. Some (of_form form items, rest)))) ≡ said what next
     → IsStep s what next
 unfolding after
-found-step s form place ts None what next p e o = absurd (let bad : no_reading ≡ said what next = o in cc)
-found-step s form place ts (Some (items, t ∷ rest)) what next p e o = absurd (let bad : no_reading ≡ said what next = o in cc)
-found-step s form place ts (Some (items, [])) what next p e o = dropped-step s form place items ts (is_dropped_form form) what next p e o
+found-step s form place bytes None what next p e o = absurd (let bad : no_reading ≡ said what next = o in cc)
+found-step s form place bytes (Some (items, t ∷ rest)) what next p e o = absurd (let bad : no_reading ≡ said what next = o in cc)
+found-step s form place bytes (Some (items, [])) what next p e o = dropped-step s form place items bytes (is_dropped_form form) what next p e o
 
-formed-step : (s : State) (form : Form) (ts : List Tok) (place : Option Place) (what : Said) (next : State)
-    → behind s.place form ≡ place → formed s form ts place ≡ said what next → IsStep s what next
+formed-step : (s : State) (form : Form) (bytes : List ℕ) (place : Option Place) (what : Said) (next : State)
+    → behind s.place form ≡ place → formed s form (tokens bytes) place ≡ said what next → IsStep s what next
 unfolding line_at
-formed-step s form ts None what next e o = absurd (let bad : no_reading ≡ said what next = o in cc)
-formed-step s form ts (Some place) what next e o = found-step s form place ts (parse (slots form) ts) what next refl e o
+formed-step s form bytes None what next e o = absurd (let bad : no_reading ≡ said what next = o in cc)
+formed-step s form bytes (Some place) what next e o = found-step s form place bytes (parse (slots form) (tokens bytes)) what next refl e o
 
-form-step : (s : State) (ts : List Tok) (form : Option Form) (what : Said) (next : State)
-    → by_form s ts form ≡ said what next → IsStep s what next
-form-step s ts None what next o = absurd (let bad : no_reading ≡ said what next = o in cc)
-form-step s ts (Some form) what next o = formed-step s form ts (behind s.place form) what next refl o
+form-step : (s : State) (bytes : List ℕ) (form : Option Form) (what : Said) (next : State)
+    → by_form s (tokens bytes) form ≡ said what next → IsStep s what next
+form-step s bytes None what next o = absurd (let bad : no_reading ≡ said what next = o in cc)
+form-step s bytes (Some form) what next o = formed-step s form bytes (behind s.place form) what next refl o
 
-tokens-step : (s : State) (ts : List Tok) (what : Said) (next : State) → tokens_outcome s ts ≡ said what next → IsStep s what next
+tokens-step : (s : State) (bytes : List ℕ) (what : Said) (next : State) → tokens_outcome s (tokens bytes) ≡ said what next → IsStep s what next
 unfolding tokens_outcome
-tokens-step s [] what next o = absurd (let bad : nothing ≡ said what next = o in cc)
-tokens-step s (t ∷ ts) what next o = form-step s (t ∷ ts) (form_of (t ∷ ts)) what next o
+tokens-step s bytes what next o = by (is_nil (tokens bytes)) o
+  where
+    by : (b : Bool) → (if b then nothing else by_form s (tokens bytes) (form_of (tokens bytes))) ≡ said what next → IsStep s what next
+    by true e = absurd (let bad : nothing ≡ said what next = e in cc)
+    by false e = form-step s bytes (form_of (tokens bytes)) what next e
 
-label-step : (s : State) (name : List ℕ) (place : Option Place) (what : Said) (next : State)
+label-step : (s : State) (bytes name : List ℕ) (place : Option Place) (what : Said) (next : State) → label_of bytes ≡ Some name
     → behind_label s.place ≡ place → label_outcome s name place ≡ said what next → IsStep s what next
-label-step s name None what next e o = absurd (let bad : no_reading ≡ said what next = o in cc)
-label-step s name (Some place) what next e o =
+label-step s bytes name None what next is_label e o = absurd (let bad : no_reading ≡ said what next = o in cc)
+label-step s bytes name (Some place) what next is_label e o =
     let behind : State = record { place = place; counts = s.counts } in
     let is : said (label name) behind ≡ said what next = o in
     let w : label name ≡ what = cc in
     let n : behind ≡ next = cc in
-    step-is s (label name) what behind next w n (record { place = e; fits = refl; counts = refl; few = λ h. h; spelled = tt })
+    step-is s (label name) what behind next w n (record { place = e; fits = refl; counts = refl; few = λ h. h; spelled = (bytes, is_label) })
 
-labelled-step : (s : State) (bytes : List ℕ) (name : Option (List ℕ)) (what : Said) (next : State)
+labelled-step : (s : State) (bytes : List ℕ) (name : Option (List ℕ)) (what : Said) (next : State) → label_of bytes ≡ name
     → labelled s bytes name ≡ said what next → IsStep s what next
-labelled-step s bytes None what next o = tokens-step s (tokens bytes) what next o
-labelled-step s bytes (Some name) what next o = label-step s name (behind_label s.place) what next refl o
+labelled-step s bytes None what next is o = tokens-step s bytes what next o
+labelled-step s bytes (Some name) what next is o = label-step s bytes name (behind_label s.place) what next is refl o
 
 metadata-step : (s : State) (bytes : List ℕ) (b : Bool) (what : Said) (next : State)
     → (if b then nothing else labelled s bytes (label_of bytes)) ≡ said what next → IsStep s what next
 metadata-step s bytes true what next o = absurd (let bad : nothing ≡ said what next = o in cc)
-metadata-step s bytes false what next o = labelled-step s bytes (label_of bytes) what next o
+metadata-step s bytes false what next o = labelled-step s bytes (label_of bytes) what next refl o
 
 pub outcome-step : (s : State) (bytes : List ℕ) (what : Said) (next : State) → outcome s bytes ≡ said what next → IsStep s what next
 unfolding outcome

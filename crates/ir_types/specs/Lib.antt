@@ -15,6 +15,8 @@ pub mod Placed
 pub mod Views
 pub mod Known
 pub mod Tables
+pub mod ReadLines
+pub mod TypedModules
 pub mod TextLines
 pub mod Again
 pub mod TopFaults
