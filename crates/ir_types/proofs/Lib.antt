@@ -4,3 +4,4 @@ pub mod Samples
 pub mod TypeLists
 pub mod CaseLemmas
 pub mod NoteLemmas
+pub mod Founds

@@ -17,3 +17,6 @@ pub mod Known
 pub mod Tables
 pub mod Again
 pub mod TopFaults
+pub mod LineFaults
+pub mod Founds
+pub mod FunctionFaults

@@ -1,7 +1,7 @@
 //! Derived pointers (Garbage Collection Safepoints in LLVM, "Base & Derived Pointers").
 
 use crate::best::First;
-use crate::parts::{call_parts, given, is_merge, is_step, uses};
+use crate::parts::{given, is_merge, is_step, uses};
 use crate::scope::Local;
 use ir_reader::{NumberedReading, Passed, Reading, Value};
 use std::alloc::{AllocError, Global};
@@ -136,10 +136,9 @@ impl Local<'_> {
         match reading {
             Reading::Store { value, .. } => self.is_derived(marks, value),
             Reading::Return { value, .. } => self.is_derived(marks, value),
-            _ => match call_parts(reading) {
-                Some(call) => self.passes_derived(marks, call.passed),
-                None => false,
-            },
+            Reading::ValueCall { passed, .. } => self.passes_derived(marks, passed.as_slice()),
+            Reading::VoidCall { passed, .. } => self.passes_derived(marks, passed.as_slice()),
+            _ => false,
         }
     }
 }
