@@ -3,42 +3,11 @@ use Rattle.std.proofs.Common.{◌≡◌, ◌∙◌, ℕ, ◌+◌, ◌<◌, ◌�
 use Rattle.std.specs.Prelude.{Option, Some, None, map, slice_get, option_map}
 use Rattle.std.proofs.Math.Seq.{drop-cons, take-append_seam}
 use Rattle.std.proofs.lemmas.List.{take-append-drop}
-use Rattle.std.proofs.lemmas.Option.{slice_get_within, slice_get-get_or, get_or_from_slice_get}
+use Rattle.std.proofs.lemmas.Option.{slice_get_within, slice_get-get_or, get_or_from_slice_get, slice_get-map}
 use Rattle.ir_types.specs.declared.faults.Fault.{Fault}
-use Rattle.ir_types.specs.Notes.{Notes, IsUpTo, HasSource}
+use Rattle.ir_types.specs.Notes.{Notes}
 use Rattle.ir_types.specs.Founds.{Found}
-use Rattle.ir_types.proofs.NoteLemmas.{Either, notes-then}
-
--- ---- equal sets
-
-source-same : (old new : Option Fault) (F G : ℕ → ℕ → Type 0) → ((line code : ℕ) → F line code → G line code)
-    → HasSource old new F → HasSource old new G
-source-same old None F G to s = tt
-source-same old (Some fault) F G to (inl e) = inl e
-source-same old (Some fault) F G to (inr f) = inr (to fault.line fault.code f)
-
-pub notes-same : (old new : Option Fault) (F G : ℕ → ℕ → Type 0) → ((line code : ℕ) → F line code → G line code)
-    → ((line code : ℕ) → G line code → F line code) → Notes old new F → Notes old new G
-notes-same old new F G to back n = record {
-  source = source-same old new F G to n.source;
-  earlier = n.earlier;
-  least = λ line code g. n.least line code (back line code g);
-}
-
--- nothing was found
-up_to-itself : (kept : Option Fault) (fault : Fault) → kept ≡ Some fault → IsUpTo kept fault.line fault.code
-up_to-itself kept fault e = record { fault = fault; is = e; first = inr (refl, omega arith) }
-
-source-kept : (kept : Option Fault) (F : ℕ → ℕ → Type 0) → HasSource kept kept F
-source-kept None F = tt
-source-kept (Some fault) F = inl refl
-
-pub notes-nothing : (kept : Option Fault) (F : ℕ → ℕ → Type 0) → ((line code : ℕ) → F line code → ⊥) → Notes kept kept F
-notes-nothing kept F none = record {
-  source = source-kept kept F;
-  earlier = up_to-itself kept;
-  least = λ line code f. absurd (none line code f);
-}
+use Rattle.ir_types.proofs.NoteLemmas.{Either, notes-then, notes-same, notes-nothing}
 
 -- ---- at the first n elements
 
@@ -148,11 +117,6 @@ pub notes-all : {X : Type 0} (P : List X → X → List X → ℕ → ℕ → Ty
 notes-all P xs n old new e m =
     notes-same old new (FoundUpTo P xs (length xs)) (Found P xs) (found-all P xs) (found-back P xs)
     (subst (λ (k : ℕ). Notes old new (FoundUpTo P xs k)) e m)
-
-slice_get-map : {X Y : Type 0} (f : X → Y) (xs : List X) (i : ℕ) → slice_get (map f xs) i ≡ option_map f (slice_get xs i)
-slice_get-map f [] i = refl
-slice_get-map f (x ∷ xs) zero = refl
-slice_get-map f (x ∷ xs) (suc i) = slice_get-map f xs i
 
 -- an element of what a list shows
 pub seen-at : {X Y : Type 0} (f : X → Y) (xs : List X) (i : ℕ) (x : X) → i < length xs → x ≡ get_or xs i x → slice_get (map f xs) i ≡ Some (f x)

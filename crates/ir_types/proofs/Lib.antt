@@ -5,3 +5,11 @@ pub mod TypeLists
 pub mod CaseLemmas
 pub mod NoteLemmas
 pub mod Founds
+pub mod Contained
+pub mod Heads
+pub mod Union
+pub mod PlaceLemmas
+pub mod ScopeLemmas
+pub mod AgainLemmas
+pub mod Members
+pub mod TopLemmas

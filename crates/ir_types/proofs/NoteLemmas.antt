@@ -68,3 +68,31 @@ notes-least lines fault n = record {
 -- nothing is kept: there is no fault
 pub notes-none : (lines : List Line) → Notes None None (λ line code. HasFault lines line code) → HasNoFault lines
 notes-none lines n = λ line code f. let u = n.least line code f in let bad : None ≡ Some u.fault = u.is in cc
+
+-- ---- sets of faults that are the same
+
+source-same : (old new : Option Fault) (F G : ℕ → ℕ → Type 0) → ((line code : ℕ) → F line code → G line code)
+    → HasSource old new F → HasSource old new G
+source-same old None F G to s = tt
+source-same old (Some fault) F G to (inl e) = inl e
+source-same old (Some fault) F G to (inr f) = inr (to fault.line fault.code f)
+
+pub notes-same : (old new : Option Fault) (F G : ℕ → ℕ → Type 0) → ((line code : ℕ) → F line code → G line code)
+    → ((line code : ℕ) → G line code → F line code) → Notes old new F → Notes old new G
+notes-same old new F G to from n = record {
+  source = source-same old new F G to n.source;
+  earlier = n.earlier;
+  least = λ line code g. n.least line code (from line code g);
+}
+
+kept : (old : Option Fault) (F : ℕ → ℕ → Type 0) → HasSource old old F
+kept None F = tt
+kept (Some fault) F = inl refl
+
+-- nothing is found
+pub notes-nothing : (old : Option Fault) (F : ℕ → ℕ → Type 0) → ((line code : ℕ) → ¬ F line code) → Notes old old F
+notes-nothing old F no = record {
+  source = kept old F;
+  earlier = λ fault e. record { fault = fault; is = e; first = inr (refl, omega arith) };
+  least = λ line code f. absurd (no line code f);
+}

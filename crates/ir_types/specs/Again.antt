@@ -4,6 +4,7 @@ use Rattle.std.specs.List.{Contains}
 use Rattle.std.specs.Option.{option_and_then}
 use Rattle.ir_ast.specs.Faults.Reserved.{IsInsertedName}
 use Rattle.ir_types.specs.Parts.{gives}
+use Rattle.ir_types.specs.InBody.{Repeats}
 use Rattle.ir_types.specs.Places.{place_in}
 use Rattle.ir_types.specs.Statements.{Line}
 use Rattle.ir_types.specs.Sections.{LayoutLine, Head, Naming, BlockLines, Definition, layouts_of, heads_of, result_named, values_of, blocks_of}
@@ -29,13 +30,21 @@ named_blocks blocks = map (λ one. (one.line, one.name)) blocks
 abbrev pub results_of : List Line → List Naming
 results_of lines = flat_map (λ l. result_named l.number (gives l.says)) lines
 
--- added one after another behind these names, the line gives one that stands there or was added before
-pub record RepeatsAfter (names : List (List ℕ)) (added : List (ℕ × List ℕ)) (line : ℕ) : Type 0 where
+-- added one after another behind these names, the line gives one that is at fault behind those before it
+pub record FoundAfter (fault : List (List ℕ) → List ℕ → ℕ → Type 0) (names : List (List ℕ)) (added : List (ℕ × List ℕ)) (line code : ℕ) : Type 0 where
   pub before : List (ℕ × List ℕ)
   pub name : List ℕ
   pub after : List (ℕ × List ℕ)
   pub whole : added ≡ before ++ (line, name) ∷ after
-  pub again : Contains (names ++ map (λ one. one.1) before) name
+  pub faulty : fault (names ++ map (λ one. one.1) before) name code
+
+-- code 3: one of these names
+abbrev pub IsAgain : List (List ℕ) → List ℕ → ℕ → Type 0
+IsAgain names name code = (code ≡ 3) × Contains names name
+
+-- and code 14: the name of an inserted value or label
+abbrev pub IsBadName : List (List ℕ) → List ℕ → ℕ → Type 0
+IsBadName names name code = IsAgain names name code ⊎ ((code ≡ 14) × IsInsertedName name)
 
 -- the line gives a name of an inserted value or label
 pub record NamesInserted (added : List (ℕ × List ℕ)) (line : ℕ) : Type 0 where
@@ -43,21 +52,16 @@ pub record NamesInserted (added : List (ℕ × List ℕ)) (line : ℕ) : Type 0 
   pub given : Contains added (line, name)
   pub inserted : IsInsertedName name
 
--- code 3 of layouts and heads that are added behind these
-abbrev pub AgainAfter : List (List ℕ) → List (ℕ × List ℕ) → ℕ → ℕ → Type 0
-AgainAfter names added line code = (code ≡ 3) × RepeatsAfter names added line
-
--- codes 3 and 14 of values or labels that are added behind these
-abbrev pub NamesFound : List (List ℕ) → List (ℕ × List ℕ) → ℕ → ℕ → Type 0
-NamesFound names added line code =
-    ((code ≡ 3) × RepeatsAfter names added line) ⊎ ((code ≡ 14) × NamesInserted added line)
+-- what these names of values or of labels have
+abbrev pub NamesFound : List (ℕ × List ℕ) → ℕ → ℕ → Type 0
+NamesFound given line code = ((code ≡ 3) × Repeats given line) ⊎ ((code ≡ 14) × NamesInserted given line)
 
 -- a layout or a head whose name an earlier one has
 abbrev pub TopAgain : List Line → ℕ → ℕ → Type 0
-TopAgain lines line code = AgainAfter [] (named_layouts (layouts_of lines)) line code
-    ⊎ AgainAfter [] (named_heads (heads_of lines)) line code
+TopAgain lines line code =
+    (code ≡ 3) × (Repeats (named_layouts (layouts_of lines)) line ⊎ Repeats (named_heads (heads_of lines)) line)
 
--- what the names of the values and the labels of a definition have
+-- what the names of the values and of the labels of a definition have
 abbrev pub FoundByNames : Definition → ℕ → ℕ → Type 0
-FoundByNames func line code = NamesFound [] (named_values (values_of func)) line code
-    ⊎ NamesFound [] (named_blocks (blocks_of func)) line code
+FoundByNames func line code =
+    NamesFound (named_values (values_of func)) line code ⊎ NamesFound (named_blocks (blocks_of func)) line code

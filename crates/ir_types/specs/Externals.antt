@@ -14,17 +14,24 @@ external name answer parameters = record { name = name; answer = answer; paramet
 abbrev pub gc_new : List ℕ → List ℕ
 gc_new layout = codes "gc_new." ++ layout
 
--- each layout has its own `gc_new`
-abbrev pub externals_of : List (List ℕ) → List External
-externals_of layouts =
-    map (λ layout. external (gc_new layout) Managed (Int 64 ∷ [])) layouts
-    ++ external (codes "print_i64") Void (Int 64 ∷ [])
-    ∷ external (codes "read_i64") (Int 64) []
-    ∷ external (codes "task_start") Void (Plain ∷ Managed ∷ [])
-    ∷ external (codes "gc.safepoint_poll") Void []
+abbrev pub own_helpers : List External
+own_helpers =
+    external (codes "gc.safepoint_poll") Void []
     ∷ external (codes "gc_check") Void (Managed ∷ Managed ∷ Int 64 ∷ [])
     ∷ external (codes "gc_same") (Int 1) (Managed ∷ Managed ∷ Managed ∷ Managed ∷ [])
     ∷ []
+
+-- those whose names are whole
+abbrev pub own_externals : List External
+own_externals =
+    external (codes "print_i64") Void (Int 64 ∷ [])
+    ∷ external (codes "read_i64") (Int 64) []
+    ∷ external (codes "task_start") Void (Plain ∷ Managed ∷ [])
+    ∷ own_helpers
+
+-- each layout has its own `gc_new`
+abbrev pub externals_of : List (List ℕ) → List External
+externals_of layouts = map (λ layout. external (gc_new layout) Managed (Int 64 ∷ [])) layouts ++ own_externals
 
 -- what only rewritten modules declare
 abbrev pub helpers : List (List ℕ)

@@ -7,7 +7,7 @@ use Rattle.ir_types.specs.declared.scope.Local.{Local}
 use Rattle.ir_types.specs.Statements.{Statement, Line, phi, switch, switch_case}
 use Rattle.ir_types.specs.Parts.{leaving, local_name}
 use Rattle.ir_types.specs.Sections.{Definition, BlockLines, blocks_of, cases_of}
-use Rattle.ir_types.specs.Scope.{Scope, value_names}
+use Rattle.ir_types.specs.Scope.{Scope, scope_of, value_names}
 use Rattle.ir_types.specs.Again.{FoundByNames}
 use Rattle.ir_types.specs.Founds.{Found}
 use Rattle.ir_types.specs.LineFaults.{Tables, LineFault, LineFaultIn}
@@ -17,11 +17,18 @@ use Rattle.ir_types.specs.Faults.DerivedEscapes.{Derived}
 
 -- ---- lines by themselves
 
+-- of one line, with those before and those behind it
+abbrev pub LineInAt : Tables → List Line → Line → List Line → ℕ → ℕ → Type 0
+LineInAt tables before here after line code = (line ≡ here.number) × LineFaultIn tables here.says code
+
+abbrev pub LineAt : Scope → List Line → Line → List Line → ℕ → ℕ → Type 0
+LineAt scope before here after line code = (line ≡ here.number) × LineFault scope here.says code
+
 abbrev pub LinesIn : Tables → List Line → ℕ → ℕ → Type 0
-LinesIn tables body = Found (λ before here after line code. (line ≡ here.number) × LineFaultIn tables here.says code) body
+LinesIn tables body = Found (LineInAt tables) body
 
 abbrev pub LinesOf : Scope → List Line → ℕ → ℕ → Type 0
-LinesOf scope body = Found (λ before here after line code. (line ≡ here.number) × LineFault scope here.says code) body
+LinesOf scope body = Found (LineAt scope) body
 
 -- ---- cases
 
@@ -31,16 +38,21 @@ CaseIsWrong width earlier (switch_case case_width case to) =
     (case_width ≢ width) ⊎ ((value : ℕ) × (number_said width case ≡ Some value) × Contains (case_numbers width earlier) value)
 CaseIsWrong width earlier _ = ⊥
 
+abbrev pub CaseAt : ℕ → List Line → Line → List Line → ℕ → ℕ → Type 0
+CaseAt width earlier here later line code = (code ≡ 5) × (line ≡ here.number) × CaseIsWrong width earlier here.says
+
 abbrev pub WrongCases : ℕ → List Line → ℕ → ℕ → Type 0
-WrongCases width cases =
-    Found (λ earlier here later line code. (code ≡ 5) × (line ≡ here.number) × CaseIsWrong width earlier here.says) cases
+WrongCases width cases = Found (CaseAt width) cases
 
 abbrev pub CasesBehind : Statement → List Line → ℕ → ℕ → Type 0
 CasesBehind (switch width value default) behind line code = WrongCases width (cases_of behind) line code
 CasesBehind _ behind line code = ⊥
 
+abbrev pub SwitchAt : List Line → Line → List Line → ℕ → ℕ → Type 0
+SwitchAt before here after = CasesBehind here.says after
+
 abbrev pub CasesOf : List Line → ℕ → ℕ → Type 0
-CasesOf body = Found (λ before here after. CasesBehind here.says after) body
+CasesOf body = Found SwitchAt body
 
 -- ---- phis
 
@@ -49,12 +61,17 @@ StatementIsWrong scope number before (phi result ty entries) = PhiIsWrong scope 
 StatementIsWrong scope number before _ = ⊥
 
 -- of the block with this number
+abbrev pub PhiAt : Scope → ℕ → List Line → Line → List Line → ℕ → ℕ → Type 0
+PhiAt scope number before here after line code = (code ≡ 7) × (line ≡ here.number) × StatementIsWrong scope number before here.says
+
 abbrev pub PhisOfBlock : Scope → ℕ → List Line → ℕ → ℕ → Type 0
-PhisOfBlock scope number lines =
-    Found (λ before here after line code. (code ≡ 7) × (line ≡ here.number) × StatementIsWrong scope number before here.says) lines
+PhisOfBlock scope number lines = Found (PhiAt scope number) lines
+
+abbrev pub BlockAt : Scope → List BlockLines → BlockLines → List BlockLines → ℕ → ℕ → Type 0
+BlockAt scope earlier block later = PhisOfBlock scope (length earlier) block.lines
 
 abbrev pub PhisOf : Scope → List BlockLines → ℕ → ℕ → Type 0
-PhisOf scope blocks = Found (λ earlier block later. PhisOfBlock scope (length earlier) block.lines) blocks
+PhisOf scope blocks = Found (BlockAt scope) blocks
 
 -- ---- derived pointers
 
@@ -63,8 +80,11 @@ pub record Escapes (func : Definition) (what : Statement) : Type 0 where
   pub leaves : Contains (filter_map local_name (leaving what)) name
   pub derived : Derived func name
 
+abbrev pub EscapeAt : Definition → List Line → Line → List Line → ℕ → ℕ → Type 0
+EscapeAt func before here after line code = (code ≡ 9) × (line ≡ here.number) × Escapes func here.says
+
 abbrev pub EscapesOf : Definition → List Line → ℕ → ℕ → Type 0
-EscapesOf func body = Found (λ before here after line code. (code ≡ 9) × (line ≡ here.number) × Escapes func here.says) body
+EscapesOf func body = Found (EscapeAt func) body
 
 -- ---- a function
 
@@ -76,6 +96,13 @@ FoundWithin scope func line code =
 
 abbrev pub FoundInFunction : Scope → Definition → ℕ → ℕ → Type 0
 FoundInFunction scope func line code = FoundByNames func line code ⊎ FoundWithin scope func line code
+
+-- what the definitions among these lines have
+abbrev pub FunctionAt : List Line → List Definition → Definition → List Definition → ℕ → ℕ → Type 0
+FunctionAt lines before func after = FoundInFunction (scope_of lines func) func
+
+abbrev pub InFunctions : List Line → List Definition → ℕ → ℕ → Type 0
+InFunctions lines funcs = Found (FunctionAt lines) funcs
 
 -- a table holds the names of the values and the blocks of a scope
 pub record AreNames (scope : Scope) (local : Local) : Type 0 where

@@ -127,8 +127,12 @@ fits_in names types ty (values.number literal) = literal_fits ty literal
 fits_in names types ty (values.truth said) = same_type ty (Int 1)
 fits_in names types ty values.null = takes_null ty
 
+-- one of these uses doesn't fit
+abbrev pub misfits_of : List (List ℕ) → List TypeWord → List (Val × TypeWord) → Bool
+misfits_of names types used = list_any (λ one. not (fits_in names types one.1 one.0)) used
+
 abbrev pub misfits_in : Tables → Statement → Bool
-misfits_in tables what = list_any (λ used. not (fits_in tables.values tables.types used.1 used.0)) (uses what)
+misfits_in tables what = misfits_of tables.values tables.types (uses what)
 
 -- the place of a field is below their number
 abbrev pub count_fits : Option Literal → Option ℕ → Bool

@@ -1,10 +1,10 @@
 //! The faults of a line of a function that the line has by itself.
 
 ghost use Rattle.std.specs.Prelude.{◌≡◌, ◌∷◌, ◌||◌, [], not, map, is_none, option_map, OnOk};
-ghost use Rattle.std.specs.List.{list_any};
 ghost use Rattle.std.specs.Option.{option_copied};
 ghost use Rattle.ir_reader.specs.Seen.{seen_argument, seen_entry, seen_passed, seen_value};
-ghost use Rattle.ir_types.specs.LineFaults.{Coded, LineFaultIn, tables_in, seen_use, is_missing, is_first, misses, misses_used, misses_label, misses_passed, misses_function, misses_name, fits_in, count_fits, starts_at, task_starts, call_fits, rule_kept, clashes_in, targets_first};
+ghost use Rattle.ir_types.specs.LineFaults.{Coded, LineFaultIn, tables_in, seen_use, is_missing, is_first, misses, misses_used, misses_label, misses_passed, misses_function, misses_name, misfits_of, count_fits, starts_at, task_starts, call_fits, rule_kept, clashes_in, targets_first};
+ghost use Rattle.ir_types.specs.FunctionFaults.{LinesIn};
 ghost use Rattle.ir_types.specs.Modules.{passed_type};
 ghost use Rattle.ir_types.specs.Notes.{Notes};
 ghost use Rattle.ir_types.specs.Parts.{local_name, passed_function, layouts_named, entry_labels, targets, uses};
@@ -12,7 +12,7 @@ ghost use Rattle.ir_types.specs.Places.{place_in};
 ghost use Rattle.ir_types.specs.Sections.{types_of};
 ghost use Rattle.ir_types.specs.Tables.{seen_head};
 ghost use Rattle.ir_types.specs.Types.{same_type, same_types};
-ghost use Rattle.ir_types.specs.Views.{said};
+ghost use Rattle.ir_types.specs.Views.{said, seen_lines};
 ghost use Rattle.ir_types.specs.Faults.TypeClash.{widens, is_field, is_task, agrees};
 ghost use Rattle.ir_types.specs.Faults.PointerCast.{is_cast};
 ghost use Rattle.ir_types.specs.Faults.PointerOrder.{is_order, orders, orders_pointers};
@@ -78,8 +78,8 @@ fn passed_function<'a>(passed: &Passed<'a>) -> Option<&'a [u8]>
 fn misses_value(names: &Names, uses: &[(Value, TypeWord)]) -> bool
     ensures { result ≡ misses_used names.now (map seen_use uses.now) }
 {
-    for (value, _) in uses {
-        if is_missing(names, local_name(value)) {
+    for used in uses {
+        if is_missing(names, local_name(&used.0)) {
             return true;
         }
     }
@@ -309,10 +309,10 @@ impl Scope<'_, '_, '_, '_> {
     }
 
     fn misfits(&self, uses: &[(Value, TypeWord)]) -> bool
-        ensures { result ≡ list_any (λ used. not (fits_in self.now.local.now.values self.now.local.now.types.items used.1 used.0)) (map seen_use uses.now) }
+        ensures { result ≡ misfits_of self.now.local.now.values self.now.local.now.types.items (map seen_use uses.now) }
     {
-        for (value, ty) in uses {
-            if !self.local.fits(*ty, value) {
+        for used in uses {
+            if !self.local.fits(used.1, &used.0) {
                 return true;
             }
         }
@@ -408,7 +408,7 @@ impl Scope<'_, '_, '_, '_> {
 
     /// Notes the faults of a line: a name that there isn't, types that clash, the first block as a target, an order
     /// of pointers, a cast.
-    pub(crate) fn note_line(
+    fn note_line(
         &self,
         alloc: Global,
         line: &NumberedReading,
@@ -420,6 +420,21 @@ impl Scope<'_, '_, '_, '_> {
         let uses = uses(alloc, &line.reading)?;
         let tests = self.tests(&line.reading, uses.as_slice());
         note_tests(tests, line.line, first);
+        Ok(())
+    }
+
+    /// Notes the faults that lines have by themselves.
+    pub(crate) fn note_lines(
+        &self,
+        alloc: Global,
+        lines: &[NumberedReading],
+        first: &mut First,
+    ) -> Result<(), AllocError>
+        ensures { OnOk result (Notes first.old.found first.new.found (LinesIn (tables_in self.now) (seen_lines lines.now))) }
+    {
+        for line in lines {
+            self.note_line(alloc, line, first)?;
+        }
         Ok(())
     }
 }

@@ -1,9 +1,9 @@
 //! What names stand for.
 
-ghost use Rattle.std.specs.Prelude.{◌≡◌, ◌↔◌, ◌⊎◌, IsTrue, [], ◌∷◌, ◌++◌, map, option_map, MatchOption, IfOk, OnOk};
+ghost use Rattle.std.specs.Prelude.{◌≡◌, ◌↔◌, ◌⊎◌, IsTrue, [], ◌∷◌, ◌++◌, false, map, option_map, option_to_list, if◌then◌else◌, IfOk, OnOk};
 ghost use Rattle.ir_ast.specs.Faults.Reserved.{IsInsertedName};
 ghost use Rattle.ir_reader.specs.Seen.{seen_argument};
-ghost use Rattle.ir_types.specs.Again.{at_name, named_layouts, named_heads, named_values, named_blocks, AgainAfter, NamesFound, TopAgain, FoundByNames, results_of};
+ghost use Rattle.ir_types.specs.Again.{at_name, named_layouts, named_heads, named_values, named_blocks, FoundAfter, IsAgain, IsBadName, TopAgain, FoundByNames, results_of};
 ghost use Rattle.ir_types.specs.Notes.{Notes};
 ghost use Rattle.ir_types.specs.Parts.{gives};
 ghost use Rattle.ir_types.specs.Sections.{layout_said, head_said, arguments_named, result_named, blocks_of};
@@ -41,8 +41,7 @@ pub(crate) struct Top<'t, 'a> {
 
 /// The head of a line that is one.
 pub(crate) fn head_of<'t, 'a>(line: &'t NumberedReading<'a>) -> Option<Head<'t, 'a>>
-    ensures { MatchOption result (head_said line.now.line (said line.now.reading) ≡ [])
-        (λ head. head_said line.now.line (said line.now.reading) ≡ seen_head head ∷ []) }
+    ensures { option_to_list (option_map seen_head result) ≡ head_said line.now.line (said line.now.reading) }
 {
     match &line.reading {
         Reading::Declare {
@@ -103,13 +102,29 @@ impl<'t, 'a> Top<'t, 'a> {
     ) -> Result<(), AllocError>
         ensures added { OnOk result (AddsLayouts self.old self.new (layout_said line.now.line (said line.now.reading))) }
         ensures noted { OnOk result (Notes first.old.found first.new.found
-            (AgainAfter self.old.layouts (named_layouts (layout_said line.now.line (said line.now.reading))))) }
+            (FoundAfter IsAgain self.old.layouts (named_layouts (layout_said line.now.line (said line.now.reading))))) }
     {
-        if let Reading::Layout { name, fields } = &line.reading {
-            let is_new = self.layouts.add(name)?;
-            self.fields.push(fields.len())?;
-            first.note_if(!is_new, line.line, 3);
+        match &line.reading {
+            Reading::Layout { name, fields } => {
+                self.push_layout(line.line, name, fields.as_slice(), first)
+            }
+            _ => Ok(()),
         }
+    }
+
+    fn push_layout(
+        &mut self,
+        line: u32,
+        name: &'a [u8],
+        fields: &[TypeWord],
+        first: &mut First,
+    ) -> Result<(), AllocError>
+        ensures added { OnOk result (AddsLayouts self.old self.new (record { line = line; name = name.now; fields = fields.now } ∷ [])) }
+        ensures noted { OnOk result (Notes first.old.found first.new.found (FoundAfter IsAgain self.old.layouts ((line, name.now) ∷ []))) }
+    {
+        let is_new = self.layouts.add(name)?;
+        self.fields.push(fields.len())?;
+        first.note_if(!is_new, line, 3);
         Ok(())
     }
 
@@ -120,15 +135,32 @@ impl<'t, 'a> Top<'t, 'a> {
     ) -> Result<(), AllocError>
         ensures added { OnOk result (AddsHeads self.old self.new (head_said line.now.line (said line.now.reading))) }
         ensures noted { OnOk result (Notes first.old.found first.new.found
-            (AgainAfter self.old.heads (named_heads (head_said line.now.line (said line.now.reading))))) }
+            (FoundAfter IsAgain self.old.heads (named_heads (head_said line.now.line (said line.now.reading))))) }
     {
-        if let Some(head) = head_of(line) {
-            let is_new = self.heads.add(head.name)?;
-            self.head_list.push(head)?;
-            if head.defined {
-                self.functions.add(head.name)?;
-            }
-            first.note_if(!is_new, line.line, 3);
+        match head_of(line) {
+            Some(head) => self.push_head(head, first),
+            None => Ok(()),
+        }
+    }
+
+    fn push_head(&mut self, head: Head<'t, 'a>, first: &mut First) -> Result<(), AllocError>
+        ensures added { OnOk result (AddsHeads self.old self.new (seen_head head.entry ∷ [])) }
+        ensures noted { OnOk result (Notes first.old.found first.new.found
+            (FoundAfter IsAgain self.old.heads ((head.entry.line, head.entry.name.now) ∷ []))) }
+    {
+        let is_new = self.heads.add(head.name)?;
+        self.head_list.push(head)?;
+        self.add_function(head.defined, head.name)?;
+        first.note_if(!is_new, head.line, 3);
+        Ok(())
+    }
+
+    fn add_function(&mut self, defined: bool, name: &'a [u8]) -> Result<(), AllocError>
+        ensures same { OnOk result (self.new ≡ record self.old { functions = self.new.functions }) }
+        ensures functions { OnOk result (self.new.functions ≡ self.old.functions ++ (if defined then name.now ∷ [] else [])) }
+    {
+        if defined {
+            self.functions.add(name)?;
         }
         Ok(())
     }
@@ -163,6 +195,15 @@ fn is_inserted(name: &[u8]) -> bool
     ensures { IsTrue result ↔ IsInsertedName name.now }
 {
     name.starts_with(b"sp.")
+}
+
+// Notes the faults of a name of a value or a label, which an earlier one may have.
+fn note_name(is_new: bool, line: u32, name: &[u8], first: &mut First)
+    ensures { Notes first.old.found first.new.found (λ at code. (at ≡ line)
+        × (((code ≡ 3) × (is_new ≡ false)) ⊎ ((code ≡ 14) × IsInsertedName name.now))) }
+{
+    first.note_if(!is_new, line, 3);
+    first.note_if(is_inserted(name), line, 14);
 }
 
 impl<'n> Local<'n> {
@@ -204,7 +245,7 @@ impl<'n> Local<'n> {
         requires { map (λ n. n.items) names.now ≡ map (λ one. one.name) (arguments_named line [] (map seen_argument arguments.now)) }
         ensures added { OnOk result (AddsValues self.old self.new (arguments_named line [] (map seen_argument arguments.now))) }
         ensures noted { OnOk result (Notes first.old.found first.new.found
-            (NamesFound self.old.values (named_values (arguments_named line [] (map seen_argument arguments.now))))) }
+            (FoundAfter IsBadName self.old.values (named_values (arguments_named line [] (map seen_argument arguments.now))))) }
     {
         for (argument, name) in arguments.iter().zip(names.iter()) {
             self.add_value(line, name.as_slice(), argument.ty, first)?;
@@ -220,7 +261,7 @@ impl<'n> Local<'n> {
     ) -> Result<(), AllocError>
         ensures added { OnOk result (AddsValues self.old self.new (results_of (seen_lines lines.now))) }
         ensures noted { OnOk result (Notes first.old.found first.new.found
-            (NamesFound self.old.values (named_values (results_of (seen_lines lines.now))))) }
+            (FoundAfter IsBadName self.old.values (named_values (results_of (seen_lines lines.now))))) }
     {
         for line in lines {
             self.add_result(line, first)?;
@@ -235,7 +276,7 @@ impl<'n> Local<'n> {
     ) -> Result<(), AllocError>
         ensures added { OnOk result (AddsValues self.old self.new (result_named line.now.line (gives (said line.now.reading)))) }
         ensures noted { OnOk result (Notes first.old.found first.new.found
-            (NamesFound self.old.values (named_values (result_named line.now.line (gives (said line.now.reading)))))) }
+            (FoundAfter IsBadName self.old.values (named_values (result_named line.now.line (gives (said line.now.reading)))))) }
     {
         match given(&line.reading) {
             Some((name, ty)) => self.add_value(line.line, name, ty, first),
@@ -250,7 +291,7 @@ impl<'n> Local<'n> {
     ) -> Result<(), AllocError>
         ensures added { OnOk result (AddsBlocks self.old self.new (map seen_block blocks.now)) }
         ensures noted { OnOk result (Notes first.old.found first.new.found
-            (NamesFound self.old.blocks (named_blocks (map seen_block blocks.now)))) }
+            (FoundAfter IsBadName self.old.blocks (named_blocks (map seen_block blocks.now)))) }
     {
         for block in blocks {
             self.add_block(block.line, block.name, first)?;
@@ -266,25 +307,28 @@ impl<'n> Local<'n> {
         first: &mut First,
     ) -> Result<(), AllocError>
         ensures added { OnOk result (AddsValues self.old self.new (record { line = line; name = name.now; ty = ty } ∷ [])) }
-        ensures noted { OnOk result (Notes first.old.found first.new.found (NamesFound self.old.values ((line, name.now) ∷ []))) }
+        ensures noted { OnOk result (Notes first.old.found first.new.found (FoundAfter IsBadName self.old.values ((line, name.now) ∷ []))) }
     {
         let is_new = self.values.add(name)?;
         self.types.push(ty)?;
-        first.note_if(!is_new, line, 3);
-        first.note_if(is_inserted(name), line, 14);
+        note_name(is_new, line, name, first);
         Ok(())
     }
 
-    fn add_block(&mut self, line: u32, name: &'n [u8], first: &mut First) -> Result<(), AllocError>
+    fn add_block(
+        &mut self,
+        line: u32,
+        name: &'n [u8],
+        first: &mut First,
+    ) -> Result<(), AllocError>
         ensures values { OnOk result (self.new.values ≡ self.old.values) }
         ensures types { OnOk result (self.new.types.items ≡ self.old.types.items) }
         ensures blocks { OnOk result (self.new.blocks ≡ self.old.blocks ++ name.now ∷ []) }
         ensures answer { OnOk result (self.new.answer ≡ self.old.answer) }
-        ensures noted { OnOk result (Notes first.old.found first.new.found (NamesFound self.old.blocks ((line, name.now) ∷ []))) }
+        ensures noted { OnOk result (Notes first.old.found first.new.found (FoundAfter IsBadName self.old.blocks ((line, name.now) ∷ []))) }
     {
         let is_new = self.blocks.add(name)?;
-        first.note_if(!is_new, line, 3);
-        first.note_if(is_inserted(name), line, 14);
+        note_name(is_new, line, name, first);
         Ok(())
     }
 

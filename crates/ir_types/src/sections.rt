@@ -1,9 +1,9 @@
 //! The definitions of a text, and their blocks.
 
-ghost use Rattle.std.specs.Prelude.{◌≡◌, ℕ, [], not, take_while, map, decimal, IfOk};
+ghost use Rattle.std.specs.Prelude.{◌≡◌, ℕ, [], ◌++◌, not, take_while, map, decimal, option_map, option_to_list, unwrap_or, IfOk, OnOk};
 ghost use Rattle.std.specs.Option.{option_copied};
 ghost use Rattle.ir_reader.specs.Seen.{seen_argument};
-ghost use Rattle.ir_types.specs.Sections.{is_close, is_label, label_said, until_label, is_digit, is_number, is_numbered, count_numbered, arguments_named, definitions_of, blocks_of};
+ghost use Rattle.ir_types.specs.Sections.{is_close, is_label, label_said, until_label, is_digit, is_number, is_numbered, count_numbered, arguments_named, definition_said, definitions_of, first_block, block_at, labelled_blocks, blocks_of};
 ghost use Rattle.ir_types.specs.Tables.{seen_definition, seen_block};
 ghost use Rattle.std.specs.List.{list_all};
 ghost use Rattle.ir_types.specs.Views.{said, seen_lines};
@@ -49,24 +49,51 @@ fn label_of<'a>(reading: &Reading<'a>) -> Option<&'a [u8]>
 fn body_of<'t, 'a>(lines: &'t [NumberedReading<'a>]) -> &'t [NumberedReading<'a>]
     ensures { seen_lines result.now ≡ take_while (λ l. not (is_close l.says)) (seen_lines lines.now) }
 {
-    for (i, line) in lines.iter().enumerate() {
-        if is_close(&line.reading) {
-            return &lines[..i];
-        }
+    match lines.iter().position(|line| is_close(&line.reading)) {
+        Some(end) => &lines[..end],
+        None => lines,
     }
-    lines
+}
+
+fn is_label(reading: &Reading) -> bool
+    ensures { result ≡ is_label (said reading.now) }
+{
+    matches!(reading, Reading::Label { .. })
 }
 
 // The lines before the next label.
 fn until_label<'t, 'a>(lines: &'t [NumberedReading<'a>]) -> &'t [NumberedReading<'a>]
     ensures { seen_lines result.now ≡ until_label (seen_lines lines.now) }
 {
-    for (i, line) in lines.iter().enumerate() {
-        if label_of(&line.reading).is_some() {
-            return &lines[..i];
-        }
+    match lines.iter().position(|line| is_label(&line.reading)) {
+        Some(end) => &lines[..end],
+        None => lines,
     }
-    lines
+}
+
+// The definition whose head this line is, with these lines after it.
+fn definition_at<'t, 'a>(
+    line: &'t NumberedReading<'a>,
+    after: &'t [NumberedReading<'a>],
+) -> Option<Definition<'t, 'a>>
+    ensures { option_to_list (option_map seen_definition result) ≡ definition_said line.now.line (said line.now.reading) (seen_lines after.now) }
+{
+    match &line.reading {
+        Reading::Define {
+            answer,
+            name,
+            arguments,
+            strategy,
+        } => Some(Definition {
+            line: line.line,
+            answer: *answer,
+            name,
+            arguments: arguments.as_slice(),
+            strategy: *strategy,
+            body: body_of(after),
+        }),
+        _ => None,
+    }
 }
 
 /// The definitions of a text, in its order.
@@ -78,21 +105,8 @@ pub(crate) fn definitions<'t, 'a>(
 {
     let mut found = Vec::new(alloc);
     for (i, line) in lines.iter().enumerate() {
-        if let Reading::Define {
-            answer,
-            name,
-            arguments,
-            strategy,
-        } = &line.reading
-        {
-            found.push(Definition {
-                line: line.line,
-                answer: *answer,
-                name,
-                arguments: arguments.as_slice(),
-                strategy: *strategy,
-                body: body_of(&lines[i + 1..]),
-            })?;
+        if let Some(func) = definition_at(line, &lines[i + 1..]) {
+            found.push(func)?;
         }
     }
     Ok(found)
@@ -138,6 +152,16 @@ pub(crate) struct HeadNames {
     pub(crate) entry: Vec<u8>,
 }
 
+// The name of an argument, where this many before it lack a name or are named by a number.
+fn argument_name(alloc: Global, argument: &Argument, numbered: usize) -> Result<Vec<u8>, AllocError>
+    ensures { IfOk result (λ name. name.items ≡ unwrap_or (seen_argument argument.now).name (decimal numbered)) }
+{
+    match argument.name {
+        Some(name) => Vec::from_slice(alloc, name),
+        None => decimal(alloc, numbered),
+    }
+}
+
 impl HeadNames {
     /// The names that the head with these arguments gives.
     pub(crate) fn of(alloc: Global, arguments: &[Argument]) -> Result<HeadNames, AllocError>
@@ -148,10 +172,7 @@ impl HeadNames {
         let mut names = Vec::new(alloc);
         let mut numbered = 0;
         for argument in arguments {
-            names.push(match argument.name {
-                Some(name) => Vec::from_slice(alloc, name)?,
-                None => decimal(alloc, numbered)?,
-            })?;
+            names.push(argument_name(alloc, argument, numbered)?)?;
             if is_numbered(argument) {
                 numbered += 1;
             }
@@ -164,6 +185,61 @@ impl HeadNames {
     }
 }
 
+// The first block, where it has no label.
+fn first_block<'t, 'a: 'n, 'n>(
+    func: &Definition<'t, 'a>,
+    entry: &'n [u8],
+) -> Option<BlockLines<'t, 'a, 'n>>
+    requires { entry.now ≡ decimal (count_numbered (map seen_argument func.now.arguments.now)) }
+    ensures { option_to_list (option_map seen_block result) ≡ first_block (seen_definition func.now) (seen_lines func.now.body.now) }
+{
+    match func.body.first() {
+        Some(first) => {
+            if is_label(&first.reading) {
+                None
+            } else {
+                Some(BlockLines {
+                    line: func.line,
+                    name: entry,
+                    lines: until_label(func.body),
+                })
+            }
+        }
+        None => None,
+    }
+}
+
+// The block whose label this line is, with these lines after it.
+fn block_at<'t, 'a: 'n, 'n>(
+    line: &NumberedReading<'a>,
+    after: &'t [NumberedReading<'a>],
+) -> Option<BlockLines<'t, 'a, 'n>>
+    ensures { option_to_list (option_map seen_block result) ≡ block_at line.now.line (label_said (said line.now.reading)) (seen_lines after.now) }
+{
+    match label_of(&line.reading) {
+        Some(name) => Some(BlockLines {
+            line: line.line,
+            name,
+            lines: until_label(after),
+        }),
+        None => None,
+    }
+}
+
+fn add_labelled<'t, 'a: 'n, 'n>(
+    body: &'t [NumberedReading<'a>],
+    found: &mut Vec<BlockLines<'t, 'a, 'n>>,
+) -> Result<(), AllocError>
+    ensures { OnOk result (map seen_block found.new.items ≡ map seen_block found.old.items ++ labelled_blocks (seen_lines body.now)) }
+{
+    for (i, line) in body.iter().enumerate() {
+        if let Some(block) = block_at(line, &body[i + 1..]) {
+            found.push(block)?;
+        }
+    }
+    Ok(())
+}
+
 /// The blocks of a definition, in its order.
 pub(crate) fn blocks<'t, 'a: 'n, 'n>(
     alloc: Global,
@@ -174,24 +250,9 @@ pub(crate) fn blocks<'t, 'a: 'n, 'n>(
     ensures { IfOk result (λ found. map seen_block found.items ≡ blocks_of (seen_definition func.now)) }
 {
     let mut found = Vec::new(alloc);
-    let body = func.body;
-    if let Some(first) = body.first()
-        && label_of(&first.reading).is_none()
-    {
-        found.push(BlockLines {
-            line: func.line,
-            name: entry,
-            lines: until_label(body),
-        })?;
+    if let Some(block) = first_block(func, entry) {
+        found.push(block)?;
     }
-    for (i, line) in body.iter().enumerate() {
-        if let Some(name) = label_of(&line.reading) {
-            found.push(BlockLines {
-                line: line.line,
-                name,
-                lines: until_label(&body[i + 1..]),
-            })?;
-        }
-    }
+    add_labelled(func.body, &mut found)?;
     Ok(found)
 }

@@ -1,13 +1,21 @@
 //! The faults of layouts, declarations and heads, and of a module without a main function.
 
-ghost use Rattle.std.specs.Prelude.{◌≡◌, ◌⊎◌, ◌↔◌, IsTrue, map, codes};
+ghost use Rattle.std.specs.Prelude.{◌≡◌, ◌⊎◌, ◌↔◌, ◌&&◌, [], ◌∷◌, IsTrue, map, find, codes};
+ghost use Rattle.std.specs.Option.{option_copied};
+ghost use Rattle.std.specs.Str.{bytes_eq};
 ghost use Rattle.std.specs.List.{Contains, list_all};
 ghost use Rattle.ir_ast.specs.Lists.{HasFront};
 ghost use Rattle.ir_ast.specs.Faults.Reserved.{IsExternalName};
 ghost use Rattle.ir_reader.specs.Seen.{seen_argument};
 ghost use Rattle.ir_types.specs.Sections.{types_of};
-ghost use Rattle.ir_types.specs.Types.{same_types, is_cell};
-ghost use Rattle.ir_types.specs.Externals.{helpers};
+ghost use Rattle.ir_types.specs.Types.{same_type, same_types, is_cell};
+ghost use Rattle.ir_types.specs.Externals.{external, externals_of, own_externals, own_helpers, helpers, gc_new};
+ghost use Rattle.ir_types.specs.Notes.{Notes};
+ghost use Rattle.ir_types.specs.Tables.{seen_definition};
+ghost use Rattle.ir_types.specs.TopFaults.{DeclareFault, DefineFault, OuterFault, OuterFaults, LacksMain};
+ghost use Rattle.ir_types.specs.Views.{said, seen_lines};
+ghost use Rattle.ir_types.specs.Faults.NoMain.{is_main, is_status};
+ghost use Rattle.ir_types.specs.Faults.NoStrategy.{is_strategy};
 ghost use Rattle.ir_types.specs.Faults.BadLayout.{are_cells};
 
 use crate::best::First;
@@ -71,23 +79,67 @@ fn is_external_name(name: &[u8]) -> bool
         || is_of_llvm(name)
 }
 
-// What an external with a name of its own answers and takes.
-fn signature_of(name: &[u8]) -> Option<(TypeWord, &'static [TypeWord])> {
-    if is_text(name, b"print_i64") {
-        Some((TypeWord::Void, &[TypeWord::Int(64)]))
-    } else if is_text(name, b"read_i64") {
-        Some((TypeWord::Int(64), &[]))
-    } else if is_text(name, b"task_start") {
-        Some((TypeWord::Void, &[TypeWord::Plain, TypeWord::Managed]))
-    } else if is_text(name, b"gc.safepoint_poll") {
-        Some((TypeWord::Void, &[]))
-    } else if is_text(name, b"gc_check") {
-        Some((
+// Whether the declaration is the external of this name, with its answer and its parameters.
+fn is_same(
+    name: &[u8],
+    answer: TypeWord,
+    parameters: &[Argument],
+    due: &[u8],
+    gives: TypeWord,
+    takes: &[TypeWord],
+) -> bool
+    ensures { IsTrue result ↔ (external name.now answer (types_of (map seen_argument parameters.now)) ≡ external due.now gives takes.now) }
+{
+    is_text(name, due) && answer == gives && has_types(parameters, takes)
+}
+
+fn has_gc_new(name: &[u8]) -> bool
+    ensures { IsTrue result ↔ HasFront (codes "gc_new.") name.now }
+{
+    name.starts_with(GC_NEW)
+}
+
+// Whether the declaration answers and takes what `gc_new` of a layout does.
+fn is_gc_new(answer: TypeWord, parameters: &[Argument]) -> bool
+    ensures { result ≡ (same_type answer TypeWord.Managed && same_types (types_of (map seen_argument parameters.now)) (TypeWord.Int 64 ∷ [])) }
+{
+    answer == TypeWord::Managed && has_types(parameters, &[TypeWord::Int(64)])
+}
+
+// Whether it is one of the externals whose names are whole, with its answer and its parameters.
+fn is_own(name: &[u8], answer: TypeWord, parameters: &[Argument]) -> bool
+    ensures { IsTrue result ↔ Contains own_externals (external name.now answer (types_of (map seen_argument parameters.now))) }
+{
+    is_same(name, answer, parameters, b"print_i64", TypeWord::Void, &[TypeWord::Int(64)])
+        || is_same(name, answer, parameters, b"read_i64", TypeWord::Int(64), &[])
+        || is_same(
+            name,
+            answer,
+            parameters,
+            b"task_start",
+            TypeWord::Void,
+            &[TypeWord::Plain, TypeWord::Managed],
+        )
+        || is_own_helper(name, answer, parameters)
+}
+
+fn is_own_helper(name: &[u8], answer: TypeWord, parameters: &[Argument]) -> bool
+    ensures { IsTrue result ↔ Contains own_helpers (external name.now answer (types_of (map seen_argument parameters.now))) }
+{
+    is_same(name, answer, parameters, b"gc.safepoint_poll", TypeWord::Void, &[])
+        || is_same(
+            name,
+            answer,
+            parameters,
+            b"gc_check",
             TypeWord::Void,
             &[TypeWord::Managed, TypeWord::Managed, TypeWord::Int(64)],
-        ))
-    } else if is_text(name, b"gc_same") {
-        Some((
+        )
+        || is_same(
+            name,
+            answer,
+            parameters,
+            b"gc_same",
             TypeWord::Int(1),
             &[
                 TypeWord::Managed,
@@ -95,30 +147,46 @@ fn signature_of(name: &[u8]) -> Option<(TypeWord, &'static [TypeWord])> {
                 TypeWord::Managed,
                 TypeWord::Managed,
             ],
-        ))
-    } else {
-        None
-    }
+        )
 }
 
 impl Top<'_, '_> {
-    fn makes_layout(&self, name: &[u8]) -> bool {
-        name.starts_with(GC_NEW) && self.layouts.find(&name[GC_NEW.len()..]).is_some()
+    // Whether the name is that of `gc_new` of a layout.
+    fn makes_layout(&self, name: &[u8]) -> bool
+        ensures { IsTrue result ↔ Contains (map gc_new self.now.layouts) name.now }
+    {
+        has_gc_new(name) && self.layouts.find(&name[GC_NEW.len()..]).is_some()
     }
 
     // Whether it is one of the externals, with its answer and its parameters.
-    fn is_external(&self, answer: TypeWord, name: &[u8], parameters: &[Argument]) -> bool {
-        if self.makes_layout(name) {
-            return answer == TypeWord::Managed && has_types(parameters, &[TypeWord::Int(64)]);
-        }
-        match signature_of(name) {
-            Some((due, types)) => answer == due && has_types(parameters, types),
-            None => false,
-        }
+    fn is_external(&self, answer: TypeWord, name: &[u8], parameters: &[Argument]) -> bool
+        ensures { IsTrue result ↔ Contains (externals_of self.now.layouts) (external name.now answer (types_of (map seen_argument parameters.now))) }
+    {
+        (self.makes_layout(name) && is_gc_new(answer, parameters)) || is_own(name, answer, parameters)
     }
 
-    /// Notes the faults of a line outside functions.
-    pub(crate) fn note_line(&self, line: &NumberedReading, first: &mut First) {
+    // Notes the faults of a declaration.
+    fn note_declaration(
+        &self,
+        line: u32,
+        answer: TypeWord,
+        name: &[u8],
+        parameters: &[Argument],
+        first: &mut First,
+    )
+        ensures { Notes first.old.found first.new.found (λ at code. (at ≡ line)
+            × DeclareFault self.now.functions self.now.layouts answer name.now (map seen_argument parameters.now) code) }
+    {
+        first.note_if(self.functions.find(name).is_some(), line, 3);
+        first.note_if(!self.is_external(answer, name, parameters), line, 12);
+        first.note_if(is_helper(name) || is_of_llvm(name), line, 14);
+    }
+
+    // Notes the faults of a line outside functions.
+    fn note_line(&self, line: &NumberedReading, first: &mut First)
+        ensures { Notes first.old.found first.new.found (λ at code. (at ≡ line.now.line)
+            × OuterFault self.now.functions self.now.layouts (said line.now.reading) code) }
+    {
         match &line.reading {
             Reading::Layout { fields, .. } => {
                 first.note_if(!is_good_layout(fields.as_slice()), line.line, 13);
@@ -127,31 +195,65 @@ impl Top<'_, '_> {
                 answer,
                 name,
                 parameters,
-            } => {
-                first.note_if(self.functions.find(name).is_some(), line.line, 3);
-                let is_external = self.is_external(*answer, name, parameters.as_slice());
-                first.note_if(!is_external, line.line, 12);
-                first.note_if(is_helper(name) || is_of_llvm(name), line.line, 14);
-            }
-            Reading::Define { name, strategy, .. } => {
-                first.note_if(*strategy != Some(STRATEGY), line.line, 10);
-                first.note_if(is_external_name(name), line.line, 14);
-            }
+            } => self.note_declaration(line.line, *answer, name, parameters.as_slice(), first),
+            Reading::Define { name, strategy, .. } => note_head(line.line, name, *strategy, first),
             _ => {}
+        }
+    }
+
+    /// Notes the faults of lines outside functions.
+    pub(crate) fn note_lines(&self, lines: &[NumberedReading], first: &mut First)
+        ensures { Notes first.old.found first.new.found (OuterFaults self.now.functions self.now.layouts (seen_lines lines.now)) }
+    {
+        for line in lines {
+            self.note_line(line, first);
         }
     }
 }
 
-fn is_main(func: &Definition) -> bool {
-    func.arguments.is_empty() && matches!(func.answer, TypeWord::Int(32) | TypeWord::Int(64))
+fn is_strategy(strategy: Option<&[u8]>) -> bool
+    ensures { result ≡ is_strategy (option_copied strategy) }
+{
+    match strategy {
+        Some(name) => is_text(name, STRATEGY),
+        None => false,
+    }
+}
+
+// Notes the faults of the head of a definition.
+fn note_head(line: u32, name: &[u8], strategy: Option<&[u8]>, first: &mut First)
+    ensures { Notes first.old.found first.new.found (λ at code. (at ≡ line) × DefineFault name.now (option_copied strategy) code) }
+{
+    first.note_if(!is_strategy(strategy), line, 10);
+    first.note_if(is_external_name(name), line, 14);
+}
+
+fn is_status(answer: TypeWord) -> bool
+    ensures { result ≡ is_status answer }
+{
+    matches!(answer, TypeWord::Int(32) | TypeWord::Int(64))
+}
+
+fn is_main(func: &Definition) -> bool
+    ensures { result ≡ is_main (Some (seen_definition func.now)) }
+{
+    func.arguments.is_empty() && is_status(func.answer)
+}
+
+fn has_main(funcs: &[Definition]) -> bool
+    ensures { result ≡ is_main (find (λ func. bytes_eq func.name (codes "main")) (map seen_definition funcs.now)) }
+{
+    for func in funcs {
+        if is_text(func.name, b"main") {
+            return is_main(func);
+        }
+    }
+    false
 }
 
 /// Notes that there is no main function that takes nothing and answers `i32` or `i64`.
-pub(crate) fn note_main(funcs: &[Definition], first: &mut First) {
-    let found = funcs.iter().find(|func| is_text(func.name, b"main"));
-    let has_main = match found {
-        Some(func) => is_main(func),
-        None => false,
-    };
-    first.note_if(!has_main, 0, 11);
+pub(crate) fn note_main(funcs: &[Definition], first: &mut First)
+    ensures { Notes first.old.found first.new.found (LacksMain (map seen_definition funcs.now)) }
+{
+    first.note_if(!has_main(funcs), 0, 11);
 }
