@@ -48,7 +48,7 @@ pub record IsMapped {X Y : Type 0} (f : X → Y) (xs : List X) (y : Y) : Type 0 
 pub contained-mapped : {X Y : Type 0} (f : X → Y) (xs : List X) (y : Y) → Contains (map f xs) y → IsMapped f xs y
 contained-mapped f [] y within = absurd (contained-none y within)
 contained-mapped f (x ∷ xs) y within = elim (contained-cases (f x) (map f xs) y within) [
-  inl e ↦ record { from = x; within = contained-head x xs; gives = e }
+  | inl e ↦ record { from = x; within = contained-head x xs; gives = e }
   | inr w ↦ (let m : IsMapped f xs y = contained-mapped f xs y w in
       record { from = m.from; within = contained-more x xs m.from m.within; gives = m.gives })
 ]
@@ -58,7 +58,7 @@ contained-mapped f (x ∷ xs) y within = elim (contained-cases (f x) (map f xs) 
 pub contained-flat : {X Y : Type 0} (f : X → List Y) (xs : List X) (x : X) (y : Y) → Contains xs x → Contains (f x) y → Contains (flat_map f xs) y
 contained-flat f [] x y within stands = absurd (contained-none x within)
 contained-flat f (z ∷ zs) x y within stands = elim (contained-cases z zs x within) [
-  inl e ↦ Contains-append_left (f z) (flat_map f zs) y (subst (λ (w : _). Contains (f w) y) (sym e) stands)
+  | inl e ↦ Contains-append_left (f z) (flat_map f zs) y (subst (λ (w : _). Contains (f w) y) (sym e) stands)
   | inr w ↦ Contains-append_right (f z) (flat_map f zs) y (contained-flat f zs x y w stands)
 ]
 
@@ -70,7 +70,7 @@ pub record IsJoined {X Y : Type 0} (f : X → List Y) (xs : List X) (y : Y) : Ty
 pub contained-joined : {X Y : Type 0} (f : X → List Y) (xs : List X) (y : Y) → Contains (flat_map f xs) y → IsJoined f xs y
 contained-joined f [] y within = absurd (contained-none y within)
 contained-joined f (x ∷ xs) y within = elim (Contains-append_cases (f x) (flat_map f xs) y within) [
-  inl w ↦ record { from = x; within = contained-head x xs; gives = w }
+  | inl w ↦ record { from = x; within = contained-head x xs; gives = w }
   | inr w ↦ (let m : IsJoined f xs y = contained-joined f xs y w in
       record { from = m.from; within = contained-more x xs m.from m.within; gives = m.gives })
 ]

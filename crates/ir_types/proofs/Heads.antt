@@ -21,15 +21,16 @@ pub record IsDefined (lines : List Line) (func : Definition) : Type 0 where
 defined-here : (l : Line) (what : Statement) (after : List Line) (func : Definition) → l.says ≡ what
     → Contains (definition_said l.number what after) func → (l.number ≡ func.line) × (what ≡ define func.answer func.name func.arguments func.strategy)
 defined-here l (define answer name arguments strategy) after func e within =
-    let same = contained-one (record { line = l.number; answer = answer; name = name; arguments = arguments; strategy = strategy; body = take_while (λ m. not (is_close m.says)) after }) func within in
-    (ap (λ (f : Definition). f.line) same,
-     ap (λ (f : Definition). define f.answer f.name f.arguments f.strategy) same)
+    let same = contained-one (record { line = l.number; answer = answer; name = name; arguments = arguments; strategy = strategy; body = take_while (λ m. not (is_close m.says)) after }) func within in (
+      ap (λ (f : Definition). f.line) same,
+      ap (λ (f : Definition). define f.answer f.name f.arguments f.strategy) same,
+    )
 defined-here l _ after func e within = absurd (contained-none func within)
 
 pub line-defined : (lines : List Line) (func : Definition) → Contains (definitions_of lines) func → IsDefined lines func
 line-defined [] func within = absurd (contained-none func within)
 line-defined (l ∷ ls) func within = elim (Contains-append_cases (definition_said l.number l.says ls) (definitions_of ls) func within) [
-  inl w ↦ (let h = defined-here l l.says ls func refl w in record { head = l; within = contained-head l ls; line = h.0; says = h.1 })
+  | inl w ↦ (let h = defined-here l l.says ls func refl w in record { head = l; within = contained-head l ls; line = h.0; says = h.1 })
   | inr w ↦ (let d : IsDefined ls func = line-defined ls func w in
       record { head = d.head; within = contained-more l ls d.head d.within; line = d.line; says = d.says })
 ]
@@ -45,17 +46,17 @@ pub defined-line : (lines : List Line) (l : Line) (answer : TypeWord) (name : Li
     → Contains lines l → l.says ≡ define answer name arguments strategy → IsDefinition lines l.number name
 defined-line [] l answer name arguments strategy within e = absurd (contained-none l within)
 defined-line (m ∷ ms) l answer name arguments strategy within e = elim (contained-cases m ms l within) [
-  inl same ↦ (
-    let f : Definition = record { line = l.number; answer = answer; name = name; arguments = arguments; strategy = strategy; body = take_while (λ o. not (is_close o.says)) ms } in
-    let here : Contains (definition_said l.number l.says ms) f
-        = subst (λ (what : Statement). Contains (definition_said l.number what ms) f) (sym e) (contained-head f []) in
-    record {
-      func = f;
-      within = Contains-append_left (definition_said m.number m.says ms) (definitions_of ms) f
-          (subst (λ (o : Line). Contains (definition_said o.number o.says ms) f) (sym same) here);
-      line = refl;
-      named = refl;
-    })
+  | inl same ↦ (
+      let f : Definition = record { line = l.number; answer = answer; name = name; arguments = arguments; strategy = strategy; body = take_while (λ o. not (is_close o.says)) ms } in
+      let here : Contains (definition_said l.number l.says ms) f
+      = subst (λ (what : Statement). Contains (definition_said l.number what ms) f) (sym e) (contained-head f []) in
+      record {
+        func = f;
+        within = Contains-append_left (definition_said m.number m.says ms) (definitions_of ms) f
+            (subst (λ (o : Line). Contains (definition_said o.number o.says ms) f) (sym same) here);
+        line = refl;
+        named = refl;
+      })
   | inr w ↦ (let d : IsDefinition ms l.number name = defined-line ms l answer name arguments strategy w e in
       record { func = d.func; within = Contains-append_right (definition_said m.number m.says ms) (definitions_of ms) d.func d.within; line = d.line; named = d.named })
 ]

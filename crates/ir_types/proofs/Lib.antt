@@ -8,6 +8,7 @@ pub mod Founds
 pub mod Contained
 pub mod Heads
 pub mod Union
+pub mod CodeLemmas
 pub mod PlaceLemmas
 pub mod ScopeLemmas
 pub mod AgainLemmas

@@ -88,16 +88,16 @@ unknown-same scope tables what t =
     let heads = λ (name : List ℕ). is_none (head_named scope name) in
     let layouts = λ (name : List ℕ). is_none (layout_named scope name) in
     let used : misses_used tables.values (uses what) ≡ list_any values (values_named what)
-        = misses-filter_map tables.values (λ one. local_name one.0) (uses what)
-        ∙ misses-same tables.values values (missing-same (λ one. one.name) scope.values tables.values t.values) (values_named what) in
+    = misses-filter_map tables.values (λ one. local_name one.0) (uses what)
+    ∙ misses-same tables.values values (missing-same (λ one. one.name) scope.values tables.values t.values) (values_named what) in
     let blocked = misses-same tables.blocks blocks (missing-same (λ one. one.name) scope.blocks tables.blocks t.blocks) in
     let labelled : misses_label tables.blocks what ≡ list_any blocks (targets what ++ entry_labels what)
-        = or-same _ _ _ _ (blocked (targets what)) (blocked (entry_labels what)) ∙ sym (list_any-append blocks (targets what) (entry_labels what)) in
+    = or-same _ _ _ _ (blocked (targets what)) (blocked (entry_labels what)) ∙ sym (list_any-append blocks (targets what) (entry_labels what)) in
     let called : misses_function tables.heads what ≡ list_any heads (functions_named what)
-        = functions-missing tables.heads what
-        ∙ misses-same tables.heads heads (missing-same (λ one. one.name) scope.heads tables.heads t.heads) (functions_named what) in
+    = functions-missing tables.heads what
+    ∙ misses-same tables.heads heads (missing-same (λ one. one.name) scope.heads tables.heads t.heads) (functions_named what) in
     let laid : misses tables.layouts (layouts_named what) ≡ list_any layouts (layouts_named what)
-        = misses-same tables.layouts layouts (missing-same (λ one. one.name) scope.layouts tables.layouts t.layouts) (layouts_named what) in
+    = misses-same tables.layouts layouts (missing-same (λ one. one.name) scope.layouts tables.layouts t.layouts) (layouts_named what) in
     or-same _ _ _ _ (or-same _ _ _ _ (or-same _ _ _ _ used labelled) called) laid
 
 -- ---- types

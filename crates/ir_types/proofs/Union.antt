@@ -10,8 +10,8 @@ use Rattle.ir_types.specs.Statements.{Statement, Line, layout, declare, define, 
 use Rattle.ir_types.specs.Sections.{Head, Definition, Naming, BlockLines, head_said, layouts_of, heads_of, definitions_of, values_of, blocks_of, cases_of, types_of}
 use Rattle.ir_types.specs.Scope.{Scope, scope_of}
 use Rattle.ir_types.specs.InBody.{InBody}
-use Rattle.ir_types.specs.Again.{NamesFound, named_values, named_blocks}
-use Rattle.ir_types.specs.TopFaults.{OuterFault, DeclareFault, DefineFault, FoundByTop}
+use Rattle.ir_types.specs.Again.{TopAgain, NamesFound, named_values, named_blocks}
+use Rattle.ir_types.specs.TopFaults.{OuterFault, OuterFaults, LacksMain, DeclareFault, DefineFault, FoundByTop}
 use Rattle.ir_types.specs.Founds.{Found}
 use Rattle.ir_types.specs.LineFaults.{Coded, unknown_name as coded_name, type_clash as coded_clash, entry_has_pred as coded_entry, pointer_order as coded_order, pointer_cast as coded_cast, LineFault}
 use Rattle.ir_types.specs.FunctionFaults.{LinesOf, CasesOf, CasesBehind, WrongCases, CaseIsWrong, PhisOf, PhisOfBlock, StatementIsWrong, EscapesOf, Escapes, FoundWithin, FoundInFunction, InFunctions}
@@ -27,7 +27,7 @@ use Rattle.ir_types.specs.Notes.{Notes}
 use Rattle.ir_types.specs.declared.faults.Fault.{Fault}
 use Rattle.ir_types.specs.Faults.NoStrategy.{is_strategy, lacks_strategy}
 use Rattle.ir_types.specs.Faults.BadLayout.{are_cells, is_bad_layout}
-use Rattle.ir_types.proofs.NoteLemmas.{notes-same}
+use Rattle.ir_types.proofs.NoteLemmas.{Either, notes-then, notes-same}
 
 -- what is found in a text
 abbrev pub FoundInText : List Line → ℕ → ℕ → Type 0
@@ -166,18 +166,18 @@ fault-of-values : (lines : List Line) (func : Definition) (line code : ℕ) → 
 fault-of-values lines func line code defined (inl f) = at-code lines line code 3 f.0 (name_twice (value_again func defined f.1))
 fault-of-values lines func line code defined (inr f) =
     let m : IsMapped (λ (one : Naming). (one.line, one.name)) (values_of func) (line, f.1.name)
-        = contained-mapped (λ (one : Naming). (one.line, one.name)) (values_of func) (line, f.1.name) f.1.given in
+    = contained-mapped (λ (one : Naming). (one.line, one.name)) (values_of func) (line, f.1.name) f.1.given in
     at-code lines line code 14 f.0 (reserved (names_value func m.from defined m.within (ap (λ (p : ℕ × List ℕ). p.0) m.gives)
-        (inserted-named m.from.name f.1.name (ap (λ (p : ℕ × List ℕ). p.1) m.gives) f.1.inserted)))
+    (inserted-named m.from.name f.1.name (ap (λ (p : ℕ × List ℕ). p.1) m.gives) f.1.inserted)))
 
 fault-of-blocks : (lines : List Line) (func : Definition) (line code : ℕ) → Contains (definitions_of lines) func
     → NamesFound (named_blocks (blocks_of func)) line code → HasFault lines line code
 fault-of-blocks lines func line code defined (inl f) = at-code lines line code 3 f.0 (name_twice (label_again func defined f.1))
 fault-of-blocks lines func line code defined (inr f) =
     let m : IsMapped (λ (one : BlockLines). (one.line, one.name)) (blocks_of func) (line, f.1.name)
-        = contained-mapped (λ (one : BlockLines). (one.line, one.name)) (blocks_of func) (line, f.1.name) f.1.given in
+    = contained-mapped (λ (one : BlockLines). (one.line, one.name)) (blocks_of func) (line, f.1.name) f.1.given in
     at-code lines line code 14 f.0 (reserved (names_label func m.from defined m.within (ap (λ (p : ℕ × List ℕ). p.0) m.gives)
-        (inserted-named m.from.name f.1.name (ap (λ (p : ℕ × List ℕ). p.1) m.gives) f.1.inserted)))
+    (inserted-named m.from.name f.1.name (ap (λ (p : ℕ × List ℕ). p.1) m.gives) f.1.inserted)))
 
 fault-in-function : (lines : List Line) (func : Definition) (line code : ℕ) → Contains (definitions_of lines) func
     → FoundInFunction (scope_of lines func) func line code → HasFault lines line code
@@ -233,10 +233,10 @@ head-of-name : (lines : List Line) (name : List ℕ) → Contains (map (λ (one 
     → (head : Head) × Contains (heads_of lines) head × (head.defined ≡ true) × (head.name ≡ name)
 head-of-name lines name within =
     let m : IsMapped (λ (one : Definition). one.name) (definitions_of lines) name
-        = contained-mapped (λ (one : Definition). one.name) (definitions_of lines) name within in
+    = contained-mapped (λ (one : Definition). one.name) (definitions_of lines) name within in
     let d : IsDefined lines m.from = line-defined lines m.from m.within in
     let h : IsHeadOf lines d.head.number m.from.name true
-        = head-defined lines d.head m.from.answer m.from.name m.from.arguments m.from.strategy d.within d.says in
+    = head-defined lines d.head m.from.answer m.from.name m.from.arguments m.from.strategy d.within d.says in
     (h.head, h.within, h.kind, h.named ∙ m.gives)
 
 contained-as : (lines : List Line) (l : Line) (line : ℕ) (what : Statement) → Contains lines l → l.number ≡ line → l.says ≡ what
@@ -271,7 +271,7 @@ fault-of-declare lines l line code answer name parameters within e says (inr (in
     }))
 fault-of-declare lines l line code answer name parameters within e says (inr (inr f)) =
     at-code lines line code 14 f.0 (reserved (declares_helper answer name parameters
-        (contained-as lines l line (declare answer name parameters) within e says) f.1))
+    (contained-as lines l line (declare answer name parameters) within e says) f.1))
 
 fault-of-define : (lines : List Line) (l : Line) (line code : ℕ) (answer : TypeWord) (name : List ℕ) (arguments : List Named) (strategy : Option (List ℕ))
     → Contains lines l → l.number ≡ line → l.says ≡ define answer name arguments strategy → DefineFault name strategy code
@@ -286,7 +286,7 @@ fault-of-define lines l line code answer name arguments strategy within e says (
 fault-of-define lines l line code answer name arguments strategy within e says (inr f) =
     let d : IsDefinition lines l.number name = defined-line lines l answer name arguments strategy within says in
     at-code lines line code 14 f.0 (reserved (defines_external d.func d.within (d.line ∙ e)
-        (subst IsExternalName (sym d.named) f.1)))
+    (subst IsExternalName (sym d.named) f.1)))
 
 fault-of-layout : (lines : List Line) (l : Line) (line code : ℕ) (name : List ℕ) (fields : List TypeWord)
     → Contains lines l → l.number ≡ line → l.says ≡ layout name fields → (code ≡ 13) × (are_cells fields ≡ false)
@@ -330,8 +330,8 @@ by-line-found : (lines : List Line) (line code : ℕ) (test : Scope → Statemen
     → FoundInText lines line code
 by-line-found lines line code test b make =
     in-function lines b.func line code b.defined (inr (inl
-        (found-contained (λ here l c. (l ≡ here.number) × LineFault (scope_of lines b.func) here.says c) b.func.body b.found line code b.inside
-            (sym b.number, make b.faulty))))
+    (found-contained (λ here l c. (l ≡ here.number) × LineFault (scope_of lines b.func) here.says c) b.func.body b.found line code b.inside
+    (sym b.number, make b.faulty))))
 
 whole-found : {X : Type 0} (P : List X → X → List X → ℕ → ℕ → Type 0) (xs before : List X) (here : X) (after : List X) (line code : ℕ)
     → xs ≡ before ++ here ∷ after → P before here after line code → Found P xs line code
@@ -372,8 +372,8 @@ phi-found lines line p =
 escape-found : (lines : List Line) (line : ℕ) → DerivedEscapes lines line → FoundInText lines line 9
 escape-found lines line d =
     in-function lines d.func line 9 d.defined (inr (inr (inr (inr
-        (found-contained (λ here l c. (c ≡ 9) × (l ≡ here.number) × Escapes d.func here.says) d.func.body d.found line 9 d.inside
-            (refl, sym d.number, record { name = d.name; leaves = d.leaves; derived = d.derived }))))))
+    (found-contained (λ here l c. (c ≡ 9) × (l ≡ here.number) × Escapes d.func here.says) d.func.body d.found line 9 d.inside
+    (refl, sym d.number, record { name = d.name; leaves = d.leaves; derived = d.derived }))))))
 
 outside-found : (lines : List Line) (l : Line) (line code : ℕ) → Contains lines l → l.number ≡ line
     → OuterFault (map (λ one. one.name) (definitions_of lines)) (map (λ one. one.name) (layouts_of lines)) l.says code → FoundInText lines line code
@@ -401,7 +401,7 @@ named-defined : (lines : List Line) (l : Line) (what : Statement) (head : Head) 
 named-defined lines l (define answer name arguments strategy) head within e defined says =
     let d : IsDefinition lines l.number name = defined-line lines l answer name arguments strategy within e in
     subst (λ (n : List ℕ). Contains (map (λ (one : Definition). one.name) (definitions_of lines)) n) (d.named ∙ sym says.1)
-        (contained-map (λ (one : Definition). one.name) (definitions_of lines) d.func d.within)
+    (contained-map (λ (one : Definition). one.name) (definitions_of lines) d.func d.within)
 named-defined lines l (declare answer name parameters) head within e defined says =
     absurd (let bad : false ≡ true = sym says.0 ∙ defined in cc)
 named-defined lines l _ head within e defined says = absurd says
@@ -413,7 +413,7 @@ declared-found lines line d =
     let named = named-defined lines other.on other.on.says d.other other.within refl d.is_defined other.says in
     let same = subst (λ (n : List ℕ). Contains (map (λ (one : Definition). one.name) (definitions_of lines)) n) d.same named in
     outside-found lines own.on line 3 own.within (sym own.number ∙ d.number)
-        (declared-says lines own.on.says d.declared d.is_declared own.says same)
+    (declared-says lines own.on.says d.declared d.is_declared own.says same)
 
 twice-found : (lines : List Line) (line : ℕ) → NameTwice lines line → FoundInText lines line 3
 twice-found lines line (layout_again r) = inl (inl (refl, inl r))
@@ -436,23 +436,29 @@ reserved-found : (lines : List Line) (line : ℕ) → Reserved lines line → Fo
 reserved-found lines line (defines_external func defined e external) =
     let d : IsDefined lines func = line-defined lines func defined in
     outside-found lines d.head line 14 d.within (d.line ∙ e)
-        (at-says lines d.head (define func.answer func.name func.arguments func.strategy) 14 d.says (inr (refl, external)))
+    (at-says lines d.head (define func.answer func.name func.arguments func.strategy) 14 d.says (inr (refl, external)))
 reserved-found lines line (declares_helper answer name parameters stands helper) =
     outside-found lines (record { number = line; says = declare answer name parameters }) line 14 stands refl (inr (inr (refl, helper)))
 reserved-found lines line (names_value func one defined within e inserted) =
-    in-function lines func line 14 defined (inl (inl (inr (refl, record {
-      name = one.name;
-      given = subst (λ (n : ℕ). Contains (named_values (values_of func)) (n, one.name)) e
-          (contained-map (λ (o : Naming). (o.line, o.name)) (values_of func) one within);
-      inserted = inserted;
-    }))))
+    in-function lines func line 14 defined (inl (inl (inr (
+      refl,
+      record {
+        name = one.name;
+        given = subst (λ (n : ℕ). Contains (named_values (values_of func)) (n, one.name)) e
+            (contained-map (λ (o : Naming). (o.line, o.name)) (values_of func) one within);
+        inserted = inserted;
+      },
+    ))))
 reserved-found lines line (names_label func one defined within e inserted) =
-    in-function lines func line 14 defined (inl (inr (inr (refl, record {
-      name = one.name;
-      given = subst (λ (n : ℕ). Contains (named_blocks (blocks_of func)) (n, one.name)) e
-          (contained-map (λ (o : BlockLines). (o.line, o.name)) (blocks_of func) one within);
-      inserted = inserted;
-    }))))
+    in-function lines func line 14 defined (inl (inr (inr (
+      refl,
+      record {
+        name = one.name;
+        given = subst (λ (n : ℕ). Contains (named_blocks (blocks_of func)) (n, one.name)) e
+            (contained-map (λ (o : BlockLines). (o.line, o.name)) (blocks_of func) one within);
+        inserted = inserted;
+      },
+    ))))
 
 clash-found : (lines : List Line) (line : ℕ) → TypeClash lines line → FoundInText lines line 5
 clash-found lines line (by_line b) = by-line-found lines line 5 _ b (λ t. coded_clash refl t)
@@ -478,3 +484,14 @@ found-fault lines line _ (pointer_cast b) = by-line-found lines line 16 _ b (λ 
 pub notes-faults : (lines : List Line) (old new : Option Fault) → Notes old new (FoundInText lines) → Notes old new (λ line code. HasFault lines line code)
 notes-faults lines old new n =
     notes-same old new (FoundInText lines) (λ line code. HasFault lines line code) (fault-found lines) (found-fault lines) n
+
+-- the passes over a text, one after another
+pub notes-text : (lines : List Line) (old a b c new : Option Fault) → Notes old a (TopAgain lines)
+    → Notes a b (OuterFaults (map (λ one. one.name) (definitions_of lines)) (map (λ one. one.name) (layouts_of lines)) lines)
+    → Notes b c (LacksMain (definitions_of lines)) → Notes c new (InFunctions lines (definitions_of lines))
+    → Notes old new (λ line code. HasFault lines line code)
+notes-text lines old a b c new m n p q =
+    notes-faults lines old new
+    (notes-then old c new (FoundByTop lines) (InFunctions lines (definitions_of lines))
+    (notes-then old a c (TopAgain lines) (Either (OuterFaults (map (λ one. one.name) (definitions_of lines)) (map (λ one. one.name) (layouts_of lines)) lines) (LacksMain (definitions_of lines))) m
+    (notes-then a b c _ _ n p)) q)

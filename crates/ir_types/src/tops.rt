@@ -110,44 +110,60 @@ fn is_gc_new(answer: TypeWord, parameters: &[Argument]) -> bool
 fn is_own(name: &[u8], answer: TypeWord, parameters: &[Argument]) -> bool
     ensures { IsTrue result ↔ Contains own_externals (external name.now answer (types_of (map seen_argument parameters.now))) }
 {
-    is_same(name, answer, parameters, b"print_i64", TypeWord::Void, &[TypeWord::Int(64)])
-        || is_same(name, answer, parameters, b"read_i64", TypeWord::Int(64), &[])
-        || is_same(
-            name,
-            answer,
-            parameters,
-            b"task_start",
-            TypeWord::Void,
-            &[TypeWord::Plain, TypeWord::Managed],
-        )
-        || is_own_helper(name, answer, parameters)
+    is_same(
+        name,
+        answer,
+        parameters,
+        b"print_i64",
+        TypeWord::Void,
+        &[TypeWord::Int(64)],
+    ) || is_same(
+        name,
+        answer,
+        parameters,
+        b"read_i64",
+        TypeWord::Int(64),
+        &[],
+    ) || is_same(
+        name,
+        answer,
+        parameters,
+        b"task_start",
+        TypeWord::Void,
+        &[TypeWord::Plain, TypeWord::Managed],
+    ) || is_own_helper(name, answer, parameters)
 }
 
 fn is_own_helper(name: &[u8], answer: TypeWord, parameters: &[Argument]) -> bool
     ensures { IsTrue result ↔ Contains own_helpers (external name.now answer (types_of (map seen_argument parameters.now))) }
 {
-    is_same(name, answer, parameters, b"gc.safepoint_poll", TypeWord::Void, &[])
-        || is_same(
-            name,
-            answer,
-            parameters,
-            b"gc_check",
-            TypeWord::Void,
-            &[TypeWord::Managed, TypeWord::Managed, TypeWord::Int(64)],
-        )
-        || is_same(
-            name,
-            answer,
-            parameters,
-            b"gc_same",
-            TypeWord::Int(1),
-            &[
-                TypeWord::Managed,
-                TypeWord::Managed,
-                TypeWord::Managed,
-                TypeWord::Managed,
-            ],
-        )
+    is_same(
+        name,
+        answer,
+        parameters,
+        b"gc.safepoint_poll",
+        TypeWord::Void,
+        &[],
+    ) || is_same(
+        name,
+        answer,
+        parameters,
+        b"gc_check",
+        TypeWord::Void,
+        &[TypeWord::Managed, TypeWord::Managed, TypeWord::Int(64)],
+    ) || is_same(
+        name,
+        answer,
+        parameters,
+        b"gc_same",
+        TypeWord::Int(1),
+        &[
+            TypeWord::Managed,
+            TypeWord::Managed,
+            TypeWord::Managed,
+            TypeWord::Managed,
+        ],
+    )
 }
 
 impl Top<'_, '_> {
@@ -162,7 +178,8 @@ impl Top<'_, '_> {
     fn is_external(&self, answer: TypeWord, name: &[u8], parameters: &[Argument]) -> bool
         ensures { IsTrue result ↔ Contains (externals_of self.now.layouts) (external name.now answer (types_of (map seen_argument parameters.now))) }
     {
-        (self.makes_layout(name) && is_gc_new(answer, parameters)) || is_own(name, answer, parameters)
+        (self.makes_layout(name) && is_gc_new(answer, parameters))
+            || is_own(name, answer, parameters)
     }
 
     // Notes the faults of a declaration.
