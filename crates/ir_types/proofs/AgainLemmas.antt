@@ -112,11 +112,10 @@ found-one F names at one line code f = of f.before f.name f.after f.whole f.faul
     of : (before : List Given) (name : List ℕ) (after : List Given) → (at, one) ∷ [] ≡ before ++ (line, name) ∷ after
         → F (names ++ names_of before) name code → (line ≡ at) × F names one code
     of [] name after e faulty =
-        let same : (at, one) ≡ (line, name) = cc in (
-          sym (ap (λ (p : Given). p.0) same),
-          subst (λ (xs : List (List ℕ)). F xs one code) (append-nil names)
-              (subst (λ (n : List ℕ). F (names ++ []) n code) (sym (ap (λ (p : Given). p.1) same)) faulty),
-        )
+        let same : (at, one) ≡ (line, name) = cc in
+        (sym (ap (λ (p : Given). p.0) same),
+        subst (λ (xs : List (List ℕ)). F xs one code) (append-nil names)
+        (subst (λ (n : List ℕ). F (names ++ []) n code) (sym (ap (λ (p : Given). p.1) same)) faulty))
     of (b ∷ bs) name after e faulty =
         absurd (not-nil bs (line, name) after (let rest : [] ≡ bs ++ (line, name) ∷ after = cc in rest))
 

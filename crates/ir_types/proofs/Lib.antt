@@ -4,13 +4,7 @@ pub mod Samples
 pub mod TypeLists
 pub mod CaseLemmas
 pub mod NoteLemmas
-pub mod Founds
-pub mod Contained
-pub mod Heads
-pub mod Union
-pub mod CodeLemmas
-pub mod PlaceLemmas
-pub mod ScopeLemmas
-pub mod AgainLemmas
 pub mod Members
+pub mod AgainLemmas
+pub mod PlaceLemmas
 pub mod TopLemmas

@@ -110,60 +110,44 @@ fn is_gc_new(answer: TypeWord, parameters: &[Argument]) -> bool
 fn is_own(name: &[u8], answer: TypeWord, parameters: &[Argument]) -> bool
     ensures { IsTrue result ↔ Contains own_externals (external name.now answer (types_of (map seen_argument parameters.now))) }
 {
-    is_same(
-        name,
-        answer,
-        parameters,
-        b"print_i64",
-        TypeWord::Void,
-        &[TypeWord::Int(64)],
-    ) || is_same(
-        name,
-        answer,
-        parameters,
-        b"read_i64",
-        TypeWord::Int(64),
-        &[],
-    ) || is_same(
-        name,
-        answer,
-        parameters,
-        b"task_start",
-        TypeWord::Void,
-        &[TypeWord::Plain, TypeWord::Managed],
-    ) || is_own_helper(name, answer, parameters)
+    is_same(name, answer, parameters, b"print_i64", TypeWord::Void, &[TypeWord::Int(64)])
+        || is_same(name, answer, parameters, b"read_i64", TypeWord::Int(64), &[])
+        || is_same(
+            name,
+            answer,
+            parameters,
+            b"task_start",
+            TypeWord::Void,
+            &[TypeWord::Plain, TypeWord::Managed],
+        )
+        || is_own_helper(name, answer, parameters)
 }
 
 fn is_own_helper(name: &[u8], answer: TypeWord, parameters: &[Argument]) -> bool
     ensures { IsTrue result ↔ Contains own_helpers (external name.now answer (types_of (map seen_argument parameters.now))) }
 {
-    is_same(
-        name,
-        answer,
-        parameters,
-        b"gc.safepoint_poll",
-        TypeWord::Void,
-        &[],
-    ) || is_same(
-        name,
-        answer,
-        parameters,
-        b"gc_check",
-        TypeWord::Void,
-        &[TypeWord::Managed, TypeWord::Managed, TypeWord::Int(64)],
-    ) || is_same(
-        name,
-        answer,
-        parameters,
-        b"gc_same",
-        TypeWord::Int(1),
-        &[
-            TypeWord::Managed,
-            TypeWord::Managed,
-            TypeWord::Managed,
-            TypeWord::Managed,
-        ],
-    )
+    is_same(name, answer, parameters, b"gc.safepoint_poll", TypeWord::Void, &[])
+        || is_same(
+            name,
+            answer,
+            parameters,
+            b"gc_check",
+            TypeWord::Void,
+            &[TypeWord::Managed, TypeWord::Managed, TypeWord::Int(64)],
+        )
+        || is_same(
+            name,
+            answer,
+            parameters,
+            b"gc_same",
+            TypeWord::Int(1),
+            &[
+                TypeWord::Managed,
+                TypeWord::Managed,
+                TypeWord::Managed,
+                TypeWord::Managed,
+            ],
+        )
 }
 
 impl Top<'_, '_> {
@@ -178,8 +162,7 @@ impl Top<'_, '_> {
     fn is_external(&self, answer: TypeWord, name: &[u8], parameters: &[Argument]) -> bool
         ensures { IsTrue result ↔ Contains (externals_of self.now.layouts) (external name.now answer (types_of (map seen_argument parameters.now))) }
     {
-        (self.makes_layout(name) && is_gc_new(answer, parameters))
-            || is_own(name, answer, parameters)
+        (self.makes_layout(name) && is_gc_new(answer, parameters)) || is_own(name, answer, parameters)
     }
 
     // Notes the faults of a declaration.
@@ -229,7 +212,7 @@ impl Top<'_, '_> {
 }
 
 fn is_strategy(strategy: Option<&[u8]>) -> bool
-    ensures { result ≡ is_strategy (option_copied strategy) }
+    ensures { result ≡ is_strategy (option_copied strategy.entry) }
 {
     match strategy {
         Some(name) => is_text(name, STRATEGY),
@@ -239,7 +222,7 @@ fn is_strategy(strategy: Option<&[u8]>) -> bool
 
 // Notes the faults of the head of a definition.
 fn note_head(line: u32, name: &[u8], strategy: Option<&[u8]>, first: &mut First)
-    ensures { Notes first.old.found first.new.found (λ at code. (at ≡ line) × DefineFault name.now (option_copied strategy) code) }
+    ensures { Notes first.old.found first.new.found (λ at code. (at ≡ line) × DefineFault name.now (option_copied strategy.entry) code) }
 {
     first.note_if(!is_strategy(strategy), line, 10);
     first.note_if(is_external_name(name), line, 14);
