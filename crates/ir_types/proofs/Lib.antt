@@ -8,3 +8,9 @@ pub mod Members
 pub mod AgainLemmas
 pub mod PlaceLemmas
 pub mod TopLemmas
+pub mod Founds
+pub mod Contained
+pub mod Heads
+pub mod CodeLemmas
+pub mod ScopeLemmas
+pub mod Union

@@ -91,8 +91,8 @@ kept (Some fault) F = inl refl
 
 -- nothing is found
 pub notes-nothing : (old : Option Fault) (F : ℕ → ℕ → Type 0) → ((line code : ℕ) → ¬ F line code) → Notes old old F
-notes-nothing old F no = record {
+notes-nothing old F none = record {
   source = kept old F;
   earlier = λ fault e. record { fault = fault; is = e; first = inr (refl, omega arith) };
-  least = λ line code f. absurd (no line code f);
+  least = λ line code f. absurd (none line code f);
 }

@@ -1,5 +1,5 @@
 -- The tests of a line over tables are those over what its function can name.
-use Rattle.std.proofs.Common.{◌≡◌, ◌∙◌, ℕ, ◌<◌, Bool, true, false, cond, ◌&&◌, ◌||◌, List, [], ◌∷◌, ◌++◌, length, refl, ap, sym, subst, fun_ext, arith}
+use Rattle.std.proofs.Common.{◌≡◌, ◌∙◌, ℕ, ◌<◌, Bool, true, false, cond, ◌&&◌, ◌||◌, List, [], ◌∷◌, ◌++◌, length, refl, ap, sym, subst, arith}
 use Rattle.std.specs.Prelude.{Option, Some, None, map, filter_map, find, slice_get, option_map, is_none, not, nat_lt, codes, ◌==◌}
 use Rattle.std.specs.Option.{option_and_then}
 use Rattle.std.specs.List.{list_any, cons_option, position_or_len}
@@ -60,7 +60,7 @@ missing-same name_of xs names e name =
 
 misses-same : (names : List (List ℕ)) (q : List ℕ → Bool) → ((name : List ℕ) → is_none (place_in names name) ≡ q name)
     → (wanted : List (List ℕ)) → misses names wanted ≡ list_any q wanted
-misses-same names q h wanted = ap (λ (p : List ℕ → Bool). list_any p wanted) (fun_ext h)
+misses-same names q h wanted = λ i. list_any (λ name. h name i) wanted
 
 misses-step : (names : List (List ℕ)) (o : Option (List ℕ)) (more : List (List ℕ)) (rest : Bool) → rest ≡ misses names more
     → (is_missing names o || rest) ≡ misses names (cons_option o more)
@@ -119,8 +119,7 @@ fits-same scope tables t ty values.null = refl
 
 misfits-same : (scope : Scope) (tables : Tables) (what : Statement) → AreTables scope tables → misfits_in tables what ≡ misfits scope what
 misfits-same scope tables what t =
-    ap (λ (p : Val × TypeWord → Bool). list_any p (uses what))
-    (fun_ext (λ (used : Val × TypeWord). ap not (fits-same scope tables t used.1 used.0)))
+    λ i. list_any (λ (used : Val × TypeWord). not (fits-same scope tables t used.1 used.0 i)) (uses what)
 
 placed-same : (place : Option Literal) (found : Option LayoutLine) → count_fits place (option_map (λ one. length one.fields) found) ≡ place_fits place found
 placed-same None None = refl

@@ -17,7 +17,7 @@ use Rattle.ir_types.specs.LineFaults.{Coded, unknown_name as coded_name, type_cl
 use Rattle.ir_types.specs.FunctionFaults.{LinesOf, CasesOf, CasesBehind, WrongCases, CaseIsWrong, PhisOf, PhisOfBlock, StatementIsWrong, EscapesOf, Escapes, FoundWithin, FoundInFunction, InFunctions}
 use Rattle.ir_types.specs.FaultSet.{HasFault, name_twice, unknown_name, type_clash, entry_has_pred, phi_edges, derived_escapes, no_strategy, no_main, unknown_extern, bad_layout, reserved, pointer_order, pointer_cast}
 use Rattle.ir_types.specs.Faults.NameTwice.{NameTwice, DeclaresDefined, layout_again, head_again, declares_defined, label_again, value_again}
-use Rattle.ir_types.specs.Faults.TypeClash.{CaseClash, by_line, by_case}
+use Rattle.ir_types.specs.Faults.TypeClash.{TypeClash, CaseClash, by_line, by_case}
 use Rattle.ir_types.specs.Faults.PhiEdges.{PhiEdges}
 use Rattle.ir_types.specs.Faults.DerivedEscapes.{DerivedEscapes}
 use Rattle.ir_types.specs.Faults.Reserved.{Reserved, defines_external, declares_helper, names_value, names_label}

@@ -1,10 +1,9 @@
 //! The first fault of a text.
 
-ghost use Rattle.std.specs.Prelude.{◌≡◌, None, IfOk, OnOk, [], decimal, map, length};
+ghost use Rattle.std.specs.Prelude.{◌≡◌, None, IfOk, OnOk, List, [], map};
 ghost use Rattle.ir_reader.specs.Seen.{seen_argument};
 ghost use Rattle.ir_types.specs.FaultSet.{HasFault};
 ghost use Rattle.ir_types.specs.FunctionFaults.{FoundWithin, FoundInFunction, InFunctions};
-ghost use Rattle.ir_types.specs.LineFaults.{AreTables, tables_in};
 ghost use Rattle.ir_types.specs.Notes.{Notes};
 ghost use Rattle.ir_types.specs.Scope.{scope_of};
 ghost use Rattle.ir_types.specs.Sections.{arguments_named, blocks_of};

@@ -39,7 +39,7 @@ pub(crate) struct Scope<'s, 't, 'a, 'n> {
 
 // Whether a name, where there is one, isn't among these.
 fn is_missing(names: &Names, name: Option<&[u8]>) -> bool
-    ensures { result ≡ is_missing names.now (option_copied name) }
+    ensures { result ≡ is_missing names.now (option_copied name.entry) }
 {
     match name {
         Some(name) => names.find(name).is_none(),
@@ -49,7 +49,7 @@ fn is_missing(names: &Names, name: Option<&[u8]>) -> bool
 
 // Whether a name, where there is one, is that of the first of these.
 fn is_first(names: &Names, name: Option<&[u8]>) -> bool
-    ensures { result ≡ is_first names.now (option_copied name) }
+    ensures { result ≡ is_first names.now (option_copied name.entry) }
 {
     match name {
         Some(name) => names.number(name) == 0,
@@ -75,11 +75,11 @@ fn passed_function<'a>(passed: &Passed<'a>) -> Option<&'a [u8]>
     }
 }
 
-fn misses_value(names: &Names, uses: &[(Value, TypeWord)]) -> bool
-    ensures { result ≡ misses_used names.now (map seen_use uses.now) }
+fn misses_value(names: &Names, used: &[(Value, TypeWord)]) -> bool
+    ensures { result ≡ misses_used names.now (map seen_use used.now) }
 {
-    for used in uses {
-        if is_missing(names, local_name(&used.0)) {
+    for one in used {
+        if is_missing(names, local_name(&one.0)) {
             return true;
         }
     }
@@ -196,7 +196,7 @@ fn takes_pointer(parameters: &[Argument]) -> bool
 
 // Whether a task can start there.
 fn is_task(head: Option<&Head>) -> bool
-    ensures { result ≡ is_task (option_map (λ head. seen_head head.now) head) }
+    ensures { result ≡ is_task (option_map (λ one. seen_head one.now) head.entry) }
 {
     match head {
         Some(head) => {
@@ -208,7 +208,7 @@ fn is_task(head: Option<&Head>) -> bool
 
 // Whether a call has the types of what the head of its callee says.
 fn agrees(answer: TypeWord, passed: &[Passed], head: Option<&Head>) -> bool
-    ensures { result ≡ agrees answer (map seen_passed passed.now) (option_map (λ head. seen_head head.now) head) }
+    ensures { result ≡ agrees answer (map seen_passed passed.now) (option_map (λ one. seen_head one.now) head.entry) }
 {
     match head {
         Some(head) => same_type(answer, head.answer) && same_types(passed, head.parameters),
@@ -298,21 +298,21 @@ fn note_tests(tests: Tests, line: u32, first: &mut First)
 }
 
 impl Scope<'_, '_, '_, '_> {
-    fn misses_name(&self, reading: &Reading, uses: &[(Value, TypeWord)]) -> bool
-        requires { map seen_use uses.now ≡ uses (said reading.now) }
+    fn misses_name(&self, reading: &Reading, used: &[(Value, TypeWord)]) -> bool
+        requires { map seen_use used.now ≡ uses (said reading.now) }
         ensures { result ≡ misses_name (tables_in self.now) (said reading.now) }
     {
-        misses_value(&self.local.values, uses)
+        misses_value(&self.local.values, used)
             || misses_label(&self.local.blocks, reading)
             || misses_function(&self.top.heads, reading)
             || misses_layout(&self.top.layouts, reading)
     }
 
-    fn misfits(&self, uses: &[(Value, TypeWord)]) -> bool
-        ensures { result ≡ misfits_of self.now.local.now.values self.now.local.now.types.items (map seen_use uses.now) }
+    fn misfits(&self, used: &[(Value, TypeWord)]) -> bool
+        ensures { result ≡ misfits_of self.now.local.now.values self.now.local.now.types.items (map seen_use used.now) }
     {
-        for used in uses {
-            if !self.local.fits(used.1, &used.0) {
+        for one in used {
+            if !self.local.fits(one.1, &one.0) {
                 return true;
             }
         }
@@ -375,11 +375,11 @@ impl Scope<'_, '_, '_, '_> {
         }
     }
 
-    fn clashes(&self, reading: &Reading, uses: &[(Value, TypeWord)]) -> bool
-        requires { map seen_use uses.now ≡ uses (said reading.now) }
+    fn clashes(&self, reading: &Reading, used: &[(Value, TypeWord)]) -> bool
+        requires { map seen_use used.now ≡ uses (said reading.now) }
         ensures { result ≡ clashes_in (tables_in self.now) (said reading.now) }
     {
-        self.misfits(uses) || !self.keeps_rule(reading)
+        self.misfits(used) || !self.keeps_rule(reading)
     }
 
     fn names_entry(&self, reading: &Reading) -> bool
@@ -389,8 +389,8 @@ impl Scope<'_, '_, '_, '_> {
         is_first(&self.local.blocks, targets.one) || is_first(&self.local.blocks, targets.other)
     }
 
-    fn tests(&self, reading: &Reading, uses: &[(Value, TypeWord)]) -> Tests
-        requires { map seen_use uses.now ≡ uses (said reading.now) }
+    fn tests(&self, reading: &Reading, used: &[(Value, TypeWord)]) -> Tests
+        requires { map seen_use used.now ≡ uses (said reading.now) }
         ensures unknown { result.unknown ≡ misses_name (tables_in self.now) (said reading.now) }
         ensures clash { result.clash ≡ clashes_in (tables_in self.now) (said reading.now) }
         ensures entry { result.entry ≡ targets_first (tables_in self.now) (said reading.now) }
@@ -398,8 +398,8 @@ impl Scope<'_, '_, '_, '_> {
         ensures cast { result.cast ≡ is_cast (said reading.now) }
     {
         Tests {
-            unknown: self.misses_name(reading, uses),
-            clash: self.clashes(reading, uses),
+            unknown: self.misses_name(reading, used),
+            clash: self.clashes(reading, used),
             entry: self.names_entry(reading),
             order: orders_pointers(reading),
             cast: is_cast(reading),

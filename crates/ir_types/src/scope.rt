@@ -315,7 +315,12 @@ impl<'n> Local<'n> {
         Ok(())
     }
 
-    fn add_block(&mut self, line: u32, name: &'n [u8], first: &mut First) -> Result<(), AllocError>
+    fn add_block(
+        &mut self,
+        line: u32,
+        name: &'n [u8],
+        first: &mut First,
+    ) -> Result<(), AllocError>
         ensures values { OnOk result (self.new.values ≡ self.old.values) }
         ensures types { OnOk result (self.new.types.items ≡ self.old.types.items) }
         ensures blocks { OnOk result (self.new.blocks ≡ self.old.blocks ++ name.now ∷ []) }
