@@ -14,3 +14,4 @@ pub mod Heads
 pub mod CodeLemmas
 pub mod ScopeLemmas
 pub mod Union
+pub mod JoinLemmas

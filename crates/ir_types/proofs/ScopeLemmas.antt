@@ -13,7 +13,7 @@ use Rattle.ir_reader.specs.declared.readings.Literal.{Literal}
 use Rattle.ir_reader.specs.Parts.{Val}
 use Rattle.ir_reader.specs.Parts as values
 use Rattle.ir_reader.specs.Lists.{Given, given, function}
-use Rattle.ir_types.specs.Statements.{Statement, layout_step, call, ret_void, ret}
+use Rattle.ir_types.specs.Statements.{Statement, phi, layout_step, call, ret_void, ret}
 use Rattle.ir_types.specs.Parts.{uses, local_name, values_named, targets, entry_labels, passed_function, functions_named, layouts_named}
 use Rattle.ir_types.specs.Places.{place_in, number_in}
 use Rattle.ir_types.specs.Sections.{LayoutLine, Head, Naming}
@@ -23,7 +23,7 @@ use Rattle.ir_types.specs.Again.{at_name}
 use Rattle.ir_types.specs.Faults.UnknownName.{names_unknown}
 use Rattle.ir_types.specs.Faults.TypeClash.{misfits, place_fits, is_task, starts_task, agrees, call_agrees, keeps_rule, clashes}
 use Rattle.ir_types.specs.Faults.EntryHasPred.{names_entry}
-use Rattle.ir_types.specs.LineFaults.{Tables, AreTables, LineFault, LineFaultIn, Coded, is_missing, misses, misses_used, misses_label, misses_passed, misses_function, misses_name, type_fits, fits_in, misfits_in, count_fits, starts_at, task_starts, call_fits, rule_kept, clashes_in, targets_first}
+use Rattle.ir_types.specs.LineFaults.{Tables, AreTables, LineFault, LineFaultIn, Coded, is_missing, misses, misses_used, misses_label, misses_label_of_phi, misses_entry, misses_passed, misses_function, misses_name, type_fits, fits_in, misfits_in, count_fits, starts_at, task_starts, call_fits, rule_kept, clashes_in, targets_first}
 use Rattle.ir_types.specs.Faults.PointerOrder.{orders_pointers}
 use Rattle.ir_types.specs.Faults.PointerCast.{is_cast}
 use Rattle.ir_types.proofs.PlaceLemmas.{at-name}
@@ -78,6 +78,14 @@ functions-missing names (call result answer callee passed) =
     ap (λ b. is_none (place_in names callee) || b) (misses-filter_map names passed_function passed)
 functions-missing names _ = refl
 
+entries-missing : (names : List (List ℕ)) (entries : List (Val × List ℕ)) → misses_entry names entries ≡ misses names (map (λ entry. entry.1) entries)
+entries-missing names [] = refl
+entries-missing names (entry ∷ entries) = ap (λ b. is_none (place_in names entry.1) || b) (entries-missing names entries)
+
+labels-missing : (names : List (List ℕ)) (what : Statement) → misses_label_of_phi names what ≡ misses names (entry_labels what)
+labels-missing names (phi result ty entries) = entries-missing names entries
+labels-missing names _ = refl
+
 or-same : (a b c d : Bool) → a ≡ b → c ≡ d → (a || c) ≡ (b || d)
 or-same a b c d e f = ap (λ x. x || c) e ∙ ap (λ x. b || x) f
 
@@ -92,7 +100,7 @@ unknown-same scope tables what t =
     ∙ misses-same tables.values values (missing-same (λ one. one.name) scope.values tables.values t.values) (values_named what) in
     let blocked = misses-same tables.blocks blocks (missing-same (λ one. one.name) scope.blocks tables.blocks t.blocks) in
     let labelled : misses_label tables.blocks what ≡ list_any blocks (targets what ++ entry_labels what)
-    = or-same _ _ _ _ (blocked (targets what)) (blocked (entry_labels what)) ∙ sym (list_any-append blocks (targets what) (entry_labels what)) in
+    = or-same _ _ _ _ (blocked (targets what)) (labels-missing tables.blocks what ∙ blocked (entry_labels what)) ∙ sym (list_any-append blocks (targets what) (entry_labels what)) in
     let called : misses_function tables.heads what ≡ list_any heads (functions_named what)
     = functions-missing tables.heads what
     ∙ misses-same tables.heads heads (missing-same (λ one. one.name) scope.heads tables.heads t.heads) (functions_named what) in

@@ -12,8 +12,8 @@ use Rattle.ir_reader.specs.Parts.{Val}
 use Rattle.ir_reader.specs.Parts as values
 use Rattle.ir_reader.specs.Lists.{Given, given, function}
 use Rattle.ir_types.specs.declared.lines.Scope.{Scope as ScopeTable}
-use Rattle.ir_types.specs.Statements.{Statement, Line, convert, select, layout_step, load, store, call, ret_void, ret}
-use Rattle.ir_types.specs.Parts.{uses, local_name, targets, entry_labels, passed_function, layouts_named}
+use Rattle.ir_types.specs.Statements.{Statement, Line, convert, select, phi, layout_step, load, store, call, ret_void, ret}
+use Rattle.ir_types.specs.Parts.{uses, local_name, targets, passed_function, layouts_named}
 use Rattle.ir_types.specs.Places.{place_in, number_in}
 use Rattle.ir_types.specs.Sections.{Head}
 use Rattle.ir_types.specs.Scope.{Scope}
@@ -99,8 +99,15 @@ misses names wanted = list_any (λ name. is_none (place_in names name)) wanted
 abbrev pub misses_used : List (List ℕ) → List (Val × TypeWord) → Bool
 misses_used names used = list_any (λ one. is_missing names (local_name one.0)) used
 
+abbrev pub misses_entry : List (List ℕ) → List (Val × List ℕ) → Bool
+misses_entry names entries = list_any (λ entry. is_none (place_in names entry.1)) entries
+
+abbrev pub misses_label_of_phi : List (List ℕ) → Statement → Bool
+misses_label_of_phi names (phi result ty entries) = misses_entry names entries
+misses_label_of_phi names _ = false
+
 abbrev pub misses_label : List (List ℕ) → Statement → Bool
-misses_label names what = misses names (targets what) || misses names (entry_labels what)
+misses_label names what = misses names (targets what) || misses_label_of_phi names what
 
 abbrev pub misses_passed : List (List ℕ) → List Given → Bool
 misses_passed names passed = list_any (λ one. is_missing names (passed_function one)) passed

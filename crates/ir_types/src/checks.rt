@@ -38,8 +38,8 @@ fn note_body(
 {
     scope.note_lines(alloc, func.body, first)?;
     note_cases(alloc, func.body, first)?;
-    note_phis(alloc, scope.local, blocks, first)?;
-    note_escapes(alloc, scope.local, func.arguments.len(), func.body, first)
+    note_phis(alloc, scope.local, func, blocks, first)?;
+    note_escapes(alloc, scope.local, func, first)
 }
 
 // Notes the faults of a definition with these names and blocks.

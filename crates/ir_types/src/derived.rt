@@ -1,8 +1,15 @@
 //! Derived pointers (Garbage Collection Safepoints in LLVM, "Base & Derived Pointers").
 
+ghost use Rattle.std.specs.Prelude.{OnOk};
+ghost use Rattle.ir_types.specs.FunctionFaults.{EscapesOf};
+ghost use Rattle.ir_types.specs.Notes.{Notes};
+ghost use Rattle.ir_types.specs.Tables.{seen_definition, IsLocal};
+ghost use Rattle.ir_types.specs.Views.{seen_lines};
+
 use crate::best::First;
 use crate::parts::{given, is_merge, is_step, uses};
 use crate::scope::Local;
+use crate::sections::Definition;
 use ir_reader::{NumberedReading, Passed, Reading, Value};
 use std::alloc::{AllocError, Global};
 
@@ -147,12 +154,14 @@ impl Local<'_> {
 pub(crate) fn note_escapes(
     alloc: Global,
     local: &Local,
-    arguments: usize,
-    body: &[NumberedReading],
+    func: &Definition,
     first: &mut First,
-) -> Result<(), AllocError> {
-    let marks = derived(alloc, local, arguments, body)?;
-    for line in body {
+) -> Result<(), AllocError>
+    requires { IsLocal (seen_definition func.now) local.now }
+    ensures { OnOk result (Notes first.old.found first.new.found (EscapesOf (seen_definition func.now) (seen_lines func.now.body.now))) }
+{
+    let marks = derived(alloc, local, func.arguments.len(), func.body)?;
+    for line in func.body {
         first.note_if(local.lets_escape(&marks, &line.reading), line.line, 9);
     }
     Ok(())

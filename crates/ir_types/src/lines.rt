@@ -3,11 +3,11 @@
 ghost use Rattle.std.specs.Prelude.{◌≡◌, ◌∷◌, ◌||◌, [], not, map, is_none, option_map, OnOk};
 ghost use Rattle.std.specs.Option.{option_copied};
 ghost use Rattle.ir_reader.specs.Seen.{seen_argument, seen_entry, seen_passed, seen_value};
-ghost use Rattle.ir_types.specs.LineFaults.{Coded, LineFaultIn, tables_in, seen_use, is_missing, is_first, misses, misses_used, misses_label, misses_passed, misses_function, misses_name, misfits_of, count_fits, starts_at, task_starts, call_fits, rule_kept, clashes_in, targets_first};
+ghost use Rattle.ir_types.specs.LineFaults.{Coded, LineFaultIn, tables_in, seen_use, is_missing, is_first, misses, misses_used, misses_entry, misses_label_of_phi, misses_label, misses_passed, misses_function, misses_name, misfits_of, count_fits, starts_at, task_starts, call_fits, rule_kept, clashes_in, targets_first};
 ghost use Rattle.ir_types.specs.FunctionFaults.{LinesIn};
 ghost use Rattle.ir_types.specs.Modules.{passed_type};
 ghost use Rattle.ir_types.specs.Notes.{Notes};
-ghost use Rattle.ir_types.specs.Parts.{local_name, passed_function, layouts_named, entry_labels, targets, uses};
+ghost use Rattle.ir_types.specs.Parts.{local_name, passed_function, layouts_named, targets, uses};
 ghost use Rattle.ir_types.specs.Places.{place_in};
 ghost use Rattle.ir_types.specs.Sections.{types_of};
 ghost use Rattle.ir_types.specs.Tables.{seen_head};
@@ -22,6 +22,7 @@ use crate::literals::{is_cell, same_type};
 use crate::names::{Names, is_text};
 use crate::parts::{targets, uses};
 use crate::scope::{Head, Local, Top};
+use crate::tops::has_types;
 use ir_ast::Pred;
 use ir_reader::{
     Argument, Conversion, Entry, Literal, NumberedReading, Passed, Reading, TypeWord, Value,
@@ -98,7 +99,7 @@ fn misses_function_passed(names: &Names, passed: &[Passed]) -> bool
 }
 
 fn misses_entry(names: &Names, entries: &[Entry]) -> bool
-    ensures { result ≡ misses names.now (map (λ entry. entry.1) (map seen_entry entries.now)) }
+    ensures { result ≡ misses_entry names.now (map seen_entry entries.now) }
 {
     for entry in entries {
         if is_missing(names, Some(entry.label)) {
@@ -116,7 +117,7 @@ fn misses_target(names: &Names, reading: &Reading) -> bool
 }
 
 fn misses_label_of_phi(names: &Names, reading: &Reading) -> bool
-    ensures { result ≡ misses names.now (entry_labels (said reading.now)) }
+    ensures { result ≡ misses_label_of_phi names.now (said reading.now) }
 {
     match reading {
         Reading::Phi { entries, .. } => misses_entry(names, entries.as_slice()),
@@ -185,22 +186,13 @@ fn same_types(passed: &[Passed], parameters: &[Argument]) -> bool
     true
 }
 
-fn takes_pointer(parameters: &[Argument]) -> bool
-    ensures { result ≡ same_types (types_of (map seen_argument parameters.now)) (TypeWord.Managed ∷ []) }
-{
-    match parameters {
-        [one] => same_type(one.ty, TypeWord::Managed),
-        _ => false,
-    }
-}
-
 // Whether a task can start there.
 fn is_task(head: Option<&Head>) -> bool
     ensures { result ≡ is_task (option_map (λ one. seen_head one.now) head.entry) }
 {
     match head {
         Some(head) => {
-            head.defined && same_type(head.answer, TypeWord::Void) && takes_pointer(head.parameters)
+            head.defined && same_type(head.answer, TypeWord::Void) && has_types(head.parameters, &[TypeWord::Managed])
         }
         None => false,
     }

@@ -1,9 +1,17 @@
 //! The edges into blocks and the entries of phis.
 
+ghost use Rattle.std.specs.Prelude.{◌≡◌, List, map, OnOk};
+ghost use Rattle.ir_types.specs.FunctionFaults.{PhisOf};
+ghost use Rattle.ir_types.specs.Notes.{Notes};
+ghost use Rattle.ir_types.specs.Scope.{scope_of};
+ghost use Rattle.ir_types.specs.Sections.{blocks_of};
+ghost use Rattle.ir_types.specs.Statements.{Line};
+ghost use Rattle.ir_types.specs.Tables.{seen_definition, seen_block, IsLocal};
+
 use crate::best::First;
 use crate::parts::targets;
 use crate::scope::Local;
-use crate::sections::BlockLines;
+use crate::sections::{BlockLines, Definition};
 use ir_ast::Operand;
 use ir_reader::{Entry, Reading, TypeWord};
 use std::alloc::{AllocError, Global};
@@ -113,9 +121,15 @@ fn note_phis_of(
 pub(crate) fn note_phis(
     alloc: Global,
     local: &Local,
+    func: &Definition,
     blocks: &[BlockLines],
     first: &mut First,
-) -> Result<(), AllocError> {
+) -> Result<(), AllocError>
+    requires local { IsLocal (seen_definition func.now) local.now }
+    requires blocks { map seen_block blocks.now ≡ blocks_of (seen_definition func.now) }
+    ensures { (lines : List Line) → OnOk result (Notes first.old.found first.new.found
+        (PhisOf (scope_of lines (seen_definition func.now)) (blocks_of (seen_definition func.now)))) }
+{
     let into = sources(alloc, local, blocks)?;
     for (block, into) in blocks.iter().zip(into.iter()) {
         note_phis_of(alloc, local, block, into.as_slice(), first)?;

@@ -1,4 +1,5 @@
-use Rattle.std.proofs.Common.{arith}
+use Rattle.std.proofs.Common.{◌≡◌, ◌∙◌, sym, length, arith}
+use Rattle.std.proofs.lemmas.List.{length-map}
 use Rattle.ir_types.specs.Views.{seen_line, seen_lines}
 use Rattle.ir_types.specs.LineFaults.{tables_in}
 use Rattle.ir_types.specs.FunctionFaults.{LineInAt}
@@ -14,3 +15,9 @@ loop-line-preserved c =
     c.args.first.now.found c.loop-line.first.found c.note_line.new.first.found
     (seen-at seen_line c.args.lines.now c.loop-line.line-index c.line-item.result c.loop-line-test.true c.line-item.is)
     c.loop-line.invariant c.in_ok-note_line.ensures
+
+pub returns : goal.returns
+returns c =
+    let end : c.loop-line.line-index ≡ length c.args.lines.now = omega arith in
+    notes-all (LineInAt (tables_in c.args.self.now)) (seen_lines c.args.lines.now) c.loop-line.line-index c.args.first.now.found c.loop-line.first.found
+    (end ∙ sym (length-map c.args.lines.now seen_line)) c.loop-line.invariant
