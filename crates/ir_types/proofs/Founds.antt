@@ -60,6 +60,9 @@ cut-at xs k x at =
     ∙ ap (λ y. y ∷ drop (suc k) xs) (get_or_from_slice_get xs k x x at)
     ∙ ap (λ n. x ∷ drop n xs) (sym (add-one k))
 
+pub cut-item : {X : Type 0} (xs : List X) (k : ℕ) (x : X) → k < length xs → x ≡ get_or xs k x → drop k xs ≡ x ∷ drop (k + 1) xs
+cut-item xs k x below is = cut-at xs k x (slice_get-get_or xs k x below ∙ ap Some (sym is))
+
 pub split-at : {X : Type 0} (xs : List X) (k : ℕ) (x : X) → slice_get xs k ≡ Some x → xs ≡ take k xs ++ x ∷ drop (k + 1) xs
 split-at xs k x at = sym (take-append-drop k xs) ∙ ap (λ ys. take k xs ++ ys) (cut-at xs k x at)
 
