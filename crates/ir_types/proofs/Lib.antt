@@ -15,3 +15,4 @@ pub mod CodeLemmas
 pub mod ScopeLemmas
 pub mod Union
 pub mod JoinLemmas
+pub mod CaseNotes

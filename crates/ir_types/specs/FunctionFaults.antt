@@ -1,6 +1,6 @@
 -- What the passes over a function find.
-use Rattle.std.specs.Prelude.{◌≡◌, ◌≢◌, ℕ, ◌⊎◌, List, Some, map, filter_map, length}
-use Rattle.std.specs.List.{Contains}
+use Rattle.std.specs.Prelude.{◌≡◌, ◌≢◌, ℕ, ◌⊎◌, Bool, false, nat_eq, List, Option, None, Some, map, filter_map, length}
+use Rattle.std.specs.List.{list_any, Contains}
 use Rattle.ir_reader.specs.declared.readings.TypeWord.{TypeWord}
 use Rattle.ir_reader.specs.Parts.{Val}
 use Rattle.ir_types.specs.declared.scope.Local.{Local}
@@ -32,10 +32,25 @@ LinesOf scope body = Found (LineAt scope) body
 
 -- ---- cases
 
+-- a number, where there is one, that is one of these
+abbrev pub is_among : List ℕ → Option ℕ → Bool
+is_among numbers None = false
+is_among numbers (Some number) = list_any (nat_eq number) numbers
+
+-- a number, where there is one, that is this one
+abbrev pub is_number : Option ℕ → ℕ → Bool
+is_number None value = false
+is_number (Some number) value = nat_eq number value
+
+-- a case of another width than its `switch`, or with one of these numbers
+abbrev pub IsWrongAmong : ℕ → ℕ → Option ℕ → List ℕ → Type 0
+IsWrongAmong width case_width number numbers =
+    (case_width ≢ width) ⊎ ((value : ℕ) × (number ≡ Some value) × Contains numbers value)
+
 -- a case of another width than its `switch`, or with the value of an earlier case
 abbrev pub CaseIsWrong : ℕ → List Line → Statement → Type 0
 CaseIsWrong width earlier (switch_case case_width case to) =
-    (case_width ≢ width) ⊎ ((value : ℕ) × (number_said width case ≡ Some value) × Contains (case_numbers width earlier) value)
+    IsWrongAmong width case_width (number_said width case) (case_numbers width earlier)
 CaseIsWrong width earlier _ = ⊥
 
 abbrev pub CaseAt : ℕ → List Line → Line → List Line → ℕ → ℕ → Type 0

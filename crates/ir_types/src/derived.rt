@@ -13,12 +13,11 @@ use crate::sections::Definition;
 use ir_reader::{NumberedReading, Passed, Reading, Value};
 use std::alloc::{AllocError, Global};
 
-/// Which values of a function are derived, by number.
+/// Which values of a function are derived, by number, and these values in the order in which they were found.
 #[derive(Drop)]
 struct Marks {
     marked: Vec<bool>,
-    // Marked values whose users are still to be looked at.
-    open: Vec<usize>,
+    list: Vec<usize>,
 }
 
 impl Marks {
@@ -30,8 +29,27 @@ impl Marks {
         if let Some(mark) = self.marked.get_mut(value) {
             if !*mark {
                 *mark = true;
-                self.open.push(value)?;
+                self.list.push(value)?;
             }
+        }
+        Ok(())
+    }
+
+    fn mark_all(&mut self, values: &[usize]) -> Result<(), AllocError> {
+        for value in values {
+            self.mark(*value)?;
+        }
+        Ok(())
+    }
+
+    // Marks the users of what is marked, and theirs. No value is marked twice, so there are at most as many rounds as
+    // values.
+    fn mark_users(&mut self, users: &Users) -> Result<(), AllocError> {
+        for next in 0..self.marked.len() {
+            let Some(value) = self.list.get(next).copied() else {
+                return Ok(());
+            };
+            self.mark_all(users_of(users, value))?;
         }
         Ok(())
     }
@@ -39,6 +57,13 @@ impl Marks {
 
 // For each value the phis and selects that use it.
 type Users = Vec<Vec<usize>>;
+
+fn users_of(users: &Users, value: usize) -> &[usize] {
+    match users.get(value) {
+        Some(users) => users.as_slice(),
+        None => &[],
+    }
+}
 
 fn add_user(users: &mut Users, value: usize, user: usize) -> Result<(), AllocError> {
     if let Some(users) = users.get_mut(value) {
@@ -90,7 +115,7 @@ fn derived(
 ) -> Result<Marks, AllocError> {
     let mut marks = Marks {
         marked: Vec::new(alloc),
-        open: Vec::new(alloc),
+        list: Vec::new(alloc),
     };
     let mut users: Users = Vec::new(alloc);
     for _ in local.values.list() {
@@ -106,13 +131,7 @@ fn derived(
             number = number.saturating_add(1);
         }
     }
-    while let Some(value) = marks.open.pop() {
-        if let Some(users) = users.get(value) {
-            for user in users {
-                marks.mark(*user)?;
-            }
-        }
-    }
+    marks.mark_users(&users)?;
     Ok(marks)
 }
 

@@ -1,5 +1,6 @@
 use Rattle.ir_types.proofs.CodeLemmas.{notes-coded}
 use Rattle.ir_types.proofs.Union.{notes-text}
+use Rattle.ir_types.proofs.CaseNotes.{notes-case}
 use Rattle.ir_types.proofs.JoinLemmas.{notes-within}
 use Rattle.ir_types.proofs.ScopeLemmas.{line-in}
 use Rattle.ir_types.proofs.lines.note_tests.Goals as goal
