@@ -2,7 +2,7 @@
 use Rattle.std.proofs.Common.{◌≡◌, ◌≢◌, ◌∙◌, ℕ, ◌+◌, ◌<◌, ◌⊎◌, inl, inr, Bool, true, false, not, cond, ◌||◌, List, [], ◌∷◌, ◌++◌, length, take, drop, refl, ap, sym, subst, arith, append_assoc, length-append}
 use Rattle.std.specs.Prelude.{Option, Some, None, slice_get, filter_map, IsTrue, nat_eq, if◌then◌else◌}
 use Rattle.std.specs.List.{list_any, cons_option, Contains}
-use Rattle.std.proofs.Math.Seq.{take-append_seam}
+use Rattle.std.proofs.Math.Seq.{take-length, drop-length}
 use Rattle.std.proofs.lemmas.List.{take_more, length-take-le}
 use Rattle.std.proofs.lemmas.Option.{slice_get_within, get_or_from_slice_get}
 use Rattle.std.proofs.lemmas.List.Elements.{filter_map-append}
@@ -12,9 +12,16 @@ use Rattle.std.proofs.lemmas.Bool.Decides.{eqb_tells}
 use Rattle.ir_types.specs.declared.faults.Fault.{Fault}
 use Rattle.ir_types.specs.Statements.{Line, Statement}
 use Rattle.ir_types.specs.Sections.{is_case, cases_of}
+use Rattle.ir_reader.specs.declared.readings.Reading.{Reading}
+use Rattle.ir_reader.specs.declared.readings.Reading.TheVariants.{Case}
+use Rattle.ir_reader.specs.declared.readings.Value.{Value}
+use Rattle.ir_reader.specs.declared.raw.NumberedReading.{NumberedReading}
+use Rattle.ir_reader.specs.Seen.{seen_value}
+use Rattle.ir_types.specs.Views.{said, seen_line}
+use denote.Bor.{Bor}
 use Rattle.ir_types.specs.Notes.{Notes, Is}
-use Rattle.ir_types.specs.Faults.TypeClash.{case_number, case_numbers}
-use Rattle.ir_types.specs.FunctionFaults.{is_among, is_number, IsWrongAmong}
+use Rattle.ir_types.specs.Faults.TypeClash.{case_number, case_numbers, number_said}
+use Rattle.ir_types.specs.FunctionFaults.{is_among, is_number, CaseAt, CaseIsWrong, IsWrongAmong}
 use Rattle.ir_types.proofs.NoteLemmas.{notes-same}
 use Rattle.ir_types.proofs.Founds.{cut-at, IsWholeAt, whole-at}
 
@@ -75,10 +82,13 @@ cases-stop lines i l at e run =
         ∙ ap (λ b. take i lines ++ cond b (l ∷ cases_of (drop (i + 1) lines)) []) e ∙ append-nil (take i lines) in
     sym (ap length all ∙ long-enough lines i l at)
 
-pub cases-end : (lines : List Line) (i : ℕ) → drop i lines ≡ [] → take i lines ≡ lines → i ≡ length lines → AreCases lines i → i ≡ length (cases_of lines)
-cases-end lines i none all n run =
-    let whole : cases_of lines ≡ lines = run ∙ ap (λ ls. take i lines ++ cases_of ls) none ∙ append-nil (take i lines) ∙ all in
-    n ∙ sym (ap length whole)
+cases-all : (lines : List Line) → AreCases lines (length lines) → cases_of lines ≡ lines
+cases-all lines run =
+    run ∙ ap (λ ls. take (length lines) lines ++ cases_of ls) (drop-length lines) ∙ append-nil (take (length lines) lines) ∙ take-length lines
+
+pub cases-end : (lines : List Line) (i : ℕ) → i ≡ length lines → AreCases lines i → i ≡ length (cases_of lines)
+cases-end lines i n run =
+    n ∙ sym (ap length (cases-all lines (subst (λ (k : ℕ). AreCases lines k) n run)))
 
 -- ---- their numbers
 
@@ -156,3 +166,31 @@ differs-to w v e same = let bad : false ≡ true = sym (ap not (subst (λ (x : �
 
 pub differs-by : (w v : ℕ) → w ≢ v → not (nat_eq w v) ≡ true
 differs-by w v ne = elim (eqb_tells w v) [ inl t ↦ absurd (ne t.1) | inr t ↦ ap not t.0 ]
+
+-- ---- one more case
+
+same-wrong : (width case_width : ℕ) (number : Option ℕ) (ks js : List ℕ) → ((value : ℕ) → list_any (nat_eq value) ks ≡ list_any (nat_eq value) js)
+    → IsWrongAmong width case_width number ks → IsWrongAmong width case_width number js
+same-wrong width case_width number ks js same (inl ne) = inl ne
+same-wrong width case_width number ks js same (inr f) =
+    inr (f.0, f.1, among-contains f.0 js (sym (same f.0) ∙ contains-among f.0 ks f.2))
+
+said-case : (width : ℕ) (earlier : List Line) (r : Reading) (case_width : ℕ) (value : Value) (label : Bor (List ℕ)) → r ≡ Case case_width value label
+    → CaseIsWrong width earlier (said r) ≡ IsWrongAmong width case_width (number_said width (seen_value value)) (case_numbers width earlier)
+said-case width earlier r case_width value label e = ap (λ (s : Reading). CaseIsWrong width earlier (said s)) e
+
+pub notes-at-case : (width case_width : ℕ) (value : Value) (label : Bor (List ℕ)) (ks : List ℕ) (earlier : List Line) (here : NumberedReading) (later : List Line)
+    (old new : Option Fault) → here.reading ≡ Case case_width value label
+    → ((one : ℕ) → list_any (nat_eq one) ks ≡ list_any (nat_eq one) (case_numbers width earlier))
+    → Notes old new (λ l code. (code ≡ 5) × (l ≡ here.line) × IsWrongAmong width case_width (number_said width (seen_value value)) ks)
+    → Notes old new (CaseAt width earlier (seen_line here) later)
+notes-at-case width case_width value label ks earlier here later old new e same n =
+    let number = number_said width (seen_value value) in
+    let is = said-case width earlier here.reading case_width value label e in
+    notes-same old new (λ l code. (code ≡ 5) × (l ≡ here.line) × IsWrongAmong width case_width number ks) (CaseAt width earlier (seen_line here) later)
+    (λ l code f. (f.0, f.1, subst (λ (T : Type 0). T) (sym is) (same-wrong width case_width number ks (case_numbers width earlier) same f.2)))
+    (λ l code f. (f.0, f.1, same-wrong width case_width number (case_numbers width earlier) ks (λ one. sym (same one)) (subst (λ (T : Type 0). T) is f.2))) n
+
+pub not-case : (r : Reading) → ((width : ℕ) (value : Value) (label : Bor (List ℕ)) → r ≡ Case width value label → ⊥) → is_case (said r) ≡ false
+not-case (Case width value label) none = absurd (none width value label refl)
+not-case _ none = refl

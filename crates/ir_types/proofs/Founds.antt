@@ -1,8 +1,8 @@
 -- What is found at the elements of a list, one after another.
 use Rattle.std.proofs.Common.{◌≡◌, ◌∙◌, ℕ, ◌+◌, ◌<◌, ◌≤◌, ◌⊎◌, inl, inr, List, [], ◌∷◌, ◌++◌, length, get_or, take, drop, refl, ap, sym, subst, arith, suc, zero, add-one, length-append}
-use Rattle.std.specs.Prelude.{Option, Some, None, map, slice_get, option_map}
-use Rattle.std.proofs.Math.Seq.{drop-cons, take-append_seam}
-use Rattle.std.proofs.lemmas.List.{take-append-drop}
+use Rattle.std.specs.Prelude.{Option, Some, None, map, slice_get, slice_range, option_map}
+use Rattle.std.proofs.Math.Seq.{drop-cons, take-append_seam, take-length}
+use Rattle.std.proofs.lemmas.List.{take-append-drop, length-drop}
 use Rattle.std.proofs.lemmas.Option.{slice_get_within, slice_get-get_or, get_or_from_slice_get, slice_get-map}
 use Rattle.ir_types.specs.declared.faults.Fault.{Fault}
 use Rattle.ir_types.specs.Notes.{Notes}
@@ -62,6 +62,9 @@ cut-at xs k x at =
 
 pub cut-item : {X : Type 0} (xs : List X) (k : ℕ) (x : X) → k < length xs → x ≡ get_or xs k x → drop k xs ≡ x ∷ drop (k + 1) xs
 cut-item xs k x below is = cut-at xs k x (slice_get-get_or xs k x below ∙ ap Some (sym is))
+
+pub rest-range : {X : Type 0} (xs : List X) (i : ℕ) → slice_range xs i (length xs) ≡ drop i xs
+rest-range xs i = ap (λ n. take n (drop i xs)) (sym (length-drop i xs)) ∙ take-length (drop i xs)
 
 pub split-at : {X : Type 0} (xs : List X) (k : ℕ) (x : X) → slice_get xs k ≡ Some x → xs ≡ take k xs ++ x ∷ drop (k + 1) xs
 split-at xs k x at = sym (take-append-drop k xs) ∙ ap (λ ys. take k xs ++ ys) (cut-at xs k x at)
