@@ -41,3 +41,11 @@ pub mod ReadCounts
 pub mod ReadTypes
 pub mod ReadLaw
 pub mod ReadNames
+pub mod Founds
+pub mod Contained
+pub mod Heads
+pub mod CodeLemmas
+pub mod ScopeLemmas
+pub mod Union
+pub mod JoinLemmas
+pub mod CaseNotes

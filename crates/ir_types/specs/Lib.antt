@@ -21,3 +21,6 @@ pub mod TextLines
 pub mod Again
 pub mod TopFaults
 pub mod Built
+pub mod LineFaults
+pub mod Founds
+pub mod FunctionFaults

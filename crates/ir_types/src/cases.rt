@@ -1,7 +1,12 @@
 //! The cases of a `switch`.
 
-ghost use Rattle.std.specs.Prelude.{◌≡◌};
+ghost use Rattle.std.specs.Prelude.{◌≡◌, ◌||◌, ℕ, true, not, nat_eq, IfOk, OnOk, if◌then◌else◌};
+ghost use Rattle.std.specs.List.{list_any};
 ghost use Rattle.ir_reader.specs.Seen.{seen_value};
+ghost use Rattle.ir_types.specs.FunctionFaults.{is_among, is_number, IsWrongAmong, CasesBehind, CasesOf, WrongCases};
+ghost use Rattle.ir_types.specs.Notes.{Notes};
+ghost use Rattle.ir_types.specs.Sections.{cases_of};
+ghost use Rattle.ir_types.specs.Views.{said, seen_lines};
 ghost use Rattle.ir_types.specs.Faults.TypeClash.{number_said};
 
 use crate::best::First;
@@ -21,13 +26,61 @@ pub(crate) fn case_number(width: u32, value: &Value) -> Option<u64>
     }
 }
 
-// The cases that stand directly behind a `switch` of this width.
+// Adds the number of a case, and answers whether an earlier case has it.
+fn is_again(seen: &mut IndexSet<u64>, number: Option<u64>) -> Result<bool, AllocError>
+    ensures again { IfOk result (λ again. again ≡ is_among seen.old.keys number) }
+    ensures added { OnOk result ((one : ℕ) → list_any (nat_eq one) seen.new.keys
+        ≡ (if is_number number one then true else list_any (nat_eq one) seen.old.keys)) }
+{
+    match number {
+        Some(number) => {
+            let is_new = seen.insert(number)?;
+            Ok(!is_new)
+        }
+        None => Ok(false),
+    }
+}
+
+fn is_other(width: u32, case_width: u32) -> bool
+    ensures { result ≡ not (nat_eq case_width width) }
+{
+    case_width != width
+}
+
+fn is_wrong(again: bool, width: u32, case_width: u32) -> bool
+    ensures { result ≡ (again || not (nat_eq case_width width)) }
+{
+    again || is_other(width, case_width)
+}
+
+// Notes a case that is wrong, and adds its number.
+fn note_case(
+    width: u32,
+    line: u32,
+    case_width: u32,
+    value: &Value,
+    seen: &mut IndexSet<u64>,
+    first: &mut First,
+) -> Result<(), AllocError>
+    ensures noted { OnOk result (Notes first.old.found first.new.found
+        (λ l code. (code ≡ 5) × (l ≡ line) × IsWrongAmong width case_width (number_said width (seen_value value.now)) seen.old.keys)) }
+    ensures added { OnOk result ((one : ℕ) → list_any (nat_eq one) seen.new.keys
+        ≡ (if is_number (number_said width (seen_value value.now)) one then true else list_any (nat_eq one) seen.old.keys)) }
+{
+    let again = is_again(seen, case_number(width, value))?;
+    first.note_if(is_wrong(again, width, case_width), line, 5);
+    Ok(())
+}
+
+// Notes the cases that stand directly behind a `switch` of this width.
 fn note_cases_behind(
     alloc: Global,
     width: u32,
     behind: &[NumberedReading],
     first: &mut First,
-) -> Result<(), AllocError> {
+) -> Result<(), AllocError>
+    ensures { OnOk result (Notes first.old.found first.new.found (WrongCases width (cases_of (seen_lines behind.now)))) }
+{
     let mut seen: IndexSet<u64> = IndexSet::new(alloc);
     for line in behind {
         let Reading::Case {
@@ -38,13 +91,24 @@ fn note_cases_behind(
         else {
             return Ok(());
         };
-        first.note_if(*case_width != width, line.line, 5);
-        if let Some(number) = case_number(width, value) {
-            let is_new = seen.insert(number)?;
-            first.note_if(!is_new, line.line, 5);
-        }
+        note_case(width, line.line, *case_width, value, &mut seen, first)?;
     }
     Ok(())
+}
+
+// Notes the wrong cases of a line that is a `switch`.
+fn note_switch(
+    alloc: Global,
+    reading: &Reading,
+    behind: &[NumberedReading],
+    first: &mut First,
+) -> Result<(), AllocError>
+    ensures { OnOk result (Notes first.old.found first.new.found (CasesBehind (said reading.now) (seen_lines behind.now))) }
+{
+    match reading {
+        Reading::Switch { width, .. } => note_cases_behind(alloc, *width, behind, first),
+        _ => Ok(()),
+    }
 }
 
 /// Notes each case of another width than its `switch`, and each with the value of an earlier one.
@@ -52,11 +116,11 @@ pub(crate) fn note_cases(
     alloc: Global,
     body: &[NumberedReading],
     first: &mut First,
-) -> Result<(), AllocError> {
+) -> Result<(), AllocError>
+    ensures { OnOk result (Notes first.old.found first.new.found (CasesOf (seen_lines body.now))) }
+{
     for (i, line) in body.iter().enumerate() {
-        if let Reading::Switch { width, .. } = &line.reading {
-            note_cases_behind(alloc, *width, &body[i + 1..], first)?;
-        }
+        note_switch(alloc, &line.reading, &body[i + 1..], first)?;
     }
     Ok(())
 }

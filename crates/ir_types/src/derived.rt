@@ -1,17 +1,23 @@
 //! Derived pointers (Garbage Collection Safepoints in LLVM, "Base & Derived Pointers").
 
+ghost use Rattle.std.specs.Prelude.{OnOk};
+ghost use Rattle.ir_types.specs.FunctionFaults.{EscapesOf};
+ghost use Rattle.ir_types.specs.Notes.{Notes};
+ghost use Rattle.ir_types.specs.Tables.{seen_definition, IsLocal};
+ghost use Rattle.ir_types.specs.Views.{seen_lines};
+
 use crate::best::First;
-use crate::parts::{call_parts, given, is_merge, is_step, uses};
+use crate::parts::{given, is_merge, is_step, uses};
 use crate::scope::Local;
+use crate::sections::Definition;
 use ir_reader::{NumberedReading, Passed, Reading, Value};
 use std::alloc::{AllocError, Global};
 
-/// Which values of a function are derived, by number.
+/// Which values of a function are derived, by number, and these values in the order in which they were found.
 #[derive(Drop)]
 struct Marks {
     marked: Vec<bool>,
-    // Marked values whose users are still to be looked at.
-    open: Vec<usize>,
+    list: Vec<usize>,
 }
 
 impl Marks {
@@ -23,8 +29,27 @@ impl Marks {
         if let Some(mark) = self.marked.get_mut(value) {
             if !*mark {
                 *mark = true;
-                self.open.push(value)?;
+                self.list.push(value)?;
             }
+        }
+        Ok(())
+    }
+
+    fn mark_all(&mut self, values: &[usize]) -> Result<(), AllocError> {
+        for value in values {
+            self.mark(*value)?;
+        }
+        Ok(())
+    }
+
+    // Marks the users of what is marked, and theirs. No value is marked twice, so there are at most as many rounds as
+    // values.
+    fn mark_users(&mut self, users: &Users) -> Result<(), AllocError> {
+        for next in 0..self.marked.len() {
+            let Some(value) = self.list.get(next).copied() else {
+                return Ok(());
+            };
+            self.mark_all(users_of(users, value))?;
         }
         Ok(())
     }
@@ -32,6 +57,13 @@ impl Marks {
 
 // For each value the phis and selects that use it.
 type Users = Vec<Vec<usize>>;
+
+fn users_of(users: &Users, value: usize) -> &[usize] {
+    match users.get(value) {
+        Some(users) => users.as_slice(),
+        None => &[],
+    }
+}
 
 fn add_user(users: &mut Users, value: usize, user: usize) -> Result<(), AllocError> {
     if let Some(users) = users.get_mut(value) {
@@ -83,7 +115,7 @@ fn derived(
 ) -> Result<Marks, AllocError> {
     let mut marks = Marks {
         marked: Vec::new(alloc),
-        open: Vec::new(alloc),
+        list: Vec::new(alloc),
     };
     let mut users: Users = Vec::new(alloc);
     for _ in local.values.list() {
@@ -99,13 +131,7 @@ fn derived(
             number = number.saturating_add(1);
         }
     }
-    while let Some(value) = marks.open.pop() {
-        if let Some(users) = users.get(value) {
-            for user in users {
-                marks.mark(*user)?;
-            }
-        }
-    }
+    marks.mark_users(&users)?;
     Ok(marks)
 }
 
@@ -136,10 +162,9 @@ impl Local<'_> {
         match reading {
             Reading::Store { value, .. } => self.is_derived(marks, value),
             Reading::Return { value, .. } => self.is_derived(marks, value),
-            _ => match call_parts(reading) {
-                Some(call) => self.passes_derived(marks, call.passed),
-                None => false,
-            },
+            Reading::ValueCall { passed, .. } => self.passes_derived(marks, passed.as_slice()),
+            Reading::VoidCall { passed, .. } => self.passes_derived(marks, passed.as_slice()),
+            _ => false,
         }
     }
 }
@@ -148,12 +173,14 @@ impl Local<'_> {
 pub(crate) fn note_escapes(
     alloc: Global,
     local: &Local,
-    arguments: usize,
-    body: &[NumberedReading],
+    func: &Definition,
     first: &mut First,
-) -> Result<(), AllocError> {
-    let marks = derived(alloc, local, arguments, body)?;
-    for line in body {
+) -> Result<(), AllocError>
+    requires { IsLocal (seen_definition func.now) local.now }
+    ensures { OnOk result (Notes first.old.found first.new.found (EscapesOf (seen_definition func.now) (seen_lines func.now.body.now))) }
+{
+    let marks = derived(alloc, local, func.arguments.len(), func.body)?;
+    for line in func.body {
         first.note_if(local.lets_escape(&marks, &line.reading), line.line, 9);
     }
     Ok(())

@@ -1,20 +1,32 @@
 //! The faults of a line of a function that the line has by itself.
 
-ghost use Rattle.std.specs.Prelude.{◌≡◌, map, length};
-ghost use Rattle.ir_reader.specs.Seen.{seen_argument, seen_passed};
+ghost use Rattle.std.specs.Prelude.{◌≡◌, ◌∷◌, ◌||◌, [], not, map, is_none, option_map, OnOk};
+ghost use Rattle.std.specs.Option.{option_copied};
+ghost use Rattle.ir_reader.specs.Seen.{seen_argument, seen_entry, seen_passed, seen_value};
+ghost use Rattle.ir_types.specs.LineFaults.{Coded, LineFaultIn, tables_in, seen_use, is_missing, is_first, misses, misses_used, misses_entry, misses_label_of_phi, misses_label, misses_passed, misses_function, misses_name, misfits_of, count_fits, starts_at, task_starts, call_fits, rule_kept, clashes_in, targets_first};
+ghost use Rattle.ir_types.specs.FunctionFaults.{LinesIn};
 ghost use Rattle.ir_types.specs.Modules.{passed_type};
+ghost use Rattle.ir_types.specs.Notes.{Notes};
+ghost use Rattle.ir_types.specs.Parts.{local_name, passed_function, layouts_named, targets, uses};
+ghost use Rattle.ir_types.specs.Places.{place_in};
 ghost use Rattle.ir_types.specs.Sections.{types_of};
-ghost use Rattle.ir_types.specs.Types.{same_types};
-ghost use Rattle.ir_types.specs.Faults.TypeClash.{widens, is_field};
-ghost use Rattle.ir_types.specs.Faults.PointerOrder.{orders};
+ghost use Rattle.ir_types.specs.Tables.{seen_head};
+ghost use Rattle.ir_types.specs.Types.{same_type, same_types};
+ghost use Rattle.ir_types.specs.Views.{said, seen_lines};
+ghost use Rattle.ir_types.specs.Faults.TypeClash.{widens, is_field, is_task, agrees};
+ghost use Rattle.ir_types.specs.Faults.PointerCast.{is_cast};
+ghost use Rattle.ir_types.specs.Faults.PointerOrder.{is_order, orders, orders_pointers};
 
 use crate::best::First;
-use crate::literals::is_cell;
-use crate::names::is_text;
-use crate::parts::{CallParts, Uses, call_parts, entries, targets, uses};
+use crate::literals::{is_cell, same_type};
+use crate::names::{Names, is_text};
+use crate::parts::{targets, uses};
 use crate::scope::{Head, Local, Top};
+use crate::tops::has_types;
 use ir_ast::Pred;
-use ir_reader::{Argument, Conversion, Literal, NumberedReading, Passed, Reading, TypeWord, Value};
+use ir_reader::{
+    Argument, Conversion, Entry, Literal, NumberedReading, Passed, Reading, TypeWord, Value,
+};
 use std::alloc::{AllocError, Global};
 
 /// What the lines of a function can name.
@@ -23,6 +35,132 @@ pub(crate) struct Scope<'s, 't, 'a, 'n> {
     pub(crate) top: &'s Top<'t, 'a>,
     pub(crate) local: &'s Local<'n>,
 }
+
+// ---- names
+
+// Whether a name, where there is one, isn't among these.
+fn is_missing(names: &Names, name: Option<&[u8]>) -> bool
+    ensures { result ≡ is_missing names.now (option_copied name.entry) }
+{
+    match name {
+        Some(name) => names.find(name).is_none(),
+        None => false,
+    }
+}
+
+// Whether a name, where there is one, is that of the first of these.
+fn is_first(names: &Names, name: Option<&[u8]>) -> bool
+    ensures { result ≡ is_first names.now (option_copied name.entry) }
+{
+    match name {
+        Some(name) => names.number(name) == 0,
+        None => false,
+    }
+}
+
+fn local_name<'a>(value: &Value<'a>) -> Option<&'a [u8]>
+    ensures { option_copied result ≡ local_name (seen_value value.now) }
+{
+    match value {
+        Value::Local(name) => Some(*name),
+        _ => None,
+    }
+}
+
+fn passed_function<'a>(passed: &Passed<'a>) -> Option<&'a [u8]>
+    ensures { option_copied result ≡ passed_function (seen_passed passed.now) }
+{
+    match passed {
+        Passed::Function(name) => Some(*name),
+        Passed::Value(_, _) => None,
+    }
+}
+
+fn misses_value(names: &Names, used: &[(Value, TypeWord)]) -> bool
+    ensures { result ≡ misses_used names.now (map seen_use used.now) }
+{
+    for one in used {
+        if is_missing(names, local_name(&one.0)) {
+            return true;
+        }
+    }
+    false
+}
+
+fn misses_function_passed(names: &Names, passed: &[Passed]) -> bool
+    ensures { result ≡ misses_passed names.now (map seen_passed passed.now) }
+{
+    for one in passed {
+        if is_missing(names, passed_function(one)) {
+            return true;
+        }
+    }
+    false
+}
+
+fn misses_entry(names: &Names, entries: &[Entry]) -> bool
+    ensures { result ≡ misses_entry names.now (map seen_entry entries.now) }
+{
+    for entry in entries {
+        if is_missing(names, Some(entry.label)) {
+            return true;
+        }
+    }
+    false
+}
+
+fn misses_target(names: &Names, reading: &Reading) -> bool
+    ensures { result ≡ misses names.now (targets (said reading.now)) }
+{
+    let targets = targets(reading);
+    is_missing(names, targets.one) || is_missing(names, targets.other)
+}
+
+fn misses_label_of_phi(names: &Names, reading: &Reading) -> bool
+    ensures { result ≡ misses_label_of_phi names.now (said reading.now) }
+{
+    match reading {
+        Reading::Phi { entries, .. } => misses_entry(names, entries.as_slice()),
+        _ => false,
+    }
+}
+
+fn misses_label(names: &Names, reading: &Reading) -> bool
+    ensures { result ≡ misses_label names.now (said reading.now) }
+{
+    misses_target(names, reading) || misses_label_of_phi(names, reading)
+}
+
+fn misses_called(names: &Names, callee: &[u8], passed: &[Passed]) -> bool
+    ensures { result ≡ (is_none (place_in names.now callee.now) || misses_passed names.now (map seen_passed passed.now)) }
+{
+    is_missing(names, Some(callee)) || misses_function_passed(names, passed)
+}
+
+fn misses_function(names: &Names, reading: &Reading) -> bool
+    ensures { result ≡ misses_function names.now (said reading.now) }
+{
+    match reading {
+        Reading::ValueCall { callee, passed, .. } => misses_called(
+            names,
+            callee,
+            passed.as_slice(),
+        ),
+        Reading::VoidCall { callee, passed } => misses_called(names, callee, passed.as_slice()),
+        _ => false,
+    }
+}
+
+fn misses_layout(names: &Names, reading: &Reading) -> bool
+    ensures { result ≡ misses names.now (layouts_named (said reading.now)) }
+{
+    match reading {
+        Reading::LayoutElement { layout, .. } => is_missing(names, Some(layout)),
+        _ => false,
+    }
+}
+
+// ---- types
 
 pub(crate) fn passed_type(passed: &Passed) -> TypeWord
     ensures { result ≡ passed_type (seen_passed passed.now) }
@@ -40,8 +178,8 @@ fn same_types(passed: &[Passed], parameters: &[Argument]) -> bool
     if passed.len() != parameters.len() {
         return false;
     }
-    for (one, parameter) in passed.iter().zip(parameters.iter()) {
-        if passed_type(one) != parameter.ty {
+    for (i, one) in passed.iter().enumerate() {
+        if !same_type(passed_type(one), parameters[i].ty) {
             return false;
         }
     }
@@ -49,14 +187,25 @@ fn same_types(passed: &[Passed], parameters: &[Argument]) -> bool
 }
 
 // Whether a task can start there.
-fn is_task(head: &Head) -> bool {
-    head.defined
-        && head.answer == TypeWord::Void
-        && head.parameters.len() == 1
-        && head
-            .parameters
-            .iter()
-            .all(|one| one.ty == TypeWord::Managed)
+fn is_task(head: Option<&Head>) -> bool
+    ensures { result ≡ is_task (option_map (λ one. seen_head one.now) head.entry) }
+{
+    match head {
+        Some(head) => {
+            head.defined && same_type(head.answer, TypeWord::Void) && has_types(head.parameters, &[TypeWord::Managed])
+        }
+        None => false,
+    }
+}
+
+// Whether a call has the types of what the head of its callee says.
+fn agrees(answer: TypeWord, passed: &[Passed], head: Option<&Head>) -> bool
+    ensures { result ≡ agrees answer (map seen_passed passed.now) (option_map (λ one. seen_head one.now) head.entry) }
+{
+    match head {
+        Some(head) => same_type(answer, head.answer) && same_types(passed, head.parameters),
+        None => true,
+    }
 }
 
 fn widens(op: Conversion, from: u32, to: u32) -> bool
@@ -74,158 +223,209 @@ fn is_field(place: Literal, count: usize) -> bool
     (!place.negative || place.magnitude == 0) && place.magnitude < count as u64
 }
 
+fn count_fits(place: Option<Literal>, count: Option<usize>) -> bool
+    ensures { result ≡ count_fits place count }
+{
+    match place {
+        None => true,
+        Some(place) => match count {
+            None => true,
+            Some(count) => is_field(place, count),
+        },
+    }
+}
+
+// ---- pointers
+
+fn is_order(pred: Pred) -> bool
+    ensures { result ≡ is_order pred }
+{
+    !matches!(pred, Pred::Eq | Pred::Ne)
+}
+
 fn orders(pred: Pred, ty: TypeWord) -> bool
     ensures { result ≡ orders pred ty }
 {
-    ty == TypeWord::Managed && !matches!(pred, Pred::Eq | Pred::Ne)
+    match ty {
+        TypeWord::Managed => is_order(pred),
+        _ => false,
+    }
 }
 
-impl<'a> Scope<'_, '_, 'a, '_> {
-    fn knows_uses(&self, uses: &Uses) -> bool {
-        for (value, _) in uses {
-            if let Value::Local(name) = value {
-                if self.local.values.find(name).is_none() {
-                    return false;
-                }
+fn orders_pointers(reading: &Reading) -> bool
+    ensures { result ≡ orders_pointers (said reading.now) }
+{
+    match reading {
+        Reading::Compare { pred, ty, .. } => orders(*pred, *ty),
+        _ => false,
+    }
+}
+
+fn is_cast(reading: &Reading) -> bool
+    ensures { result ≡ is_cast (said reading.now) }
+{
+    matches!(reading, Reading::Cast { .. })
+}
+
+// ---- the faults of a line
+
+/// What the tests of a line say.
+#[derive(Clone, Copy)]
+struct Tests {
+    unknown: bool,
+    clash: bool,
+    entry: bool,
+    order: bool,
+    cast: bool,
+}
+
+fn note_tests(tests: Tests, line: u32, first: &mut First)
+    ensures { Notes first.old.found first.new.found (λ l code. (l ≡ line) × Coded tests.unknown tests.clash tests.entry tests.order tests.cast code) }
+{
+    first.note_if(tests.unknown, line, 4);
+    first.note_if(tests.clash, line, 5);
+    first.note_if(tests.entry, line, 6);
+    first.note_if(tests.order, line, 15);
+    first.note_if(tests.cast, line, 16);
+}
+
+impl Scope<'_, '_, '_, '_> {
+    fn misses_name(&self, reading: &Reading, used: &[(Value, TypeWord)]) -> bool
+        requires { map seen_use used.now ≡ uses (said reading.now) }
+        ensures { result ≡ misses_name (tables_in self.now) (said reading.now) }
+    {
+        misses_value(&self.local.values, used)
+            || misses_label(&self.local.blocks, reading)
+            || misses_function(&self.top.heads, reading)
+            || misses_layout(&self.top.layouts, reading)
+    }
+
+    fn misfits(&self, used: &[(Value, TypeWord)]) -> bool
+        ensures { result ≡ misfits_of self.now.local.now.values self.now.local.now.types.items (map seen_use used.now) }
+    {
+        for one in used {
+            if !self.local.fits(one.1, &one.0) {
+                return true;
             }
         }
-        true
+        false
     }
 
-    fn knows_labels(&self, reading: &Reading) -> bool {
-        for target in targets(reading).iter() {
-            if let Some(label) = target {
-                if self.local.blocks.find(label).is_none() {
-                    return false;
-                }
-            }
-        }
-        if let Some((_, entries)) = entries(reading) {
-            for entry in entries {
-                if self.local.blocks.find(entry.label).is_none() {
-                    return false;
-                }
-            }
-        }
-        true
-    }
-
-    fn knows_functions(&self, reading: &Reading) -> bool {
-        let Some(call) = call_parts(reading) else {
-            return true;
-        };
-        if self.top.heads.find(call.callee).is_none() {
-            return false;
-        }
-        for one in call.passed {
-            if let Passed::Function(name) = one {
-                if self.top.heads.find(name).is_none() {
-                    return false;
-                }
-            }
-        }
-        true
-    }
-
-    fn knows_layout(&self, reading: &Reading) -> bool {
-        match reading {
-            Reading::LayoutElement { layout, .. } => self.top.layouts.find(layout).is_some(),
-            _ => true,
+    fn starts_at(&self, passed: &Passed) -> bool
+        ensures { result ≡ starts_at (tables_in self.now) (seen_passed passed.now) }
+    {
+        match passed {
+            Passed::Value(_, _) => false,
+            Passed::Function(name) => is_task(self.top.head(name)),
         }
     }
 
-    fn all_fit(&self, uses: &Uses) -> bool {
-        for (value, ty) in uses {
-            if !self.local.fits(*ty, value) {
-                return false;
-            }
-        }
-        true
-    }
-
-    fn starts_task(&self, passed: &[Passed]) -> bool {
-        match passed.first() {
-            Some(Passed::Function(name)) => match self.top.head(name) {
-                Some(head) => is_task(head),
-                None => false,
-            },
-            _ => false,
+    fn starts_task(&self, passed: &[Passed]) -> bool
+        ensures { result ≡ task_starts (tables_in self.now) (map seen_passed passed.now) }
+    {
+        match passed {
+            [one, ..] => self.starts_at(one),
+            [] => false,
         }
     }
 
-    fn call_agrees(&self, call: &CallParts) -> bool {
-        if is_text(call.callee, b"task_start") && !self.starts_task(call.passed) {
-            return false;
-        }
-        match self.top.head(call.callee) {
-            Some(head) => call.answer == head.answer && same_types(call.passed, head.parameters),
-            None => true,
-        }
-    }
-
-    fn place_fits(&self, place: Option<Literal>, layout: &[u8]) -> bool {
-        match (place, self.top.field_count(layout)) {
-            (Some(place), Some(count)) => is_field(place, count),
-            _ => true,
-        }
+    fn call_agrees(&self, answer: TypeWord, callee: &[u8], passed: &[Passed]) -> bool
+        ensures { result ≡ call_fits (tables_in self.now) answer callee.now (map seen_passed passed.now) }
+    {
+        agrees(answer, passed, self.top.head(callee))
+            && (!is_text(callee, b"task_start") || self.starts_task(passed))
     }
 
     // What a form asks besides the types of its operands.
-    fn keeps_rule(&self, reading: &Reading) -> bool {
+    fn keeps_rule(&self, reading: &Reading) -> bool
+        ensures { result ≡ rule_kept (tables_in self.now) (said reading.now) }
+    {
         match reading {
             Reading::Convert { op, width, to, .. } => widens(*op, *width, *to),
             Reading::Select {
                 left_ty,
                 right_ty,
                 ..
-            } => left_ty == right_ty,
-            Reading::LayoutElement { layout, place, .. } => self.place_fits(*place, layout),
+            } => same_type(*left_ty, *right_ty),
+            Reading::LayoutElement { layout, place, .. } => {
+                count_fits(*place, self.top.field_count(layout))
+            }
             Reading::Load { ty, .. } => is_cell(*ty),
             Reading::Store { ty, .. } => is_cell(*ty),
-            Reading::ReturnVoid => self.local.answer == TypeWord::Void,
-            Reading::Return { ty, .. } => *ty == self.local.answer,
-            _ => match call_parts(reading) {
-                Some(call) => self.call_agrees(&call),
-                None => true,
-            },
+            Reading::ValueCall {
+                answer,
+                callee,
+                passed,
+                ..
+            } => self.call_agrees(*answer, callee, passed.as_slice()),
+            Reading::VoidCall { callee, passed } => {
+                self.call_agrees(TypeWord::Void, callee, passed.as_slice())
+            }
+            Reading::ReturnVoid => same_type(TypeWord::Void, self.local.answer),
+            Reading::Return { ty, .. } => same_type(*ty, self.local.answer),
+            _ => true,
         }
     }
 
-    fn names_entry(&self, reading: &Reading) -> bool {
-        for target in targets(reading).iter() {
-            if let Some(label) = target {
-                if self.local.blocks.find(label) == Some(0) {
-                    return true;
-                }
-            }
+    fn clashes(&self, reading: &Reading, used: &[(Value, TypeWord)]) -> bool
+        requires { map seen_use used.now ≡ uses (said reading.now) }
+        ensures { result ≡ clashes_in (tables_in self.now) (said reading.now) }
+    {
+        self.misfits(used) || !self.keeps_rule(reading)
+    }
+
+    fn names_entry(&self, reading: &Reading) -> bool
+        ensures { result ≡ targets_first (tables_in self.now) (said reading.now) }
+    {
+        let targets = targets(reading);
+        is_first(&self.local.blocks, targets.one) || is_first(&self.local.blocks, targets.other)
+    }
+
+    fn tests(&self, reading: &Reading, used: &[(Value, TypeWord)]) -> Tests
+        requires { map seen_use used.now ≡ uses (said reading.now) }
+        ensures unknown { result.unknown ≡ misses_name (tables_in self.now) (said reading.now) }
+        ensures clash { result.clash ≡ clashes_in (tables_in self.now) (said reading.now) }
+        ensures entry { result.entry ≡ targets_first (tables_in self.now) (said reading.now) }
+        ensures order { result.order ≡ orders_pointers (said reading.now) }
+        ensures cast { result.cast ≡ is_cast (said reading.now) }
+    {
+        Tests {
+            unknown: self.misses_name(reading, used),
+            clash: self.clashes(reading, used),
+            entry: self.names_entry(reading),
+            order: orders_pointers(reading),
+            cast: is_cast(reading),
         }
-        false
     }
 
     /// Notes the faults of a line: a name that there isn't, types that clash, the first block as a target, an order
     /// of pointers, a cast.
-    pub(crate) fn note_line(
+    fn note_line(
         &self,
         alloc: Global,
         line: &NumberedReading,
         first: &mut First,
-    ) -> Result<(), AllocError> {
-        let reading = &line.reading;
-        let uses = uses(alloc, reading)?;
-        let knows = self.knows_uses(&uses)
-            && self.knows_labels(reading)
-            && self.knows_functions(reading)
-            && self.knows_layout(reading);
-        first.note_if(!knows, line.line, 4);
-        let agrees = self.all_fit(&uses) && self.keeps_rule(reading);
-        first.note_if(!agrees, line.line, 5);
-        first.note_if(self.names_entry(reading), line.line, 6);
-        match reading {
-            Reading::Compare { pred, ty, .. } => {
-                first.note_if(orders(*pred, *ty), line.line, 15);
-            }
-            Reading::Cast { .. } => first.note(line.line, 16),
-            _ => {}
+    ) -> Result<(), AllocError>
+        ensures { OnOk result (Notes first.old.found first.new.found
+            (λ l code. (l ≡ line.now.line) × LineFaultIn (tables_in self.now) (said line.now.reading) code)) }
+    {
+        let uses = uses(alloc, &line.reading)?;
+        let tests = self.tests(&line.reading, uses.as_slice());
+        note_tests(tests, line.line, first);
+        Ok(())
+    }
+
+    /// Notes the faults that lines have by themselves.
+    pub(crate) fn note_lines(
+        &self,
+        alloc: Global,
+        lines: &[NumberedReading],
+        first: &mut First,
+    ) -> Result<(), AllocError>
+        ensures { OnOk result (Notes first.old.found first.new.found (LinesIn (tables_in self.now) (seen_lines lines.now))) }
+    {
+        for line in lines {
+            self.note_line(alloc, line, first)?;
         }
         Ok(())
     }

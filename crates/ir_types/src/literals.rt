@@ -2,7 +2,9 @@
 
 ghost use Rattle.std.specs.Prelude.{◌≡◌, ◌^◌, ◌%◌, ◌-◌, nat_lt, nat_le, if◌then◌else◌};
 ghost use Rattle.ir_types.specs.Modules.{wrapped};
-ghost use Rattle.ir_types.specs.Types.{is_cell, is_within};
+ghost use Rattle.ir_reader.specs.Seen.{seen_value};
+ghost use Rattle.ir_types.specs.LineFaults.{fits_in, type_fits};
+ghost use Rattle.ir_types.specs.Types.{same_type, is_cell, is_within, literal_fits, takes_null};
 
 use crate::scope::Local;
 use ir_reader::{Literal, TypeWord, Value};
@@ -71,20 +73,61 @@ pub(crate) fn is_cell(ty: TypeWord) -> bool
     matches!(ty, TypeWord::Int(64) | TypeWord::Managed)
 }
 
+/// Whether two words spell one type.
+pub(crate) fn same_type(one: TypeWord, other: TypeWord) -> bool
+    ensures { result ≡ same_type one other }
+{
+    match one {
+        TypeWord::Void => matches!(other, TypeWord::Void),
+        TypeWord::Int(width) => has_width(other, width),
+        TypeWord::Managed => matches!(other, TypeWord::Managed),
+        TypeWord::Plain => matches!(other, TypeWord::Plain),
+    }
+}
+
+fn has_width(ty: TypeWord, width: u32) -> bool
+    ensures { result ≡ same_type (TypeWord.Int width) ty }
+{
+    match ty {
+        TypeWord::Int(other) => width == other,
+        _ => false,
+    }
+}
+
+fn type_fits(ty: TypeWord, given: Option<TypeWord>) -> bool
+    ensures { result ≡ type_fits ty given }
+{
+    match given {
+        Some(given) => same_type(given, ty),
+        None => true,
+    }
+}
+
+fn literal_fits(ty: TypeWord, literal: Literal) -> bool
+    ensures { result ≡ literal_fits ty literal }
+{
+    match ty {
+        TypeWord::Int(width) => is_within(width, literal),
+        _ => false,
+    }
+}
+
+fn takes_null(ty: TypeWord) -> bool
+    ensures { result ≡ takes_null ty }
+{
+    matches!(ty, TypeWord::Managed | TypeWord::Plain)
+}
+
 impl Local<'_> {
     /// Whether a value fits the type that a line asks of it. A name that nothing gives has a fault of its own.
-    pub(crate) fn fits(&self, ty: TypeWord, value: &Value) -> bool {
+    pub(crate) fn fits(&self, ty: TypeWord, value: &Value) -> bool
+        ensures { result ≡ fits_in self.now.values self.now.types.items ty (seen_value value.now) }
+    {
         match value {
-            Value::Local(name) => match self.type_of(name) {
-                Some(given) => given == ty,
-                None => true,
-            },
-            Value::Number(literal) => match ty {
-                TypeWord::Int(width) => is_within(width, *literal),
-                _ => false,
-            },
-            Value::Truth(_) => ty == TypeWord::Int(1),
-            Value::Null => matches!(ty, TypeWord::Managed | TypeWord::Plain),
+            Value::Local(name) => type_fits(ty, self.type_of(name)),
+            Value::Number(literal) => literal_fits(ty, *literal),
+            Value::Truth(_) => same_type(ty, TypeWord::Int(1)),
+            Value::Null => takes_null(ty),
         }
     }
 }

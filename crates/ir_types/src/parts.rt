@@ -1,7 +1,8 @@
 //! What a line of a function gives, uses and names.
 
-ghost use Rattle.std.specs.Prelude.{◌≡◌, option_map, map, filter_map, IfOk};
-ghost use Rattle.ir_types.specs.Parts.{gives, passed_value, entry_use, uses, is_step, is_merge};
+ghost use Rattle.std.specs.Prelude.{◌≡◌, [], ◌∷◌, option_map, map, filter_map, IfOk};
+ghost use Rattle.std.specs.Option.{option_copied};
+ghost use Rattle.ir_types.specs.Parts.{gives, passed_value, entry_use, uses, targets, is_step, is_merge};
 ghost use Rattle.ir_types.specs.Views.{said};
 ghost use Rattle.ir_reader.specs.Seen.{seen_value, seen_passed, seen_entry};
 
@@ -150,56 +151,42 @@ pub(crate) fn uses<'a>(alloc: Global, reading: &Reading<'a>) -> Result<Uses<'a>,
     }
 }
 
+/// The labels that a line names, an edge each: at most two.
+#[derive(Clone, Copy)]
+pub(crate) struct Edges<'a> {
+    pub(crate) one: Option<&'a [u8]>,
+    pub(crate) other: Option<&'a [u8]>,
+}
+
 /// The labels that a terminator or a case names: an edge each.
-pub(crate) fn targets<'r, 'a>(reading: &'r Reading<'a>) -> [Option<&'a [u8]>; 2] {
+pub(crate) fn targets<'a>(reading: &Reading<'a>) -> Edges<'a>
+    ensures { filter_map (λ one. one) (option_copied result.one ∷ option_copied result.other ∷ []) ≡ targets (said reading.now) }
+{
     match reading {
-        Reading::Jump { label } => [Some(*label), None],
+        Reading::Jump { label } => Edges {
+            one: Some(*label),
+            other: None,
+        },
         Reading::Branch {
             on_true,
             on_false,
             ..
-        } => [Some(*on_true), Some(*on_false)],
-        Reading::Switch { default, .. } => [Some(*default), None],
-        Reading::Case { label, .. } => [Some(*label), None],
-        _ => [None, None],
-    }
-}
-
-/// The entries of a phi.
-pub(crate) fn entries<'r, 'a>(reading: &'r Reading<'a>) -> Option<(TypeWord, &'r [Entry<'a>])> {
-    match reading {
-        Reading::Phi { ty, entries, .. } => Some((*ty, entries.as_slice())),
-        _ => None,
-    }
-}
-
-/// What a call answers, its callee and what it passes.
-#[derive(Clone, Copy)]
-pub(crate) struct CallParts<'r, 'a> {
-    pub(crate) answer: TypeWord,
-    pub(crate) callee: &'a [u8],
-    pub(crate) passed: &'r [Passed<'a>],
-}
-
-/// The parts of a call.
-pub(crate) fn call_parts<'r, 'a>(reading: &'r Reading<'a>) -> Option<CallParts<'r, 'a>> {
-    match reading {
-        Reading::ValueCall {
-            answer,
-            callee,
-            passed,
-            ..
-        } => Some(CallParts {
-            answer: *answer,
-            callee,
-            passed: passed.as_slice(),
-        }),
-        Reading::VoidCall { callee, passed } => Some(CallParts {
-            answer: TypeWord::Void,
-            callee,
-            passed: passed.as_slice(),
-        }),
-        _ => None,
+        } => Edges {
+            one: Some(*on_true),
+            other: Some(*on_false),
+        },
+        Reading::Switch { default, .. } => Edges {
+            one: Some(*default),
+            other: None,
+        },
+        Reading::Case { label, .. } => Edges {
+            one: Some(*label),
+            other: None,
+        },
+        _ => Edges {
+            one: None,
+            other: None,
+        },
     }
 }
 

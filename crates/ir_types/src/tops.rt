@@ -42,7 +42,7 @@ fn is_good_layout(fields: &[TypeWord]) -> bool
 }
 
 // Whether the parameters have these types.
-fn has_types(parameters: &[Argument], types: &[TypeWord]) -> bool
+pub(crate) fn has_types(parameters: &[Argument], types: &[TypeWord]) -> bool
     ensures { result ≡ same_types (types_of (map seen_argument parameters.now)) types.now }
 {
     if parameters.len() != types.len() {

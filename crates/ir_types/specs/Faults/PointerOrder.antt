@@ -5,7 +5,6 @@ use Rattle.ir_reader.specs.declared.readings.TypeWord.TheVariants.{Managed}
 use Rattle.ir_ast.specs.declared.ops.Pred.{Pred}
 use Rattle.ir_ast.specs.declared.ops.Pred.TheVariants.{Eq, Ne}
 use Rattle.ir_types.specs.Statements.{Line, Statement, compare}
-use Rattle.ir_types.specs.Scope.{Scope}
 use Rattle.ir_types.specs.InBody.{InBody}
 
 abbrev pub is_order : Pred → Bool
@@ -17,9 +16,9 @@ abbrev pub orders : Pred → TypeWord → Bool
 orders predicate Managed = is_order predicate
 orders predicate _ = false
 
-abbrev pub orders_pointers : Scope → Statement → Bool
-orders_pointers scope (compare result predicate ty left right) = orders predicate ty
-orders_pointers scope _ = false
+abbrev pub orders_pointers : Statement → Bool
+orders_pointers (compare result predicate ty left right) = orders predicate ty
+orders_pointers _ = false
 
 abbrev pub PointerOrder : List Line → ℕ → Type 0
-PointerOrder lines line = InBody lines line orders_pointers
+PointerOrder lines line = InBody lines line (λ scope. orders_pointers)
