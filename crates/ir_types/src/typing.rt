@@ -1,6 +1,9 @@
 //! The module that readings stand for, or the first fault.
 
+ghost use Rattle.std.specs.Prelude.{IfOk};
+ghost use Rattle.ir_ast.specs.Formed.{IsFormedModule};
 ghost use Rattle.ir_types.specs.Answers.{Answers};
+ghost use Rattle.ir_types.specs.TypedModules.{IsTypedModule};
 ghost use Rattle.ir_types.specs.Views.{seen_lines};
 
 use crate::build::module_of;
@@ -14,7 +17,9 @@ use std::alloc::Global;
 /// faults, the least line and of that the least code. That uses are definite is judged apart, over the paths of the
 /// module. [`TypeFault::Memory`] says nothing of the text.
 pub fn typed(alloc: Global, raw: Raw) -> Result<Module, TypeFault>
-    ensures { Answers (seen_lines raw.entry.lines) result }
+    ensures answers { Answers (seen_lines raw.entry.lines) result }
+    ensures typed { IfOk result (λ whole. IsTypedModule whole.content) }
+    ensures formed { IfOk result (λ whole. IsFormedModule whole.content) }
 {
     let lines = raw.lines();
     match first_fault(alloc, lines)? {

@@ -12,9 +12,9 @@ module_of-requires c =
     subst (λ (rs : List NumberedReading). IsPlaced (seen_lines rs)) (sym c.lines-lines.ensures.lines)
     (read-placed (seen_lines c.args.raw.lines) (read-lines c.args.raw c.lines-lines.ensures.read))
 
-pub returns-in_err-fault : goal.returns-in_err-fault
-returns-in_err-fault c = let p = err_from_is_err_and c.from_residual.result c.from_residual.ensures.1 in rw (p.1, p.2) tt
+pub returns-in_err-fault-clause-answers : goal.returns-in_err-fault-clause-answers
+returns-in_err-fault-clause-answers c = let p = err_from_is_err_and c.from_residual.result c.from_residual.ensures.1 in rw (p.1, p.2) tt
 
-pub returns-in_err-module_of-in-None : goal.returns-in_err-module_of-in-None
-returns-in_err-module_of-in-None c =
+pub returns-in_err-module_of-in-None-clause-answers : goal.returns-in_err-module_of-in-None-clause-answers
+returns-in_err-module_of-in-None-clause-answers c =
     let p = err_from_is_err_and c.from_residual-in_err-module_of-in-None.result c.from_residual-in_err-module_of-in-None.ensures.1 in rw (p.1, p.2) tt
