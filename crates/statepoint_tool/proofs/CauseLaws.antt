@@ -21,7 +21,7 @@ use Rattle.statepoint_tool.specs.declared.request.Command.{Command}
 use Rattle.statepoint_tool.specs.declared.request.Command.TheVariants.{Show, Run}
 use Rattle.statepoint_tool.specs.declared.status.Status.{Status}
 use Rattle.statepoint_tool.specs.declared.status.Status.TheVariants.{Done, OutOfSteps, ModuleRefused, WordsRefused, ReadFault, PlanRefused, InputRefused, TooLong}
-use Rattle.statepoint_tool.proofs.StepLaws.{Once, same-value, not_both, Once-comes_to, Once-Then, Once-file_phase}
+use Rattle.statepoint_tool.proofs.StepLaws.{Once, stop_in, same-value, not_both, Once-comes_to, Once-Then, Once-file_phase}
 use Rattle.statepoint_tool.proofs.TextLaws.{Accepts, accepts, StopsByText, refuses, AcceptsToRun, accepts-to_run, StopsToRun, by_text, by_line, refuses-to_run, as-accepted, as-refused, as-runnable, as-not_yet, as-unrunnable, Once-module_phase, Once-runnable_phase}
 
 -- ---- the work comes to one step
@@ -65,7 +65,7 @@ module _ (words : List (List ℕ)) (given : Given) where
   explains-at : (step due : Step Output) → step ≡ due → Explains due words given → Explains step words given
   explains-at step due is explained = subst (λ (s : Step Output). Explains s words given) (sym is) explained
 
-  stop-at : {A : Type 0} (one other : Cause) → Stop {A} one ≡ Stop other → Explains (Stop other) words given → Explains (Stop one) words given
+  stop-at : {A : Type 0} (one other : Cause) → stop_in A one ≡ Stop other → Explains (Stop other) words given → Explains (Stop one) words given
   stop-at {A} one other is explained =
       let same : one ≡ other = cc in subst (λ (c : Cause). Explains (Stop c) words given) (sym same) explained
 
@@ -80,7 +80,7 @@ module _ (words : List (List ℕ)) (given : Given) where
   stops_text : (name text : List ℕ) (cause : Cause) → NamesModule words name → given.module_file ≡ Bytes text → StopsByText text cause →
       Explains (Stop cause) words given
   stops_text name text reason names taken stopped =
-      stop-at {Output} reason (cause.Module stopped.fault) (ap Stop stopped.is) (in_text name text stopped.fault names taken stopped.has)
+      stop-at {A = Output} reason (cause.Module stopped.fault) (ap Stop stopped.is) (in_text name text stopped.fault names taken stopped.has)
 
   show_explains : (asks : AsksToShow words) (taken : Taken) → given.module_file ≡ taken → (step : Step Output) →
       Then (file_phase asks.module_file module_phase taken) show_phase step → Explains step words given
@@ -134,7 +134,7 @@ module _ (words : List (List ℕ)) (given : Given) where
   unrunnable_text : (asks : AsksForRun words) (text : List ℕ) (reason : Cause) → given.module_file ≡ Bytes text → StopsToRun text reason → Explains (Stop reason) words given
   unrunnable_text asks text reason taken (by_text stopped) = stops_text asks.module_file text reason (to_run asks) taken stopped
   unrunnable_text asks text reason taken (by_line lines line accepted found is) =
-      stop-at {Output} reason (cause.Module (module_fault.NotYet line)) (ap Stop is)
+      stop-at {A = Output} reason (cause.Module (module_fault.NotYet line)) (ap Stop is)
       (not_yet (record { asks = asks; text = text; taken = taken; lines = lines; accepted = accepted }) line found)
 
   run_explains : (asks : AsksForRun words) (taken : Taken) → given.module_file ≡ taken → (step : Step Output) →

@@ -1,12 +1,13 @@
 -- The first line that can't be run yet, line by line.
-use Rattle.std.proofs.Common.{◌≡◌, ◌≢◌, ◌∙◌, ℕ, ◌+◌, ◌<◌, suc, Bool, true, false, not, List, [], ◌∷◌, ◌++◌, length, map, drop, get_or, Option, Some, None, refl, sym, ap, add-one}
+use Rattle.std.proofs.Common.{◌≡◌, ◌≢◌, ◌∙◌, ℕ, ◌+◌, ◌<◌, suc, Bool, true, false, not, cond, List, [], ◌∷◌, ◌++◌, length, map, drop, get_or, Option, Some, None, refl, sym, ap, add-one}
 use Rattle.std.proofs.Math.Seq.{drop-cons}
 use Rattle.std.specs.Prelude.{take_while}
+use Rattle.std.proofs.lemmas.List.Sums.{take_while-cons}
 use Rattle.ir_reader.specs.declared.raw.NumberedReading.{NumberedReading}
 use Rattle.ir_types.specs.Statements.{Line, Statement, label, close}
 use Rattle.ir_types.specs.Sections.{Definition, is_close, is_label, definition_said, definitions_of}
 use Rattle.ir_types.specs.Views.{said, seen_line, seen_lines}
-use Rattle.statepoint_tool.specs.NotYet.{first_among, or_else, first_in_function, first_behind, first_in_body, behind_label, first_not_yet, runs_behind, with_given, name_given}
+use Rattle.statepoint_tool.specs.NotYet.{first_among, or_else, first_in_function, first_behind, begins_with_label, first_in_body, behind_label, first_not_yet, runs_behind, with_given, name_given}
 
 pub cut : (xs : List NumberedReading) (i : ℕ) (x : NumberedReading) → i < length xs → x ≡ get_or xs i x → drop i xs ≡ x ∷ drop (i + 1) xs
 cut xs i x below is = drop-cons xs i x below ∙ ap (λ y. y ∷ drop (suc i) xs) (sym is) ∙ ap (λ n. x ∷ drop n xs) (sym (add-one i))
@@ -16,10 +17,12 @@ abbrev pub body : List NumberedReading → List Line
 body xs = take_while (λ l. not (is_close l.says)) (seen_lines xs)
 
 pub body-closed : (x : NumberedReading) (xs : List NumberedReading) → is_close (said x.reading) ≡ true → body (x ∷ xs) ≡ []
-body-closed x xs e = rw e refl
+body-closed x xs e =
+    take_while-cons (λ l. not (is_close l.says)) (seen_line x) (seen_lines xs) ∙ ap (λ b. cond (not b) (seen_line x ∷ body xs) []) e
 
 pub body-more : (x : NumberedReading) (xs : List NumberedReading) → is_close (said x.reading) ≡ false → body (x ∷ xs) ≡ seen_line x ∷ body xs
-body-more x xs e = rw e refl
+body-more x xs e =
+    take_while-cons (λ l. not (is_close l.says)) (seen_line x) (seen_lines xs) ∙ ap (λ b. cond (not b) (seen_line x ∷ body xs) []) e
 
 pub behind-more : (names : List (List ℕ)) (l : Line) (ls : List Line) → runs_behind names l.says ≡ true →
     first_behind names (l ∷ ls) ≡ first_behind (with_given names (name_given l.says)) ls
@@ -60,16 +63,30 @@ one-among func = or_else-none (first_in_function func)
 abbrev before_close : List Line → List Line
 before_close ls = take_while (λ l. not (is_close l.says)) ls
 
+labelled_by : (number : ℕ) (what : Statement) (rest : List Line) → is_label what ≡ true →
+    first_in_body (cond (not (is_close what)) (record { number = number; says = what } ∷ before_close rest) []) ≡ first_behind [] (before_close rest)
+labelled_by number (label name) rest e = refl
+labelled_by number _ rest e = absurd (let bad : false ≡ true = e in cc)
+
+unlabelled_by : (number : ℕ) (what : Statement) (rest : List Line) → is_label what ≡ false →
+    first_in_body (cond (not (is_close what)) (record { number = number; says = what } ∷ before_close rest) [])
+    ≡ first_behind [] (cond (not (is_close what)) (record { number = number; says = what } ∷ before_close rest) [])
+unlabelled_by number (label name) rest e = absurd (let bad : true ≡ false = e in cc)
+unlabelled_by number close rest e = sym (behind-none [])
+unlabelled_by number _ rest e = refl
+
+opened : (number : ℕ) (what : Statement) (rest : List Line) →
+    before_close (record { number = number; says = what } ∷ rest) ≡ cond (not (is_close what)) (record { number = number; says = what } ∷ before_close rest) []
+opened number what rest = take_while-cons (λ l. not (is_close l.says)) (record { number = number; says = what }) rest
+
 labelled : (number : ℕ) (what : Statement) (rest : List Line) → is_label what ≡ true →
     first_in_body (before_close (record { number = number; says = what } ∷ rest)) ≡ first_behind [] (before_close rest)
-labelled number (label name) rest e = refl
-labelled number _ rest e = absurd (let bad : false ≡ true = e in cc)
+labelled number what rest e = ap first_in_body (opened number what rest) ∙ labelled_by number what rest e
 
 unlabelled : (number : ℕ) (what : Statement) (rest : List Line) → is_label what ≡ false →
     first_in_body (before_close (record { number = number; says = what } ∷ rest)) ≡ first_behind [] (before_close (record { number = number; says = what } ∷ rest))
-unlabelled number (label name) rest e = absurd (let bad : true ≡ false = e in cc)
-unlabelled number close rest e = sym (behind-none [])
-unlabelled number _ rest e = refl
+unlabelled number what rest e =
+    ap first_in_body (opened number what rest) ∙ (unlabelled_by number what rest e ∙ sym (ap (first_behind []) (opened number what rest)))
 
 pub in_body-labelled : (x : NumberedReading) (xs : List NumberedReading) → is_label (said x.reading) ≡ true →
     first_in_body (body (x ∷ xs)) ≡ first_behind [] (body xs)
@@ -78,3 +95,11 @@ in_body-labelled x xs e = labelled x.line (said x.reading) (seen_lines xs) e
 pub in_body-unlabelled : (x : NumberedReading) (xs : List NumberedReading) → is_label (said x.reading) ≡ false →
     first_in_body (body (x ∷ xs)) ≡ first_behind [] (body (x ∷ xs))
 in_body-unlabelled x xs e = unlabelled x.line (said x.reading) (seen_lines xs) e
+
+pub labelled_lines : (xs : List NumberedReading) → begins_with_label (seen_lines xs) ≡ true → first_behind [] (body (drop 1 xs)) ≡ first_in_body (body xs)
+labelled_lines [] e = absurd (let bad : false ≡ true = e in cc)
+labelled_lines (x ∷ xs) e = sym (in_body-labelled x xs e)
+
+pub unlabelled_lines : (xs : List NumberedReading) → begins_with_label (seen_lines xs) ≡ false → first_behind [] (body xs) ≡ first_in_body (body xs)
+unlabelled_lines [] e = behind-none []
+unlabelled_lines (x ∷ xs) e = sym (in_body-unlabelled x xs e)

@@ -4,13 +4,17 @@ use Rattle.statepoint_tool.specs.Steps.{Step, Go, Stop, comes_to, Then, goes_on,
 use Rattle.statepoint_tool.specs.Taken.{Taken, Bytes, Longer, Faulty, file_phase}
 use Rattle.statepoint_tool.specs.declared.refusal.Cause.{Cause}
 
+-- a step that stops a phase of values of this type
+abbrev pub stop_in : (A : Type 0) → Cause → Step A
+stop_in A cause = Stop cause
+
 abbrev pub Once : {A : Type 0} → (Step A → Type 0) → Type 0
 Once {A} phase = (one other : Step A) → phase one → phase other → one ≡ other
 
 pub same-value : {A : Type 0} (one other : A) → Go one ≡ Go other → one ≡ other
 same-value one other is = cc
 
-same_cause : {A : Type 0} (one other : Cause) → Stop {A} one ≡ Stop {A} other → one ≡ other
+same_cause : {A : Type 0} (one other : Cause) → stop_in A one ≡ stop_in A other → one ≡ other
 same_cause one other is = cc
 
 pub not_both : {A : Type 0} (value : A) (cause : Cause) → Go value ≡ Stop cause → ⊥
@@ -24,7 +28,7 @@ Once-Then {A} {B} first next f n _ _ (goes_on value step p q) (goes_on other oth
     n other step other_step (subst (λ (v : A). next v step) (same-value value other (f (Go value) (Go other) p r)) q) s
 Once-Then {A} {B} first next f n _ _ (goes_on value step p q) (stops cause r) = absurd (not_both value cause (f (Go value) (Stop cause) p r))
 Once-Then {A} {B} first next f n _ _ (stops cause p) (goes_on value step r s) = absurd (not_both value cause (f (Go value) (Stop cause) r p))
-Once-Then {A} {B} first next f n _ _ (stops cause p) (stops other r) = ap (λ (c : Cause). Stop {B} c) (same_cause cause other (f (Stop cause) (Stop other) p r))
+Once-Then {A} {B} first next f n _ _ (stops cause p) (stops other r) = ap (λ (c : Cause). stop_in B c) (same_cause cause other (f (Stop cause) (Stop other) p r))
 
 pub Once-file_phase : {A : Type 0} (name : List ℕ) (read : List ℕ → Step A → Type 0) → ((text : List ℕ) → Once (read text)) → (taken : Taken) → Once (file_phase name read taken)
 Once-file_phase name read once (Bytes bytes) one other p q = once bytes one other p q

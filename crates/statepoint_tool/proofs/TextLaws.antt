@@ -1,8 +1,14 @@
 -- What reading and typing a module's text come to.
-use Rattle.std.proofs.Common.{◌≡◌, ℕ, ◌<◌, ◌≤◌, ◌⊎◌, inl, inr, List, Option, Some, None, Result, Ok, Err, ◌∙◌, refl, sym, ap, subst, arith}
-use Rattle.ir_ast.specs.Modules.{ModuleContent}
+use Rattle.std.proofs.Common.{◌≡◌, ℕ, ◌<◌, ◌≤◌, ◌⊎◌, inl, inr, List, [], ◌∷◌, map, Option, Some, None, Result, Ok, Err, ◌∙◌, refl, sym, ap, subst, arith}
+use Rattle.ir_ast.specs.Modules.{ModuleContent, LinedModule}
 use Rattle.ir_reader.specs.Text.{Numbered, Fault, syntax_fault, limit_fault, text_readings}
 use Rattle.ir_types.specs.declared.faults.Fault.{Fault as TypeFault}
+use Rattle.ir_reader.specs.declared.raw.NumberedReading.{NumberedReading}
+use Rattle.ir_reader.specs.Raws.{seen_numbered}
+use Rattle.ir_types.specs.Answers.{IsTypedAs, Answers}
+use Rattle.ir_types.specs.declared.faults.TypeFault.{TypeFault as TypingFault}
+use Rattle.ir_types.specs.declared.faults.TypeFault.TheVariants as answers
+use Rattle.ir_types.specs.Views.{seen_line, seen_lines}
 use Rattle.ir_types.specs.Statements.{Line, lines_of}
 use Rattle.ir_types.specs.FaultSet.{HasNoFault, IsLeastFault, ComesFirst}
 use Rattle.statepoint_tool.specs.Causes.{IsReadAs, IsAccepted, HasTextFault, unread, over_limit, faulty}
@@ -13,7 +19,7 @@ use Rattle.statepoint_tool.specs.declared.refusal.Cause.{Cause}
 use Rattle.statepoint_tool.specs.declared.refusal.Cause.TheVariants.{Module}
 use Rattle.statepoint_tool.specs.declared.refusal.ModuleFault.{ModuleFault}
 use Rattle.statepoint_tool.specs.declared.refusal.ModuleFault.TheVariants.{Syntax, Limit, Typed, NotYet}
-use Rattle.statepoint_tool.proofs.StepLaws.{Once, same-value, not_both, Once-comes_to, Once-Then}
+use Rattle.statepoint_tool.proofs.StepLaws.{Once, stop_in, same-value, not_both, Once-comes_to, Once-Then}
 
 -- ---- one fault is the least
 
@@ -44,7 +50,7 @@ Once-Typing lines _ _ (faultless none) (faultless also) = refl
 Once-Typing lines _ _ (faultless none) (typed_faulty fault least) = absurd (none fault.line fault.code least.is)
 Once-Typing lines _ _ (typed_faulty fault least) (faultless none) = absurd (none fault.line fault.code least.is)
 Once-Typing lines _ _ (typed_faulty one p) (typed_faulty other q) =
-    ap (λ (fault : TypeFault). Stop {ModuleContent} (Module (Typed fault))) (one-least lines one other p q)
+    ap (λ (fault : TypeFault). stop_in ModuleContent (Module (Typed fault))) (one-least lines one other p q)
 
 pub Once-module_phase : (text : List ℕ) → Once (module_phase text)
 Once-module_phase text = Once-Then (reading text) Typing (Once-comes_to (read_step (text_readings text))) Once-Typing
@@ -55,6 +61,17 @@ Once-runnable_phase text =
     (λ lines. Once-Then (Typing lines) (building lines) (Once-Typing lines) (λ content. Once-comes_to (built_step content (first_not_yet lines))))
 
 -- ---- the lines of a text
+
+pub lines_of-seen : (xs : List NumberedReading) → lines_of (map seen_numbered xs) ≡ seen_lines xs
+lines_of-seen [] = refl
+lines_of-seen (x ∷ xs) = ap (λ (ls : List Line). seen_line x ∷ ls) (lines_of-seen xs)
+
+-- what the typer answers
+pub typed-go : (lines : List Line) (whole : LinedModule) → IsTypedAs lines whole → Typing lines (Go whole.content)
+typed-go lines whole typed = subst (λ (w : LinedModule). Typing lines (Go w.content)) (sym typed.is) (faultless typed.faultless)
+
+pub typed-stop : (lines : List Line) (error : TypingFault) (fault : TypeFault) → error ≡ answers.Fault fault → Answers lines (Err error) → Typing lines (Stop (Module (Typed fault)))
+typed-stop lines error fault is answered = typed_faulty fault (subst (λ (e : TypingFault). Answers lines (Err e)) is answered)
 
 read_by : (text : List ℕ) (lines : List Line) (result : Result (List Numbered) Fault) → text_readings text ≡ result → Go lines ≡ read_step result → IsReadAs text lines
 read_by text lines (Ok readings) is same = record { readings = readings; read = is; are = same-value lines (lines_of readings) same }
@@ -76,8 +93,8 @@ pub record StopsByText (text : List ℕ) (cause : Cause) : Type 0 where
 
 unread_by : (text : List ℕ) (cause : Cause) (result : Result (List Numbered) Fault) → text_readings text ≡ result → Stop cause ≡ read_step result → StopsByText text cause
 unread_by text cause (Ok readings) is same = absurd (not_both (lines_of readings) cause (sym same))
-unread_by text cause (Err (syntax_fault line)) is same = record { fault = Syntax line; is = (let s : Stop {List Line} cause ≡ Stop (Module (Syntax line)) = same in cc); has = unread line is }
-unread_by text cause (Err (limit_fault line)) is same = record { fault = Limit line; is = (let s : Stop {List Line} cause ≡ Stop (Module (Limit line)) = same in cc); has = over_limit line is }
+unread_by text cause (Err (syntax_fault line)) is same = record { fault = Syntax line; is = (let s : stop_in (List Line) cause ≡ Stop (Module (Syntax line)) = same in cc); has = unread line is }
+unread_by text cause (Err (limit_fault line)) is same = record { fault = Limit line; is = (let s : stop_in (List Line) cause ≡ Stop (Module (Limit line)) = same in cc); has = over_limit line is }
 
 stops_reading : (text : List ℕ) (cause : Cause) → reading text (Stop cause) → StopsByText text cause
 stops_reading text cause same = unread_by text cause (text_readings text) refl same
@@ -105,12 +122,12 @@ accepts text content phase = accepts_by text (Go content) content refl phase
 typed_stops : (text : List ℕ) (lines : List Line) → IsReadAs text lines → (step : Step ModuleContent) (cause : Cause) → step ≡ Stop cause → Typing lines step → StopsByText text cause
 typed_stops text lines read _ cause same (faultless none) = absurd (not_both (content_of lines) cause same)
 typed_stops text lines read _ cause same (typed_faulty fault least) =
-    record { fault = Typed fault; is = (let s : Stop {ModuleContent} (Module (Typed fault)) ≡ Stop cause = same in cc); has = faulty lines fault read least }
+    record { fault = Typed fault; is = (let s : stop_in ModuleContent (Module (Typed fault)) ≡ Stop cause = same in cc); has = faulty lines fault read least }
 
 stops_by : (text : List ℕ) (step : Step ModuleContent) (cause : Cause) → step ≡ Stop cause → module_phase text step → StopsByText text cause
 stops_by text _ cause same (goes_on lines step read typing) = typed_stops text lines (reads-as text lines read) step cause same typing
 stops_by text _ cause same (stops own read) =
-    let is : own ≡ cause = (let s : Stop {ModuleContent} own ≡ Stop cause = same in cc) in subst (λ (c : Cause). StopsByText text c) is (stops_reading text own read)
+    let is : own ≡ cause = (let s : stop_in ModuleContent own ≡ Stop cause = same in cc) in subst (λ (c : Cause). StopsByText text c) is (stops_reading text own read)
 
 pub refuses : (text : List ℕ) (cause : Cause) → module_phase text (Stop cause) → StopsByText text cause
 refuses text cause phase = stops_by text (Stop cause) cause refl phase
@@ -126,6 +143,13 @@ as-refused text _ (faulty lines fault read least) =
     goes_on lines (Stop (Module (Typed fault))) (as-read text lines read) (typed_faulty fault least)
 
 -- ---- a module to be run
+
+pub builds : (lines : List Line) (content : ModuleContent) → Typing lines (Go content) → first_not_yet lines ≡ None → typing_to_run lines (Go content)
+builds lines content typing none = goes_on content (Go content) typing (sym (ap (built_step content) none))
+
+pub not_built : (lines : List Line) (content : ModuleContent) (line : ℕ) → Typing lines (Go content) → first_not_yet lines ≡ Some line →
+    typing_to_run lines (Stop (Module (NotYet line)))
+not_built lines content line typing found = goes_on content (Stop (Module (NotYet line))) typing (sym (ap (built_step content) found))
 
 -- a text is accepted, and its module can be run
 pub record AcceptsToRun (text : List ℕ) (content : ModuleContent) : Type 0 where
@@ -168,7 +192,7 @@ accepts-to_run text content phase = runs_in text (Go content) content refl phase
 unbuilt_by : (text : List ℕ) (lines : List Line) → IsAccepted text lines → (content : ModuleContent) (cause : Cause) (found : Option ℕ) → first_not_yet lines ≡ found → Stop cause ≡ built_step content found → StopsToRun text cause
 unbuilt_by text lines accepted content cause None is same = absurd (not_both content cause (sym same))
 unbuilt_by text lines accepted content cause (Some line) is same =
-    by_line lines line accepted is (let s : Stop {ModuleContent} cause ≡ Stop (Module (NotYet line)) = same in cc)
+    by_line lines line accepted is (let s : stop_in ModuleContent cause ≡ Stop (Module (NotYet line)) = same in cc)
 
 unbuilt : (text : List ℕ) (lines : List Line) → IsReadAs text lines → (step : Step ModuleContent) (content : ModuleContent) (cause : Cause) → step ≡ Go content → Typing lines step → Stop cause ≡ built_step content (first_not_yet lines) → StopsToRun text cause
 unbuilt text lines read _ content cause same (faultless none) built = unbuilt_by text lines (record { read = read; faultless = none }) content cause (first_not_yet lines) refl built
@@ -177,13 +201,13 @@ unbuilt text lines read _ content cause same (typed_faulty fault least) built = 
 stops_typing : (text : List ℕ) (lines : List Line) → IsReadAs text lines → (step : Step ModuleContent) (cause : Cause) → step ≡ Stop cause → typing_to_run lines step → StopsToRun text cause
 stops_typing text lines read _ cause same (goes_on content step typing built) = unbuilt text lines read (Go content) content cause refl typing (sym same ∙ built)
 stops_typing text lines read _ cause same (stops own typing) =
-    let is : own ≡ cause = (let s : Stop {ModuleContent} own ≡ Stop cause = same in cc) in
+    let is : own ≡ cause = (let s : stop_in ModuleContent own ≡ Stop cause = same in cc) in
     by_text (subst (λ (c : Cause). StopsByText text c) is (typed_stops text lines read (Stop own) own refl typing))
 
 stops_in : (text : List ℕ) (step : Step ModuleContent) (cause : Cause) → step ≡ Stop cause → runnable_phase text step → StopsToRun text cause
 stops_in text _ cause same (goes_on lines step read typing) = stops_typing text lines (reads-as text lines read) step cause same typing
 stops_in text _ cause same (stops own read) =
-    let is : own ≡ cause = (let s : Stop {ModuleContent} own ≡ Stop cause = same in cc) in
+    let is : own ≡ cause = (let s : stop_in ModuleContent own ≡ Stop cause = same in cc) in
     by_text (subst (λ (c : Cause). StopsByText text c) is (stops_reading text own read))
 
 pub refuses-to_run : (text : List ℕ) (cause : Cause) → runnable_phase text (Stop cause) → StopsToRun text cause

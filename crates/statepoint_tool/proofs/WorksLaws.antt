@@ -34,25 +34,19 @@ Came-goes_on phase rest value (Err Memory) out first (inl unwritten) = inl unwri
 Came-goes_on phase rest value (Err Memory) out first (inr begun) = inr (begun-goes_on phase rest value out first begun)
 
 -- where a phase refuses, so does the phase that it begins
-pub Agrees-stops : {A B C D : Type 0} {phase : Step A → Type 0} {view : B → A} {refusal : Refusal} → (rest : A → Step C → Type 0) (last : D → C) →
+pub Agrees-stops : {A B C D : Type 0} (phase : Step A → Type 0) (view : B → A) (refusal : Refusal) (rest : A → Step C → Type 0) (last : D → C) →
     Agrees view (Err refusal) phase → Agrees last (Err refusal) (Then phase rest)
-Agrees-stops {A} {B} {C} {D} {phase} {view} {refusal} rest last agrees = by refusal agrees
-  where
-    by : (refusal : Refusal) → Agrees view (Err refusal) phase → Agrees last (Err refusal) (Then phase rest)
-    by (Defined cause) agrees = stops cause agrees
-    by WriteFault agrees = agrees
-    by Memory agrees = tt
+Agrees-stops phase view (Defined cause) rest last agrees = stops cause agrees
+Agrees-stops phase view WriteFault rest last agrees = agrees
+Agrees-stops phase view Memory rest last agrees = tt
 
 -- where it goes on, what follows it decides
-pub Agrees-goes_on : {A B C D : Type 0} {phase : Step A → Type 0} {view : B → A} {value : B} {result : Result D Refusal} → (rest : A → Step C → Type 0) (last : D → C) →
+pub Agrees-goes_on : {A B C D : Type 0} (phase : Step A → Type 0) (view : B → A) (value : B) (result : Result D Refusal) (rest : A → Step C → Type 0) (last : D → C) →
     Agrees view (Ok value) phase → Agrees last result (rest (view value)) → Agrees last result (Then phase rest)
-Agrees-goes_on {A} {B} {C} {D} {phase} {view} {value} {result} rest last first agrees = by result agrees
-  where
-    by : (result : Result D Refusal) → Agrees last result (rest (view value)) → Agrees last result (Then phase rest)
-    by (Ok done) agrees = goes_on (view value) (Go (last done)) first agrees
-    by (Err (Defined cause)) agrees = goes_on (view value) (Stop cause) first agrees
-    by (Err WriteFault) agrees = agrees
-    by (Err Memory) agrees = tt
+Agrees-goes_on phase view value (Ok done) rest last first agrees = goes_on (view value) (Go (last done)) first agrees
+Agrees-goes_on phase view value (Err (Defined cause)) rest last first agrees = goes_on (view value) (Stop cause) first agrees
+Agrees-goes_on phase view value (Err WriteFault) rest last first agrees = agrees
+Agrees-goes_on phase view value (Err Memory) rest last first agrees = tt
 
 -- where the one file's phase refuses, so does the work
 pub Works-stops_at : {A B : Type 0} {files : FilesSeen} {name : List ℕ} {read : List ℕ → Step A → Type 0} {view : B → A} {refusal : Refusal} →

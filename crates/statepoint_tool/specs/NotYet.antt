@@ -1,6 +1,6 @@
 -- What can be run so far: one function `@main` that answers `i64` and has one block of additions and prints of `i64`
 -- numbers, and then its return.
-use Rattle.std.specs.Prelude.{ℕ, Bool, true, false, ◌==◌, ◌&&◌, List, [], ◌∷◌, ◌++◌, codes, Option, Some, None, if◌then◌else◌}
+use Rattle.std.specs.Prelude.{ℕ, Bool, true, false, not, ◌==◌, ◌&&◌, List, [], ◌∷◌, ◌++◌, codes, Option, Some, None, if◌then◌else◌}
 use Rattle.std.specs.List.{list_any}
 use Rattle.std.specs.Str.{bytes_eq}
 use Rattle.ir_reader.specs.declared.words.Binary.{Binary}
@@ -11,7 +11,7 @@ use Rattle.ir_reader.specs.Parts.{Val}
 use Rattle.ir_reader.specs.Parts as values
 use Rattle.ir_reader.specs.Lists.{Given, given, function}
 use Rattle.ir_types.specs.Statements.{Line, Statement, label, binary, call, ret}
-use Rattle.ir_types.specs.Sections.{Definition, definitions_of}
+use Rattle.ir_types.specs.Sections.{Definition, is_label, definitions_of}
 
 -- these names were given, and the value is one of theirs or no name
 abbrev pub is_given : List (List ℕ) → Val → Bool
@@ -42,7 +42,7 @@ runs_behind names (ret ty value) = is_word ty && is_given names value
 runs_behind names _ = false
 
 abbrev pub with_name : List (List ℕ) → List ℕ → List (List ℕ)
-with_name names name = if list_any (bytes_eq name) names then names else names ++ name ∷ []
+with_name names name = if not (list_any (bytes_eq name) names) then names ++ name ∷ [] else names
 
 -- the name that an addition gives
 abbrev pub name_given : Statement → Option (List ℕ)
@@ -63,6 +63,10 @@ first_behind names (l ∷ ls) =
 abbrev pub behind_label : Statement → Line → List Line → List Line
 behind_label (label name) first rest = rest
 behind_label _ first rest = first ∷ rest
+
+abbrev pub begins_with_label : List Line → Bool
+begins_with_label [] = false
+begins_with_label (l ∷ ls) = is_label l.says
 
 abbrev pub first_in_body : List Line → Option ℕ
 first_in_body [] = None

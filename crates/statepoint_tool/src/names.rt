@@ -1,4 +1,4 @@
-ghost use Rattle.std.specs.Prelude.{◌≡◌, [], OnOk};
+ghost use Rattle.std.specs.Prelude.{◌≡◌, [], ◌∷◌, ◌++◌, not, if◌then◌else◌, IfOk, OnOk};
 ghost use Rattle.std.specs.List.{list_any};
 ghost use Rattle.std.specs.Str.{bytes_eq};
 ghost use Rattle.statepoint_tool.specs.NotYet.{with_name};
@@ -39,11 +39,19 @@ impl<'a> Names<'a> {
         self.set.contains(name)
     }
 
+    // Adds a name, where it isn't there yet, and answers whether it did.
+    fn define(&mut self, name: &'a [u8]) -> Result<bool, Memory>
+        ensures new { IfOk result (λ new. new ≡ not (list_any (bytes_eq name.now) self.old)) }
+        ensures names { IfOk result (λ new. self.new ≡ (if new then self.old ++ name.now ∷ [] else self.old)) }
+    {
+        Ok(self.set.insert(name)?)
+    }
+
     /// Adds a name, where it isn't there yet.
     pub(crate) fn add(&mut self, name: &'a [u8]) -> Result<(), Memory>
         ensures { OnOk result (self.new ≡ with_name self.old name.now) }
     {
-        let _ = self.set.insert(name)?;
+        let _ = self.define(name)?;
         Ok(())
     }
 }

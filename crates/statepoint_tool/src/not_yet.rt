@@ -1,9 +1,9 @@
 //! The first line of a definition that can't be run yet.
-ghost use Rattle.std.specs.Prelude.{◌≡◌, ◌+◌, [], not, map, take_while, IfOk, OnOk};
+ghost use Rattle.std.specs.Prelude.{◌≡◌, ◌≤◌, ◌+◌, IsTrue, [], drop, length, not, map, take_while, IfOk, OnOk};
 ghost use Rattle.ir_reader.specs.Seen.{seen_value, seen_passed};
 ghost use Rattle.ir_types.specs.Sections.{is_close as closes, is_label, definition_said};
 ghost use Rattle.ir_types.specs.Views.{said, seen_lines};
-ghost use Rattle.statepoint_tool.specs.NotYet.{first_not_yet, first_among, first_in_body, first_behind, is_given, is_passed, is_printed, is_word, name_given, runs_behind, with_given};
+ghost use Rattle.statepoint_tool.specs.NotYet.{begins_with_label, first_not_yet, first_among, first_in_body, first_behind, is_given, is_passed, is_printed, is_word, name_given, runs_behind, with_given};
 
 use crate::names::Names;
 use ir_reader::{Binary, NumberedReading, Passed, Reading, TypeWord, Value};
@@ -48,9 +48,35 @@ fn in_definition(
 fn in_body(alloc: Global, behind: &[NumberedReading]) -> Result<Option<u32>, Memory>
     ensures { IfOk result (λ found. found ≡ first_in_body (take_while (λ l. not (closes l.says)) (seen_lines behind.now))) }
 {
-    match behind {
-        [first, rest @ ..] if is_label(&first.reading) => in_lines(alloc, rest),
-        _ => in_lines(alloc, behind),
+    in_lines(alloc, without_label(behind))
+}
+
+// The lines without a label at their front.
+fn without_label<'t, 'a>(behind: &'t [NumberedReading<'a>]) -> &'t [NumberedReading<'a>]
+    ensures { first_behind [] (take_while (λ l. not (closes l.says)) (seen_lines result.now))
+        ≡ first_in_body (take_while (λ l. not (closes l.says)) (seen_lines behind.now)) }
+{
+    if begins_with_label(behind) {
+        after_first(behind)
+    } else {
+        behind
+    }
+}
+
+fn after_first<'t, 'a>(lines: &'t [NumberedReading<'a>]) -> &'t [NumberedReading<'a>]
+    requires { 1 ≤ length lines.now }
+    ensures { result.now ≡ drop 1 lines.now }
+{
+    &lines[1..]
+}
+
+fn begins_with_label(lines: &[NumberedReading]) -> bool
+    ensures label { result ≡ begins_with_label (seen_lines lines.now) }
+    ensures some { IsTrue result → 1 ≤ length lines.now }
+{
+    match lines.first() {
+        Some(first) => is_label(&first.reading),
+        None => false,
     }
 }
 
