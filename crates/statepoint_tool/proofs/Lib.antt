@@ -1,5 +1,7 @@
 pub mod StepBounds
 pub mod GivenLaws
+pub mod StepLaws
+pub mod TextLaws
 pub mod ReadsLaws
 pub mod WorksLaws
 pub mod NamedLaws
@@ -7,13 +9,5 @@ pub mod CauseLaws
 pub mod AnswerLaws
 pub mod CompleteLaws
 pub mod SourceRuns
-pub mod ThinBody
-pub mod ThinBytes
-pub mod ThinCuts
-pub mod ThinLaws
-pub mod ThinMisfits
-pub mod ThinNames
-pub mod ThinNumbers
-pub mod ThinReads
-pub mod ThinSpelling
-pub mod ThinTexts
+pub mod NotYetLaws
+pub mod NameLaws

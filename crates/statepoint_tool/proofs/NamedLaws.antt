@@ -1,36 +1,39 @@
 -- The work where no file was taken.
-use Rattle.std.proofs.Common.{◌≡◌, ℕ, List, [], Option, Some, None, Result, Err, refl, sym, ap}
-use Rattle.tool_io.proofs.AppendLaws.{append_known-nil, AppendsFront-nothing}
-use Rattle.statepoint_tool.specs.Answers.{Works, sink_seen, text_of_step}
-use Rattle.statepoint_tool.specs.Steps.{Step}
+use Rattle.std.proofs.Common.{◌≡◌, ℕ, List, [], Option, Some, None, Result, Err, inl, refl, sym, ap, subst}
+use Rattle.tool_io.proofs.AppendLaws.{append_known-nil}
+use Rattle.statepoint_tool.specs.Answers.{Works, sink_seen}
+use Rattle.statepoint_tool.specs.Steps.{Step, Stop}
 use Rattle.statepoint_tool.specs.Taken.{FilesSeen, Bytes}
 use Rattle.statepoint_tool.specs.Words.{command_of}
 use Rattle.statepoint_tool.specs.Work.{Output, Given, MayGiveNamed, command_work, work}
 use Rattle.statepoint_tool.specs.declared.refusal.Cause.TheVariants.{Words}
 use Rattle.statepoint_tool.specs.declared.refusal.Refusal.TheVariants.{Defined, Memory}
 use Rattle.statepoint_tool.specs.declared.request.Command.{Command}
-use Rattle.statepoint_tool.specs.declared.request.Command.TheVariants.{Run}
+use Rattle.statepoint_tool.specs.declared.request.Command.TheVariants.{Show, Run}
 use Rattle.statepoint_tool.proofs.GivenLaws.{as_told, MayGive-as_told}
 
 -- what told files give
 abbrev pub all_as_told : FilesSeen → Option Command → Given
 all_as_told files None = record { module_file = Bytes []; input = Bytes []; plan = Bytes [] }
+all_as_told files (Some (Show module_file)) =
+    record { module_file = as_told files module_file; input = Bytes []; plan = Bytes [] }
 all_as_told files (Some (Run module_file input plan steps)) =
     record { module_file = as_told files module_file; input = as_told files input; plan = as_told files plan }
 
 pub MayGiveNamed-as_told : (files : FilesSeen) (command : Option Command) → MayGiveNamed files command (all_as_told files command)
 MayGiveNamed-as_told files None = tt
+MayGiveNamed-as_told files (Some (Show module_file)) = MayGive-as_told files module_file
 MayGiveNamed-as_told files (Some (Run module_file input plan steps)) =
     (MayGive-as_told files module_file, (MayGive-as_told files input, MayGive-as_told files plan))
 
 -- want of memory before anything was written
-pub Works-memory : (files : FilesSeen) (command : Option Command) (steps : Given → Step Output) (old : Option (List ℕ)) (faults : ℕ) →
-    Works (MayGiveNamed files command) steps (Err Memory) (sink_seen old old faults faults)
-Works-memory files command steps old faults =
+pub Works-memory : (files : FilesSeen) (command : Option Command) (phases : Given → Step Output → Type 0) (old : Option (List ℕ)) (faults : ℕ) →
+    Works (MayGiveNamed files command) phases (Err Memory) (sink_seen old old faults faults)
+Works-memory files command phases old faults =
     record {
       given = all_as_told files command;
       may = MayGiveNamed-as_told files command;
-      came = AppendsFront-nothing old (text_of_step (steps (all_as_told files command)));
+      came = inl (sym (append_known-nil old));
     }
 
 -- words that give no command
@@ -41,5 +44,5 @@ Works-no_command words files old faults none =
     record {
       given = given;
       may = MayGiveNamed-as_told files (command_of words);
-      came = record { defined = ap (λ (command : Option Command). command_work command given) none; unwritten = sym (append_known-nil old) };
+      came = record { defined = subst (λ (command : Option Command). command_work command given (Stop Words)) (sym none) refl; unwritten = sym (append_known-nil old) };
     }

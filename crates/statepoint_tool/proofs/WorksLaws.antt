@@ -1,10 +1,9 @@
 -- How a phase that reads a file and what follows it make a work.
-use Rattle.std.proofs.Common.{◌≡◌, ℕ, List, [], Option, Result, Ok, Err, refl, sym, ap, subst}
+use Rattle.std.proofs.Common.{◌≡◌, ℕ, List, [], Option, Result, Ok, Err, inl, inr, refl, sym}
 use Rattle.tool_io.specs.Counts.{NoneFell}
-use Rattle.tool_io.specs.Sink.{append_known, AppendsFront}
-use Rattle.tool_io.proofs.AppendLaws.{append_known-nil, AppendsFront-nothing}
-use Rattle.statepoint_tool.specs.Answers.{Agrees, Came, IsRefused, Reads, SinkSeen, sink_seen, Works, text_of_step}
-use Rattle.statepoint_tool.specs.Steps.{Step, Go, Stop, and_then}
+use Rattle.tool_io.proofs.AppendLaws.{append_known-nil}
+use Rattle.statepoint_tool.specs.Answers.{Agrees, Came, IsBegun, Reads, SinkSeen, sink_seen, Works}
+use Rattle.statepoint_tool.specs.Steps.{Step, Go, Stop, Then, goes_on, stops}
 use Rattle.statepoint_tool.specs.Taken.{Taken, FilesSeen, files_seen, MayGive, file_phase}
 use Rattle.statepoint_tool.specs.Work.{Output, Given}
 use Rattle.statepoint_tool.specs.declared.refusal.Refusal.{Refusal}
@@ -12,19 +11,71 @@ use Rattle.statepoint_tool.specs.declared.refusal.Refusal.TheVariants.{Defined, 
 use Rattle.statepoint_tool.specs.declared.status.Status.{Status}
 use Rattle.statepoint_tool.proofs.GivenLaws.{MayGive-later}
 
-Came-stops : {A B : Type 0} (phase : Step A) (rest : A → Step Output) (view : B → A) (refusal : Refusal) (old : Option (List ℕ)) (faults : ℕ) →
-    Agrees view (Err refusal) phase → Came (Err refusal) (and_then phase rest) (sink_seen old old faults faults)
+Came-stops : {A B : Type 0} (phase : Step A → Type 0) (rest : A → Step Output → Type 0) (view : B → A) (refusal : Refusal) (old : Option (List ℕ)) (faults : ℕ) →
+    Agrees view (Err refusal) phase → Came (Err refusal) (Then phase rest) (sink_seen old old faults faults)
 Came-stops phase rest view (Defined cause) old faults agrees =
-    record { defined = ap (λ (step : Step _). and_then step rest) agrees; unwritten = sym (append_known-nil old) }
+    record { defined = stops cause agrees; unwritten = sym (append_known-nil old) }
 Came-stops phase rest view WriteFault old faults agrees = absurd agrees
-Came-stops phase rest view Memory old faults agrees = AppendsFront-nothing old (text_of_step (and_then phase rest))
+Came-stops phase rest view Memory old faults agrees = inl (sym (append_known-nil old))
+
+begun-goes_on : {A : Type 0} (phase : Step A → Type 0) (rest : A → Step Output → Type 0) (value : A) (out : SinkSeen) → phase (Go value) →
+    IsBegun (λ output. rest value (Go output)) out → IsBegun (λ output. Then phase rest (Go output)) out
+begun-goes_on phase rest value out first begun =
+    record { output = begun.output; defined = goes_on value (Go begun.output) first begun.defined; front = begun.front }
+
+Came-goes_on : {A : Type 0} (phase : Step A → Type 0) (rest : A → Step Output → Type 0) (value : A) (result : Result Status Refusal) (out : SinkSeen) → phase (Go value) →
+    Came result (rest value) out → Came result (Then phase rest) out
+Came-goes_on phase rest value (Ok status) out first came =
+    record { output = came.output; defined = goes_on value (Go came.output) first came.defined; status_is = came.status_is; written = came.written }
+Came-goes_on phase rest value (Err (Defined cause)) out first came =
+    record { defined = goes_on value (Stop cause) first came.defined; unwritten = came.unwritten }
+Came-goes_on phase rest value (Err WriteFault) out first came = (came.0, begun-goes_on phase rest value out first came.1)
+Came-goes_on phase rest value (Err Memory) out first (inl unwritten) = inl unwritten
+Came-goes_on phase rest value (Err Memory) out first (inr begun) = inr (begun-goes_on phase rest value out first begun)
+
+-- where a phase refuses, so does the phase that it begins
+pub Agrees-stops : {A B C D : Type 0} (phase : Step A → Type 0) (view : B → A) (refusal : Refusal) (rest : A → Step C → Type 0) (last : D → C) →
+    Agrees view (Err refusal) phase → Agrees last (Err refusal) (Then phase rest)
+Agrees-stops phase view (Defined cause) rest last agrees = stops cause agrees
+Agrees-stops phase view WriteFault rest last agrees = agrees
+Agrees-stops phase view Memory rest last agrees = tt
+
+-- where it goes on, what follows it decides
+pub Agrees-goes_on : {A B C D : Type 0} (phase : Step A → Type 0) (view : B → A) (value : B) (result : Result D Refusal) (rest : A → Step C → Type 0) (last : D → C) →
+    Agrees view (Ok value) phase → Agrees last result (rest (view value)) → Agrees last result (Then phase rest)
+Agrees-goes_on phase view value (Ok done) rest last first agrees = goes_on (view value) (Go (last done)) first agrees
+Agrees-goes_on phase view value (Err (Defined cause)) rest last first agrees = goes_on (view value) (Stop cause) first agrees
+Agrees-goes_on phase view value (Err WriteFault) rest last first agrees = agrees
+Agrees-goes_on phase view value (Err Memory) rest last first agrees = tt
+
+-- where the one file's phase refuses, so does the work
+pub Works-stops_at : {A B : Type 0} {files : FilesSeen} {name : List ℕ} {read : List ℕ → Step A → Type 0} {view : B → A} {refusal : Refusal} →
+    (rest : A → Step Output → Type 0) (old : Option (List ℕ)) (faults : ℕ) → Reads files name read view (Err refusal) →
+    Works (MayGive files name) (λ given. Then (file_phase name read given) rest) (Err refusal) (sink_seen old old faults faults)
+Works-stops_at {A} {B} {files} {name} {read} {view} {refusal} rest old faults reads =
+    record {
+      given = reads.given;
+      may = reads.may_give;
+      came = Came-stops (file_phase name read reads.given) rest view refusal old faults reads.agrees;
+    }
+
+-- where it goes on, the work is what follows it
+pub Works-goes_on_at : {A B : Type 0} {files : FilesSeen} {name : List ℕ} {read : List ℕ → Step A → Type 0} {view : B → A} {value : B} {result : Result Status Refusal} {out : SinkSeen} →
+    (rest : A → Step Output → Type 0) → Reads files name read view (Ok value) → Came result (rest (view value)) out →
+    Works (MayGive files name) (λ given. Then (file_phase name read given) rest) result out
+Works-goes_on_at {A} {B} {files} {name} {read} {view} {value} {result} {out} rest reads came =
+    record {
+      given = reads.given;
+      may = reads.may_give;
+      came = Came-goes_on (file_phase name read reads.given) rest (view value) result out reads.agrees came;
+    }
 
 -- where a file's phase refuses, so does the work, whatever the later files may give
-pub Works-stops : {A B G : Type 0} {files : FilesSeen} {name : List ℕ} {read : List ℕ → Step A} {view : B → A} {refusal : Refusal} →
-    (rest : A → G → Step Output) (may : G → Type 0) (others : G) → may others → (old : Option (List ℕ)) (faults : ℕ) →
+pub Works-stops : {A B G : Type 0} {files : FilesSeen} {name : List ℕ} {read : List ℕ → Step A → Type 0} {view : B → A} {refusal : Refusal} →
+    (rest : A → G → Step Output → Type 0) (may : G → Type 0) (others : G) → may others → (old : Option (List ℕ)) (faults : ℕ) →
     Reads files name read view (Err refusal) →
     Works {G = Taken × G} (λ given. MayGive files name given.0 × may given.1)
-    (λ given. and_then (file_phase name read given.0) (λ value. rest value given.1))
+    (λ given. Then (file_phase name read given.0) (λ value. rest value given.1))
     (Err refusal) (sink_seen old old faults faults)
 Works-stops {A} {B} {G} {files} {name} {read} {view} {refusal} rest may others may_others old faults reads =
     record {
@@ -34,26 +85,37 @@ Works-stops {A} {B} {G} {files} {name} {read} {view} {refusal} rest may others m
     }
 
 -- where a file's phase goes on, the work is what follows it
-pub Works-goes_on : {A B G : Type 0} {contents : List ℕ → Option (List ℕ)} {before mid : List ℕ → ℕ} {name : List ℕ} {read : List ℕ → Step A} {view : B → A} {value : B} {may_rest : G → Type 0} {result : Result Status Refusal} {out : SinkSeen} →
-    (rest : A → G → Step Output) (may : G → Type 0) (lift : (given : G) → may_rest given → may given) (after : List ℕ → ℕ) → NoneFell mid after →
+pub Works-goes_on : {A B G : Type 0} {contents : List ℕ → Option (List ℕ)} {before mid : List ℕ → ℕ} {name : List ℕ} {read : List ℕ → Step A → Type 0} {view : B → A} {value : B} {may_rest : G → Type 0} {result : Result Status Refusal} {out : SinkSeen} →
+    (rest : A → G → Step Output → Type 0) (may : G → Type 0) (lift : (given : G) → may_rest given → may given) (after : List ℕ → ℕ) → NoneFell mid after →
     Reads (files_seen contents before mid) name read view (Ok value) →
     Works may_rest (rest (view value)) result out →
     Works {G = Taken × G} (λ given. MayGive (files_seen contents before after) name given.0 × may given.1)
-    (λ given. and_then (file_phase name read given.0) (λ read_value. rest read_value given.1)) result out
+    (λ given. Then (file_phase name read given.0) (λ read_value. rest read_value given.1)) result out
 Works-goes_on {A} {B} {G} {contents} {before} {mid} {name} {read} {view} {value} {may_rest} {result} {out} rest may lift after stayed reads works =
     record {
       given = (reads.given, works.given);
       may = (MayGive-later contents before mid after name reads.given reads.may_give stayed, lift works.given works.may);
-      came = subst (λ (step : Step A). Came result (and_then step (λ read_value. rest read_value works.given)) out) (sym reads.agrees) works.came;
+      came = Came-goes_on (file_phase name read reads.given) (λ read_value. rest read_value works.given) (view value) result out reads.agrees works.came;
     }
 
 -- the same, where what the files gave has its names
-pub Works-given : {may : Taken × (Taken × Taken) → Type 0} {steps : Taken × (Taken × Taken) → Step Output} {result : Result Status Refusal} {out : SinkSeen} →
-    Works may steps result out →
-    Works {G = Given} (λ given. may (given.module_file, (given.input, given.plan))) (λ given. steps (given.module_file, (given.input, given.plan))) result out
+pub Works-given : {may : Taken × (Taken × Taken) → Type 0} {phases : Taken × (Taken × Taken) → Step Output → Type 0} {result : Result Status Refusal} {out : SinkSeen} →
+    Works may phases result out →
+    Works {G = Given} (λ given. may (given.module_file, (given.input, given.plan))) (λ given. phases (given.module_file, (given.input, given.plan))) result out
 Works-given works =
     record {
       given = record { module_file = works.given.0; input = works.given.1.0; plan = works.given.1.1 };
+      may = works.may;
+      came = works.came;
+    }
+
+-- and where the command names one file
+pub Works-shown : {may : Taken → Type 0} {phases : Taken → Step Output → Type 0} {result : Result Status Refusal} {out : SinkSeen} →
+    Works may phases result out →
+    Works {G = Given} (λ given. may given.module_file) (λ given. phases given.module_file) result out
+Works-shown works =
+    record {
+      given = record { module_file = works.given; input = works.given; plan = works.given };
       may = works.may;
       came = works.came;
     }

@@ -34,53 +34,49 @@ GainedFront sink bytes = AppendsFront sink.old sink.new bytes
 abbrev pub SinkFailed : SinkSeen → Type 0
 SinkFailed sink = Rose sink.faults_before sink.faults_after
 
--- the bytes that the work would write
-abbrev pub text_of_step : Step Output → List ℕ
-text_of_step (Go output) = output.text
-text_of_step (Stop _) = []
-
--- a phase that reads gives the step's value, or refuses by the step's cause, or wants memory
-abbrev pub Agrees : {A B : Type 0} → (B → A) → Result B Refusal → Step A → Type 0
-Agrees view (Ok value) step = step ≡ Go (view value)
-Agrees view (Err (Defined cause)) step = step ≡ Stop cause
-Agrees view (Err WriteFault) step = ⊥
-Agrees view (Err Memory) step = ⊤
+-- a phase that reads comes to a value, or refuses by its cause, or wants memory
+abbrev pub Agrees : {A B : Type 0} → (B → A) → Result B Refusal → (Step A → Type 0) → Type 0
+Agrees view (Ok value) phase = phase (Go (view value))
+Agrees view (Err (Defined cause)) phase = phase (Stop cause)
+Agrees view (Err WriteFault) phase = ⊥
+Agrees view (Err Memory) phase = ⊤
 
 -- the file of this name was taken, and what it gave was read
-pub record Reads {A B : Type 0} (files : FilesSeen) (name : List ℕ) (read : List ℕ → Step A) (view : B → A) (result : Result B Refusal) : Type 0 where
+pub record Reads {A B : Type 0} (files : FilesSeen) (name : List ℕ) (read : List ℕ → Step A → Type 0) (view : B → A) (result : Result B Refusal) : Type 0 where
   pub given : Taken
   pub may_give : MayGive files name given
   pub agrees : Agrees view result (file_phase name read given)
 
--- the work came to its end: its status is the step's, and all of the step's text was written
-pub record IsDone (status : Status) (step : Step Output) (out : SinkSeen) : Type 0 where
+-- the work came to its end: its status is the output's, and all of the output's text was written
+pub record IsDone (status : Status) (phase : Step Output → Type 0) (out : SinkSeen) : Type 0 where
   pub output : Output
-  pub defined : step ≡ Go output
+  pub defined : phase (Go output)
   pub status_is : status ≡ output.status
   pub written : Gained out output.text
 
--- the step's cause, and nothing was written
-pub record IsRefused (cause : Cause) (step : Step Output) (out : SinkSeen) : Type 0 where
-  pub defined : step ≡ Stop cause
+-- the work stops by this cause, and nothing was written
+pub record IsRefused (cause : Cause) (phase : Step Output → Type 0) (out : SinkSeen) : Type 0 where
+  pub defined : phase (Stop cause)
   pub unwritten : Gained out []
 
--- standard output failed in this call after a front of the step's text
-pub record IsCut (step : Step Output) (out : SinkSeen) : Type 0 where
-  pub failed : SinkFailed out
-  pub front : GainedFront out (text_of_step step)
+-- a front of the text of such an output was written
+pub record IsBegun (due : Output → Type 0) (out : SinkSeen) : Type 0 where
+  pub output : Output
+  pub defined : due output
+  pub front : GainedFront out output.text
 
--- how a call of the work ends
-abbrev pub Came : Result Status Refusal → Step Output → SinkSeen → Type 0
-Came (Ok status) step out = IsDone status step out
-Came (Err (Defined cause)) step out = IsRefused cause step out
-Came (Err WriteFault) step out = IsCut step out
-Came (Err Memory) step out = GainedFront out (text_of_step step)
+-- how a call of the work ends; where memory is wanted, before the first byte or behind a front
+abbrev pub Came : Result Status Refusal → (Step Output → Type 0) → SinkSeen → Type 0
+Came (Ok status) phase out = IsDone status phase out
+Came (Err (Defined cause)) phase out = IsRefused cause phase out
+Came (Err WriteFault) phase out = SinkFailed out × IsBegun (λ output. phase (Go output)) out
+Came (Err Memory) phase out = Gained out [] ⊎ IsBegun (λ output. phase (Go output)) out
 
 -- the same, over something that the files may have given
-pub record Works {G : Type 0} (may_give : G → Type 0) (steps : G → Step Output) (result : Result Status Refusal) (out : SinkSeen) : Type 0 where
+pub record Works {G : Type 0} (may_give : G → Type 0) (phases : G → Step Output → Type 0) (result : Result Status Refusal) (out : SinkSeen) : Type 0 where
   pub given : G
   pub may : may_give given
-  pub came : Came result (steps given) out
+  pub came : Came result (phases given) out
 
 -- what is said of a refusal: its line, with its status; or standard error failed after a front of it
 pub record IsSaid (refusal : Refusal) (status : Status) (notes : SinkSeen) : Type 0 where

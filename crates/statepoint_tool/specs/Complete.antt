@@ -3,12 +3,12 @@ use Rattle.std.specs.Prelude.{◌≡◌, ℕ, ◌≤◌, ⊤, ◌⊎◌, List, [
 use Rattle.sp_ids.specs.declared.limits.TheConstants.{FILE_BYTES}
 use Rattle.tool_io.specs.Counts.{Rose}
 use Rattle.statepoint_tool.specs.Answers.{SinkSeen, Gained, GainedFront, SinkFailed}
-use Rattle.statepoint_tool.specs.Steps.{Go}
+use Rattle.statepoint_tool.specs.Causes.{Ends}
 use Rattle.statepoint_tool.specs.Taken.{Taken, Bytes, FilesSeen}
 use Rattle.statepoint_tool.specs.Words.{command_of}
-use Rattle.statepoint_tool.specs.Work.{Output, Given, work}
+use Rattle.statepoint_tool.specs.Work.{Output, Given}
 use Rattle.statepoint_tool.specs.declared.request.Command.{Command}
-use Rattle.statepoint_tool.specs.declared.request.Command.TheVariants.{Run}
+use Rattle.statepoint_tool.specs.declared.request.Command.TheVariants.{Show, Run}
 use Rattle.statepoint_tool.specs.declared.status.Status.{Status}
 use Rattle.statepoint_tool.specs.declared.status.Status.TheVariants.{WantOfMemory}
 
@@ -23,6 +23,7 @@ pub record IsTold (files : FilesSeen) (name : List ℕ) (given : Taken) : Type 0
 -- each file that the command names is told
 abbrev pub AllTold : FilesSeen → Option Command → Given → Type 0
 AllTold files None given = ⊤
+AllTold files (Some (Show module_file)) given = IsTold files module_file given.module_file
 AllTold files (Some (Run module_file input plan steps)) given =
     IsTold files module_file given.module_file × IsTold files input given.input × IsTold files plan given.plan
 
@@ -38,5 +39,5 @@ pub record IsShort (output : Output) (status : Status) (out : SinkSeen) : Type 0
 
 abbrev pub IsComplete : List (List ℕ) → FilesSeen → (out notes : SinkSeen) → Status → Type 0
 IsComplete words files out notes status =
-    (given : Given) (output : Output) → AllTold files (command_of words) given → work words given ≡ Go output →
+    (given : Given) (output : Output) → AllTold files (command_of words) given → Ends words given output →
     ¬ SinkFailed out → ¬ SinkFailed notes → IsWhole output status out notes ⊎ IsShort output status out

@@ -2,12 +2,8 @@ pub mod Status
 pub mod Words
 pub mod Steps
 pub mod Taken
-pub mod ThinForms
-pub mod ThinLines
-pub mod Thin
-pub mod ThinText
-pub mod ThinCalls
 pub mod Source
+pub mod NotYet
 pub mod Work
 pub mod Notes
 pub mod Answers

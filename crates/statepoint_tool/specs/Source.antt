@@ -2,7 +2,8 @@
 use Rattle.std.specs.Prelude.{ℕ, ◌+◌, nat_lt, if◌then◌else◌, List, [], ◌∷◌, ◌++◌, fold, codes, slice_get, slice_index, Option, Some, None, is_some, unwrap_or}
 use Rattle.std.specs.List.{concat}
 use Rattle.std.specs.Option.{option_map_or}
-use Rattle.sp_ids.specs.Numbers.{wrapped}
+use Rattle.std.specs.Fmt.{signed_decimal}
+use Rattle.sp_ids.specs.Numbers.{wrapped, signed}
 use Rattle.ir_ast.specs.declared.ops.Operand.{Operand}
 use Rattle.ir_ast.specs.declared.ops.Operand.TheVariants.{Value, Int, Null, Fun}
 use Rattle.ir_ast.specs.declared.ops.Op.{Op}
@@ -15,7 +16,6 @@ use Rattle.statepoint_tool.specs.declared.evaluate.Ended.{Ended}
 use Rattle.statepoint_tool.specs.declared.evaluate.Ended.TheVariants.{Returned, OutOfSteps}
 use Rattle.statepoint_tool.specs.declared.evaluate.Effect.{Effect}
 use Rattle.statepoint_tool.specs.declared.evaluate.Effect.TheVariants.{Defines, Prints, Returns, Nothing}
-use Rattle.statepoint_tool.specs.ThinForms.{spelled}
 
 -- the word of an operand, where these are the values of the function so far; 0 for what isn't there
 abbrev pub word : List ℕ → Operand → ℕ
@@ -50,6 +50,10 @@ pub record Run : Type 0 where
 
 abbrev pub start : Run
 start = record { values = []; lines = []; ended = None }
+
+-- a word is spelled as the signed decimal of its value
+unfoldable pub spelled : ℕ → List ℕ
+spelled word = signed_decimal (signed 64 word)
 
 abbrev pub newline : List ℕ
 newline = 10 ∷ []

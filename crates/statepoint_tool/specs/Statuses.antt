@@ -1,16 +1,14 @@
 -- Each status, exactly where its cause holds, and what the call leaves on its sinks.
 use Rattle.std.specs.Prelude.{◌≡◌, ℕ, ⊤, ◌⊎◌, List, []}
 use Rattle.tool_io.specs.Counts.{Rose}
-use Rattle.statepoint_tool.specs.Answers.{SinkSeen, Gained, GainedFront, SinkFailed, text_of_step}
-use Rattle.statepoint_tool.specs.Causes.{NoCommand, HasModuleFault, HasInputFault, HasPlanFault, CannotRead, IsTooLong, Returns, RunsOutOfSteps, Runs, meaning, name_of}
+use Rattle.statepoint_tool.specs.Answers.{SinkSeen, Gained, GainedFront, SinkFailed, IsBegun}
+use Rattle.statepoint_tool.specs.Causes.{Ends, EndsWith, NoCommand, HasModuleFault, HasSomeModuleFault, HasInputFault, HasPlanFault, CannotRead, IsTooLong}
 use Rattle.statepoint_tool.specs.Notes.{refusal_line, status_of_cause}
-use Rattle.statepoint_tool.specs.Source.{text_of_lines}
 use Rattle.statepoint_tool.specs.Steps.{Step, Go, Stop}
 use Rattle.statepoint_tool.specs.Taken.{FilesSeen}
 use Rattle.statepoint_tool.specs.Words.{command_of}
 use Rattle.statepoint_tool.specs.Work.{Output, Given, MayGiveNamed, work}
 use Rattle.statepoint_tool.specs.declared.refusal.Cause.TheVariants as cause
-use Rattle.statepoint_tool.specs.declared.refusal.ModuleFault.TheVariants as module_fault
 use Rattle.statepoint_tool.specs.declared.refusal.PlanFault.TheVariants as plan_fault
 use Rattle.statepoint_tool.specs.declared.refusal.Refusal.{Refusal}
 use Rattle.statepoint_tool.specs.declared.refusal.Refusal.TheVariants as refused
@@ -45,13 +43,13 @@ pub record Exactly (words : List (List ℕ)) (files : FilesSeen) (out notes : Si
 -- a file that could not be read had a fault counted for its name
 abbrev pub ReadFaultCounted : List (List ℕ) → FilesSeen → Type 0
 ReadFaultCounted words files =
-    OverSome words files (λ given. (gives : CannotRead words given) × Rose (files.faults_before (name_of gives)) (files.faults_after (name_of gives)))
+    OverSome words files (λ given. (cannot : CannotRead words given) × Rose (files.faults_before cannot.0) (files.faults_after cannot.0))
 
 -- the cause of each status that comes by the definition of the work
 abbrev pub CauseOf : Status → List (List ℕ) → Given → Type 0
-CauseOf Done = Returns
-CauseOf OutOfSteps = RunsOutOfSteps
-CauseOf ModuleRefused = HasModuleFault
+CauseOf Done = EndsWith Done
+CauseOf OutOfSteps = EndsWith OutOfSteps
+CauseOf ModuleRefused = HasSomeModuleFault
 CauseOf WordsRefused = NoCommand
 CauseOf ReadFault = CannotRead
 CauseOf InputRefused = HasInputFault
@@ -59,20 +57,24 @@ CauseOf PlanRefused = HasPlanFault
 CauseOf TooLong = IsTooLong
 CauseOf _ = λ words given. ⊥
 
--- what is written to standard output: all lines of the run where it ended, a front of what the work
--- writes at want of memory and where a sink failed, and else nothing
+-- nothing was written, or a front of what the work writes
+abbrev pub WritesFront : List (List ℕ) → FilesSeen → SinkSeen → Type 0
+WritesFront words files out = Gained out [] ⊎ OverSome words files (λ given. IsBegun (Ends words given) out)
+
+-- what is written to standard output: the whole text of the work where it came to its end, a front of it at want of
+-- memory and where a sink failed, and else nothing
 abbrev pub Writes : Status → List (List ℕ) → FilesSeen → SinkSeen → Type 0
-Writes Done words files out = OverSome words files (λ given. (runs : Runs words given) × Gained out (text_of_lines (meaning runs).lines))
-Writes OutOfSteps words files out = OverSome words files (λ given. (runs : Runs words given) × Gained out (text_of_lines (meaning runs).lines))
-Writes WriteFault words files out = OverSome words files (λ given. GainedFront out (text_of_step (work words given)))
-Writes WantOfMemory words files out = OverSome words files (λ given. GainedFront out (text_of_step (work words given)))
+Writes Done words files out = OverSome words files (λ given. (ends : EndsWith Done words given) × Gained out ends.0.text)
+Writes OutOfSteps words files out = OverSome words files (λ given. (ends : EndsWith OutOfSteps words given) × Gained out ends.0.text)
+Writes WriteFault words files out = WritesFront words files out
+Writes WantOfMemory words files out = WritesFront words files out
 Writes _ words files out = Gained out []
 
 -- what stands before the end of a line that was due: the cause, a failed output, or want of memory
-abbrev pub IsDue : Refusal → Step Output → SinkSeen → Type 0
-IsDue (refused.Defined reason) step out = step ≡ Stop reason
-IsDue refused.WriteFault step out = SinkFailed out
-IsDue refused.Memory step out = ⊤
+abbrev pub IsDue : Refusal → (Step Output → Type 0) → SinkSeen → Type 0
+IsDue (refused.Defined reason) phase out = phase (Stop reason)
+IsDue refused.WriteFault phase out = SinkFailed out
+IsDue refused.Memory phase out = ⊤
 
 -- what is written to standard error: the line of the status, with the line of the text or the name of
 -- the file that is at fault; nothing where the run ended; and where standard error failed, a front of
@@ -83,13 +85,13 @@ Says OutOfSteps words files out notes = Gained notes []
 Says WordsRefused words files out notes = Gained notes (refusal_line (refused.Defined cause.Words))
 Says WantOfMemory words files out notes = Gained notes (refusal_line refused.Memory)
 Says ModuleRefused words files out notes =
-    OverSome words files (λ given. (fault : HasModuleFault words given) × Gained notes (refusal_line (refused.Defined (cause.Module (module_fault.NotYet fault.line)))))
+    OverSome words files (λ given. (has : HasSomeModuleFault words given) × Gained notes (refusal_line (refused.Defined (cause.Module has.0))))
 Says InputRefused words files out notes = Gained notes (refusal_line (refused.Defined (cause.Input 1)))
 Says PlanRefused words files out notes = Gained notes (refusal_line (refused.Defined (cause.Plan (plan_fault.NotYet 1))))
 Says ReadFault words files out notes =
-    OverSome words files (λ given. (gives : CannotRead words given) × Gained notes (refusal_line (refused.Defined (cause.ReadFault (name_of gives)))))
+    OverSome words files (λ given. (cannot : CannotRead words given) × Gained notes (refusal_line (refused.Defined (cause.ReadFault cannot.0))))
 Says TooLong words files out notes =
-    OverSome words files (λ given. (gives : IsTooLong words given) × Gained notes (refusal_line (refused.Defined (cause.TooLong (name_of gives)))))
+    OverSome words files (λ given. (long : IsTooLong words given) × Gained notes (refusal_line (refused.Defined (cause.TooLong long.0))))
 Says WriteFault words files out notes =
     (SinkFailed out × Gained notes (refusal_line refused.WriteFault)) ⊎
     (SinkFailed notes × OverSome words files (λ given. (refusal : Refusal) × IsDue refusal (work words given) out × GainedFront notes (refusal_line refusal)))

@@ -2,7 +2,7 @@
 use Rattle.std.specs.Prelude.{◌≡◌, ℕ, ◌<◌, ◌≤◌, List, length, Option, IfSome}
 use Rattle.sp_ids.specs.declared.limits.TheConstants.{FILE_BYTES}
 use Rattle.tool_io.specs.Counts.{Rose}
-use Rattle.statepoint_tool.specs.Steps.{Step, Go, Stop, and_then}
+use Rattle.statepoint_tool.specs.Steps.{Step, Stop}
 use Rattle.statepoint_tool.specs.declared.refusal.Cause.TheVariants.{ReadFault, TooLong}
 
 -- a file gives its bytes, has more of them than the limit, or can't be read
@@ -28,12 +28,8 @@ MayGive files name (Bytes bytes) = (length bytes ≤ FILE_BYTES) × IfSome (file
 MayGive files name Longer = IfSome (files.contents name) (λ told. FILE_BYTES < length told)
 MayGive files name Faulty = Rose (files.faults_before name) (files.faults_after name)
 
--- the phase that takes a file
-abbrev pub taken_phase : List ℕ → Taken → Step (List ℕ)
-taken_phase name (Bytes bytes) = Go bytes
-taken_phase name Longer = Stop (TooLong name)
-taken_phase name Faulty = Stop (ReadFault name)
-
 -- a file is taken and read
-abbrev pub file_phase : {A : Type 0} → List ℕ → (List ℕ → Step A) → Taken → Step A
-file_phase name read given = and_then (taken_phase name given) read
+abbrev pub file_phase : {A : Type 0} → List ℕ → (List ℕ → Step A → Type 0) → Taken → Step A → Type 0
+file_phase name read (Bytes bytes) step = read bytes step
+file_phase name read Longer step = step ≡ Stop (TooLong name)
+file_phase name read Faulty step = step ≡ Stop (ReadFault name)

@@ -6,7 +6,7 @@ use Rattle.std.specs.Str.{bytes_eq}
 use Rattle.std.specs.Str.Parse.{digits_value}
 use Rattle.sp_ids.specs.declared.limits.TheConstants.{STEPS}
 use Rattle.statepoint_tool.specs.declared.request.Command.{Command}
-use Rattle.statepoint_tool.specs.declared.request.Command.TheVariants.{Run}
+use Rattle.statepoint_tool.specs.declared.request.Command.TheVariants.{Show, Run}
 
 -- a word that may name a file: it isn't empty, and begins with `-` only where it is `-`
 abbrev pub names_file : List ℕ → Bool
@@ -28,8 +28,13 @@ run_of module_file input plan steps =
     then option_map (λ bound. Run module_file input plan bound) (steps_of steps)
     else None
 
+-- the command `show` names one
+abbrev pub show_of : List ℕ → Option Command
+show_of module_file = if names_file module_file then Some (Show module_file) else None
+
 -- the program's name, the command's name, and what the command takes; nothing else is a command
 abbrev pub command_of : List (List ℕ) → Option Command
+command_of (program ∷ name ∷ module_file ∷ []) = if bytes_eq name (codes "show") then show_of module_file else None
 command_of (program ∷ name ∷ module_file ∷ input ∷ plan ∷ steps ∷ []) =
     if bytes_eq name (codes "run") then run_of module_file input plan steps else None
 command_of _ = None

@@ -4,8 +4,7 @@ ghost use Rattle.std.specs.Prelude.{◌≡◌, ◌≤◌, ◌+◌, ◌++◌, len
 ghost use Rattle.arrayvec.specs.ArrayVec.{array_vec_len};
 ghost use Rattle.tool_io.specs.Counts.{Rose};
 ghost use Rattle.tool_io.specs.Sink.{append_known, AppendsFront};
-ghost use Rattle.statepoint_tool.specs.ThinForms.{spelled};
-ghost use Rattle.statepoint_tool.specs.Source.{effect_at, word, word_at, entry_of, printed, last_line, end_of, source, text_of_lines};
+ghost use Rattle.statepoint_tool.specs.Source.{effect_at, spelled, word, word_at, entry_of, printed, last_line, end_of, source, text_of_lines};
 
 use arrayvec::ArrayVec;
 use ir_ast::{Callee, Inst, Module, Op, Operand};
@@ -116,7 +115,7 @@ fn printed(value: u64) -> ArrayVec<u8, 64>
 }
 
 // A line with the signed decimal of a word.
-#[tactic(auto, unfolding(crate::specs::ThinForms::spelled))]
+#[tactic(auto, unfolding(crate::specs::Source::spelled))]
 fn line(front: &[u8], value: u64, rest: &[u8]) -> ArrayVec<u8, 64>
     requires short_front { length front.now ≤ 12 }
     requires short_rest { length rest.now ≤ 20 }

@@ -2,15 +2,17 @@
 #![tactic(auto)]
 
 mod evaluate;
+mod names;
+mod not_yet;
 mod notes;
 mod phases;
 mod refusal;
 mod request;
 mod run;
+mod show;
 mod status;
 #[cfg(test)]
 mod tests;
-mod thin;
 mod top;
 mod words;
 

@@ -2,15 +2,19 @@
 ghost use Rattle.std.specs.Prelude.{◌≡◌, ◌≤◌, ℕ, List, length, vec_len, IfOk};
 ghost use Rattle.sp_ids.specs.declared.limits.TheConstants.{FILE_BYTES};
 ghost use Rattle.tool_io.specs.Counts.{NoneFell};
+ghost use Rattle.ir_ast.specs.Formed.{IsFormedModule};
+ghost use Rattle.ir_types.specs.Views.{seen_lines};
 ghost use Rattle.statepoint_tool.specs.Answers.{Agrees, Reads};
-ghost use Rattle.statepoint_tool.specs.Steps.{Step, Go};
+ghost use Rattle.statepoint_tool.specs.Steps.{Step, Go, comes_to};
 ghost use Rattle.statepoint_tool.specs.Taken.{files_seen};
-ghost use Rattle.statepoint_tool.specs.Work.{module_phase, input_phase, plan_phase};
+ghost use Rattle.statepoint_tool.specs.Work.{reading, Typing, typing_to_run, module_phase, runnable_phase, input_phase, plan_phase};
 
+use crate::not_yet::first_not_yet;
 use crate::refusal::{Cause, ModuleFault, PlanFault, Refusal};
 use crate::request::FileName;
-use crate::thin::{ThinFault, read_thin};
 use ir_ast::Module;
+use ir_reader::{Raw, ReadFault, read};
+use ir_types::{TypeFault, typed};
 use sp_ids::limits;
 use std::alloc::Global;
 use tool_io::{Files, TakeFault};
@@ -22,7 +26,7 @@ pub(crate) fn take<F: Files>(
     name: FileName,
 ) -> Result<Vec<u8>, Refusal>
     ensures took { Reads (files_seen (F.contents files.old) (F.faults files.old) (F.faults files.new)) name
-        (λ bytes. Go bytes) (λ bytes. bytes.items) result }
+        (λ bytes. comes_to (Go bytes)) (λ bytes. bytes.items) result }
     ensures bound { IfOk result (λ bytes. vec_len bytes ≤ FILE_BYTES) }
     ensures kept { F.contents files.new ≡ F.contents files.old }
     ensures counted { NoneFell (F.faults files.old) (F.faults files.new) }
@@ -43,11 +47,27 @@ pub(crate) fn take_module<F: Files>(
 ) -> Result<Module, Refusal>
     ensures read { Reads (files_seen (F.contents files.old) (F.faults files.old) (F.faults files.new)) name
         module_phase (λ read. read.content) result }
+    ensures formed { IfOk result (λ read. IsFormedModule read.content) }
     ensures kept { F.contents files.new ≡ F.contents files.old }
     ensures counted { NoneFell (F.faults files.old) (F.faults files.new) }
 {
     let text = take(alloc, files, name)?;
     module_in(alloc, &text)
+}
+
+/// The module in the file of this name, which can be run so far.
+pub(crate) fn take_runnable<F: Files>(
+    alloc: Global,
+    files: &mut F,
+    name: FileName,
+) -> Result<Module, Refusal>
+    ensures read { Reads (files_seen (F.contents files.old) (F.faults files.old) (F.faults files.new)) name
+        runnable_phase (λ read. read.content) result }
+    ensures kept { F.contents files.new ≡ F.contents files.old }
+    ensures counted { NoneFell (F.faults files.old) (F.faults files.new) }
+{
+    let text = take(alloc, files, name)?;
+    runnable_in(alloc, &text)
 }
 
 /// Takes the input, which is an empty file so far.
@@ -80,16 +100,63 @@ pub(crate) fn take_plan<F: Files>(
     plan_in(&text)
 }
 
+// The readings of a text.
+fn read_in(alloc: Global, text: &[u8]) -> Result<Raw<'_>, Refusal>
+    requires { length text.now ≤ FILE_BYTES }
+    ensures read { Agrees (λ raw. seen_lines raw.lines) result (reading text.now) }
+{
+    match read(alloc, text) {
+        Ok(raw) => Ok(raw),
+        Err(ReadFault::Syntax { line }) => {
+            Err(Refusal::Defined(Cause::Module(ModuleFault::Syntax { line })))
+        }
+        Err(ReadFault::Limit { line }) => {
+            Err(Refusal::Defined(Cause::Module(ModuleFault::Limit { line })))
+        }
+        Err(ReadFault::Memory) => Err(Refusal::Memory),
+    }
+}
+
+// The module that readings stand for.
+fn type_in(alloc: Global, raw: Raw) -> Result<Module, Refusal>
+    ensures typed { Agrees (λ read. read.content) result (Typing (seen_lines raw.entry.lines)) }
+    ensures formed { IfOk result (λ read. IsFormedModule read.content) }
+{
+    match typed(alloc, raw) {
+        Ok(read) => Ok(read),
+        Err(TypeFault::Fault(fault)) => {
+            Err(Refusal::Defined(Cause::Module(ModuleFault::Typed(fault))))
+        }
+        Err(TypeFault::Memory) => Err(Refusal::Memory),
+    }
+}
+
 fn module_in(alloc: Global, text: &[u8]) -> Result<Module, Refusal>
     requires { length text.now ≤ FILE_BYTES }
-    ensures { Agrees (λ read. read.content) result (module_phase text.now) }
+    ensures read { Agrees (λ read. read.content) result (module_phase text.now) }
+    ensures formed { IfOk result (λ read. IsFormedModule read.content) }
 {
-    match read_thin(alloc, text) {
-        Ok(read) => Ok(read),
-        Err(ThinFault::NotYet { line }) => {
-            Err(Refusal::Defined(Cause::Module(ModuleFault::NotYet { line })))
-        }
-        Err(ThinFault::Memory) => Err(Refusal::Memory),
+    let raw = read_in(alloc, text)?;
+    type_in(alloc, raw)
+}
+
+fn runnable_in(alloc: Global, text: &[u8]) -> Result<Module, Refusal>
+    requires { length text.now ≤ FILE_BYTES }
+    ensures { Agrees (λ read. read.content) result (runnable_phase text.now) }
+{
+    let raw = read_in(alloc, text)?;
+    type_to_run(alloc, raw)
+}
+
+// The module that readings stand for, where it can be run so far.
+fn type_to_run(alloc: Global, raw: Raw) -> Result<Module, Refusal>
+    ensures { Agrees (λ read. read.content) result (typing_to_run (seen_lines raw.entry.lines)) }
+{
+    let not_yet = first_not_yet(alloc, raw.lines())?;
+    let read = type_in(alloc, raw)?;
+    match not_yet {
+        None => Ok(read),
+        Some(line) => Err(Refusal::Defined(Cause::Module(ModuleFault::NotYet { line }))),
     }
 }
 

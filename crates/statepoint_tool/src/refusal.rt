@@ -1,10 +1,17 @@
 use crate::request::FileName;
+use ir_types::Fault;
 use sp_ids::Memory;
 
 /// What is wrong with the text of a module.
 #[derive(Clone, Copy, Debug, PartialEq, Eq)]
 pub(crate) enum ModuleFault {
-    /// The first line that is no line of a thin module in its place.
+    /// The first line that has no reading in its place.
+    Syntax { line: u32 },
+    /// The first line that passes a limit.
+    Limit { line: u32 },
+    /// The least fault of the lines.
+    Typed(Fault),
+    /// The first line that can't be run yet.
     NotYet { line: u32 },
 }
 

@@ -46,6 +46,8 @@ impl FileName {
 /// What the words of the command line ask for.
 #[derive(Debug, Drop)]
 pub(crate) enum Command {
+    /// Write the text of the module.
+    Show { module: FileName },
     /// Run the module with the input under the plan, for at most so many steps.
     Run {
         module: FileName,

@@ -6,7 +6,7 @@ ghost use Rattle.statepoint_tool.specs.Taken.{files_seen, MayGive};
 ghost use Rattle.statepoint_tool.specs.Work.{MayGiveAll, MayGiveBoth, after_input, after_module, run_phase, run_work};
 
 use crate::evaluate::{Ended, RunFault, evaluate};
-use crate::phases::{take_input, take_module, take_plan};
+use crate::phases::{take_input, take_plan, take_runnable};
 use crate::refusal::Refusal;
 use crate::request::FileName;
 use crate::status::Status;
@@ -38,7 +38,7 @@ pub(crate) fn run<F: Files, O: Sink>(
     ensures out_counted { O.faults out.old ≤ O.faults out.new }
 {
     let RunFiles { code, input, plan } = names;
-    let read = take_module(alloc, files, code)?;
+    let read = take_runnable(alloc, files, code)?;
     run_module(alloc, &read, input, plan, steps, files, out)
 }
 

@@ -27,6 +27,14 @@ fn words(alloc: Global, steps: &str) -> Result<Vec<String>, AllocError> {
     Ok(words)
 }
 
+fn show_words(alloc: Global) -> Result<Vec<String>, AllocError> {
+    let mut words = Vec::new(alloc);
+    for word in ["statepoint", "show", "m.ll"] {
+        words.push(String::from_str(alloc, word)?)?;
+    }
+    Ok(words)
+}
+
 fn files(alloc: Global, text: &str) -> Result<MemFiles, Memory> {
     let mut files = MemFiles::new(alloc);
     files.add("m.ll", text.as_bytes())?;
@@ -76,7 +84,47 @@ fn refuses_an_empty_module(rt: HostRuntime) -> Result<(), Fail> {
     let status = statepoint(alloc, &words, &mut files, &mut out, &mut notes);
     assert_eq!(rt; status, Status::ModuleRefused);
     assert_eq!(rt; out.bytes(), b"".as_slice());
-    assert_eq!(rt; notes.bytes(), b"module line 1: 90 NotYet\n".as_slice());
+    assert_eq!(rt; notes.bytes(), b"module line 0: 11 NoMain\n".as_slice());
+    Ok(())
+}
+
+// The module is as it is printed, so that it is shown as it is.
+#[test]
+fn shows(rt: HostRuntime) -> Result<(), Fail> {
+    let alloc = rt.alloc();
+    let words = show_words(alloc)?;
+    let mut files = files(alloc, MODULE)?;
+    let mut out = MemSink::new(alloc, 300)?;
+    let mut notes = MemSink::new(alloc, 100)?;
+    let status = statepoint(alloc, &words, &mut files, &mut out, &mut notes);
+    assert_eq!(rt; status, Status::Done);
+    assert_eq!(rt; out.bytes(), MODULE.as_bytes());
+    assert_eq!(rt; notes.bytes(), b"".as_slice());
+    Ok(())
+}
+
+// The first take fails, and then the first call of `put`.
+#[test]
+fn shows_a_front(rt: HostRuntime) -> Result<(), Fail> {
+    let alloc = rt.alloc();
+    let words = show_words(alloc)?;
+    let mut files_once = files(alloc, MODULE)?;
+    files_once.fail_take(1)?;
+    let mut out = MemSink::new(alloc, 300)?;
+    let mut notes = MemSink::new(alloc, 100)?;
+    let status = statepoint(alloc, &words, &mut files_once, &mut out, &mut notes);
+    assert_eq!(rt; status, Status::ReadFault);
+    assert_eq!(rt; out.bytes(), b"".as_slice());
+    assert_eq!(rt; notes.bytes(), b"read fault: m.ll\n".as_slice());
+
+    let mut files_again = files(alloc, MODULE)?;
+    let mut out = MemSink::new(alloc, 300)?;
+    out.fail_put(1, 3)?;
+    let mut notes = MemSink::new(alloc, 100)?;
+    let status = statepoint(alloc, &words, &mut files_again, &mut out, &mut notes);
+    assert_eq!(rt; status, Status::WriteFault);
+    assert_eq!(rt; out.bytes(), b"dec".as_slice());
+    assert_eq!(rt; notes.bytes(), b"write fault\n".as_slice());
     Ok(())
 }
 

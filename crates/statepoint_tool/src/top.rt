@@ -2,7 +2,7 @@
 ghost use Rattle.std.specs.Prelude.{◌≡◌, ◌≢◌, ◌≤◌, ◌⊎◌, ℕ, List, map, string_bytes};
 ghost use Rattle.tool_io.specs.Counts.{NoneFell};
 ghost use Rattle.statepoint_tool.specs.Answers.{SinkFailed, IsAnswer, IsTold, Works, sink_seen};
-ghost use Rattle.statepoint_tool.specs.Causes.{CannotRead, HasInputFault, HasModuleFault, HasPlanFault, IsTooLong, NoCommand, Returns, RunsOutOfSteps};
+ghost use Rattle.statepoint_tool.specs.Causes.{CannotRead, EndsWith, HasInputFault, HasPlanFault, HasSomeModuleFault, IsTooLong, NoCommand};
 ghost use Rattle.statepoint_tool.specs.Complete.{IsComplete};
 ghost use Rattle.statepoint_tool.specs.Statuses.{Exactly, ReadFaultCounted, Says, Writes};
 ghost use Rattle.statepoint_tool.specs.Taken.{files_seen};
@@ -13,6 +13,7 @@ use crate::notes::put_note;
 use crate::refusal::{Cause, Refusal};
 use crate::request::Command;
 use crate::run::{RunFiles, run};
+use crate::show::show;
 use crate::status::Status;
 use crate::words::{WordsFault, command};
 use std::alloc::Global;
@@ -20,8 +21,8 @@ use tool_io::{Failed, Files, Sink};
 
 /// Does what the words ask for, and says how it ended. The first word is the program's name.
 ///
-/// The work goes in this order: the words; the module is taken and read; the input; the plan; the run.
-/// A run writes each line by one `put`. A refusal puts one line on `notes`.
+/// The work goes in this order: the words; the module is taken, read and typed; for `run` the input, the plan, and
+/// the run. A run writes each line by one `put`. A refusal puts one line on `notes`.
 ///
 /// What the files gave is what is told of them, or anything where nothing is told; a file could not be
 /// read only where a fault was counted for its name. Each status comes exactly where its cause holds over
@@ -45,12 +46,12 @@ pub fn statepoint<F: Files, O: Sink, E: Sink>(
         (files_seen (F.contents files.old) (F.faults files.old) (F.faults files.new))
         (sink_seen (O.written out.old) (O.written out.new) (O.faults out.old) (O.faults out.new))
         (sink_seen (E.written notes.old) (E.written notes.new) (E.faults notes.old) (E.faults notes.new))
-        result Status.Done Returns }
+        result Status.Done (EndsWith Status.Done) }
     ensures out_of_steps { Exactly (map string_bytes words.now)
         (files_seen (F.contents files.old) (F.faults files.old) (F.faults files.new))
         (sink_seen (O.written out.old) (O.written out.new) (O.faults out.old) (O.faults out.new))
         (sink_seen (E.written notes.old) (E.written notes.new) (E.faults notes.old) (E.faults notes.new))
-        result Status.OutOfSteps RunsOutOfSteps }
+        result Status.OutOfSteps (EndsWith Status.OutOfSteps) }
     ensures words_refused { Exactly (map string_bytes words.now)
         (files_seen (F.contents files.old) (F.faults files.old) (F.faults files.new))
         (sink_seen (O.written out.old) (O.written out.new) (O.faults out.old) (O.faults out.new))
@@ -60,7 +61,7 @@ pub fn statepoint<F: Files, O: Sink, E: Sink>(
         (files_seen (F.contents files.old) (F.faults files.old) (F.faults files.new))
         (sink_seen (O.written out.old) (O.written out.new) (O.faults out.old) (O.faults out.new))
         (sink_seen (E.written notes.old) (E.written notes.new) (E.faults notes.old) (E.faults notes.new))
-        result Status.ModuleRefused HasModuleFault }
+        result Status.ModuleRefused HasSomeModuleFault }
     ensures input_refused { Exactly (map string_bytes words.now)
         (files_seen (F.contents files.old) (F.faults files.old) (F.faults files.new))
         (sink_seen (O.written out.old) (O.written out.new) (O.faults out.old) (O.faults out.new))
@@ -141,6 +142,7 @@ fn work<F: Files, O: Sink>(
     ensures out_counted { O.faults out.old ≤ O.faults out.new }
 {
     match command(alloc, words) {
+        Ok(Command::Show { module }) => show(alloc, module, files, out),
         Ok(
             Command::Run {
                 module,

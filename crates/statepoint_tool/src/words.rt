@@ -1,7 +1,7 @@
 ghost use Rattle.std.specs.Prelude.{◌≡◌, Some, None, map, string_bytes, IfOk, IsErrOf};
 ghost use Rattle.std.specs.Char.{is_ascii_digit};
 ghost use Rattle.std.specs.List.{list_all};
-ghost use Rattle.statepoint_tool.specs.Words.{command_of, names_file, run_of, steps_of};
+ghost use Rattle.statepoint_tool.specs.Words.{command_of, names_file, run_of, show_of, steps_of};
 
 use crate::request::{Command, FileName};
 use sp_ids::{Memory, limits};
@@ -31,19 +31,42 @@ pub(crate) fn command(alloc: Global, words: &[String]) -> Result<Command, WordsF
     ensures gives { IfOk result (λ command. command_of (map string_bytes words.now) ≡ Some command) }
     ensures none { IsErrOf result WordsFault.Words → command_of (map string_bytes words.now) ≡ None }
 {
-    let [_program, name, module_name, input, plan, steps] = words else {
-        return Err(WordsFault::Words);
-    };
-    if name.as_str() != "run" {
+    match words {
+        [_program, name, module_name] => {
+            if name.as_str() == "show" {
+                show_command(alloc, module_name.as_str())
+            } else {
+                Err(WordsFault::Words)
+            }
+        }
+        [_program, name, module_name, input, plan, steps] => {
+            if name.as_str() == "run" {
+                run_command(
+                    alloc,
+                    module_name.as_str(),
+                    input.as_str(),
+                    plan.as_str(),
+                    steps.as_str(),
+                )
+            } else {
+                Err(WordsFault::Words)
+            }
+        }
+        _ => Err(WordsFault::Words),
+    }
+}
+
+// The command `show` over this word.
+fn show_command(alloc: Global, module_name: &str) -> Result<Command, WordsFault>
+    ensures gives { IfOk result (λ command. show_of module_name.now ≡ Some command) }
+    ensures none { IsErrOf result WordsFault.Words → show_of module_name.now ≡ None }
+{
+    if !may_name_file(module_name) {
         return Err(WordsFault::Words);
     }
-    run_command(
-        alloc,
-        module_name.as_str(),
-        input.as_str(),
-        plan.as_str(),
-        steps.as_str(),
-    )
+    Ok(Command::Show {
+        module: FileName::of(alloc, module_name)?,
+    })
 }
 
 // The command `run` over these words.

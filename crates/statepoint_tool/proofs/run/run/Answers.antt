@@ -7,7 +7,7 @@ use Rattle.statepoint_tool.proofs.run.run.Goals as goal
 
 pub returns-in_err-read-clause-works : goal.returns-in_err-read-clause-works
 returns-in_err-read-clause-works g c =
-    let files = files_seen (g.F.Files.contents c.args.files.now) (g.F.Files.faults c.args.files.now) (g.F.Files.faults c.take_module.new.files) in
+    let files = files_seen (g.F.Files.contents c.args.files.now) (g.F.Files.faults c.args.files.now) (g.F.Files.faults c.take_runnable.new.files) in
     let exit = err_from_is_err_and c.from_residual.result c.from_residual.ensures.1 in
     rw (exit.1, exit.2) (Works-given (Works-stops (λ content. after_module c.args.names.input c.args.names.plan content c.args.steps)
     (MayGiveBoth files c.args.names.input c.args.names.plan)

@@ -3,7 +3,7 @@ use Rattle.statepoint_tool.specs.Answers.{sink_seen}
 use Rattle.statepoint_tool.specs.Taken.{files_seen}
 use Rattle.statepoint_tool.specs.declared.status.Status.TheVariants as status
 use Rattle.statepoint_tool.proofs.AnswerLaws.{Exactly-answer, ReadFaultCounted-answer, Says-answer, Writes-answer, never-answer, write_fault-answer}
-use Rattle.statepoint_tool.proofs.CauseLaws.{status-CannotRead, status-HasInputFault, status-HasModuleFault, status-HasPlanFault, status-IsTooLong, status-NoCommand, status-Returns, status-RunsOutOfSteps}
+use Rattle.statepoint_tool.proofs.CauseLaws.{comes-CannotRead, comes-EndsWith, comes-HasInputFault, comes-HasSomeModuleFault, comes-HasPlanFault, comes-IsTooLong, comes-NoCommand}
 use Rattle.statepoint_tool.proofs.CompleteLaws.{IsComplete-answer}
 use Rattle.statepoint_tool.proofs.top.statepoint.Goals as goal
 
@@ -21,7 +21,7 @@ returns-clause-done g c =
     let files = files_seen (g.F.Files.contents c.args.files.now) (g.F.Files.faults c.args.files.now) (g.F.Files.faults c.answer.new.files) in
     let out = sink_seen (g.O.Sink.written c.args.out.now) (g.O.Sink.written c.answer.new.out) (g.O.Sink.faults c.args.out.now) (g.O.Sink.faults c.answer.new.out) in
     let notes = sink_seen (g.E.Sink.written c.args.notes.now) (g.E.Sink.written c.answer.new.notes) (g.E.Sink.faults c.args.notes.now) (g.E.Sink.faults c.answer.new.notes) in
-    Exactly-answer words files out notes c.answer.result c.answer.ensures.answer status.Done (λ clash. cc) (λ clash. cc) (status-Returns words)
+    Exactly-answer words files out notes c.answer.result c.answer.ensures.answer status.Done (λ clash. cc) (λ clash. cc) (λ given. comes-EndsWith words given status.Done)
 
 pub returns-clause-out_of_steps : goal.returns-clause-out_of_steps
 returns-clause-out_of_steps g c =
@@ -29,7 +29,7 @@ returns-clause-out_of_steps g c =
     let files = files_seen (g.F.Files.contents c.args.files.now) (g.F.Files.faults c.args.files.now) (g.F.Files.faults c.answer.new.files) in
     let out = sink_seen (g.O.Sink.written c.args.out.now) (g.O.Sink.written c.answer.new.out) (g.O.Sink.faults c.args.out.now) (g.O.Sink.faults c.answer.new.out) in
     let notes = sink_seen (g.E.Sink.written c.args.notes.now) (g.E.Sink.written c.answer.new.notes) (g.E.Sink.faults c.args.notes.now) (g.E.Sink.faults c.answer.new.notes) in
-    Exactly-answer words files out notes c.answer.result c.answer.ensures.answer status.OutOfSteps (λ clash. cc) (λ clash. cc) (status-RunsOutOfSteps words)
+    Exactly-answer words files out notes c.answer.result c.answer.ensures.answer status.OutOfSteps (λ clash. cc) (λ clash. cc) (λ given. comes-EndsWith words given status.OutOfSteps)
 
 pub returns-clause-words_refused : goal.returns-clause-words_refused
 returns-clause-words_refused g c =
@@ -37,7 +37,7 @@ returns-clause-words_refused g c =
     let files = files_seen (g.F.Files.contents c.args.files.now) (g.F.Files.faults c.args.files.now) (g.F.Files.faults c.answer.new.files) in
     let out = sink_seen (g.O.Sink.written c.args.out.now) (g.O.Sink.written c.answer.new.out) (g.O.Sink.faults c.args.out.now) (g.O.Sink.faults c.answer.new.out) in
     let notes = sink_seen (g.E.Sink.written c.args.notes.now) (g.E.Sink.written c.answer.new.notes) (g.E.Sink.faults c.args.notes.now) (g.E.Sink.faults c.answer.new.notes) in
-    Exactly-answer words files out notes c.answer.result c.answer.ensures.answer status.WordsRefused (λ clash. cc) (λ clash. cc) (status-NoCommand words)
+    Exactly-answer words files out notes c.answer.result c.answer.ensures.answer status.WordsRefused (λ clash. cc) (λ clash. cc) (comes-NoCommand words)
 
 pub returns-clause-module_refused : goal.returns-clause-module_refused
 returns-clause-module_refused g c =
@@ -45,7 +45,7 @@ returns-clause-module_refused g c =
     let files = files_seen (g.F.Files.contents c.args.files.now) (g.F.Files.faults c.args.files.now) (g.F.Files.faults c.answer.new.files) in
     let out = sink_seen (g.O.Sink.written c.args.out.now) (g.O.Sink.written c.answer.new.out) (g.O.Sink.faults c.args.out.now) (g.O.Sink.faults c.answer.new.out) in
     let notes = sink_seen (g.E.Sink.written c.args.notes.now) (g.E.Sink.written c.answer.new.notes) (g.E.Sink.faults c.args.notes.now) (g.E.Sink.faults c.answer.new.notes) in
-    Exactly-answer words files out notes c.answer.result c.answer.ensures.answer status.ModuleRefused (λ clash. cc) (λ clash. cc) (status-HasModuleFault words)
+    Exactly-answer words files out notes c.answer.result c.answer.ensures.answer status.ModuleRefused (λ clash. cc) (λ clash. cc) (comes-HasSomeModuleFault words)
 
 pub returns-clause-input_refused : goal.returns-clause-input_refused
 returns-clause-input_refused g c =
@@ -53,7 +53,7 @@ returns-clause-input_refused g c =
     let files = files_seen (g.F.Files.contents c.args.files.now) (g.F.Files.faults c.args.files.now) (g.F.Files.faults c.answer.new.files) in
     let out = sink_seen (g.O.Sink.written c.args.out.now) (g.O.Sink.written c.answer.new.out) (g.O.Sink.faults c.args.out.now) (g.O.Sink.faults c.answer.new.out) in
     let notes = sink_seen (g.E.Sink.written c.args.notes.now) (g.E.Sink.written c.answer.new.notes) (g.E.Sink.faults c.args.notes.now) (g.E.Sink.faults c.answer.new.notes) in
-    Exactly-answer words files out notes c.answer.result c.answer.ensures.answer status.InputRefused (λ clash. cc) (λ clash. cc) (status-HasInputFault words)
+    Exactly-answer words files out notes c.answer.result c.answer.ensures.answer status.InputRefused (λ clash. cc) (λ clash. cc) (comes-HasInputFault words)
 
 pub returns-clause-plan_refused : goal.returns-clause-plan_refused
 returns-clause-plan_refused g c =
@@ -61,7 +61,7 @@ returns-clause-plan_refused g c =
     let files = files_seen (g.F.Files.contents c.args.files.now) (g.F.Files.faults c.args.files.now) (g.F.Files.faults c.answer.new.files) in
     let out = sink_seen (g.O.Sink.written c.args.out.now) (g.O.Sink.written c.answer.new.out) (g.O.Sink.faults c.args.out.now) (g.O.Sink.faults c.answer.new.out) in
     let notes = sink_seen (g.E.Sink.written c.args.notes.now) (g.E.Sink.written c.answer.new.notes) (g.E.Sink.faults c.args.notes.now) (g.E.Sink.faults c.answer.new.notes) in
-    Exactly-answer words files out notes c.answer.result c.answer.ensures.answer status.PlanRefused (λ clash. cc) (λ clash. cc) (status-HasPlanFault words)
+    Exactly-answer words files out notes c.answer.result c.answer.ensures.answer status.PlanRefused (λ clash. cc) (λ clash. cc) (comes-HasPlanFault words)
 
 pub returns-clause-too_long : goal.returns-clause-too_long
 returns-clause-too_long g c =
@@ -69,7 +69,7 @@ returns-clause-too_long g c =
     let files = files_seen (g.F.Files.contents c.args.files.now) (g.F.Files.faults c.args.files.now) (g.F.Files.faults c.answer.new.files) in
     let out = sink_seen (g.O.Sink.written c.args.out.now) (g.O.Sink.written c.answer.new.out) (g.O.Sink.faults c.args.out.now) (g.O.Sink.faults c.answer.new.out) in
     let notes = sink_seen (g.E.Sink.written c.args.notes.now) (g.E.Sink.written c.answer.new.notes) (g.E.Sink.faults c.args.notes.now) (g.E.Sink.faults c.answer.new.notes) in
-    Exactly-answer words files out notes c.answer.result c.answer.ensures.answer status.TooLong (λ clash. cc) (λ clash. cc) (status-IsTooLong words)
+    Exactly-answer words files out notes c.answer.result c.answer.ensures.answer status.TooLong (λ clash. cc) (λ clash. cc) (comes-IsTooLong words)
 
 pub returns-clause-read_fault : goal.returns-clause-read_fault
 returns-clause-read_fault g c =
@@ -77,7 +77,7 @@ returns-clause-read_fault g c =
     let files = files_seen (g.F.Files.contents c.args.files.now) (g.F.Files.faults c.args.files.now) (g.F.Files.faults c.answer.new.files) in
     let out = sink_seen (g.O.Sink.written c.args.out.now) (g.O.Sink.written c.answer.new.out) (g.O.Sink.faults c.args.out.now) (g.O.Sink.faults c.answer.new.out) in
     let notes = sink_seen (g.E.Sink.written c.args.notes.now) (g.E.Sink.written c.answer.new.notes) (g.E.Sink.faults c.args.notes.now) (g.E.Sink.faults c.answer.new.notes) in
-    Exactly-answer words files out notes c.answer.result c.answer.ensures.answer status.ReadFault (λ clash. cc) (λ clash. cc) (status-CannotRead words)
+    Exactly-answer words files out notes c.answer.result c.answer.ensures.answer status.ReadFault (λ clash. cc) (λ clash. cc) (comes-CannotRead words)
 
 pub returns-clause-read_fault_counted : goal.returns-clause-read_fault_counted
 returns-clause-read_fault_counted g c =

@@ -1,0 +1,46 @@
+//! The command that writes the text of a module.
+ghost use Rattle.std.specs.Prelude.{◌≡◌, ◌≤◌};
+ghost use Rattle.ir_ast.specs.Formed.{IsFormedModule};
+ghost use Rattle.tool_io.specs.Counts.{NoneFell};
+ghost use Rattle.statepoint_tool.specs.Answers.{Came, Works, sink_seen};
+ghost use Rattle.statepoint_tool.specs.Taken.{files_seen};
+ghost use Rattle.statepoint_tool.specs.Work.{MayGiveShown, show_phase, show_work};
+
+use crate::phases::take_module;
+use crate::refusal::Refusal;
+use crate::request::FileName;
+use crate::status::Status;
+use ir_ast::Module;
+use ir_printer::print;
+use std::alloc::Global;
+use tool_io::{Failed, Files, Sink};
+
+/// Writes the text of the module in the file of this name.
+pub(crate) fn show<F: Files, O: Sink>(
+    alloc: Global,
+    name: FileName,
+    files: &mut F,
+    out: &mut O,
+) -> Result<Status, Refusal>
+    ensures works { Works (MayGiveShown (files_seen (F.contents files.old) (F.faults files.old) (F.faults files.new)) name)
+        (show_work name) result
+        (sink_seen (O.written out.old) (O.written out.new) (O.faults out.old) (O.faults out.new)) }
+    ensures kept { F.contents files.new ≡ F.contents files.old }
+    ensures counted { NoneFell (F.faults files.old) (F.faults files.new) }
+    ensures out_counted { O.faults out.old ≤ O.faults out.new }
+{
+    let read = take_module(alloc, files, name)?;
+    show_module(&read, out)
+}
+
+fn show_module<O: Sink>(read: &Module, out: &mut O) -> Result<Status, Refusal>
+    requires { IsFormedModule read.now.content }
+    ensures came { Came result (show_phase read.now.content)
+        (sink_seen (O.written out.old) (O.written out.new) (O.faults out.old) (O.faults out.new)) }
+    ensures out_counted { O.faults out.old ≤ O.faults out.new }
+{
+    match print(read, out) {
+        Ok(()) => Ok(Status::Done),
+        Err(Failed) => Err(Refusal::WriteFault),
+    }
+}
