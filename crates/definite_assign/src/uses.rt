@@ -4,7 +4,7 @@ ghost use Rattle.ir_ast.specs.Funcs.{instructions_of};
 ghost use Rattle.ir_ast.specs.Formed.{IsFormed};
 ghost use Rattle.ir_cfg.specs.DefiniteUses.{Stands, text_place};
 ghost use Rattle.definite_assign.specs.Homes.{AreHomes};
-ghost use Rattle.definite_assign.specs.Asked.{home_of, far_use, asked, asked_by, entries_asked, spot_at, spot_end};
+ghost use Rattle.definite_assign.specs.Asked.{home_of, far_use, asked, asked_by, entries_asked};
 ghost use Rattle.definite_assign.specs.FarUses.{AreFarUses};
 
 use crate::homes::Home;
