@@ -76,6 +76,19 @@ homes_push func number index inst homes stands some are = record {
   ];
 }
 
+pub homes_pushed : (func : Function) (number index place : ℕ) (inst : Instruction) (homes : List Home) → place ≡ text_place func number index
+    → Stands func number index inst → is_some inst.result ≡ true → AreHomes func place homes
+    → AreHomes func (place + 1) (homes ++ record { block = block_at number; place = place } ∷ [])
+homes_pushed func number index place inst homes is stands some are =
+    subst (λ (p : ℕ). AreHomes func (p + 1) (homes ++ record { block = block_at number; place = p } ∷ [])) (sym is)
+    (homes_push func number index inst homes stands some (subst (λ (p : ℕ). AreHomes func p homes) is are))
+
+pub homes_kept : (func : Function) (number index place : ℕ) (inst : Instruction) (homes : List Home) → place ≡ text_place func number index
+    → Stands func number index inst → is_some inst.result ≡ false → AreHomes func place homes → AreHomes func (place + 1) homes
+homes_kept func number index place inst homes is stands none are =
+    subst (λ (p : ℕ). AreHomes func (p + 1) homes) (sym is)
+    (homes_same func number index inst homes stands none (subst (λ (p : ℕ). AreHomes func p homes) is are))
+
 -- a value that is no argument has a home
 pub record HasHome (func : Function) (homes : List Home) (value : ℕ) : Type 0 where
   pub home : Home

@@ -1,8 +1,10 @@
+pub mod ListLemmas
 pub mod EdgeLemmas
 pub mod PathLemmas
 pub mod StampLemmas
 pub mod WalkLemmas
 pub mod TextLemmas
 pub mod HomeLemmas
+pub mod AskedLemmas
 pub mod UseLemmas
 pub mod FirstLemmas

@@ -2,13 +2,13 @@
 use Rattle.std.proofs.Common.{◌≡◌, ◌≢◌, ℕ, zero, suc, ◌<◌, ◌≤◌, ◌+◌, cond, Bool, true, List, [], ◌∷◌, ◌++◌, length, get_or, take, refl, ap, sym, arith, Some, None, slice_get, inl, inr, ◌⊎◌, ◌∙◌}
 use Rattle.std.specs.List.{flat_map, filter}
 use Rattle.std.specs.Prelude.{is_some}
-use Rattle.std.proofs.lemmas.List.{length-append, take_more, take-take, get_or-take, length-take-le, append-nil}
+use Rattle.std.proofs.lemmas.List.{length-append, take_more, take-take, get_or-take, length-take-le, append-nil, take_all}
 use Rattle.std.proofs.lemmas.List.Concat.{flat_map-append}
 use Rattle.std.proofs.lemmas.List.Folds.{length-flat_map-take}
 use Rattle.std.proofs.lemmas.List.Filters.{length-filter_more}
 use Rattle.std.proofs.lemmas.List.Sums.{length-filter, sum_by-take-le}
 use Rattle.std.proofs.lemmas.Bool.{cases_order}
-use Rattle.std.proofs.lemmas.Option.{slice_get_within, get_or_from_slice_get}
+use Rattle.std.proofs.lemmas.Option.{slice_get_within, get_or_from_slice_get, slice_get_read}
 use Rattle.ir_ast.specs.Insts.{Instruction}
 use Rattle.ir_ast.specs.Blocks.{BasicBlock}
 use Rattle.ir_ast.specs.Funcs.{Function, instructions_of}
@@ -63,6 +63,36 @@ text_next func number block stands =
         ap (λ (xs : List BasicBlock). instructions_of xs) (more ∙ ap (λ (b : BasicBlock). take number func.blocks ++ b ∷ []) own)
         ∙ flat_map-append insts (take number func.blocks) (block ∷ []) ∙ ap (λ (xs : List Instruction). instructions_of (take number func.blocks) ++ xs) (append-nil block.insts) in
     omega (arith, ap length split, length-append (instructions_of (take number func.blocks)) block.insts)
+
+pub text_within : (func : Function) (number : ℕ) (block : BasicBlock) → slice_get func.blocks number ≡ Some block
+    → text_place func number 0 + length block.insts ≤ length (instructions_of func.blocks)
+text_within func number block stands =
+    let before = slice_get_within func.blocks number block stands in
+    let later = starts_later func.blocks number (length func.blocks) block stands before (omega arith) in
+    let all : length (instructions_of (take (length func.blocks) func.blocks)) ≡ length (instructions_of func.blocks) =
+        ap (λ (xs : List BasicBlock). length (instructions_of xs)) (take_all (length func.blocks) func.blocks (omega arith)) in
+    omega (arith, later, all)
+
+pub place_within : (func : Function) (number place : ℕ) (inst : Instruction) → Stands func number place inst
+    → text_place func number place < length (instructions_of func.blocks)
+place_within func number place inst stands =
+    slice_get_within (instructions_of func.blocks) (text_place func number place) inst (stands_in_text func number place inst stands)
+
+-- what a reading of the lists says
+pub block_read : (func : Function) (blocks : List BasicBlock) (number : ℕ) (block : BasicBlock) → blocks ≡ func.blocks → number < length blocks
+    → block ≡ get_or blocks number block → slice_get func.blocks number ≡ Some block
+block_read func blocks number block same below is =
+    let stands = slice_get_read blocks (length blocks) number block refl below is in
+    ap (λ (xs : List BasicBlock). slice_get xs number) (sym same) ∙ stands
+
+pub stands_read : (func : Function) (blocks : List BasicBlock) (number : ℕ) (block : BasicBlock) (insts : List Instruction) (index : ℕ) (inst : Instruction)
+    → blocks ≡ func.blocks → number < length func.blocks → block ≡ get_or blocks number block → insts ≡ block.insts → index < length insts
+    → inst ≡ get_or insts index inst → Stands func number index inst
+stands_read func blocks number block insts index inst same below is own within read = record {
+  block = block;
+  in_function = block_read func blocks number block same (omega (arith, below, ap length same)) is;
+  in_block = ap (λ (xs : List Instruction). slice_get xs index) (sym own) ∙ slice_get_read insts (length insts) index inst refl within read;
+}
 
 text_below : (func : Function) (number place other there : ℕ) (inst inst' : Instruction) → Stands func number place inst → Stands func other there inst'
     → number < other → text_place func number place < text_place func other there

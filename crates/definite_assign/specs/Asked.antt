@@ -36,7 +36,7 @@ entries_asked homes arguments place (label ∷ labels) [] = []
 entries_asked homes arguments place (label ∷ labels) (operand ∷ operands) =
     asked homes arguments (end_of label) place operand ++ entries_asked homes arguments place labels operands
 
-abbrev line_asked : List Home → ℕ → BlockId → ℕ → Op → Instruction → List FarUse
+abbrev pub line_asked : List Home → ℕ → BlockId → ℕ → Op → Instruction → List FarUse
 line_asked homes arguments block place Phi inst = entries_asked homes arguments place inst.labels inst.operands
 line_asked homes arguments block place _ inst =
     flat_map (asked homes arguments (record { block = block; before = place }) place) (operands_of inst)

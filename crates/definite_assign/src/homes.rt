@@ -1,5 +1,5 @@
 ghost use Rattle.std.specs.Prelude.{◌≡◌, ◌+◌, ◌<◌, ◌^◌, Some, length, IfOk, slice_get};
-ghost use Rattle.ir_ast.specs.Funcs.{instructions_of};
+ghost use Rattle.ir_ast.specs.Funcs.{instructions_of, IsSmall};
 ghost use Rattle.ir_cfg.specs.DefiniteUses.{Stands, text_place};
 ghost use Rattle.definite_assign.specs.Homes.{AreHomes};
 
@@ -53,6 +53,7 @@ fn add_result(
     inst: &Inst,
     homes: &mut Vec<Home>,
 ) -> Result<(), Memory>
+    requires small { IsSmall func.now.content.args func.now.content.blocks }
     requires stands { Stands func.now.content number index inst.now }
     requires place { place ≡ text_place func.now.content number index }
     requires homes { AreHomes func.now.content place homes.old.items }

@@ -1,6 +1,6 @@
 ghost use Rattle.std.specs.Prelude.{◌≡◌, ◌+◌, ◌<◌, ◌^◌, ◌++◌, Some, length, map, IfOk, slice_get};
 ghost use Rattle.std.specs.List.{flat_map};
-ghost use Rattle.ir_ast.specs.Funcs.{instructions_of};
+ghost use Rattle.ir_ast.specs.Funcs.{instructions_of, IsSmall};
 ghost use Rattle.ir_ast.specs.Formed.{IsFormed};
 ghost use Rattle.ir_cfg.specs.DefiniteUses.{Stands, text_place};
 ghost use Rattle.definite_assign.specs.Homes.{AreHomes};
@@ -78,6 +78,7 @@ fn add_line(
 ) -> Result<(), Memory>
     requires formed { IsFormed func.now.content }
     requires homes { AreHomes func.now.content (length (instructions_of func.now.content.blocks)) homes.now }
+    requires small { IsSmall func.now.content.args func.now.content.blocks }
     requires stands { Stands func.now.content number index inst.now }
     requires place { place ≡ text_place func.now.content number index }
     requires uses { AreFarUses func.now.content place uses.old.items }
