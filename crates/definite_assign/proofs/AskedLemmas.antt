@@ -1,6 +1,7 @@
 -- What one operand and one line ask for.
-use Rattle.std.proofs.Common.{◌≡◌, ℕ, zero, suc, ◌<◌, ◌≤◌, cond, eqb, ltb, ◌&&◌, Bool, true, false, List, [], ◌∷◌, ◌++◌, length, refl, ap, sym, arith, Option, Some, None, slice_get, inl, inr, ◌⊎◌, ◌∙◌}
+use Rattle.std.proofs.Common.{◌≡◌, ℕ, zero, suc, ◌<◌, ◌≤◌, ◌+◌, cond, eqb, ltb, ◌&&◌, Bool, true, false, List, [], ◌∷◌, ◌++◌, length, get_or, take, refl, ap, sym, arith, Option, Some, None, slice_get, inl, inr, ◌⊎◌, ◌∙◌, append_assoc, append-nil}
 use Rattle.std.specs.List.{Contains, flat_map}
+use Rattle.std.proofs.lemmas.List.{length-take-le, take_more}
 use Rattle.std.proofs.lemmas.List.Elements.{Contains-append_cases, Contains-append_left, Contains-append_right}
 use Rattle.std.proofs.lemmas.Bool.{cases_Bool, eqb-true, ltb-true, eq-eqb, lt-ltb, and_parts, and_from, cases_lt, both_ways}
 use Rattle.sp_ids.specs.declared.ids.BlockId.{BlockId}
@@ -16,7 +17,7 @@ use Rattle.definite_assign.specs.declared.homes.Home.{Home}
 use Rattle.definite_assign.specs.declared.uses.FarUse.{FarUse}
 use Rattle.definite_assign.specs.declared.uses.Spot.{Spot}
 use Rattle.definite_assign.specs.Homes.{IsHome, AreHomes}
-use Rattle.definite_assign.specs.Asked.{home_of, far_use, asked, end_of, entries_asked, line_asked, asked_by}
+use Rattle.definite_assign.specs.Asked.{home_of, far_use, asked, end_of, entry_asked, entries_asked, line_asked, asked_by}
 use Rattle.definite_assign.proofs.HomeLemmas.{home_owns}
 
 -- the definition stands before the spot in the spot's block
@@ -135,6 +136,38 @@ entry_asks homes arguments place (first ∷ labels) (one ∷ operands) far zero 
 entry_asks homes arguments place (first ∷ labels) (one ∷ operands) far (suc entry) label operand label_at operand_at asks =
     Contains-append_right (asked homes arguments (end_of first) place one) (entries_asked homes arguments place labels operands) far
     (entry_asks homes arguments place labels operands far entry label operand label_at operand_at asks)
+
+entries_none : (homes : List Home) (arguments place : ℕ) (labels : List BlockId) → entries_asked homes arguments place labels [] ≡ []
+entries_none homes arguments place [] = refl
+entries_none homes arguments place (label ∷ labels) = refl
+
+pub entries_push : (homes : List Home) (arguments place : ℕ) (labels : List BlockId) (operands : List Operand) (operand : Operand)
+    → entries_asked homes arguments place labels (operands ++ operand ∷ [])
+    ≡ entries_asked homes arguments place labels operands ++ entry_asked homes arguments place (slice_get labels (length operands)) operand
+entries_push homes arguments place [] [] operand = refl
+entries_push homes arguments place [] (one ∷ operands) operand = refl
+entries_push homes arguments place (label ∷ labels) [] operand =
+    ap (λ xs. asked homes arguments (end_of label) place operand ++ xs) (entries_none homes arguments place labels)
+    ∙ append-nil (asked homes arguments (end_of label) place operand)
+entries_push homes arguments place (label ∷ labels) (one ∷ operands) operand =
+    ap (λ xs. asked homes arguments (end_of label) place one ++ xs) (entries_push homes arguments place labels operands operand)
+    ∙ sym (append_assoc (asked homes arguments (end_of label) place one) (entries_asked homes arguments place labels operands)
+      (entry_asked homes arguments place (slice_get labels (length operands)) operand))
+
+-- one more entry, where a list of uses has those of the entries before it
+pub entries_more : (homes : List Home) (arguments place index : ℕ) (labels : List BlockId) (operands : List Operand) (none : Operand)
+    (old uses new : List FarUse) → index < length operands → uses ≡ old ++ entries_asked homes arguments place labels (take index operands)
+    → new ≡ uses ++ entry_asked homes arguments place (slice_get labels index) (get_or operands index none)
+    → new ≡ old ++ entries_asked homes arguments place labels (take (index + 1) operands)
+entries_more homes arguments place index labels operands none old uses new below before after =
+    let front = entries_asked homes arguments place labels (take index operands) in
+    let one = entry_asked homes arguments place (slice_get labels index) (get_or operands index none) in
+    let long = length-take-le index operands (omega arith) in
+    let pushed : entries_asked homes arguments place labels (take (index + 1) operands) ≡ front ++ one =
+        ap (λ xs. entries_asked homes arguments place labels xs) (take_more operands index none below)
+        ∙ entries_push homes arguments place labels (take index operands) (get_or operands index none)
+        ∙ ap (λ n. front ++ entry_asked homes arguments place (slice_get labels n) (get_or operands index none)) long in
+    after ∙ ap (λ xs. xs ++ one) before ∙ append_assoc old front one ∙ ap (λ xs. old ++ xs) (sym pushed)
 
 line_is : (homes : List Home) (arguments : ℕ) (block : BlockId) (place : ℕ) (inst : Instruction) (op : Op) → is_phi op ≡ false
     → line_asked homes arguments block place op inst ≡ flat_map (asked homes arguments (record { block = block; before = place }) place) (operands_of inst)

@@ -8,3 +8,4 @@ pub mod HomeLemmas
 pub mod AskedLemmas
 pub mod UseLemmas
 pub mod FirstLemmas
+pub mod FaultLemmas

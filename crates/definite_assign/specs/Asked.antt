@@ -30,6 +30,10 @@ asked homes arguments spot place _ = []
 abbrev pub end_of : BlockId → Spot
 end_of label = record { block = label; before = 4294967295 }
 
+abbrev pub entry_asked : List Home → ℕ → ℕ → Option BlockId → Operand → List FarUse
+entry_asked homes arguments place None operand = []
+entry_asked homes arguments place (Some label) operand = asked homes arguments (end_of label) place operand
+
 abbrev pub entries_asked : List Home → ℕ → ℕ → List BlockId → List Operand → List FarUse
 entries_asked homes arguments place [] operands = []
 entries_asked homes arguments place (label ∷ labels) [] = []

@@ -4,7 +4,7 @@ ghost use Rattle.ir_ast.specs.Funcs.{instructions_of, IsSmall};
 ghost use Rattle.ir_ast.specs.Formed.{IsFormed};
 ghost use Rattle.ir_cfg.specs.DefiniteUses.{Stands, text_place};
 ghost use Rattle.definite_assign.specs.Homes.{AreHomes};
-ghost use Rattle.definite_assign.specs.Asked.{home_of, far_use, asked, asked_by, entries_asked};
+ghost use Rattle.definite_assign.specs.Asked.{home_of, far_use, asked, asked_by, entry_asked, entries_asked};
 ghost use Rattle.definite_assign.specs.FarUses.{AreFarUses};
 
 use crate::homes::Home;
@@ -139,14 +139,33 @@ fn ask_entries(
 ) -> Result<(), Memory>
     ensures { IfOk result (λ _. uses.new.items ≡ uses.old.items ++ entries_asked homes.now arguments place labels.now operands.now) }
 {
-    for (label, operand) in labels.iter().zip(operands) {
-        let spot = Spot {
-            block: *label,
-            before: u32::MAX,
-        };
-        ask(homes, arguments, spot, place, *operand, uses)?;
+    for (index, operand) in operands.iter().enumerate() {
+        let label = labels.get(index).copied();
+        ask_entry(homes, arguments, place, label, *operand, uses)?;
     }
     Ok(())
+}
+
+fn ask_entry(
+    homes: &[Home],
+    arguments: usize,
+    place: u32,
+    label: Option<BlockId>,
+    operand: Operand,
+    uses: &mut Vec<FarUse>,
+) -> Result<(), Memory>
+    ensures { IfOk result (λ _. uses.new.items ≡ uses.old.items ++ entry_asked homes.now arguments place label operand) }
+{
+    match label {
+        Some(block) => {
+            let end = Spot {
+                block,
+                before: u32::MAX,
+            };
+            ask(homes, arguments, end, place, operand, uses)
+        }
+        None => Ok(()),
+    }
 }
 
 fn ask_operands(
