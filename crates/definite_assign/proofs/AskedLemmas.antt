@@ -137,7 +137,7 @@ entry_asks homes arguments place (first ∷ labels) (one ∷ operands) far (suc 
     Contains-append_right (asked homes arguments (end_of first) place one) (entries_asked homes arguments place labels operands) far
     (entry_asks homes arguments place labels operands far entry label operand label_at operand_at asks)
 
-entries_none : (homes : List Home) (arguments place : ℕ) (labels : List BlockId) → entries_asked homes arguments place labels [] ≡ []
+pub entries_none : (homes : List Home) (arguments place : ℕ) (labels : List BlockId) → entries_asked homes arguments place labels [] ≡ []
 entries_none homes arguments place [] = refl
 entries_none homes arguments place (label ∷ labels) = refl
 
@@ -156,18 +156,22 @@ entries_push homes arguments place (label ∷ labels) (one ∷ operands) operand
 
 -- one more entry, where a list of uses has those of the entries before it
 pub entries_more : (homes : List Home) (arguments place index : ℕ) (labels : List BlockId) (operands : List Operand) (none : Operand)
-    (old uses new : List FarUse) → index < length operands → uses ≡ old ++ entries_asked homes arguments place labels (take index operands)
-    → new ≡ uses ++ entry_asked homes arguments place (slice_get labels index) (get_or operands index none)
+    (label : Option BlockId) (old uses new : List FarUse) → index < length operands → label ≡ slice_get labels index
+    → uses ≡ old ++ entries_asked homes arguments place labels (take index operands)
+    → new ≡ uses ++ entry_asked homes arguments place label (get_or operands index none)
     → new ≡ old ++ entries_asked homes arguments place labels (take (index + 1) operands)
-entries_more homes arguments place index labels operands none old uses new below before after =
+entries_more homes arguments place index labels operands none label old uses new below found before after =
     let front = entries_asked homes arguments place labels (take index operands) in
-    let one = entry_asked homes arguments place (slice_get labels index) (get_or operands index none) in
+    let operand = get_or operands index none in
+    let one = entry_asked homes arguments place label operand in
     let long = length-take-le index operands (omega arith) in
+    let last : entry_asked homes arguments place (slice_get labels (length (take index operands))) operand ≡ one =
+        ap (λ n. entry_asked homes arguments place (slice_get labels n) operand) long ∙ ap (λ (l : Option BlockId). entry_asked homes arguments place l operand) (sym found) in
     let pushed : entries_asked homes arguments place labels (take (index + 1) operands) ≡ front ++ one =
-        ap (λ xs. entries_asked homes arguments place labels xs) (take_more operands index none below)
-        ∙ entries_push homes arguments place labels (take index operands) (get_or operands index none)
-        ∙ ap (λ n. front ++ entry_asked homes arguments place (slice_get labels n) (get_or operands index none)) long in
-    after ∙ ap (λ xs. xs ++ one) before ∙ append_assoc old front one ∙ ap (λ xs. old ++ xs) (sym pushed)
+        ap (λ (xs : List Operand). entries_asked homes arguments place labels xs) (take_more operands index none below)
+        ∙ entries_push homes arguments place labels (take index operands) operand
+        ∙ ap (λ (xs : List FarUse). front ++ xs) last in
+    after ∙ ap (λ (xs : List FarUse). xs ++ one) before ∙ append_assoc old front one ∙ ap (λ (xs : List FarUse). old ++ xs) (sym pushed)
 
 line_is : (homes : List Home) (arguments : ℕ) (block : BlockId) (place : ℕ) (inst : Instruction) (op : Op) → is_phi op ≡ false
     → line_asked homes arguments block place op inst ≡ flat_map (asked homes arguments (record { block = block; before = place }) place) (operands_of inst)

@@ -140,10 +140,16 @@ fn ask_entries(
     ensures { IfOk result (λ _. uses.new.items ≡ uses.old.items ++ entries_asked homes.now arguments place labels.now operands.now) }
 {
     for (index, operand) in operands.iter().enumerate() {
-        let label = labels.get(index).copied();
+        let label = label_at(labels, index);
         ask_entry(homes, arguments, place, label, *operand, uses)?;
     }
     Ok(())
+}
+
+fn label_at(labels: &[BlockId], index: usize) -> Option<BlockId>
+    ensures { result ≡ slice_get labels.now index }
+{
+    labels.get(index).copied()
 }
 
 fn ask_entry(
