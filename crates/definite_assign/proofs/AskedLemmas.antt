@@ -3,7 +3,7 @@ use Rattle.std.proofs.Common.{◌≡◌, ℕ, zero, suc, ◌<◌, ◌≤◌, ◌
 use Rattle.std.specs.List.{Contains, flat_map}
 use Rattle.std.proofs.lemmas.List.{length-take-le, take_more}
 use Rattle.std.proofs.lemmas.List.Elements.{Contains-append_cases, Contains-append_left, Contains-append_right}
-use Rattle.std.proofs.lemmas.Bool.{cases_Bool, eqb-true, ltb-true, eq-eqb, lt-ltb, and_parts, and_from, cases_lt, both_ways}
+use Rattle.std.proofs.lemmas.Bool.{eqb-true, ltb-true, eq-eqb, lt-ltb, and_parts, and_from, cases_lt, both_ways}
 use Rattle.sp_ids.specs.declared.ids.BlockId.{BlockId}
 use Rattle.ir_ast.specs.declared.ops.Operand.{Operand}
 use Rattle.ir_ast.specs.declared.ops.Operand.TheVariants.{Value, Int, Null, Fun}
@@ -99,7 +99,7 @@ pub before_or_asked : (homes : List Home) (arguments : ℕ) (spot : Spot) (place
     → StandsBefore home spot ⊎ Contains (asked homes arguments spot place operand) (far_of home spot place)
 before_or_asked homes arguments spot place value operand home holds found =
     let list : asked homes arguments spot place operand ≡ far_use (Some home) spot place =
-        asked_is homes arguments spot place value operand holds ∙ ap (λ (o : Option Home). far_use o spot place) found in
+    asked_is homes arguments spot place value operand holds ∙ ap (λ (o : Option Home). far_use o spot place) found in
     elim (near_or_far home spot place (IsNear home spot) refl) [ inl near ↦ inl near | inr in' ↦ inr (rw list in') ]
 
 -- the far use that an entry of a phi asks for
@@ -119,8 +119,8 @@ entry_from homes arguments place (label ∷ labels) (operand ∷ operands) far i
     elim (Contains-append_cases (asked homes arguments (end_of label) place operand) (entries_asked homes arguments place labels operands) far in') [
       | inl here ↦ record { entry = 0; label = label; operand = operand; label_at = refl; operand_at = refl; asks = here }
       | inr there ↦
-        let rest = entry_from homes arguments place labels operands far there in
-        record { entry = suc rest.entry; label = rest.label; operand = rest.operand; label_at = rest.label_at; operand_at = rest.operand_at; asks = rest.asks }
+          let rest = entry_from homes arguments place labels operands far there in
+          record { entry = suc rest.entry; label = rest.label; operand = rest.operand; label_at = rest.label_at; operand_at = rest.operand_at; asks = rest.asks }
     ]
 
 pub entry_asks : (homes : List Home) (arguments place : ℕ) (labels : List BlockId) (operands : List Operand) (far : FarUse) (entry : ℕ) (label : BlockId)
@@ -152,7 +152,7 @@ entries_push homes arguments place (label ∷ labels) [] operand =
 entries_push homes arguments place (label ∷ labels) (one ∷ operands) operand =
     ap (λ xs. asked homes arguments (end_of label) place one ++ xs) (entries_push homes arguments place labels operands operand)
     ∙ sym (append_assoc (asked homes arguments (end_of label) place one) (entries_asked homes arguments place labels operands)
-      (entry_asked homes arguments place (slice_get labels (length operands)) operand))
+    (entry_asked homes arguments place (slice_get labels (length operands)) operand))
 
 -- one more entry, where a list of uses has those of the entries before it
 pub entries_more : (homes : List Home) (arguments place index : ℕ) (labels : List BlockId) (operands : List Operand) (none : Operand)
@@ -166,11 +166,11 @@ entries_more homes arguments place index labels operands none label old uses new
     let one = entry_asked homes arguments place label operand in
     let long = length-take-le index operands (omega arith) in
     let last : entry_asked homes arguments place (slice_get labels (length (take index operands))) operand ≡ one =
-        ap (λ n. entry_asked homes arguments place (slice_get labels n) operand) long ∙ ap (λ (l : Option BlockId). entry_asked homes arguments place l operand) (sym found) in
+    ap (λ n. entry_asked homes arguments place (slice_get labels n) operand) long ∙ ap (λ (l : Option BlockId). entry_asked homes arguments place l operand) (sym found) in
     let pushed : entries_asked homes arguments place labels (take (index + 1) operands) ≡ front ++ one =
-        ap (λ (xs : List Operand). entries_asked homes arguments place labels xs) (take_more operands index none below)
-        ∙ entries_push homes arguments place labels (take index operands) operand
-        ∙ ap (λ (xs : List FarUse). front ++ xs) last in
+    ap (λ (xs : List Operand). entries_asked homes arguments place labels xs) (take_more operands index none below)
+    ∙ entries_push homes arguments place labels (take index operands) operand
+    ∙ ap (λ (xs : List FarUse). front ++ xs) last in
     after ∙ ap (λ (xs : List FarUse). xs ++ one) before ∙ append_assoc old front one ∙ ap (λ (xs : List FarUse). old ++ xs) (sym pushed)
 
 line_is : (homes : List Home) (arguments : ℕ) (block : BlockId) (place : ℕ) (inst : Instruction) (op : Op) → is_phi op ≡ false

@@ -1,18 +1,16 @@
 -- The table of the results' homes, an instruction at a time, and the home of a value that exists.
-use Rattle.std.proofs.Common.{◌≡◌, ℕ, zero, suc, ◌<◌, ◌≤◌, ◌+◌, ◌-◌, ◌^◌, cond, ltb, Bool, true, false, List, [], ◌∷◌, ◌++◌, length, get_or, take, refl, ap, sym, subst, arith, Option, Some, None, slice_get, inl, inr, ◌⊎◌, ◌∙◌}
+use Rattle.std.proofs.Common.{◌≡◌, ℕ, zero, suc, ◌<◌, ◌≤◌, ◌+◌, ◌-◌, cond, Bool, true, false, List, [], ◌∷◌, ◌++◌, length, get_or, take, refl, ap, sym, subst, arith, Some, None, slice_get, inl, inr, ◌⊎◌, ◌∙◌}
 use Rattle.std.specs.List.{filter}
 use Rattle.std.specs.Prelude.{is_some, map}
 use Rattle.std.proofs.lemmas.List.{length-append, length-map, take_all, length_push}
 use Rattle.std.proofs.lemmas.List.Filters.{length-filter_more}
-use Rattle.std.proofs.lemmas.Bool.{cases_lt, lt-ltb, le-ltb, ltb-false, cases_Bool}
+use Rattle.std.proofs.lemmas.Bool.{cases_lt, lt-ltb, le-ltb}
 use Rattle.std.proofs.lemmas.Option.{slice_get_within, get_or_from_slice_get, slice_get-get_or}
-use Rattle.sp_ids.specs.declared.ids.BlockId.{BlockId}
 use Rattle.ir_ast.specs.Insts.{Instruction}
-use Rattle.ir_ast.specs.Funcs.{Function, instructions_of, IsSmall}
+use Rattle.ir_ast.specs.Funcs.{Function, instructions_of}
 use Rattle.ir_ast.specs.Values.{definitions_of, argument, outcome}
 use Rattle.ir_cfg.specs.Graphs.{block_at}
-use Rattle.ir_cfg.specs.DefiniteUses.{Stands, Defines, text_place}
-use Rattle.ir_cfg.proofs.PlaceLemmas.{get_pushed}
+use Rattle.ir_cfg.specs.DefiniteUses.{Stands, text_place}
 use Rattle.definite_assign.specs.declared.homes.Home.{Home}
 use Rattle.definite_assign.specs.Homes.{IsHome, AreHomes}
 use Rattle.definite_assign.specs.Asked.{home_of}
@@ -36,7 +34,7 @@ count_more func number index inst result stands is =
     let place = text_place func number index in
     let within = slice_get_within insts place inst at in
     let own : ◌≡◌ {A = ℕ} (cond (named (get_or insts place inst)) 1 0) (cond result 1 0) =
-        ap (λ (i : Instruction). cond (named i) 1 0) (get_or_from_slice_get insts place inst inst at) ∙ ap (λ b. cond b 1 0) is in
+    ap (λ (i : Instruction). cond (named i) 1 0) (get_or_from_slice_get insts place inst inst at) ∙ ap (λ b. cond b 1 0) is in
     let more = length-filter_more named insts place inst within in
     omega (arith, more, own)
 
@@ -69,10 +67,10 @@ homes_push func number index inst homes stands some are = record {
   each = λ k one is. elim (pushed_at homes (home_at func number index) k one is) [
     | inl earlier ↦ are.each k one earlier
     | inr e ↦ subst (λ (home : Home). IsHome func (length func.args + k) home) (sym e.1) (record {
-        at = index;
-        defines = record { inst = inst; stands = stands; named = some; numbered = omega (arith, are.count, e.0) };
-        place = refl;
-      })
+      at = index;
+      defines = record { inst = inst; stands = stands; named = some; numbered = omega (arith, are.count, e.0) };
+      place = refl;
+    })
   ];
 }
 
@@ -102,7 +100,7 @@ count_all : (func : Function) (homes : List Home) → AllHomes func homes → le
 count_all func homes are =
     let results = filter named (instructions_of func.blocks) in
     let all : length (filter named (take (length (instructions_of func.blocks)) (instructions_of func.blocks))) ≡ length results =
-        ap (λ (xs : List Instruction). length (filter named xs)) (take_all (length (instructions_of func.blocks)) (instructions_of func.blocks) (omega arith)) in
+    ap (λ (xs : List Instruction). length (filter named xs)) (take_all (length (instructions_of func.blocks)) (instructions_of func.blocks) (omega arith)) in
     omega (arith, are.count, all, length-append (map argument func.args) (map outcome results), length-map func.args argument, length-map results outcome)
 
 own_home : (func : Function) (homes : List Home) (value : ℕ) (home : Home) → AllHomes func homes → length func.args ≤ value
@@ -140,8 +138,8 @@ pub home_owns : (func : Function) (homes : List Home) (value : ℕ) (home : Home
 home_owns func homes value home are is =
     elim (cases_lt value (length func.args)) [
       | inl below ↦
-        let never : None ≡ Some home = sym (ap (λ b. cond b None (slice_get homes (value - length func.args))) (lt-ltb value (length func.args) below)) ∙ is in
-        absurd (cc)
+          let never : None ≡ Some home = sym (ap (λ b. cond b None (slice_get homes (value - length func.args))) (lt-ltb value (length func.args) below)) ∙ is in
+          absurd (cc)
       | inr past ↦ own_home func homes value home are past (sym (home_is homes (length func.args) value past) ∙ is)
     ]
 

@@ -1,6 +1,6 @@
 -- The places of a function's instructions in its text, and that a value has one definition.
-use Rattle.std.proofs.Common.{◌≡◌, ◌≢◌, ℕ, zero, suc, ◌<◌, ◌≤◌, ◌+◌, cond, Bool, true, List, [], ◌∷◌, ◌++◌, length, get_or, take, refl, ap, sym, arith, Some, None, slice_get, inl, inr, ◌⊎◌, ◌∙◌}
-use Rattle.std.specs.List.{flat_map, filter}
+use Rattle.std.proofs.Common.{◌≡◌, ℕ, zero, suc, ◌<◌, ◌≤◌, ◌+◌, cond, Bool, true, List, [], ◌∷◌, ◌++◌, length, get_or, take, refl, ap, sym, arith, Some, slice_get, inl, inr, ◌∙◌}
+use Rattle.std.specs.List.{filter}
 use Rattle.std.specs.Prelude.{is_some}
 use Rattle.std.proofs.lemmas.List.{length-append, take_more, take-take, get_or-take, length-take-le, append-nil, take_all}
 use Rattle.std.proofs.lemmas.List.Concat.{flat_map-append}
@@ -60,8 +60,8 @@ text_next func number block stands =
     let more = take_more func.blocks number block within in
     let own = get_or_from_slice_get func.blocks number block block stands in
     let split : instructions_of (take (number + 1) func.blocks) ≡ instructions_of (take number func.blocks) ++ block.insts =
-        ap (λ (xs : List BasicBlock). instructions_of xs) (more ∙ ap (λ (b : BasicBlock). take number func.blocks ++ b ∷ []) own)
-        ∙ flat_map-append insts (take number func.blocks) (block ∷ []) ∙ ap (λ (xs : List Instruction). instructions_of (take number func.blocks) ++ xs) (append-nil block.insts) in
+    ap (λ (xs : List BasicBlock). instructions_of xs) (more ∙ ap (λ (b : BasicBlock). take number func.blocks ++ b ∷ []) own)
+    ∙ flat_map-append insts (take number func.blocks) (block ∷ []) ∙ ap (λ (xs : List Instruction). instructions_of (take number func.blocks) ++ xs) (append-nil block.insts) in
     omega (arith, ap length split, length-append (instructions_of (take number func.blocks)) block.insts)
 
 pub text_within : (func : Function) (number : ℕ) (block : BasicBlock) → slice_get func.blocks number ≡ Some block
@@ -70,7 +70,7 @@ text_within func number block stands =
     let before = slice_get_within func.blocks number block stands in
     let later = starts_later func.blocks number (length func.blocks) block stands before (omega arith) in
     let all : length (instructions_of (take (length func.blocks) func.blocks)) ≡ length (instructions_of func.blocks) =
-        ap (λ (xs : List BasicBlock). length (instructions_of xs)) (take_all (length func.blocks) func.blocks (omega arith)) in
+    ap (λ (xs : List BasicBlock). length (instructions_of xs)) (take_all (length func.blocks) func.blocks (omega arith)) in
     omega (arith, later, all)
 
 pub place_within : (func : Function) (number place : ℕ) (inst : Instruction) → Stands func number place inst
@@ -143,12 +143,20 @@ one_text func value number place other there first second =
     elim (cases_order (text_place func number place) (text_place func other there)) [
       | inl e ↦ e
       | inr apart ↦ elim apart [
-        | inl before ↦ absurd (omega (arith, first.numbered, second.numbered,
-            results_grow (instructions_of func.blocks) (text_place func number place) (text_place func other there) first.inst
-            (stands_in_text func number place first.inst first.stands) first.named before))
-        | inr after ↦ absurd (omega (arith, first.numbered, second.numbered,
-            results_grow (instructions_of func.blocks) (text_place func other there) (text_place func number place) second.inst
-            (stands_in_text func other there second.inst second.stands) second.named after))
+        | inl before ↦ absurd (omega (
+          arith,
+          first.numbered,
+          second.numbered,
+          results_grow (instructions_of func.blocks) (text_place func number place) (text_place func other there) first.inst
+              (stands_in_text func number place first.inst first.stands) first.named before,
+        ))
+        | inr after ↦ absurd (omega (
+          arith,
+          first.numbered,
+          second.numbered,
+          results_grow (instructions_of func.blocks) (text_place func other there) (text_place func number place) second.inst
+              (stands_in_text func other there second.inst second.stands) second.named after,
+        ))
       ]
     ]
 

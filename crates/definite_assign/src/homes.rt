@@ -27,12 +27,7 @@ pub(crate) fn homes(alloc: Global, func: &Func) -> Result<Vec<Home>, Memory>
     Ok(homes)
 }
 
-fn add_block(
-    func: &Func,
-    number: usize,
-    start: usize,
-    homes: &mut Vec<Home>,
-) -> Result<(), Memory>
+fn add_block(func: &Func, number: usize, start: usize, homes: &mut Vec<Home>) -> Result<(), Memory>
     requires number { number < length func.now.content.blocks }
     requires start { start ≡ text_place func.now.content number 0 }
     requires homes { AreHomes func.now.content start homes.old.items }

@@ -239,12 +239,7 @@ fn ask(
     }
 }
 
-fn add_far(
-    home: Option<Home>,
-    spot: Spot,
-    place: u32,
-    uses: &mut Vec<FarUse>,
-) -> Result<(), Memory>
+fn add_far(home: Option<Home>, spot: Spot, place: u32, uses: &mut Vec<FarUse>) -> Result<(), Memory>
     ensures { IfOk result (λ _. uses.new.items ≡ uses.old.items ++ far_use home spot place) }
 {
     match home {
