@@ -5,3 +5,8 @@ pub mod PlaceLemmas
 pub mod SearchLemmas
 pub mod CycleLemmas
 pub mod KeptLemmas
+pub mod KeepsPlaces
+pub mod KeepsLines
+pub mod KeepsValues
+pub mod KeepsPaths
+pub mod KeepsUses
