@@ -53,7 +53,7 @@ pub filter_map_back : {A B : Type 0} (h : A → Option B) (xs : List A) (y : B) 
 filter_map_back h [] y k is = absurd (none-some y is)
 filter_map_back h (x ∷ xs) y k is = item_cases h x xs y (h x) refl (λ j at. filter_map_back h xs y j at) k is
 
-values_of_new : (kept : Kept) (operands : List Operand)
+pub values_of_new : (kept : Kept) (operands : List Operand)
     → filter_map value_in (map (operand_kept kept) operands) ≡ map (λ (v : ℕ). get_or kept.values v 0) (filter_map value_in operands)
 values_of_new kept [] = refl
 values_of_new kept (Value value ∷ operands) = ap (λ zs. get_or kept.values value.0 0 ∷ zs) (values_of_new kept operands)
@@ -220,7 +220,7 @@ value_in_new kept Null value is = absurd (none-some value is)
 value_in_new kept (Fun func) value is = absurd (none-some value is)
 
 -- the entry of a phi that an entry of the new phi comes from
-record EntryOrigin (marks : List Bool) (func : Function) (old : Instruction) (entry : ℕ) (label : BlockId) (operand : Operand) : Type 0 where
+pub record EntryOrigin (marks : List Bool) (func : Function) (old : Instruction) (entry : ℕ) (label : BlockId) (operand : Operand) : Type 0 where
   pub place : ℕ
   pub old_label : BlockId
   pub old_operand : Operand
@@ -230,7 +230,7 @@ record EntryOrigin (marks : List Bool) (func : Function) (old : Instruction) (en
   pub label_is : label ≡ label_kept (kept_by marks func) old_label
   pub operand_is : operand ≡ operand_kept (kept_by marks func) old_operand
 
-entry_back : (marks : List Bool) (func : Function) (old : Instruction) (entry : ℕ) (label : BlockId) (operand : Operand) → is_phi old.op ≡ true
+pub entry_back : (marks : List Bool) (func : Function) (old : Instruction) (entry : ℕ) (label : BlockId) (operand : Operand) → is_phi old.op ≡ true
     → slice_get (inst_new (kept_by marks func) (inst_left (kept_by marks func) old)).labels entry ≡ Some label
     → slice_get (inst_new (kept_by marks func) (inst_left (kept_by marks func) old)).operands entry ≡ Some operand
     → EntryOrigin marks func old entry label operand

@@ -10,3 +10,4 @@ pub mod KeepsLines
 pub mod KeepsValues
 pub mod KeepsPaths
 pub mod KeepsUses
+pub mod KeepsForms

@@ -1,6 +1,6 @@
 use Rattle.ir_ast.specs.Funcs.{content_of}
 use Rattle.ir_cfg.proofs.KeptLemmas.{formed_funcs}
-use Rattle.ir_cfg.proofs.KeepsUses.{lasts}
+use Rattle.ir_cfg.proofs.KeepsForms.{widths_kept}
 use Rattle.ir_cfg.proofs.unreached.drop_unreachable.Goals as goal
 
 pub all_without-requires : goal.all_without-requires
