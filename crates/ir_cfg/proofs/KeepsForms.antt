@@ -172,7 +172,7 @@ line_new kept Switch inst line =
 line_new kept Ret inst line = has_new kept _ _ _ _ inst line
 line_new kept Unreachable inst line = has_new kept _ _ _ _ inst line
 
-same_count : {A B : Type 0} (marks : List Bool) (xs : List A) (ys : List B) → length xs ≡ length ys
+pub same_count : {A B : Type 0} (marks : List Bool) (xs : List A) (ys : List B) → length xs ≡ length ys
     → length (kept_of marks xs) ≡ length (kept_of marks ys)
 same_count marks [] [] same = refl
 same_count marks [] (y ∷ ys) same = absurd (omega arith)

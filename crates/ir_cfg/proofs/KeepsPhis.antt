@@ -23,12 +23,15 @@ use Rattle.ir_cfg.specs.Graphs.{Graph, Edge, block_at, graph_of}
 use Rattle.ir_cfg.specs.Paths.{Path, Reached, at_entry, along}
 use Rattle.ir_cfg.specs.DefiniteUses.{Stands}
 use Rattle.ir_cfg.specs.Marks.{Marked, MarksReached}
-use Rattle.ir_cfg.specs.Unreached.{Kept, kept_of, kept_by, new_numbers, label_kept, has_mark, inst_kept, block_kept, function_kept}
-use Rattle.ir_cfg.proofs.KeepsPlaces.{at_within, all_from_at, all_at, map_back, marks_before, number_of_marked, before_same, before_first}
+use Rattle.ir_cfg.specs.Unreached.{Kept, kept_of, kept_by, new_numbers, operand_kept, label_kept, has_mark, inst_kept, block_kept, function_kept}
+use Rattle.ir_cfg.proofs.KeepsPlaces.{at_within, all_from_at, all_at, map_back, marks_before, number_of_marked, before_same, before_first, kept_back, all_marks}
 use Rattle.ir_cfg.proofs.KeepsLines.{inst_left, inst_new, two_steps, IsKept, block_back, block_forth, line_at, inst_at, all_lines}
-use Rattle.ir_cfg.proofs.KeepsPaths.{succs_at, marked_block, target_marked, targets_kept, at_middle}
+use Rattle.ir_cfg.proofs.KeepsPaths.{succs_at, marked_block, target_marked, targets_kept, at_middle, entry_marked}
 use Rattle.ir_cfg.proofs.KeepsUses.{phi_operands, phi_labels, plain_labels, mark_found, EntryOrigin, entry_back, Lasts}
 use Rattle.ir_cfg.proofs.KeepsForms.{phi_line, same_count}
+
+abbrev one_if : Bool → ℕ
+one_if test = cond test 1 0
 
 -- counts of labels, a label at a time
 count_cons : (n : ℕ) (label : BlockId) (labels : List BlockId)
@@ -93,7 +96,7 @@ count_some n [] k label at same = absurd (none-some label at)
 count_some n (first ∷ labels) zero label at same =
     let cons = count_cons n first labels in
     let is : eqb first.0 n ≡ true = eq-eqb first.0 n (ap (λ (b : BlockId). b.0) (same_Some first label at) ∙ same) in
-    let one : cond (eqb first.0 n) 1 0 ≡ 1 = ap (λ (b : Bool). cond b 1 0) is in
+    let one : one_if (eqb first.0 n) ≡ 1 = ap one_if is in
     omega (arith, cons, one)
 count_some n (first ∷ labels) (suc k) label at same =
     let cons = count_cons n first labels in
@@ -108,7 +111,7 @@ count_found n (label ∷ labels) some =
       | inl is ↦ (0, label, refl, eqb-true label.0 n is)
       | inr not ↦
           let cons = count_cons n label labels in
-          let none : cond (eqb label.0 n) 1 0 ≡ 0 = ap (λ (b : Bool). cond b 1 0) not in
+          let none : one_if (eqb label.0 n) ≡ 0 = ap one_if not in
           let rest = count_found n labels (omega (arith, cons, none, some)) in
           (suc rest.0, rest.1, rest.2, rest.3)
     ]
@@ -122,7 +125,7 @@ record Split {A B : Type 0} (f : A → B) (xs : List A) (ys : List B) (y : B) : 
   pub fronts : map f front ≡ ys
   pub items : f item ≡ y
 
-tail : {A : Type 0} → List A → List A
+abbrev tail : {A : Type 0} → List A → List A
 tail [] = []
 tail (x ∷ xs) = xs
 
@@ -140,13 +143,13 @@ split_back {A} {B} f (x ∷ xs) [] y zs is = record {
   items = same_Some (f x) y (ap (λ (bs : List B). slice_get bs 0) is);
 }
 split_back {A} {B} f (x ∷ xs) (w ∷ ys) y zs is =
-    let rest = split_back f xs ys y zs (tails f x xs w ys y zs is) in
+    let rest = split_back f xs ys y zs (ap tail is) in
     let first : f x ≡ w = same_Some (f x) w (ap (λ (bs : List B). slice_get bs 0) is) in
     record {
       front = x ∷ rest.front;
       item = rest.item;
       back = rest.back;
-      whole = ap (λ (as : List A). x ∷ as) rest.whole;
+      whole = ap (λ (items : List A). x ∷ items) rest.whole;
       fronts = ap (λ (bs : List B). f x ∷ bs) rest.fronts ∙ ap (λ (b : B). b ∷ ys) first;
       items = rest.items;
     }
@@ -157,7 +160,7 @@ split_at [] k x is = absurd (none-some x is)
 split_at {A} (y ∷ xs) zero x is = ([], xs, ap (λ (a : A). a ∷ xs) (same_Some y x is))
 split_at {A} (y ∷ xs) (suc k) x is =
     let rest = split_at xs k x is in
-    (y ∷ rest.0, rest.1, ap (λ (as : List A). y ∷ as) rest.2)
+    (y ∷ rest.0, rest.1, ap (λ (items : List A). y ∷ items) rest.2)
 
 get_cases : {A : Type 0} (xs ys : List A) (k : ℕ) (y : A) → slice_get (xs ++ ys) k ≡ Some y
     → (slice_get xs k ≡ Some y) ⊎ ((j : ℕ) × (slice_get ys j ≡ Some y))
@@ -258,6 +261,12 @@ phi_some marks func number place inst reached alone right marked stands line phi
     let operands = ap length (phi_operands (kept_by marks func) inst.op inst.labels inst.operands phi) in
     omega (arith, left, many, le, same, operands)
 
+left_marked : (marks : List Bool) (func : Function) (labels : List BlockId) (k : ℕ) (label : BlockId)
+    → slice_get (kept_of (map (has_mark (kept_by marks func)) labels) labels) k ≡ Some label → Marked marks label.0
+left_marked marks func labels k label at =
+    let o = kept_back (map (has_mark (kept_by marks func)) labels) labels k label at in
+    mark_found marks label.0 (all_marks (has_mark (kept_by marks func)) labels o.place label o.stands o.marked)
+
 same_first : (kept : Kept) (front : List Instruction) → list_all (λ (inst : Instruction). is_phi inst.op) (map (inst_kept kept) front)
     ≡ list_all (λ (inst : Instruction). is_phi inst.op) front
 same_first kept front = list_all-map (λ (inst : Instruction). is_phi inst.op) (inst_kept kept) front
@@ -316,4 +325,94 @@ agree_at marks func number before item phi right j k label one two label_j label
     first.at_label ∙ ap (λ (n : ℕ). Some (block_at n)) same ∙ sym second.at_label in
     let operands : first.old_operand ≡ second.old_operand =
     same_Some first.old_operand second.old_operand (sym first.at_operand ∙ right.agree first.place second.place labels ∙ second.at_operand) in
-    first.operand_is ∙ ap (λ (o : Operand). kept_operand marks func o) operands ∙ sym second.operand_is
+    first.operand_is ∙ ap (operand_kept kept) operands ∙ sym second.operand_is
+
+agree_kept : (marks : List Bool) (func : Function) (number : ℕ) (before : List Instruction) (item : Instruction) → is_phi item.op ≡ true
+    → LineOf Phi (inst_new (kept_by marks func) (inst_left (kept_by marks func) item)) → PhiIsRight func number before item → (j k : ℕ)
+    → slice_get (inst_new (kept_by marks func) (inst_left (kept_by marks func) item)).labels j
+    ≡ slice_get (inst_new (kept_by marks func) (inst_left (kept_by marks func) item)).labels k
+    → slice_get (inst_new (kept_by marks func) (inst_left (kept_by marks func) item)).operands j
+    ≡ slice_get (inst_new (kept_by marks func) (inst_left (kept_by marks func) item)).operands k
+agree_kept marks func number before item phi line right j k same =
+    let new = inst_new (kept_by marks func) (inst_left (kept_by marks func) item) in
+    let as_many : length new.labels ≡ length new.operands = line.0.label_count in
+    elim (cases_lt j (length new.labels)) [
+      | inl within ↦
+          let label = at_within new.labels j within in
+          let other : slice_get new.labels k ≡ Some label.0 = sym same ∙ label.1 in
+          let within_k = slice_get_within new.labels k label.0 other in
+          let one = at_within new.operands j (omega arith) in
+          let two = at_within new.operands k (omega arith) in
+          one.1 ∙ ap (λ (o : Operand). Some o) (agree_at marks func number before item phi right j k label.0 one.0 two.0 label.1 other one.1 two.1) ∙ sym two.1
+      | inr past ↦
+          elim (cases_lt k (length new.labels)) [
+            | inl within ↦
+                let label = at_within new.labels k within in
+                let within_j = slice_get_within new.labels j label.0 (same ∙ label.1) in
+                absurd (omega arith)
+            | inr past_k ↦ slice_get_past new.operands j (omega arith) ∙ sym (slice_get_past new.operands k (omega arith))
+          ]
+    ]
+
+phi_right : (marks : List Bool) (func : Function) (number : ℕ) (front : List Instruction) (item : Instruction) → MarksReached (graph_of func) marks
+    → Marked marks number → is_phi item.op ≡ true → IsLine (inst_new (kept_by marks func) (inst_left (kept_by marks func) item))
+    → PhiIsRight func number front item
+    → PhiIsRight (function_kept marks func) (marks_before marks number) (map (inst_kept (kept_by marks func)) front) (inst_kept (kept_by marks func) item)
+phi_right marks func number front item reached marked phi line right =
+    let kept = kept_by marks func in
+    record {
+      first = same_first kept front ∙ right.first;
+      counted = counted_kept marks func number front item reached marked phi right;
+      agree = λ j k.
+          subst (λ (i : Instruction). slice_get i.labels j ≡ slice_get i.labels k → slice_get i.operands j ≡ slice_get i.operands k)
+          (sym (two_steps kept item))
+          (agree_kept marks func number front item phi (phi_line item.op (inst_new kept (inst_left kept item)) phi line) right j k);
+    }
+
+-- the phis stay right, where the lines stay lines
+pub phis_kept : (marks : List Bool) (func : Function) → MarksReached (graph_of func) marks → PhisAreRight func
+    → ((inst : Instruction) → IsKept marks func inst → IsLine (inst_new (kept_by marks func) (inst_left (kept_by marks func) inst)))
+    → PhisAreRight (function_kept marks func)
+phis_kept marks func reached right lines = λ number block before after phi in_function whole is.
+    let kept = kept_by marks func in
+    let b = block_back marks func number block in_function in
+    let split = split_back (inst_kept kept) b.old.insts before phi after (sym (ap (λ (x : BasicBlock). x.insts) b.is) ∙ whole) in
+    let was : is_phi split.item.op ≡ true = ap (λ (i : Instruction). is_phi i.op) split.items ∙ is in
+    let at : slice_get b.old.insts (length split.front) ≡ Some split.item =
+    ap (λ (xs : List Instruction). slice_get xs (length split.front)) split.whole ∙ at_middle split.front split.item split.back in
+    let stands : Stands func b.place (length split.front) split.item = record { block = b.old; in_function = b.stands; in_block = at } in
+    let line = lines split.item (record { number = b.place; place = length split.front; marked = b.marked; stands = stands }) in
+    let new = phi_right marks func b.place split.front split.item reached b.marked was line
+        (right b.place b.old split.front split.back split.item b.stands split.whole was) in
+    subst (λ (n : ℕ). PhiIsRight (function_kept marks func) n before phi) b.same
+    (subst (λ (xs : List Instruction). PhiIsRight (function_kept marks func) (marks_before marks b.place) xs phi) split.fronts
+    (subst (λ (i : Instruction). PhiIsRight (function_kept marks func) (marks_before marks b.place) (map (inst_kept kept) split.front) i) split.items new))
+
+ends_plain : (op : Op) → is_terminator op ≡ true → is_phi op ≡ false
+ends_plain Phi ends = absurd (false≢true ends)
+ends_plain op ends = refl
+
+leaves_new : (marks : List Bool) (func : Function) (inst : Instruction) → MarksReached (graph_of func) marks → Lasts marks func inst
+    → LeavesEntry inst → LeavesEntry (inst_new (kept_by marks func) (inst_left (kept_by marks func) inst))
+leaves_new marks func inst reached lasts leaves = λ ends.
+    let kept = kept_by marks func in
+    let plain = ends_plain inst.op ends in
+    all_from_at (λ (label : BlockId). label.0 ≡ 0 → ⊥) (map (label_kept kept) (inst_left kept inst).labels) (λ k label at.
+    let m = map_back (label_kept kept) (inst_left kept inst).labels k label at in
+    let marked = lasts.labels k m.before m.stands in
+    let was : slice_get inst.labels k ≡ Some m.before =
+    ap (λ (ls : List BlockId). slice_get ls k) (sym (plain_labels kept inst.op inst.labels plain)) ∙ m.stands in
+    let other = all_at (λ (l : BlockId). l.0 ≡ 0 → ⊥) inst.labels k m.before (leaves ends) was in
+    let is : label.0 ≡ marks_before marks m.before.0 = ap (λ (l : BlockId). l.0) m.is ∙ number_of_marked marks m.before.0 marked in
+    elim (cases_lt 0 m.before.0) [
+      | inl some ↦ let later = before_first marks m.before.0 (entry_marked marks func reached) some in λ none. omega arith
+      | inr none ↦ absurd (other (omega arith))
+    ])
+
+-- no edge leads to the new entry
+pub entry_kept : (marks : List Bool) (func : Function) → MarksReached (graph_of func) marks → EntryHasNoPred func
+    → ((inst : Instruction) → IsKept marks func inst → Lasts marks func inst) → EntryHasNoPred (function_kept marks func)
+entry_kept marks func reached alone lasts =
+    all_lines LeavesEntry marks func (λ inst kept.
+    subst LeavesEntry (sym (two_steps (kept_by marks func) inst))
+    (leaves_new marks func inst reached (lasts inst kept) (line_at LeavesEntry func kept.number kept.place inst kept.stands alone)))

@@ -11,3 +11,5 @@ pub mod KeepsValues
 pub mod KeepsPaths
 pub mod KeepsUses
 pub mod KeepsForms
+pub mod KeepsPhis
+pub mod KeepsTypes

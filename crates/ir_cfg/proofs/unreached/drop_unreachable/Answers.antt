@@ -1,6 +1,7 @@
 use Rattle.ir_ast.specs.Funcs.{content_of}
 use Rattle.ir_cfg.proofs.KeptLemmas.{formed_funcs}
-use Rattle.ir_cfg.proofs.KeepsForms.{widths_kept}
+use Rattle.ir_cfg.proofs.KeepsPhis.{entry_kept}
+use Rattle.ir_cfg.proofs.KeepsTypes.{typed_kept}
 use Rattle.ir_cfg.proofs.unreached.drop_unreachable.Goals as goal
 
 pub all_without-requires : goal.all_without-requires
