@@ -5,6 +5,7 @@ use Rattle.std.proofs.lemmas.List.{length-append, length-map, length-replicate}
 use Rattle.std.proofs.lemmas.List.Elements.{All-map, All-append, filter-append}
 use Rattle.std.proofs.lemmas.Option.{slice_get_within}
 use Rattle.sp_ids.specs.declared.ids.BlockId.{BlockId}
+use Rattle.ir_ast.specs.declared.types.Ty.{Ty}
 use Rattle.ir_ast.specs.declared.ops.Op.{Op}
 use Rattle.ir_ast.specs.declared.ops.Op.TheVariants.{Phi}
 use Rattle.ir_ast.specs.declared.ops.Operand.{Operand}
@@ -20,6 +21,7 @@ use Rattle.ir_ast.specs.Faults.UnknownName.{NamesOfFunction, NamesOfModule, Loca
 use Rattle.ir_cfg.specs.Graphs.{graph_of}
 use Rattle.ir_cfg.specs.Marks.{Marked, MarksReached}
 use Rattle.ir_cfg.specs.Unreached.{Kept, kept_of, kept_by, new_numbers, result_count, result_marks, value_marks, operand_kept, label_kept, has_mark, inst_kept, block_kept, function_kept}
+use Rattle.ir_cfg.proofs.PlaceLemmas.{get_front}
 use Rattle.ir_cfg.proofs.GraphLemmas.{front_of, back_of}
 use Rattle.ir_cfg.proofs.KeptLemmas.{of_map}
 use Rattle.ir_cfg.proofs.KeepsPlaces.{at_within, all_from_at, all_at, get_map, map_back, map_through, get_past, marks_before, number_of_marked, kept_get, kept_back, kept_map, kept_all, kept_distinct}
@@ -27,6 +29,8 @@ use Rattle.ir_cfg.proofs.KeepsLines.{operands_left, inst_left, inst_new, two_ste
 use Rattle.ir_cfg.proofs.KeepsValues.{named, definition_kept, new_definitions, new_names}
 use Rattle.ir_cfg.proofs.KeepsPaths.{marks_whole, marked_block}
 use Rattle.ir_cfg.proofs.KeepsUses.{filter_map_back, used_new, operands_of_new, Lasts}
+use Rattle.ir_cfg.proofs.KeepsPhis.{get_cases}
+use Rattle.ir_cfg.proofs.KeepsTypes.{filter_map_forth}
 
 -- what holds of the names of all values
 pub values_named : (P : List ℕ → Type 0) (marks : List Bool) (func : Function) → length marks ≡ length func.blocks
@@ -146,3 +150,59 @@ all_items P h xs ys from all = all_from_at P (filter_map h ys) (λ k n at.
     let old = from item.place item.item item.stands in
     let forth = filter_map_forth h xs old.0 old.1 n old.2 (old.3 ∙ item.gives) in
     all_at P (filter_map h xs) forth.0 n all forth.1)
+
+-- the operands that a kept line has come from operands that it had
+record OperandOrigin (kept : Kept) (inst : Instruction) (operand : Operand) : Type 0 where
+  pub place : ℕ
+  pub old : Operand
+  pub stands : slice_get (operands_of inst) place ≡ Some old
+  pub is : operand ≡ operand_kept kept old
+
+left_operand : (kept : Kept) (op : Op) (labels : List BlockId) (operands : List Operand) (k : ℕ) (operand : Operand)
+    → slice_get (operands_left kept op labels operands) k ≡ Some operand → (j : ℕ) × (slice_get operands j ≡ Some operand)
+left_operand kept Phi labels operands k operand at =
+    let o = kept_back (map (has_mark kept) labels) operands k operand at in
+    (o.place, o.stands)
+left_operand kept op labels operands k operand at = (k, at)
+
+-- what a line that lost entries has, it had
+pub left_operand_of : (kept : Kept) (inst : Instruction) (k : ℕ) (operand : Operand)
+    → slice_get (operands_of (inst_left kept inst)) k ≡ Some operand → (j : ℕ) × (slice_get (operands_of inst) j ≡ Some operand)
+left_operand_of kept inst k operand at =
+    let given = map (λ (entry : Ty × Operand). entry.1) inst.bundle in
+    elim (get_cases (inst_left kept inst).operands given k operand at) [
+      | inl own ↦
+          let old = left_operand kept inst.op inst.labels inst.operands k operand own in
+          (old.0, get_front inst.operands given old.0 operand old.1)
+      | inr bundled ↦ (length inst.operands + bundled.0, get_past inst.operands given bundled.0 ∙ bundled.1)
+    ]
+
+operand_back : (kept : Kept) (inst : Instruction) (k : ℕ) (operand : Operand)
+    → slice_get (operands_of (inst_kept kept inst)) k ≡ Some operand → OperandOrigin kept inst operand
+operand_back kept inst k operand at =
+    let there : slice_get (map (operand_kept kept) (operands_of (inst_left kept inst))) k ≡ Some operand =
+    ap (λ (os : List Operand). slice_get os k) (sym (ap operands_of (two_steps kept inst) ∙ operands_of_new kept (inst_left kept inst))) ∙ at in
+    let m = map_back (operand_kept kept) (operands_of (inst_left kept inst)) k operand there in
+    let old = left_operand_of kept inst k m.before m.stands in
+    record { place = old.0; old = m.before; stands = old.1; is = m.is }
+
+functions_kept : (P : ℕ → Type 0) (h : Operand → Option ℕ) → ((one two : ℕ) → h (Value (record { 0 = one })) ≡ h (Value (record { 0 = two })))
+    → (kept : Kept) (inst : Instruction) → All P (filter_map h (operands_of inst)) → All P (filter_map h (operands_of (inst_kept kept inst)))
+functions_kept P h same kept inst all =
+    all_items P h (operands_of inst) (operands_of (inst_kept kept inst)) (λ k operand at.
+    let o = operand_back kept inst k operand at in
+    (o.place, o.old, o.stands, sym (ap h o.is ∙ same_item h same kept o.old))) all
+
+global_new : (content : ModuleContent) (kept : Kept) (inst : Instruction) → NamesOfModule content inst → NamesOfModule content (inst_kept kept inst)
+global_new content kept inst known = record {
+  layouts = known.layouts;
+  functions =
+      let P : ℕ → Type 0 = λ named. named < length content.funcs in
+      All-append P _ _ (front_of P _ _ known.functions) (functions_kept P _ (λ one two. refl) kept inst (back_of P _ _ known.functions));
+}
+
+pub global_kept : (content : ModuleContent) (marks : List Bool) (func : Function) → GlobalNamesAreKnown content func
+    → GlobalNamesAreKnown content (function_kept marks func)
+global_kept content marks func known =
+    all_lines (NamesOfModule content) marks func (λ inst kept.
+    global_new content (kept_by marks func) inst (line_at (NamesOfModule content) func kept.number kept.place inst kept.stands known))

@@ -162,7 +162,7 @@ split_at {A} (y ∷ xs) (suc k) x is =
     let rest = split_at xs k x is in
     (y ∷ rest.0, rest.1, ap (λ (items : List A). y ∷ items) rest.2)
 
-get_cases : {A : Type 0} (xs ys : List A) (k : ℕ) (y : A) → slice_get (xs ++ ys) k ≡ Some y
+pub get_cases : {A : Type 0} (xs ys : List A) (k : ℕ) (y : A) → slice_get (xs ++ ys) k ≡ Some y
     → (slice_get xs k ≡ Some y) ⊎ ((j : ℕ) × (slice_get ys j ≡ Some y))
 get_cases [] ys k y is = inr (k, is)
 get_cases (x ∷ xs) ys zero y is = inl is

@@ -13,3 +13,6 @@ pub mod KeepsUses
 pub mod KeepsForms
 pub mod KeepsPhis
 pub mod KeepsTypes
+pub mod KeepsNames
+pub mod KeepsDerived
+pub mod KeepsSource

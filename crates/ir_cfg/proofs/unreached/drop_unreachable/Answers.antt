@@ -1,6 +1,6 @@
 use Rattle.ir_ast.specs.Funcs.{content_of}
 use Rattle.ir_cfg.proofs.KeptLemmas.{formed_funcs}
-use Rattle.ir_cfg.proofs.KeepsPhis.{entry_kept}
+use Rattle.ir_cfg.proofs.KeepsNames.{local_kept}
 use Rattle.ir_cfg.proofs.KeepsTypes.{typed_kept}
 use Rattle.ir_cfg.proofs.unreached.drop_unreachable.Goals as goal
 
