@@ -1,5 +1,6 @@
 -- Derived pointers are those that they were, and stay in registers.
-use Rattle.std.proofs.Common.{◌≡◌, ⊤, ℕ, zero, suc, ◌<◌, ◌≤◌, ◌+◌, Bool, true, false, List, [], ◌∷◌, ◌++◌, length, get_or, take, map, refl, ap, sym, arith, Option, Some, None, slice_get, inl, inr, ◌⊎◌, ◌∙◌, subst}
+use Rattle.std.proofs.Common.{◌≡◌, ℕ, zero, suc, ◌<◌, ◌≤◌, ◌+◌, Bool, true, false, List, [], ◌∷◌, ◌++◌, length, get_or, take, map, refl, ap, sym, arith, Option, Some, None, slice_get, inl, inr, ◌⊎◌, ◌∙◌, subst}
+use Rattle.std.specs.Bool.{⊤}
 use Rattle.std.specs.List.{All, Contains, filter, filter_map}
 use Rattle.std.proofs.lemmas.List.{take-map}
 use Rattle.std.proofs.lemmas.List.Elements.{All-map, All-append, All-filter}
@@ -58,7 +59,7 @@ record GivesOrigin (marks : List Bool) (func : Function) (value : ℕ) (inst : I
   pub kept : IsKept marks func line
   pub is : inst ≡ inst_kept (kept_by marks func) line
 
-outcome_of : Instruction → Definition → Instruction
+abbrev outcome_of : Instruction → Definition → Instruction
 outcome_of inst (argument arg) = inst
 outcome_of inst (outcome given) = given
 
