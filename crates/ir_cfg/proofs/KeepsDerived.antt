@@ -1,31 +1,27 @@
 -- Derived pointers are those that they were, and stay in registers.
-use Rattle.std.proofs.Common.{◌≡◌, ℕ, zero, suc, ◌<◌, ◌≤◌, ◌+◌, Bool, true, false, List, [], ◌∷◌, ◌++◌, length, get_or, take, map, refl, ap, sym, arith, Option, Some, None, slice_get, inl, inr, ◌⊎◌, ◌∙◌, subst}
+use Rattle.std.proofs.Common.{◌≡◌, ℕ, zero, suc, Bool, List, [], ◌∷◌, length, get_or, take, map, refl, ap, sym, Some, slice_get, ◌∙◌, subst}
 use Rattle.std.specs.Bool.{⊤}
-use Rattle.std.specs.List.{All, Contains, filter, filter_map}
+use Rattle.std.specs.List.{All, filter, filter_map}
 use Rattle.std.proofs.lemmas.List.{take-map}
 use Rattle.std.proofs.lemmas.List.Elements.{All-map, All-append, All-filter}
-use Rattle.std.proofs.lemmas.Option.{none-some, same_Some}
+use Rattle.std.proofs.lemmas.Option.{none-some}
 use Rattle.sp_ids.specs.declared.ids.BlockId.{BlockId}
-use Rattle.ir_ast.specs.declared.funcs.Arg.{Arg}
 use Rattle.ir_ast.specs.declared.ops.Op.{Op}
 use Rattle.ir_ast.specs.declared.ops.Op.TheVariants.{Phi, Store, Call, Ret}
 use Rattle.ir_ast.specs.declared.ops.Operand.{Operand}
 use Rattle.ir_ast.specs.Insts.{Instruction}
-use Rattle.ir_ast.specs.Blocks.{BasicBlock}
 use Rattle.ir_ast.specs.Funcs.{Function, instructions_of}
 use Rattle.ir_ast.specs.Values.{Definition, argument, outcome, definitions_of, Gives}
 use Rattle.ir_ast.specs.Operands.{value_in, values_used, operands_of}
 use Rattle.ir_ast.specs.Derived.{Derived, by_step, by_merge, is_step, is_merge}
 use Rattle.ir_ast.specs.Faults.DerivedEscapes.{leaving, values_leaving, KeepsDerived, DerivedStay}
-use Rattle.ir_cfg.specs.Graphs.{graph_of}
-use Rattle.ir_cfg.specs.Marks.{Marked, MarksReached}
-use Rattle.ir_cfg.specs.Unreached.{Kept, kept_of, kept_by, new_numbers, value_marks, operand_kept, inst_kept, function_kept}
-use Rattle.ir_cfg.proofs.KeepsPlaces.{all_from_at, all_at, contains_at, contains_by, map_back, marks_before, number_of_marked, before_same, kept_back}
-use Rattle.ir_cfg.proofs.KeepsLines.{operands_left, inst_left, inst_new, two_steps, IsKept, all_insts, line_at, all_lines}
-use Rattle.ir_cfg.proofs.KeepsValues.{named, definition_kept, left_definitions, new_definitions}
-use Rattle.ir_cfg.proofs.KeepsPaths.{marks_whole}
-use Rattle.ir_cfg.proofs.KeepsUses.{filter_map_back, values_of_new, used_new, Lasts}
-use Rattle.ir_cfg.proofs.KeepsTypes.{filter_map_forth, operand_marked}
+use Rattle.ir_cfg.specs.Marks.{Marked}
+use Rattle.ir_cfg.specs.Unreached.{Kept, kept_of, kept_by, value_marks, operand_kept, inst_kept, function_kept}
+use Rattle.ir_cfg.proofs.KeepsPlaces.{all_at, all_from_at, before_same, contains_at, contains_by, filter_map_back, filter_map_forth, kept_back, map_back, marks_before, number_of_marked}
+use Rattle.ir_cfg.proofs.KeepsLines.{IsKept, all_insts, all_lines, inst_left, inst_new, line_at, operands_left, two_steps}
+use Rattle.ir_cfg.proofs.KeepsValues.{definition_kept, left_definitions, named, new_definitions}
+use Rattle.ir_cfg.proofs.KeepsUses.{Lasts, lasts, used_new, values_of_new}
+use Rattle.ir_cfg.proofs.KeepsTypes.{operand_marked}
 use Rattle.ir_cfg.proofs.KeepsNames.{left_operand_of}
 
 -- an instruction that gives a value stands in a kept block

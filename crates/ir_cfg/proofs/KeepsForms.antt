@@ -1,10 +1,9 @@
 -- A kept line is a line.
-use Rattle.std.proofs.Common.{◌≡◌, ℕ, zero, suc, ◌<◌, ◌≤◌, ◌+◌, Bool, true, false, not, ◌&&◌, if◌then◌else◌, List, [], ◌∷◌, ◌++◌, length, get_or, take, drop, map, refl, ap, sym, arith, Some, None, slice_get, inl, inr, ◌⊎◌, ◌∙◌, subst}
-use Rattle.std.specs.List.{All, AllZip, list_all, flat_map}
+use Rattle.std.proofs.Common.{◌≡◌, ℕ, suc, ◌<◌, Bool, true, false, ◌&&◌, List, [], ◌∷◌, ◌++◌, length, get_or, take, drop, map, refl, ap, sym, arith, inl, inr, ◌∙◌, subst}
+use Rattle.std.specs.List.{All, list_all, flat_map}
 use Rattle.std.proofs.lemmas.List.{length-map, take-map, drop-map}
 use Rattle.std.proofs.lemmas.List.Elements.{All-nil, All-cons, All-head, All-tail, All-append}
 use Rattle.std.proofs.lemmas.Bool.{and_parts, and_from, cases_Bool, false≢true}
-use Rattle.sp_ids.specs.declared.ids.BlockId.{BlockId}
 use Rattle.ir_ast.specs.declared.types.Ty.{Ty}
 use Rattle.ir_ast.specs.declared.ops.Callee.{Callee}
 use Rattle.ir_ast.specs.declared.ops.Callee.TheVariants.{TaskStart}
@@ -17,13 +16,14 @@ use Rattle.ir_ast.specs.Insts.{Instruction}
 use Rattle.ir_ast.specs.Funcs.{Function, instructions_of}
 use Rattle.ir_ast.specs.Widths.{IsWidth, type_widths, operator_widths, line_widths, widths_of}
 use Rattle.ir_ast.specs.Faults.PhiEdges.{is_phi}
-use Rattle.ir_ast.specs.Types.{is_void, is_first_class}
+use Rattle.ir_ast.specs.Types.{is_first_class}
 use Rattle.ir_ast.specs.Lines.{Has, is_argument, Arguments, is_bundle, IsCall, IsStatepoint, StartsWithToken, IsRelocated, LineOf, IsLine}
 use Rattle.ir_ast.specs.Operands.{is_value, is_literal}
 use Rattle.ir_cfg.specs.Unreached.{Kept, kept_of, kept_by, operand_kept, label_kept, has_mark, inst_kept, function_kept}
 use Rattle.ir_cfg.proofs.GraphLemmas.{front_of, back_of}
-use Rattle.ir_cfg.proofs.KeepsLines.{inst_left, inst_new, all_lines, line_at}
-use Rattle.ir_cfg.proofs.KeepsUses.{phi_operands, phi_labels, plain_operands, plain_labels}
+use Rattle.ir_cfg.proofs.KeepsLines.{all_lines, inst_left, inst_new, line_at}
+use Rattle.ir_cfg.proofs.KeepsValues.{named}
+use Rattle.ir_cfg.proofs.KeepsUses.{phi_labels, phi_operands, plain_labels, plain_operands}
 
 same_value : (kept : Kept) (operand : Operand) → is_value (operand_kept kept operand) ≡ is_value operand
 same_value kept (Value value) = refl

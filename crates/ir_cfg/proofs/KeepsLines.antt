@@ -1,6 +1,6 @@
 -- The instructions of a function without its unreached blocks, each by the one that it was.
-use Rattle.std.proofs.Common.{◌≡◌, ℕ, zero, suc, ◌<◌, ◌≤◌, ◌+◌, Bool, true, false, cond, List, [], ◌∷◌, ◌++◌, length, get_or, take, map, refl, ap, sym, arith, Some, None, slice_get, inl, inr, ◌⊎◌, ◌∙◌, subst}
-use Rattle.std.specs.List.{All, Contains}
+use Rattle.std.proofs.Common.{◌≡◌, ℕ, zero, suc, Bool, List, [], ◌∷◌, ◌++◌, map, refl, ap, sym, Some, slice_get, ◌∙◌, subst}
+use Rattle.std.specs.List.{All}
 use Rattle.std.proofs.lemmas.List.{map-append}
 use Rattle.std.proofs.lemmas.List.Elements.{All-nil, All-append}
 use Rattle.std.proofs.lemmas.Option.{none-some, same_Some}
@@ -15,7 +15,7 @@ use Rattle.ir_cfg.specs.DefiniteUses.{Stands}
 use Rattle.ir_cfg.specs.Marks.{Marked}
 use Rattle.ir_cfg.specs.Unreached.{Kept, kept_of, kept_by, operand_kept, label_kept, has_mark, operands_kept, labels_kept, inst_kept, block_kept, function_kept}
 use Rattle.ir_cfg.proofs.GraphLemmas.{front_of, back_of}
-use Rattle.ir_cfg.proofs.KeepsPlaces.{all_from_at, all_at, get_map, map_back, marks_before, kept_get, kept_back, filter_kept}
+use Rattle.ir_cfg.proofs.KeepsPlaces.{all_at, all_from_at, filter_kept, get_map, kept_back, kept_get, map_back, marks_before}
 
 -- the operands and labels that a line keeps, with their old numbers
 abbrev pub operands_left : Kept → Op → List BlockId → List Operand → List Operand

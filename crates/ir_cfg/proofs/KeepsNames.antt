@@ -1,5 +1,5 @@
 -- Names stay names, distinct and free, and what kept lines name exists.
-use Rattle.std.proofs.Common.{◌≡◌, ℕ, zero, suc, ◌<◌, ◌≤◌, ◌+◌, Bool, true, false, List, [], ◌∷◌, ◌++◌, length, get_or, map, replicate, refl, ap, sym, arith, Option, Some, None, slice_get, inl, inr, ◌⊎◌, ◌∙◌, subst}
+use Rattle.std.proofs.Common.{◌≡◌, ℕ, ◌<◌, ◌+◌, Bool, true, false, List, [], ◌∷◌, length, get_or, map, replicate, refl, ap, sym, arith, Option, Some, slice_get, inl, inr, ◌∙◌, subst}
 use Rattle.std.specs.List.{All, filter, filter_map}
 use Rattle.std.proofs.lemmas.List.{length-append, length-map, length-replicate}
 use Rattle.std.proofs.lemmas.List.Elements.{All-map, All-append, filter-append}
@@ -15,22 +15,20 @@ use Rattle.ir_ast.specs.Insts.{Instruction}
 use Rattle.ir_ast.specs.Blocks.{BasicBlock}
 use Rattle.ir_ast.specs.Funcs.{Function, instructions_of}
 use Rattle.ir_ast.specs.Modules.{ModuleContent}
-use Rattle.ir_ast.specs.Values.{Definition, argument, outcome, definitions_of, definition_name}
-use Rattle.ir_ast.specs.Operands.{values_used, operands_of, functions_named, layouts_named}
+use Rattle.ir_ast.specs.Values.{argument, outcome, definitions_of, definition_name}
+use Rattle.ir_ast.specs.Operands.{values_used, operands_of}
 use Rattle.ir_ast.specs.Faults.UnknownName.{NamesOfFunction, NamesOfModule, LocalNamesAreKnown, GlobalNamesAreKnown}
 use Rattle.ir_cfg.specs.Graphs.{graph_of}
 use Rattle.ir_cfg.specs.Marks.{Marked, MarksReached}
-use Rattle.ir_cfg.specs.Unreached.{Kept, kept_of, kept_by, new_numbers, result_count, result_marks, value_marks, operand_kept, label_kept, has_mark, inst_kept, block_kept, function_kept}
+use Rattle.ir_cfg.specs.Unreached.{Kept, kept_of, kept_by, result_count, result_marks, value_marks, operand_kept, label_kept, has_mark, inst_kept, block_kept, function_kept}
 use Rattle.ir_cfg.proofs.PlaceLemmas.{get_front}
 use Rattle.ir_cfg.proofs.GraphLemmas.{front_of, back_of}
 use Rattle.ir_cfg.proofs.KeptLemmas.{of_map}
-use Rattle.ir_cfg.proofs.KeepsPlaces.{at_within, all_from_at, all_at, get_map, map_back, map_through, get_past, marks_before, number_of_marked, kept_get, kept_back, kept_map, kept_all, kept_distinct}
-use Rattle.ir_cfg.proofs.KeepsLines.{operands_left, inst_left, inst_new, two_steps, IsKept, block_forth, line_at, all_lines}
-use Rattle.ir_cfg.proofs.KeepsValues.{named, definition_kept, new_definitions, new_names}
-use Rattle.ir_cfg.proofs.KeepsPaths.{marks_whole, marked_block}
-use Rattle.ir_cfg.proofs.KeepsUses.{filter_map_back, used_new, operands_of_new, Lasts}
-use Rattle.ir_cfg.proofs.KeepsPhis.{get_cases}
-use Rattle.ir_cfg.proofs.KeepsTypes.{filter_map_forth}
+use Rattle.ir_cfg.proofs.KeepsPlaces.{all_at, all_from_at, at_within, filter_map_back, filter_map_forth, get_cases, get_map, get_past, kept_all, kept_back, kept_distinct, kept_get, kept_map, map_back, map_through, marks_before, number_of_marked}
+use Rattle.ir_cfg.proofs.KeepsLines.{IsKept, all_lines, block_forth, inst_left, inst_new, line_at, operands_left, two_steps}
+use Rattle.ir_cfg.proofs.KeepsValues.{definition_kept, named, new_definitions, new_names}
+use Rattle.ir_cfg.proofs.KeepsPaths.{marked_block, marks_whole}
+use Rattle.ir_cfg.proofs.KeepsUses.{Lasts, lasts, operands_of_new, used_new}
 
 -- what holds of the names of all values
 pub values_named : (P : List ℕ → Type 0) (marks : List Bool) (func : Function) → length marks ≡ length func.blocks

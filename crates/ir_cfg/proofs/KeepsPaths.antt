@@ -1,5 +1,5 @@
 -- The edges and paths of a function without its unreached blocks, each by the one that it was.
-use Rattle.std.proofs.Common.{◌≡◌, ℕ, zero, suc, ◌<◌, ◌≤◌, ◌+◌, Bool, true, false, if◌then◌else◌, List, [], ◌∷◌, ◌++◌, length, get_or, map, refl, ap, sym, arith, Some, None, slice_get, inl, inr, ◌⊎◌, ◌∙◌, subst}
+use Rattle.std.proofs.Common.{◌≡◌, ℕ, zero, suc, Bool, true, if◌then◌else◌, List, [], ◌∷◌, ◌++◌, length, map, refl, ap, sym, arith, Some, slice_get, inl, inr, ◌∙◌, subst}
 use Rattle.std.specs.List.{flat_map}
 use Rattle.std.proofs.lemmas.List.{map-append, length-map}
 use Rattle.std.proofs.lemmas.Option.{none-some, same_Some, slice_get_within, get_or_from_slice_get}
@@ -14,10 +14,10 @@ use Rattle.ir_ast.specs.Edges.{targets}
 use Rattle.ir_cfg.specs.Graphs.{Graph, Edge, block_at, graph_of, succs_of}
 use Rattle.ir_cfg.specs.Paths.{Path, Reached, at_entry, along}
 use Rattle.ir_cfg.specs.Marks.{Marked, MarksReached}
-use Rattle.ir_cfg.specs.Unreached.{Kept, kept_of, kept_by, label_kept, labels_kept, inst_kept, block_kept, function_kept}
+use Rattle.ir_cfg.specs.Unreached.{Kept, kept_by, label_kept, labels_kept, inst_kept, block_kept, function_kept}
 use Rattle.ir_cfg.proofs.PlaceLemmas.{get_pushed}
 use Rattle.ir_cfg.proofs.SearchLemmas.{reached_by}
-use Rattle.ir_cfg.proofs.KeepsPlaces.{at_within, get_map, map_back, marks_before, number_of_marked, before_le, before_same}
+use Rattle.ir_cfg.proofs.KeepsPlaces.{at_within, before_le, before_same, get_map, map_back, marks_before, number_of_marked}
 use Rattle.ir_cfg.proofs.KeepsLines.{block_forth}
 
 own_kept : (kept : Kept) (op : Op) (labels : List BlockId)
@@ -156,7 +156,3 @@ on_path graph _ _ (along blocks from to path edge) k block is =
       | inl earlier ↦ on_path graph blocks from path k block earlier
       | inr now ↦ (blocks ++ to ∷ [], subst (λ (n : ℕ). Path graph (blocks ++ to ∷ []) n) (sym now) (along blocks from to path edge))
     ]
-
-pub at_middle : {A : Type 0} (front : List A) (x : A) (back : List A) → slice_get (front ++ x ∷ back) (length front) ≡ Some x
-at_middle [] x back = refl
-at_middle (y ∷ front) x back = at_middle front x back

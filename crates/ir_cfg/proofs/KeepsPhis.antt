@@ -1,213 +1,32 @@
--- Phis stay right, keep an entry, and the entry stays without edges into it.
-use Rattle.std.proofs.Common.{◌≡◌, ℕ, zero, suc, ◌<◌, ◌≤◌, ◌+◌, eqb, Bool, true, false, cond, if◌then◌else◌, List, [], ◌∷◌, ◌++◌, length, get_or, map, refl, ap, sym, arith, Some, None, slice_get, inl, inr, ◌⊎◌, ◌∙◌, subst}
-use Rattle.std.specs.List.{All, count_by, flat_map, list_all}
-use Rattle.std.specs.Option.{option_map_or}
-use Rattle.std.proofs.lemmas.List.{length-append, length-map, nil_from_length}
+-- Phis stay right, and those of reached blocks keep an entry.
+use Rattle.std.proofs.Common.{◌≡◌, ℕ, ◌<◌, eqb, Bool, true, List, length, map, refl, ap, sym, arith, Some, slice_get, inl, inr, ◌⊎◌, ◌∙◌, subst}
+use Rattle.std.specs.List.{list_all}
 use Rattle.std.proofs.lemmas.List.Folds.{list_all-map}
-use Rattle.std.proofs.lemmas.List.Sums.{sum_by-cons, count_by-le-length}
-use Rattle.std.proofs.lemmas.Option.{none-some, same_Some, slice_get_within, slice_get_past, get_or_from_slice_get}
-use Rattle.std.proofs.lemmas.Bool.{cases_lt, cases_eq, cases_Bool, eq-eqb, eqb-true, ne_eqb, false≢true, true≢false}
+use Rattle.std.proofs.lemmas.List.Sums.{count_by-le-length}
+use Rattle.std.proofs.lemmas.Option.{same_Some, slice_get_within, slice_get_past}
+use Rattle.std.proofs.lemmas.Bool.{cases_lt}
 use Rattle.sp_ids.specs.declared.ids.BlockId.{BlockId}
-use Rattle.ir_ast.specs.declared.ops.Op.{Op}
 use Rattle.ir_ast.specs.declared.ops.Op.TheVariants.{Phi}
 use Rattle.ir_ast.specs.declared.ops.Operand.{Operand}
 use Rattle.ir_ast.specs.Insts.{Instruction}
 use Rattle.ir_ast.specs.Blocks.{BasicBlock}
-use Rattle.ir_ast.specs.Funcs.{Function, instructions_of}
-use Rattle.ir_ast.specs.Ops.{is_terminator}
+use Rattle.ir_ast.specs.Funcs.{Function}
 use Rattle.ir_ast.specs.Edges.{targets, count_of, edges}
 use Rattle.ir_ast.specs.Lines.{LineOf, IsLine}
 use Rattle.ir_ast.specs.Faults.PhiEdges.{is_phi, PhiIsRight, PhisAreRight}
-use Rattle.ir_ast.specs.Faults.EntryHasPred.{LeavesEntry, EntryHasNoPred}
+use Rattle.ir_ast.specs.Faults.EntryHasPred.{EntryHasNoPred}
 use Rattle.ir_cfg.specs.Graphs.{Graph, Edge, block_at, graph_of}
 use Rattle.ir_cfg.specs.Paths.{Path, Reached, at_entry, along}
 use Rattle.ir_cfg.specs.DefiniteUses.{Stands}
 use Rattle.ir_cfg.specs.Marks.{Marked, MarksReached}
-use Rattle.ir_cfg.specs.Unreached.{Kept, kept_of, kept_by, new_numbers, operand_kept, label_kept, has_mark, inst_kept, block_kept, function_kept}
-use Rattle.ir_cfg.proofs.KeepsPlaces.{at_within, all_from_at, all_at, map_back, marks_before, number_of_marked, before_same, before_first, kept_back, all_marks}
-use Rattle.ir_cfg.proofs.KeepsLines.{inst_left, inst_new, two_steps, IsKept, block_back, block_forth, line_at, inst_at, all_lines}
-use Rattle.ir_cfg.proofs.KeepsPaths.{succs_at, marked_block, target_marked, targets_kept, at_middle, entry_marked}
-use Rattle.ir_cfg.proofs.KeepsUses.{phi_operands, phi_labels, plain_labels, mark_found, EntryOrigin, entry_back, Lasts}
+use Rattle.ir_cfg.specs.Unreached.{Kept, kept_of, kept_by, operand_kept, label_kept, has_mark, inst_kept, block_kept, function_kept}
+use Rattle.ir_cfg.proofs.KeepsPlaces.{all_marks, at_middle, at_within, before_same, kept_back, map_back, marks_before, number_of_marked, split_at, split_back}
+use Rattle.ir_cfg.proofs.KeepsLines.{IsKept, block_back, block_forth, inst_left, inst_new, two_steps}
+use Rattle.ir_cfg.proofs.KeepsPaths.{marked_block, succs_at, target_marked, targets_kept}
+use Rattle.ir_cfg.proofs.KeepsUses.{entry_back, mark_found, phi_labels, phi_operands}
 use Rattle.ir_cfg.proofs.KeepsForms.{phi_line, same_count}
-
-abbrev one_if : Bool → ℕ
-one_if test = cond test 1 0
-
--- counts of labels, a label at a time
-count_cons : (n : ℕ) (label : BlockId) (labels : List BlockId)
-    → count_of n (label ∷ labels) ≡ cond (eqb label.0 n) 1 0 + count_of n labels
-count_cons n label labels = sum_by-cons (λ (l : BlockId). cond (eqb l.0 n) 1 0) label labels
-
-same_test : (marks : List Bool) (block n : ℕ) → Marked marks block → Marked marks n
-    → eqb (get_or (new_numbers marks) block 0) (marks_before marks n) ≡ eqb block n
-same_test marks block n marked_block marked =
-    ap (λ (k : ℕ). eqb k (marks_before marks n)) (number_of_marked marks block marked_block)
-    ∙ elim (cases_eq block n) [
-      | inl same ↦ eq-eqb (marks_before marks block) (marks_before marks n) (ap (marks_before marks) same) ∙ sym (eq-eqb block n same)
-      | inr other ↦ ne_eqb (marks_before marks block) (marks_before marks n) (λ same. other (before_same marks block n marked_block marked same)) ∙ sym (ne_eqb block n other)
-    ]
-
--- new numbers change no count of kept labels
-count_new : (marks : List Bool) (func : Function) (n : ℕ) (labels : List BlockId) → Marked marks n
-    → ((k : ℕ) (label : BlockId) → slice_get labels k ≡ Some label → Marked marks label.0)
-    → count_of (marks_before marks n) (map (label_kept (kept_by marks func)) labels) ≡ count_of n labels
-count_new marks func n [] marked each = refl
-count_new marks func n (label ∷ labels) marked each =
-    let test = same_test marks label.0 n (each 0 label refl) marked in
-    count_cons (marks_before marks n) (label_kept (kept_by marks func) label) (map (label_kept (kept_by marks func)) labels)
-    ∙ ap (λ (b : Bool). cond b 1 0 + count_of (marks_before marks n) (map (label_kept (kept_by marks func)) labels)) test
-    ∙ ap (λ (k : ℕ). cond (eqb label.0 n) 1 0 + k) (count_new marks func n labels marked (λ k one at. each (suc k) one at))
-    ∙ sym (count_cons n label labels)
-
-left_case : (marks : List Bool) (func : Function) (n : ℕ) (label : BlockId) (labels : List BlockId) (mark : Bool) → Marked marks n
-    → has_mark (kept_by marks func) label ≡ mark
-    → count_of n (kept_of (map (has_mark (kept_by marks func)) labels) labels) ≡ count_of n labels
-    → count_of n (kept_of (mark ∷ map (has_mark (kept_by marks func)) labels) (label ∷ labels)) ≡ count_of n (label ∷ labels)
-left_case marks func n label labels true marked is rest =
-    count_cons n label (kept_of (map (has_mark (kept_by marks func)) labels) labels)
-    ∙ ap (λ (k : ℕ). cond (eqb label.0 n) 1 0 + k) rest
-    ∙ sym (count_cons n label labels)
-left_case marks func n label labels false marked is rest =
-    let other : eqb label.0 n ≡ false = ne_eqb label.0 n (λ same.
-    true≢false (sym (get_or_from_slice_get marks n true false marked) ∙ ap (λ (k : ℕ). get_or marks k false) (sym same) ∙ is)) in
-    rest
-    ∙ (let e : count_of n labels ≡ cond false 1 0 + count_of n labels = omega arith in e)
-    ∙ ap (λ (b : Bool). cond b 1 0 + count_of n labels) (sym other)
-    ∙ sym (count_cons n label labels)
-
--- the entries that a phi loses name no kept block
-count_left : (marks : List Bool) (func : Function) (n : ℕ) (labels : List BlockId) → Marked marks n
-    → count_of n (kept_of (map (has_mark (kept_by marks func)) labels) labels) ≡ count_of n labels
-count_left marks func n [] marked = refl
-count_left marks func n (label ∷ labels) marked =
-    left_case marks func n label labels (has_mark (kept_by marks func) label) marked refl (count_left marks func n labels marked)
-
-count_none : (n : ℕ) (labels : List BlockId) → ((k : ℕ) (label : BlockId) → slice_get labels k ≡ Some label → label.0 ≡ n → ⊥)
-    → count_of n labels ≡ 0
-count_none n [] none = refl
-count_none n (label ∷ labels) none =
-    count_cons n label labels
-    ∙ ap (λ (b : Bool). cond b 1 0 + count_of n labels) (ne_eqb label.0 n (none 0 label refl))
-    ∙ (let rest = count_none n labels (λ k one at. none (suc k) one at) in let e : cond false 1 0 + count_of n labels ≡ 0 = omega arith in e)
-
-count_some : (n : ℕ) (labels : List BlockId) (k : ℕ) (label : BlockId) → slice_get labels k ≡ Some label → label.0 ≡ n
-    → 0 < count_of n labels
-count_some n [] k label at same = absurd (none-some label at)
-count_some n (first ∷ labels) zero label at same =
-    let cons = count_cons n first labels in
-    let is : eqb first.0 n ≡ true = eq-eqb first.0 n (ap (λ (b : BlockId). b.0) (same_Some first label at) ∙ same) in
-    let one : one_if (eqb first.0 n) ≡ 1 = ap one_if is in
-    omega (arith, cons, one)
-count_some n (first ∷ labels) (suc k) label at same =
-    let cons = count_cons n first labels in
-    let rest = count_some n labels k label at same in
-    omega (arith, cons, rest)
-
-count_found : (n : ℕ) (labels : List BlockId) → 0 < count_of n labels
-    → (k : ℕ) × (label : BlockId) × (slice_get labels k ≡ Some label) × (label.0 ≡ n)
-count_found n [] some = absurd (omega arith)
-count_found n (label ∷ labels) some =
-    elim (cases_Bool (eqb label.0 n)) [
-      | inl is ↦ (0, label, refl, eqb-true label.0 n is)
-      | inr not ↦
-          let cons = count_cons n label labels in
-          let none : one_if (eqb label.0 n) ≡ 0 = ap one_if not in
-          let rest = count_found n labels (omega (arith, cons, none, some)) in
-          (suc rest.0, rest.1, rest.2, rest.3)
-    ]
-
--- a split of a mapped list comes from one of the list
-record Split {A B : Type 0} (f : A → B) (xs : List A) (ys : List B) (y : B) : Type 0 where
-  pub front : List A
-  pub item : A
-  pub back : List A
-  pub whole : xs ≡ front ++ item ∷ back
-  pub fronts : map f front ≡ ys
-  pub items : f item ≡ y
-
-abbrev tail : {A : Type 0} → List A → List A
-tail [] = []
-tail (x ∷ xs) = xs
-
-split_back : {A B : Type 0} (f : A → B) (xs : List A) (ys : List B) (y : B) (zs : List B) → map f xs ≡ ys ++ y ∷ zs → Split f xs ys y
-split_back {A} {B} f [] ys y zs is =
-    let long = length-append ys (y ∷ zs) in
-    let same : 0 ≡ length (ys ++ y ∷ zs) = ap length is in
-    absurd (omega arith)
-split_back {A} {B} f (x ∷ xs) [] y zs is = record {
-  front = [];
-  item = x;
-  back = xs;
-  whole = refl;
-  fronts = refl;
-  items = same_Some (f x) y (ap (λ (bs : List B). slice_get bs 0) is);
-}
-split_back {A} {B} f (x ∷ xs) (w ∷ ys) y zs is =
-    let rest = split_back f xs ys y zs (ap tail is) in
-    let first : f x ≡ w = same_Some (f x) w (ap (λ (bs : List B). slice_get bs 0) is) in
-    record {
-      front = x ∷ rest.front;
-      item = rest.item;
-      back = rest.back;
-      whole = ap (λ (items : List A). x ∷ items) rest.whole;
-      fronts = ap (λ (bs : List B). f x ∷ bs) rest.fronts ∙ ap (λ (b : B). b ∷ ys) first;
-      items = rest.items;
-    }
-
-split_at : {A : Type 0} (xs : List A) (k : ℕ) (x : A) → slice_get xs k ≡ Some x
-    → (front : List A) × (back : List A) × (xs ≡ front ++ x ∷ back)
-split_at [] k x is = absurd (none-some x is)
-split_at {A} (y ∷ xs) zero x is = ([], xs, ap (λ (a : A). a ∷ xs) (same_Some y x is))
-split_at {A} (y ∷ xs) (suc k) x is =
-    let rest = split_at xs k x is in
-    (y ∷ rest.0, rest.1, ap (λ (items : List A). y ∷ items) rest.2)
-
-pub get_cases : {A : Type 0} (xs ys : List A) (k : ℕ) (y : A) → slice_get (xs ++ ys) k ≡ Some y
-    → (slice_get xs k ≡ Some y) ⊎ ((j : ℕ) × (slice_get ys j ≡ Some y))
-get_cases [] ys k y is = inr (k, is)
-get_cases (x ∷ xs) ys zero y is = inl is
-get_cases (x ∷ xs) ys (suc k) y is = get_cases xs ys k y is
-
--- a terminator of the block has the label
-record FromTerminator (insts : List Instruction) (label : BlockId) : Type 0 where
-  pub place : ℕ
-  pub inst : Instruction
-  pub number : ℕ
-  pub stands : slice_get insts place ≡ Some inst
-  pub ends : is_terminator inst.op ≡ true
-  pub at : slice_get inst.labels number ≡ Some label
-
-own_found : (inst : Instruction) (insts : List Instruction) (ends : Bool) (k : ℕ) (label : BlockId) → is_terminator inst.op ≡ ends
-    → slice_get (if ends then inst.labels else []) k ≡ Some label → FromTerminator (inst ∷ insts) label
-own_found inst insts true k label is at = record { place = 0; inst = inst; number = k; stands = refl; ends = is; at = at }
-own_found inst insts false k label is at = absurd (none-some label at)
-
-target_back : (insts : List Instruction) (k : ℕ) (label : BlockId)
-    → slice_get (flat_map (λ (inst : Instruction). if is_terminator inst.op then inst.labels else []) insts) k ≡ Some label
-    → FromTerminator insts label
-target_back [] k label at = absurd (none-some label at)
-target_back (inst ∷ insts) k label at =
-    elim (get_cases (if is_terminator inst.op then inst.labels else []) (flat_map (λ (inst : Instruction). if is_terminator inst.op then inst.labels else []) insts) k label at) [
-      | inl here ↦ own_found inst insts (is_terminator inst.op) k label refl here
-      | inr there ↦
-          let rest = target_back insts there.0 label there.1 in
-          record { place = suc rest.place; inst = rest.inst; number = rest.number; stands = rest.stands; ends = rest.ends; at = rest.at }
-    ]
-
--- no edge leads to the entry
-entry_alone : (func : Function) (number : ℕ) (block : BasicBlock) (k : ℕ) (label : BlockId) → EntryHasNoPred func
-    → slice_get func.blocks number ≡ Some block → slice_get (targets block) k ≡ Some label → label.0 ≡ 0 → ⊥
-entry_alone func number block k label alone is at same =
-    let from = target_back block.insts k label at in
-    let leaves = inst_at LeavesEntry func.blocks number from.place block from.inst is from.stands alone in
-    all_at (λ (l : BlockId). l.0 ≡ 0 → ⊥) from.inst.labels from.number label (leaves from.ends) from.at same
-
-edges_at : (func : Function) (from to : ℕ) (block : BasicBlock) → slice_get func.blocks from ≡ Some block
-    → edges func from to ≡ count_of to (targets block)
-edges_at func from to block is = ap (λ found. option_map_or (λ (b : BasicBlock). count_of to (targets b)) found 0) is
-
-edges_past : (func : Function) (from to : ℕ) → length func.blocks ≤ from → edges func from to ≡ 0
-edges_past func from to past = ap (λ found. option_map_or (λ (b : BasicBlock). count_of to (targets b)) found 0) (slice_get_past func.blocks from past)
+use Rattle.ir_cfg.proofs.KeepsCounts.{count_found, count_left, count_new, count_none, count_some, edges_at, edges_past}
+use Rattle.ir_cfg.proofs.KeepsEntry.{entry_alone}
 
 -- a reached block is the entry, or an edge leads to it from a reached block
 reached_from : (graph : Graph) (blocks : List ℕ) (last : ℕ) → Path graph blocks last
@@ -387,32 +206,3 @@ phis_kept marks func reached right lines = λ number block before after phi in_f
     subst (λ (n : ℕ). PhiIsRight (function_kept marks func) n before phi) b.same
     (subst (λ (xs : List Instruction). PhiIsRight (function_kept marks func) (marks_before marks b.place) xs phi) split.fronts
     (subst (λ (i : Instruction). PhiIsRight (function_kept marks func) (marks_before marks b.place) (map (inst_kept kept) split.front) i) split.items new))
-
-ends_plain : (op : Op) → is_terminator op ≡ true → is_phi op ≡ false
-ends_plain Phi ends = absurd (false≢true ends)
-ends_plain op ends = refl
-
-leaves_new : (marks : List Bool) (func : Function) (inst : Instruction) → MarksReached (graph_of func) marks → Lasts marks func inst
-    → LeavesEntry inst → LeavesEntry (inst_new (kept_by marks func) (inst_left (kept_by marks func) inst))
-leaves_new marks func inst reached lasts leaves = λ ends.
-    let kept = kept_by marks func in
-    let plain = ends_plain inst.op ends in
-    all_from_at (λ (label : BlockId). label.0 ≡ 0 → ⊥) (map (label_kept kept) (inst_left kept inst).labels) (λ k label at.
-    let m = map_back (label_kept kept) (inst_left kept inst).labels k label at in
-    let marked = lasts.labels k m.before m.stands in
-    let was : slice_get inst.labels k ≡ Some m.before =
-    ap (λ (ls : List BlockId). slice_get ls k) (sym (plain_labels kept inst.op inst.labels plain)) ∙ m.stands in
-    let other = all_at (λ (l : BlockId). l.0 ≡ 0 → ⊥) inst.labels k m.before (leaves ends) was in
-    let is : label.0 ≡ marks_before marks m.before.0 = ap (λ (l : BlockId). l.0) m.is ∙ number_of_marked marks m.before.0 marked in
-    elim (cases_lt 0 m.before.0) [
-      | inl some ↦ let later = before_first marks m.before.0 (entry_marked marks func reached) some in λ none. omega arith
-      | inr none ↦ absurd (other (omega arith))
-    ])
-
--- no edge leads to the new entry
-pub entry_kept : (marks : List Bool) (func : Function) → MarksReached (graph_of func) marks → EntryHasNoPred func
-    → ((inst : Instruction) → IsKept marks func inst → Lasts marks func inst) → EntryHasNoPred (function_kept marks func)
-entry_kept marks func reached alone lasts =
-    all_lines LeavesEntry marks func (λ inst kept.
-    subst LeavesEntry (sym (two_steps (kept_by marks func) inst))
-    (leaves_new marks func inst reached (lasts inst kept) (line_at LeavesEntry func kept.number kept.place inst kept.stands alone)))

@@ -1,7 +1,7 @@
 -- What stands where in a list of which the marked elements are kept.
-use Rattle.std.proofs.Common.{◌≡◌, ℕ, zero, suc, ◌<◌, ◌≤◌, ◌+◌, Bool, true, false, cond, List, [], ◌∷◌, ◌++◌, length, get_or, take, map, replicate, refl, ap, sym, arith, Some, None, slice_get, inl, inr, ◌⊎◌, ◌∙◌, subst}
-use Rattle.std.specs.List.{All, Contains, filter, count_by, sum_by, range_with_len}
-use Rattle.std.proofs.lemmas.List.{get_or-map, length-append, length-map}
+use Rattle.std.proofs.Common.{◌≡◌, ℕ, zero, suc, ◌<◌, ◌≤◌, ◌+◌, Bool, true, false, cond, List, [], ◌∷◌, ◌++◌, length, get_or, take, map, replicate, refl, ap, sym, arith, Option, Some, None, slice_get, inl, inr, ◌⊎◌, ◌∙◌, subst}
+use Rattle.std.specs.List.{All, Contains, filter, filter_map, cons_option, count_by, range_with_len}
+use Rattle.std.proofs.lemmas.List.{get_or-map, length-append}
 use Rattle.std.proofs.lemmas.List.Sums.{sum_by-cons}
 use Rattle.std.proofs.lemmas.List.FromFn.{get_or-range_with_len, length-range_with_len}
 use Rattle.std.proofs.lemmas.Option.{slice_get_within, slice_get-get_or, get_or_from_slice_get, none-some, same_Some}
@@ -223,3 +223,100 @@ filter_kept test (x ∷ xs) = filter_one x (test x) (filter test xs) (map test x
 
 pub all_marks : {A : Type 0} (f : A → Bool) (xs : List A) (k : ℕ) (x : A) → slice_get xs k ≡ Some x → Marked (map f xs) k → f x ≡ true
 all_marks f xs k x is marked = same_Some (f x) true (sym (get_map f xs k x is) ∙ marked)
+
+pub at_middle : {A : Type 0} (front : List A) (x : A) (back : List A) → slice_get (front ++ x ∷ back) (length front) ≡ Some x
+at_middle [] x back = refl
+at_middle (y ∷ front) x back = at_middle front x back
+
+-- a split of a mapped list comes from one of the list
+pub record Split {A B : Type 0} (f : A → B) (xs : List A) (ys : List B) (y : B) : Type 0 where
+  pub front : List A
+  pub item : A
+  pub back : List A
+  pub whole : xs ≡ front ++ item ∷ back
+  pub fronts : map f front ≡ ys
+  pub items : f item ≡ y
+
+abbrev tail : {A : Type 0} → List A → List A
+tail [] = []
+tail (x ∷ xs) = xs
+
+pub split_back : {A B : Type 0} (f : A → B) (xs : List A) (ys : List B) (y : B) (zs : List B) → map f xs ≡ ys ++ y ∷ zs → Split f xs ys y
+split_back {A} {B} f [] ys y zs is =
+    let long = length-append ys (y ∷ zs) in
+    let same : 0 ≡ length (ys ++ y ∷ zs) = ap length is in
+    absurd (omega arith)
+split_back {A} {B} f (x ∷ xs) [] y zs is = record {
+  front = [];
+  item = x;
+  back = xs;
+  whole = refl;
+  fronts = refl;
+  items = same_Some (f x) y (ap (λ (bs : List B). slice_get bs 0) is);
+}
+split_back {A} {B} f (x ∷ xs) (w ∷ ys) y zs is =
+    let rest = split_back f xs ys y zs (ap tail is) in
+    let first : f x ≡ w = same_Some (f x) w (ap (λ (bs : List B). slice_get bs 0) is) in
+    record {
+      front = x ∷ rest.front;
+      item = rest.item;
+      back = rest.back;
+      whole = ap (λ (items : List A). x ∷ items) rest.whole;
+      fronts = ap (λ (bs : List B). f x ∷ bs) rest.fronts ∙ ap (λ (b : B). b ∷ ys) first;
+      items = rest.items;
+    }
+
+pub split_at : {A : Type 0} (xs : List A) (k : ℕ) (x : A) → slice_get xs k ≡ Some x
+    → (front : List A) × (back : List A) × (xs ≡ front ++ x ∷ back)
+split_at [] k x is = absurd (none-some x is)
+split_at {A} (y ∷ xs) zero x is = ([], xs, ap (λ (a : A). a ∷ xs) (same_Some y x is))
+split_at {A} (y ∷ xs) (suc k) x is =
+    let rest = split_at xs k x is in
+    (y ∷ rest.0, rest.1, ap (λ (items : List A). y ∷ items) rest.2)
+
+pub get_cases : {A : Type 0} (xs ys : List A) (k : ℕ) (y : A) → slice_get (xs ++ ys) k ≡ Some y
+    → (slice_get xs k ≡ Some y) ⊎ ((j : ℕ) × (slice_get ys j ≡ Some y))
+get_cases [] ys k y is = inr (k, is)
+get_cases (x ∷ xs) ys zero y is = inl is
+get_cases (x ∷ xs) ys (suc k) y is = get_cases xs ys k y is
+
+-- an item from which a `filter_map` has its element
+pub record FromItem {A B : Type 0} (h : A → Option B) (xs : List A) (y : B) : Type 0 where
+  pub place : ℕ
+  pub item : A
+  pub stands : slice_get xs place ≡ Some item
+  pub gives : h item ≡ Some y
+
+item_later : {A B : Type 0} (h : A → Option B) (x : A) (xs : List A) (y : B) → FromItem h xs y → FromItem h (x ∷ xs) y
+item_later h x xs y from = record { place = suc from.place; item = from.item; stands = from.stands; gives = from.gives }
+
+item_cases : {A B : Type 0} (h : A → Option B) (x : A) (xs : List A) (y : B) (given : Option B) → h x ≡ given
+    → ((k : ℕ) → slice_get (filter_map h xs) k ≡ Some y → FromItem h xs y)
+    → (k : ℕ) → slice_get (cons_option given (filter_map h xs)) k ≡ Some y → FromItem h (x ∷ xs) y
+item_cases h x xs y None gives rest k is = item_later h x xs y (rest k is)
+item_cases h x xs y (Some z) gives rest zero is = record { place = 0; item = x; stands = refl; gives = gives ∙ is }
+item_cases h x xs y (Some z) gives rest (suc k) is = item_later h x xs y (rest k is)
+
+pub filter_map_back : {A B : Type 0} (h : A → Option B) (xs : List A) (y : B) (k : ℕ) → slice_get (filter_map h xs) k ≡ Some y
+    → FromItem h xs y
+filter_map_back h [] y k is = absurd (none-some y is)
+filter_map_back h (x ∷ xs) y k is = item_cases h x xs y (h x) refl (λ j at. filter_map_back h xs y j at) k is
+
+filter_case : {A B : Type 0} (h : A → Option B) (x : A) (xs : List A) (y : B) (given : Option B) → given ≡ Some y
+    → (k : ℕ) × (slice_get (cons_option given (filter_map h xs)) k ≡ Some y)
+filter_case h x xs y None is = absurd (none-some y is)
+filter_case h x xs y (Some z) is = (0, is)
+
+filter_later : {A B : Type 0} (h : A → Option B) (xs : List A) (y : B) (given : Option B) (k : ℕ) → slice_get (filter_map h xs) k ≡ Some y
+    → (k : ℕ) × (slice_get (cons_option given (filter_map h xs)) k ≡ Some y)
+filter_later h xs y None k is = (k, is)
+filter_later h xs y (Some z) k is = (suc k, is)
+
+-- an item gives an element of a `filter_map`
+pub filter_map_forth : {A B : Type 0} (h : A → Option B) (xs : List A) (place : ℕ) (x : A) (y : B) → slice_get xs place ≡ Some x
+    → h x ≡ Some y → (k : ℕ) × (slice_get (filter_map h xs) k ≡ Some y)
+filter_map_forth h [] place x y at gives = absurd (none-some x at)
+filter_map_forth h (first ∷ xs) zero x y at gives = filter_case h first xs y (h first) (ap h (same_Some first x at) ∙ gives)
+filter_map_forth h (first ∷ xs) (suc place) x y at gives =
+    let rest = filter_map_forth h xs place x y at gives in
+    filter_later h xs y (h first) rest.0 rest.1

@@ -1,8 +1,7 @@
 -- A source module without its unreached blocks is a source module.
-use Rattle.std.proofs.Common.{◌≡◌, ℕ, zero, suc, ◌<◌, ◌≤◌, ◌+◌, Bool, true, false, List, [], ◌∷◌, ◌++◌, length, map, refl, ap, sym, arith, codes, Option, Some, None, slice_get, inl, inr, ◌⊎◌, ◌∙◌, subst}
+use Rattle.std.proofs.Common.{◌≡◌, ℕ, zero, suc, ◌<◌, ◌≤◌, Bool, false, List, [], ◌∷◌, ◌++◌, length, map, refl, ap, sym, arith, codes, Some, slice_get, ◌⊎◌, ◌∙◌, subst}
 use Rattle.std.specs.List.{All, AllZip, flat_map}
-use Rattle.std.specs.Option.{option_map}
-use Rattle.std.proofs.lemmas.List.{length-append, length-map}
+use Rattle.std.proofs.lemmas.List.{length-append}
 use Rattle.std.proofs.lemmas.List.Elements.{All-weaker, length_all_zip}
 use Rattle.std.proofs.lemmas.Option.{none-some, same_Some, slice_get-map, slice_get_within}
 use Rattle.ir_ast.specs.declared.modules.Form.{Form}
@@ -18,31 +17,29 @@ use Rattle.ir_ast.specs.Modules.{ModuleContent}
 use Rattle.ir_ast.specs.Operands.{layouts_named, functions_named}
 use Rattle.ir_ast.specs.Lines.{IsLine, is_rewritten}
 use Rattle.ir_ast.specs.Values.{definitions_of, definition_name}
-use Rattle.ir_ast.specs.Scope.{Scope, Signature, signature_of, called_in, scope_of}
+use Rattle.ir_ast.specs.Scope.{Signature, signature_of, called_in, scope_of}
 use Rattle.ir_ast.specs.Faultless.{OfForm, FunctionHasNoFault, HasNoFault}
-use Rattle.ir_ast.specs.Faults.EntryHasPred.{EntryHasNoPred}
-use Rattle.ir_ast.specs.Faults.PhiEdges.{PhisAreRight}
-use Rattle.ir_ast.specs.Faults.UnknownName.{NamesOfModule, GlobalNamesAreKnown}
+use Rattle.ir_ast.specs.Faults.UnknownName.{NamesOfModule}
 use Rattle.ir_ast.specs.Faults.TypeClash.{FunctionIsTyped, ModuleIsTyped}
 use Rattle.ir_ast.specs.Faults.PointerOrder.{orders_pointers}
 use Rattle.ir_ast.specs.Faults.Reserved.{IsSource, IsInsertedName, IsExternalName}
-use Rattle.ir_ast.specs.Faults.DerivedEscapes.{DerivedStay}
 use Rattle.ir_ast.specs.Faults.NoMain.{HasMain}
 use Rattle.ir_cfg.specs.Graphs.{graph_of}
 use Rattle.ir_cfg.specs.Limits.{IsName, IsWithinLimits}
-use Rattle.ir_cfg.specs.Marks.{Marked, MarksReached}
+use Rattle.ir_cfg.specs.Marks.{MarksReached}
 use Rattle.ir_cfg.specs.SourceModules.{IsSourceFunction, IsSourceModule}
-use Rattle.ir_cfg.specs.Unreached.{Kept, kept_of, kept_by, operand_kept, inst_kept, block_kept, function_kept, DropsUnreached, ModuleDropsUnreached}
+use Rattle.ir_cfg.specs.Unreached.{kept_by, operand_kept, block_kept, function_kept, DropsUnreached, ModuleDropsUnreached}
 use Rattle.ir_cfg.proofs.KeptLemmas.{few_instructions}
-use Rattle.ir_cfg.proofs.KeepsPlaces.{all_from_at, all_at, marks_before}
-use Rattle.ir_cfg.proofs.KeepsLines.{inst_left, inst_new, two_steps, IsKept, block_forth, line_at, all_lines}
+use Rattle.ir_cfg.proofs.KeepsPlaces.{all_at, all_from_at, marks_before}
+use Rattle.ir_cfg.proofs.KeepsLines.{IsKept, all_lines, block_forth, inst_left, inst_new, line_at, two_steps}
 use Rattle.ir_cfg.proofs.KeepsValues.{new_types}
-use Rattle.ir_cfg.proofs.KeepsPaths.{marks_whole, marked_block, entry_marked}
-use Rattle.ir_cfg.proofs.KeepsUses.{uses_kept, Lasts, lasts}
-use Rattle.ir_cfg.proofs.KeepsForms.{line_new, line_left, widths_kept}
-use Rattle.ir_cfg.proofs.KeepsPhis.{phi_some, phis_kept, entry_kept}
+use Rattle.ir_cfg.proofs.KeepsPaths.{entry_marked, marked_block, marks_whole}
+use Rattle.ir_cfg.proofs.KeepsUses.{Lasts, lasts, uses_kept}
+use Rattle.ir_cfg.proofs.KeepsForms.{line_left, line_new, widths_kept}
+use Rattle.ir_cfg.proofs.KeepsEntry.{entry_kept}
+use Rattle.ir_cfg.proofs.KeepsPhis.{phi_some, phis_kept}
 use Rattle.ir_cfg.proofs.KeepsTypes.{SeesKept, typed_kept}
-use Rattle.ir_cfg.proofs.KeepsNames.{values_named, blocks_named, values_distinct, blocks_distinct, local_kept, global_kept}
+use Rattle.ir_cfg.proofs.KeepsNames.{blocks_distinct, blocks_named, global_kept, local_kept, values_distinct, values_named}
 use Rattle.ir_cfg.proofs.KeepsDerived.{derived_kept}
 
 -- a function of a source module, and marks that are its reached blocks

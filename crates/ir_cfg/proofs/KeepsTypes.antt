@@ -1,14 +1,12 @@
 -- Kept lines keep their types.
-use Rattle.std.proofs.Common.{◌≡◌, ℕ, zero, suc, ◌<◌, ◌≤◌, ◌+◌, Bool, true, false, List, [], ◌∷◌, ◌++◌, length, get_or, drop, map, replicate, refl, ap, sym, arith, Option, Some, None, slice_get, inl, inr, ◌⊎◌, ◌∙◌, subst}
-use Rattle.std.specs.List.{All, AllZip, filter_map, list_all, cons_option}
+use Rattle.std.proofs.Common.{◌≡◌, ℕ, suc, Bool, true, false, List, [], ◌∷◌, length, drop, map, replicate, refl, ap, sym, Some, slice_get, inl, inr, ◌∙◌, subst}
+use Rattle.std.specs.List.{All, AllZip, list_all}
 use Rattle.std.proofs.lemmas.List.{length-map, drop-map}
 use Rattle.std.proofs.lemmas.List.Elements.{All-nil}
-use Rattle.std.proofs.lemmas.Option.{none-some, same_Some}
-use Rattle.std.proofs.lemmas.Bool.{and_parts, cases_Bool, false≢true}
+use Rattle.std.proofs.lemmas.Bool.{cases_Bool, false≢true}
 use Rattle.ir_ast.specs.declared.types.Ty.{Ty}
-use Rattle.ir_ast.specs.declared.cells.Cell.{Cell}
 use Rattle.ir_ast.specs.declared.ops.Callee.{Callee}
-use Rattle.ir_ast.specs.declared.ops.Callee.TheVariants.{Fun as Defined, New, Print, Read, TaskStart, Poll, Check, Same}
+use Rattle.ir_ast.specs.declared.ops.Callee.TheVariants.{Fun as Defined, TaskStart, Check}
 use Rattle.ir_ast.specs.declared.ops.Op.{Op}
 use Rattle.ir_ast.specs.declared.ops.Op.TheVariants.{Trunc, Zext, Sext, Phi, Gep, Load, Store, Call, Statepoint, Switch, Ret}
 use Rattle.ir_ast.specs.declared.ops.Operand.{Operand}
@@ -18,17 +16,18 @@ use Rattle.ir_ast.specs.Lists.{Distinct}
 use Rattle.ir_ast.specs.Insts.{Instruction}
 use Rattle.ir_ast.specs.Funcs.{Function, instructions_of}
 use Rattle.ir_ast.specs.Lines.{LineOf, IsLine}
-use Rattle.ir_ast.specs.Operands.{is_literal, value_in, values_used, operands_of}
+use Rattle.ir_ast.specs.Operands.{is_literal, value_in, operands_of}
 use Rattle.ir_ast.specs.Scope.{Scope}
 use Rattle.ir_ast.specs.Faults.PhiEdges.{is_phi}
 use Rattle.ir_ast.specs.Faults.TypeClash.{Fits, asked, HasField, StartsTask, ChecksKind, TakesOperands, IsCallOf, RuleOf, IsTyped, FunctionIsTyped}
 use Rattle.ir_cfg.specs.Marks.{Marked}
-use Rattle.ir_cfg.specs.Unreached.{Kept, kept_of, kept_by, new_numbers, value_marks, operand_kept, has_mark, inst_kept, function_kept}
+use Rattle.ir_cfg.specs.Unreached.{Kept, kept_of, kept_by, value_marks, operand_kept, has_mark, function_kept}
 use Rattle.ir_cfg.proofs.PlaceLemmas.{get_front}
-use Rattle.ir_cfg.proofs.KeepsPlaces.{get_map, marks_before, number_of_marked, kept_get}
-use Rattle.ir_cfg.proofs.KeepsLines.{inst_left, inst_new, two_steps, IsKept, line_at, all_lines}
-use Rattle.ir_cfg.proofs.KeepsUses.{phi_operands, Lasts}
-use Rattle.ir_cfg.proofs.KeepsForms.{left_plain, line_left}
+use Rattle.ir_cfg.proofs.KeepsPlaces.{filter_map_forth, get_map, kept_get, number_of_marked}
+use Rattle.ir_cfg.proofs.KeepsLines.{IsKept, all_lines, inst_left, inst_new, line_at, two_steps}
+use Rattle.ir_cfg.proofs.KeepsValues.{named}
+use Rattle.ir_cfg.proofs.KeepsUses.{Lasts, lasts, phi_operands}
+use Rattle.ir_cfg.proofs.KeepsForms.{left_plain}
 
 -- what the lines of the new function see: the kept values, and else the same
 pub record SeesKept (marks : List Bool) (func : Function) (scope after : Scope) : Type 0 where
@@ -58,25 +57,6 @@ all_fit_new marks func values (operand ∷ operands) [] fit marked = absurd fit
 all_fit_new marks func values (operand ∷ operands) (ty ∷ types) fit marked =
     (fits_new marks func values operand ty fit.0 (λ value is. marked 0 operand value refl is),
     all_fit_new marks func values operands types fit.1 (λ k one value at is. marked (suc k) one value at is))
-
-filter_case : {A B : Type 0} (h : A → Option B) (x : A) (xs : List A) (y : B) (given : Option B) → given ≡ Some y
-    → (k : ℕ) × (slice_get (cons_option given (filter_map h xs)) k ≡ Some y)
-filter_case h x xs y None is = absurd (none-some y is)
-filter_case h x xs y (Some z) is = (0, is)
-
-filter_later : {A B : Type 0} (h : A → Option B) (xs : List A) (y : B) (given : Option B) (k : ℕ) → slice_get (filter_map h xs) k ≡ Some y
-    → (k : ℕ) × (slice_get (cons_option given (filter_map h xs)) k ≡ Some y)
-filter_later h xs y None k is = (k, is)
-filter_later h xs y (Some z) k is = (suc k, is)
-
--- an item gives an element of a `filter_map`
-pub filter_map_forth : {A B : Type 0} (h : A → Option B) (xs : List A) (place : ℕ) (x : A) (y : B) → slice_get xs place ≡ Some x
-    → h x ≡ Some y → (k : ℕ) × (slice_get (filter_map h xs) k ≡ Some y)
-filter_map_forth h [] place x y at gives = absurd (none-some x at)
-filter_map_forth h (first ∷ xs) zero x y at gives = filter_case h first xs y (h first) (ap h (same_Some first x at) ∙ gives)
-filter_map_forth h (first ∷ xs) (suc place) x y at gives =
-    let rest = filter_map_forth h xs place x y at gives in
-    filter_later h xs y (h first) rest.0 rest.1
 
 -- the values in the operands of a line that lasts are kept
 pub operand_marked : (marks : List Bool) (func : Function) (inst : Instruction) → Lasts marks func inst → (k : ℕ) (operand : Operand) (value : ℕ)

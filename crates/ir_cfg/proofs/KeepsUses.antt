@@ -1,9 +1,8 @@
 -- What the lines of reached blocks use, and that uses stay definite.
-use Rattle.std.proofs.Common.{◌≡◌, ℕ, zero, suc, ◌<◌, ◌≤◌, ◌+◌, Bool, true, false, if◌then◌else◌, List, [], ◌∷◌, ◌++◌, length, get_or, map, refl, ap, sym, arith, append-nil, Option, Some, None, slice_get, inl, inr, ◌⊎◌, ◌∙◌, subst}
-use Rattle.std.specs.List.{All, Contains, filter_map, flat_map, cons_option}
+use Rattle.std.proofs.Common.{◌≡◌, ℕ, zero, suc, ◌+◌, Bool, true, false, if◌then◌else◌, List, [], ◌∷◌, ◌++◌, length, get_or, map, refl, ap, sym, arith, append-nil, Some, slice_get, inl, inr, ◌∙◌, subst}
+use Rattle.std.specs.List.{filter_map, flat_map}
 use Rattle.std.proofs.lemmas.List.{map-append, length-map, get_or_past, nil_from_length}
-use Rattle.std.proofs.lemmas.List.Elements.{filter_map-append}
-use Rattle.std.proofs.lemmas.Option.{none-some, same_Some, slice_get-get_or, get_or_from_slice_get}
+use Rattle.std.proofs.lemmas.Option.{none-some, same_Some, slice_get-get_or}
 use Rattle.std.proofs.lemmas.Bool.{cases_lt, cases_Bool, false≢true, true≢false}
 use Rattle.sp_ids.specs.declared.ids.BlockId.{BlockId}
 use Rattle.ir_ast.specs.declared.types.Ty.{Ty}
@@ -13,45 +12,22 @@ use Rattle.ir_ast.specs.declared.ops.Operand.{Operand}
 use Rattle.ir_ast.specs.declared.ops.Operand.TheVariants.{Value, Int, Null, Fun}
 use Rattle.ir_ast.specs.Insts.{Instruction}
 use Rattle.ir_ast.specs.Blocks.{BasicBlock}
-use Rattle.ir_ast.specs.Funcs.{Function, instructions_of}
+use Rattle.ir_ast.specs.Funcs.{Function}
 use Rattle.ir_ast.specs.Ops.{is_terminator}
-use Rattle.ir_ast.specs.Edges.{targets}
 use Rattle.ir_ast.specs.Lines.{LineOf, IsLine}
 use Rattle.ir_ast.specs.Operands.{operands_of, value_in, values_used}
 use Rattle.ir_ast.specs.Faults.PhiEdges.{is_phi}
 use Rattle.ir_cfg.specs.Graphs.{graph_of}
 use Rattle.ir_cfg.specs.Paths.{Path}
-use Rattle.ir_cfg.specs.DefiniteUses.{Stands, Uses, Meets, IsDefinite, UsesAreDefinite, by_line, by_entry, in_arguments, in_earlier, in_last, text_place}
+use Rattle.ir_cfg.specs.DefiniteUses.{Stands, Meets, IsDefinite, UsesAreDefinite, by_line, by_entry, in_arguments, in_earlier, in_last}
 use Rattle.ir_cfg.specs.Marks.{Marked, MarksReached}
 use Rattle.ir_cfg.specs.SourceModules.{IsSourceFunction}
-use Rattle.ir_cfg.specs.Unreached.{Kept, kept_of, kept_by, new_numbers, value_marks, operand_kept, label_kept, has_mark, inst_kept, block_kept, function_kept}
+use Rattle.ir_cfg.specs.Unreached.{Kept, kept_of, kept_by, new_numbers, value_marks, operand_kept, label_kept, has_mark, inst_kept, function_kept}
 use Rattle.ir_cfg.proofs.PlaceLemmas.{get_front}
-use Rattle.ir_cfg.proofs.KeepsPlaces.{contains_at, contains_by, get_map, map_back, map_through, get_past, marks_before, number_of_marked, before_le, before_same, kept_back, all_marks}
-use Rattle.ir_cfg.proofs.KeepsLines.{operands_left, labels_left, inst_left, inst_new, two_steps, IsKept, stands_back, block_back, line_at}
-use Rattle.ir_cfg.proofs.KeepsValues.{value_marked, defines_kept, argument_marked}
-use Rattle.ir_cfg.proofs.KeepsPaths.{marked_block, target_marked, path_to, on_path, at_middle}
-
--- an item from which a `filter_map` has its element
-pub record FromItem {A B : Type 0} (h : A → Option B) (xs : List A) (y : B) : Type 0 where
-  pub place : ℕ
-  pub item : A
-  pub stands : slice_get xs place ≡ Some item
-  pub gives : h item ≡ Some y
-
-item_later : {A B : Type 0} (h : A → Option B) (x : A) (xs : List A) (y : B) → FromItem h xs y → FromItem h (x ∷ xs) y
-item_later h x xs y from = record { place = suc from.place; item = from.item; stands = from.stands; gives = from.gives }
-
-item_cases : {A B : Type 0} (h : A → Option B) (x : A) (xs : List A) (y : B) (given : Option B) → h x ≡ given
-    → ((k : ℕ) → slice_get (filter_map h xs) k ≡ Some y → FromItem h xs y)
-    → (k : ℕ) → slice_get (cons_option given (filter_map h xs)) k ≡ Some y → FromItem h (x ∷ xs) y
-item_cases h x xs y None gives rest k is = item_later h x xs y (rest k is)
-item_cases h x xs y (Some z) gives rest zero is = record { place = 0; item = x; stands = refl; gives = gives ∙ is }
-item_cases h x xs y (Some z) gives rest (suc k) is = item_later h x xs y (rest k is)
-
-pub filter_map_back : {A B : Type 0} (h : A → Option B) (xs : List A) (y : B) (k : ℕ) → slice_get (filter_map h xs) k ≡ Some y
-    → FromItem h xs y
-filter_map_back h [] y k is = absurd (none-some y is)
-filter_map_back h (x ∷ xs) y k is = item_cases h x xs y (h x) refl (λ j at. filter_map_back h xs y j at) k is
+use Rattle.ir_cfg.proofs.KeepsPlaces.{all_marks, at_middle, before_le, before_same, contains_at, contains_by, filter_map_back, get_past, kept_back, map_back, map_through, marks_before, number_of_marked}
+use Rattle.ir_cfg.proofs.KeepsLines.{IsKept, block_back, inst_left, inst_new, labels_left, line_at, operands_left, stands_back, two_steps}
+use Rattle.ir_cfg.proofs.KeepsValues.{argument_marked, defines_kept, value_marked}
+use Rattle.ir_cfg.proofs.KeepsPaths.{marked_block, on_path, path_to, target_marked}
 
 pub values_of_new : (kept : Kept) (operands : List Operand)
     → filter_map value_in (map (operand_kept kept) operands) ≡ map (λ (v : ℕ). get_or kept.values v 0) (filter_map value_in operands)

@@ -1,12 +1,10 @@
 -- The values of a function without its unreached blocks, and their numbers.
-use Rattle.std.proofs.Common.{◌≡◌, ℕ, zero, suc, ◌<◌, ◌≤◌, ◌+◌, Bool, true, false, cond, List, [], ◌∷◌, ◌++◌, length, get_or, take, map, replicate, refl, ap, sym, arith, Some, None, is_some, slice_get, inl, inr, ◌⊎◌, ◌∙◌, subst}
-use Rattle.std.specs.List.{All, Contains, filter, count_by}
+use Rattle.std.proofs.Common.{◌≡◌, ℕ, zero, suc, ◌<◌, ◌≤◌, ◌+◌, Bool, true, false, cond, List, [], ◌∷◌, ◌++◌, length, get_or, take, map, replicate, refl, ap, sym, arith, Some, is_some, slice_get, ◌∙◌, subst}
+use Rattle.std.specs.List.{filter}
 use Rattle.std.proofs.lemmas.List.{length-append, length-map, length-replicate, map-append, take-append-le, take-map}
 use Rattle.std.proofs.lemmas.List.Elements.{filter-append}
 use Rattle.std.proofs.lemmas.List.Sums.{length-filter, count_by_more_yes, sum_by-take-le}
 use Rattle.std.proofs.lemmas.Option.{none-some, same_Some, slice_get_within, get_or_from_slice_get}
-use Rattle.ir_ast.specs.declared.types.Ty.{Ty}
-use Rattle.ir_ast.specs.declared.funcs.Arg.{Arg}
 use Rattle.ir_ast.specs.Insts.{Instruction}
 use Rattle.ir_ast.specs.Blocks.{BasicBlock}
 use Rattle.ir_ast.specs.Funcs.{Function, instructions_of}
@@ -16,8 +14,8 @@ use Rattle.ir_cfg.specs.DefiniteUses.{Stands, Defines, text_place}
 use Rattle.ir_cfg.specs.Marks.{Marked}
 use Rattle.ir_cfg.specs.Unreached.{Kept, kept_of, kept_by, inst_kept, block_kept, result_count, result_marks, value_marks, function_kept}
 use Rattle.ir_cfg.proofs.PlaceLemmas.{get_front}
-use Rattle.ir_cfg.proofs.KeepsPlaces.{marks_before, get_past, take_past, map_through, kept_map, kept_some, kept_none, before_trues, before_past_trues, before_past_falses, get_replicate}
-use Rattle.ir_cfg.proofs.KeepsLines.{stands_kept, instructions_mapped}
+use Rattle.ir_cfg.proofs.KeepsPlaces.{before_past_falses, before_past_trues, before_trues, get_past, get_replicate, kept_map, kept_none, kept_some, map_through, marks_before, take_past}
+use Rattle.ir_cfg.proofs.KeepsLines.{instructions_mapped, stands_kept}
 
 abbrev pub named : Instruction → Bool
 named inst = is_some inst.result

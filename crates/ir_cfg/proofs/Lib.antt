@@ -11,6 +11,8 @@ pub mod KeepsValues
 pub mod KeepsPaths
 pub mod KeepsUses
 pub mod KeepsForms
+pub mod KeepsCounts
+pub mod KeepsEntry
 pub mod KeepsPhis
 pub mod KeepsTypes
 pub mod KeepsNames
