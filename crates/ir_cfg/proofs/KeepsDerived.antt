@@ -20,7 +20,7 @@ use Rattle.ir_cfg.specs.Unreached.{Kept, kept_of, kept_by, value_marks, operand_
 use Rattle.ir_cfg.proofs.KeepsPlaces.{all_at, all_from_at, before_same, contains_at, contains_by, filter_map_back, filter_map_forth, kept_back, map_back, marks_before, number_of_marked}
 use Rattle.ir_cfg.proofs.KeepsLines.{IsKept, all_insts, all_lines, inst_left, inst_new, line_at, operands_left, two_steps}
 use Rattle.ir_cfg.proofs.KeepsValues.{definition_kept, left_definitions, named, new_definitions}
-use Rattle.ir_cfg.proofs.KeepsUses.{Lasts, lasts, used_new, values_of_new}
+use Rattle.ir_cfg.proofs.KeepsUses.{Lasts, used_new, values_of_new}
 use Rattle.ir_cfg.proofs.KeepsTypes.{operand_marked}
 use Rattle.ir_cfg.proofs.KeepsNames.{left_operand_of}
 

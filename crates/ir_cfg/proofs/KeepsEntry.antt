@@ -19,7 +19,7 @@ use Rattle.ir_cfg.specs.Unreached.{kept_by, label_kept, function_kept}
 use Rattle.ir_cfg.proofs.KeepsPlaces.{all_at, all_from_at, before_first, get_cases, map_back, marks_before, number_of_marked}
 use Rattle.ir_cfg.proofs.KeepsLines.{IsKept, all_lines, inst_at, inst_left, inst_new, line_at, two_steps}
 use Rattle.ir_cfg.proofs.KeepsPaths.{entry_marked}
-use Rattle.ir_cfg.proofs.KeepsUses.{Lasts, lasts, plain_labels}
+use Rattle.ir_cfg.proofs.KeepsUses.{Lasts, plain_labels}
 
 -- a terminator of the block has the label
 record FromTerminator (insts : List Instruction) (label : BlockId) : Type 0 where

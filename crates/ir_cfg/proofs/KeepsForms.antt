@@ -22,7 +22,6 @@ use Rattle.ir_ast.specs.Operands.{is_value, is_literal}
 use Rattle.ir_cfg.specs.Unreached.{Kept, kept_of, kept_by, operand_kept, label_kept, has_mark, inst_kept, function_kept}
 use Rattle.ir_cfg.proofs.GraphLemmas.{front_of, back_of}
 use Rattle.ir_cfg.proofs.KeepsLines.{all_lines, inst_left, inst_new, line_at}
-use Rattle.ir_cfg.proofs.KeepsValues.{named}
 use Rattle.ir_cfg.proofs.KeepsUses.{phi_labels, phi_operands, plain_labels, plain_operands}
 
 same_value : (kept : Kept) (operand : Operand) → is_value (operand_kept kept operand) ≡ is_value operand
@@ -127,9 +126,11 @@ literals_new kept operands all =
 
 token_new : (kept : Kept) (operands : List Operand) (rest : List Operand) → map (operand_kept kept) rest ≡ rest
     → StartsWithToken operands rest → StartsWithToken (map (operand_kept kept) operands) rest
-token_new kept operands rest same starts =
-    (record { 0 = get_or kept.values starts.0.0 0 }, ap (map (operand_kept kept)) starts.1
-    ∙ ap (λ (os : List Operand). Value (record { 0 = get_or kept.values starts.0.0 0 }) ∷ os) same)
+token_new kept operands rest same starts = (
+  record { 0 = get_or kept.values starts.0.0 0 },
+  ap (map (operand_kept kept)) starts.1
+      ∙ ap (λ (os : List Operand). Value (record { 0 = get_or kept.values starts.0.0 0 }) ∷ os) same,
+)
 
 relocated_new : (kept : Kept) (operands : List Operand) → IsRelocated operands → IsRelocated (map (operand_kept kept) operands)
 relocated_new kept operands is = (is.0, is.1, token_new kept operands (Int is.0 ∷ Int is.1 ∷ []) refl is.2)
@@ -198,15 +199,17 @@ phi_left kept inst phi some line =
     let has = line.0 in
     let own = map (has_mark kept) inst.labels in
     let operands = phi_operands kept inst.op inst.labels inst.operands phi in
-    let labels = phi_labels kept inst.op inst.labels phi in
-    (record {
-      result = has.result;
-      type = has.type;
-      operand_count = refl;
-      values = ap (list_all is_value) operands ∙ all_left is_value own inst.operands has.values;
-      label_count = ap length labels ∙ same_count own inst.labels inst.operands has.label_count ∙ sym (ap length operands);
-      no_bundle = has.no_bundle;
-    }, some)
+    let labels = phi_labels kept inst.op inst.labels phi in (
+      record {
+        result = has.result;
+        type = has.type;
+        operand_count = refl;
+        values = ap (list_all is_value) operands ∙ all_left is_value own inst.operands has.values;
+        label_count = ap length labels ∙ same_count own inst.labels inst.operands has.label_count ∙ sym (ap length operands);
+        no_bundle = has.no_bundle;
+      },
+      some,
+    )
 
 -- a line that loses entries is a line, where a phi has some left
 pub line_left : (kept : Kept) (inst : Instruction) → (is_phi inst.op ≡ true → 0 < length (inst_left kept inst).operands)

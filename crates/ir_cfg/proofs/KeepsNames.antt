@@ -28,7 +28,7 @@ use Rattle.ir_cfg.proofs.KeepsPlaces.{all_at, all_from_at, at_within, filter_map
 use Rattle.ir_cfg.proofs.KeepsLines.{IsKept, all_lines, block_forth, inst_left, inst_new, line_at, operands_left, two_steps}
 use Rattle.ir_cfg.proofs.KeepsValues.{definition_kept, named, new_definitions, new_names}
 use Rattle.ir_cfg.proofs.KeepsPaths.{marked_block, marks_whole}
-use Rattle.ir_cfg.proofs.KeepsUses.{Lasts, lasts, operands_of_new, used_new}
+use Rattle.ir_cfg.proofs.KeepsUses.{Lasts, operands_of_new, used_new}
 
 -- what holds of the names of all values
 pub values_named : (P : List ℕ → Type 0) (marks : List Bool) (func : Function) → length marks ≡ length func.blocks

@@ -121,7 +121,7 @@ path_back marks func reached _ _ at_entry =
 path_back marks func reached _ _ (along blocks from to path edge) =
     let o = path_back marks func reached blocks from path in
     let e = edge_back marks func o.last to reached o.marked
-        (subst (λ (n : ℕ). Edge (graph_of (function_kept marks func)) n to) (sym o.same) edge) in
+    (subst (λ (n : ℕ). Edge (graph_of (function_kept marks func)) n to) (sym o.same) edge) in
     record {
       old = o.old ++ e.old ∷ [];
       last = e.old;

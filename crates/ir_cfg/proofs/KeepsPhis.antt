@@ -116,13 +116,13 @@ counted_kept marks func number before item reached marked phi right from =
       | inr past ↦
           ap (count_of from) labels
           ∙ count_none from (map (label_kept kept) (kept_of own item.labels)) (λ k label at same.
-            let m = map_back (label_kept kept) (kept_of own item.labels) k label at in
-            let marked_label = left_marked marks func item.labels k m.before m.stands in
-            let block = marked_block marks func m.before.0 reached marked_label in
-            let forth = block_forth marks func m.before.0 block.0 marked_label block.1 in
-            let within = slice_get_within after.blocks (marks_before marks m.before.0) (block_kept kept block.0) forth in
-            let is : label.0 ≡ marks_before marks m.before.0 = ap (λ (l : BlockId). l.0) m.is ∙ number_of_marked marks m.before.0 marked_label in
-            omega arith)
+          let m = map_back (label_kept kept) (kept_of own item.labels) k label at in
+          let marked_label = left_marked marks func item.labels k m.before m.stands in
+          let block = marked_block marks func m.before.0 reached marked_label in
+          let forth = block_forth marks func m.before.0 block.0 marked_label block.1 in
+          let within = slice_get_within after.blocks (marks_before marks m.before.0) (block_kept kept block.0) forth in
+          let is : label.0 ≡ marks_before marks m.before.0 = ap (λ (l : BlockId). l.0) m.is ∙ number_of_marked marks m.before.0 marked_label in
+          omega arith)
           ∙ sym (edges_past after from (marks_before marks number) past)
     ]
 
@@ -202,7 +202,7 @@ phis_kept marks func reached right lines = λ number block before after phi in_f
     let stands : Stands func b.place (length split.front) split.item = record { block = b.old; in_function = b.stands; in_block = at } in
     let line = lines split.item (record { number = b.place; place = length split.front; marked = b.marked; stands = stands }) in
     let new = phi_right marks func b.place split.front split.item reached b.marked was line
-        (right b.place b.old split.front split.back split.item b.stands split.whole was) in
+    (right b.place b.old split.front split.back split.item b.stands split.whole was) in
     subst (λ (n : ℕ). PhiIsRight (function_kept marks func) n before phi) b.same
     (subst (λ (xs : List Instruction). PhiIsRight (function_kept marks func) (marks_before marks b.place) xs phi) split.fronts
     (subst (λ (i : Instruction). PhiIsRight (function_kept marks func) (marks_before marks b.place) (map (inst_kept kept) split.front) i) split.items new))

@@ -101,9 +101,10 @@ is_source_kept marks func reached source = record {
 
 form_kept : (content : ModuleContent) (marks : List Bool) (func : Function) → Sourced content marks func → OfForm Source (function_kept marks func)
 form_kept content marks func is =
-    let old : OfForm Source func = subst (λ (form : Form). OfForm form func) is.form is.faultless.form in
-    (is_source_kept marks func is.reached old.0,
-    derived_kept marks func (marks_whole marks func is.reached) (lasts_of content marks func is) old.1)
+    let old : OfForm Source func = subst (λ (form : Form). OfForm form func) is.form is.faultless.form in (
+      is_source_kept marks func is.reached old.0,
+      derived_kept marks func (marks_whole marks func is.reached) (lasts_of content marks func is) old.1,
+    )
 
 known_after : (content after : ModuleContent) (inst : Instruction) → length content.layouts ≡ length after.layouts
     → length content.funcs ≡ length after.funcs → NamesOfModule content inst → NamesOfModule after inst

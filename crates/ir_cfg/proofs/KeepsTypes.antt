@@ -25,8 +25,7 @@ use Rattle.ir_cfg.specs.Unreached.{Kept, kept_of, kept_by, value_marks, operand_
 use Rattle.ir_cfg.proofs.PlaceLemmas.{get_front}
 use Rattle.ir_cfg.proofs.KeepsPlaces.{filter_map_forth, get_map, kept_get, number_of_marked}
 use Rattle.ir_cfg.proofs.KeepsLines.{IsKept, all_lines, inst_left, inst_new, line_at, two_steps}
-use Rattle.ir_cfg.proofs.KeepsValues.{named}
-use Rattle.ir_cfg.proofs.KeepsUses.{Lasts, lasts, phi_operands}
+use Rattle.ir_cfg.proofs.KeepsUses.{Lasts, phi_operands}
 use Rattle.ir_cfg.proofs.KeepsForms.{left_plain}
 
 -- what the lines of the new function see: the kept values, and else the same
@@ -54,9 +53,10 @@ all_fit_new : (marks : List Bool) (func : Function) (values : List Ty) (operands
 all_fit_new marks func values [] [] fit marked = fit
 all_fit_new marks func values [] (ty ∷ types) fit marked = absurd fit
 all_fit_new marks func values (operand ∷ operands) [] fit marked = absurd fit
-all_fit_new marks func values (operand ∷ operands) (ty ∷ types) fit marked =
-    (fits_new marks func values operand ty fit.0 (λ value is. marked 0 operand value refl is),
-    all_fit_new marks func values operands types fit.1 (λ k one value at is. marked (suc k) one value at is))
+all_fit_new marks func values (operand ∷ operands) (ty ∷ types) fit marked = (
+  fits_new marks func values operand ty fit.0 (λ value is. marked 0 operand value refl is),
+  all_fit_new marks func values operands types fit.1 (λ k one value at is. marked (suc k) one value at is),
+)
 
 -- the values in the operands of a line that lasts are kept
 pub operand_marked : (marks : List Bool) (func : Function) (inst : Instruction) → Lasts marks func inst → (k : ℕ) (operand : Operand) (value : ℕ)

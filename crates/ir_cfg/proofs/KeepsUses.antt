@@ -124,9 +124,11 @@ target_of (first ∷ insts) zero k inst label is ends at =
     let same : first ≡ inst = same_Some first inst is in
     let terminates : is_terminator first.op ≡ true = ap (λ (i : Instruction). is_terminator i.op) same ∙ ends in
     let own : List BlockId = if is_terminator first.op then first.labels else [] in
-    let labels : own ≡ inst.labels = own_labels first terminates ∙ ap (λ (i : Instruction). i.labels) same in
-    (k, get_front own (flat_map (λ (inst : Instruction). if is_terminator inst.op then inst.labels else []) insts) k label
-    (ap (λ (ls : List BlockId). slice_get ls k) labels ∙ at))
+    let labels : own ≡ inst.labels = own_labels first terminates ∙ ap (λ (i : Instruction). i.labels) same in (
+      k,
+      get_front own (flat_map (λ (inst : Instruction). if is_terminator inst.op then inst.labels else []) insts) k label
+          (ap (λ (ls : List BlockId). slice_get ls k) labels ∙ at),
+    )
 target_of (first ∷ insts) (suc place) k inst label is ends at =
     let own : List BlockId = if is_terminator first.op then first.labels else [] in
     let rest = target_of insts place k inst label is ends at in
@@ -180,7 +182,7 @@ carried : (marks : List Bool) (func : Function) (value block place new_value new
     → marks_before marks block ≡ new_block → place ≡ new_place → IsDefinite (function_kept marks func) new_value new_block new_place
 carried marks func value block place new_value new_block new_place reached marked definite same_value same_block same_place = λ path walked.
     let o = path_to marks func path block reached marked
-        (subst (λ (n : ℕ). Path (graph_of (function_kept marks func)) path n) (sym same_block) walked) in
+    (subst (λ (n : ℕ). Path (graph_of (function_kept marks func)) path n) (sym same_block) walked) in
     let meets = meets_kept marks func value block o.0 place reached o.1 (definite o.0 o.1) in
     let marked_value = definite_marked marks func value block place reached marked definite in
     let is : marks_before (value_marks marks func) value ≡ new_value = sym (same_value ∙ number_of_marked (value_marks marks func) value marked_value) in
@@ -257,8 +259,8 @@ uses_kept marks func reached definite _ _ _ _ (by_entry number place entry value
     let new : phi ≡ inst_new kept (inst_left kept s.old) = s.is ∙ two_steps kept s.old in
     let was : is_phi s.old.op ≡ true = sym (ap (λ (i : Instruction). is_phi i.op) s.is) ∙ is in
     let e = entry_back marks func s.old entry label operand was
-        (ap (λ (i : Instruction). slice_get i.labels entry) (sym new) ∙ at_label)
-        (ap (λ (i : Instruction). slice_get i.operands entry) (sym new) ∙ at_operand) in
+    (ap (λ (i : Instruction). slice_get i.labels entry) (sym new) ∙ at_label)
+    (ap (λ (i : Instruction). slice_get i.operands entry) (sym new) ∙ at_operand) in
     let v = value_in_new kept e.old_operand value (sym (ap value_in e.operand_is) ∙ in_operand) in
     let same_label : label.0 ≡ marks_before marks e.old_label.0 =
     ap (λ (b : BlockId). b.0) e.label_is ∙ number_of_marked marks e.old_label.0 e.marked in
@@ -288,7 +290,7 @@ phi_values marks func number place inst reached definite marked stands bare phi 
     ap (λ (es : List (Ty × Operand)). (inst_left kept inst).operands ++ map (λ entry. entry.1) es) bare
     ∙ append-nil (inst_left kept inst).operands ∙ phi_operands kept inst.op inst.labels inst.operands phi in
     let from = filter_map_back value_in (kept_of own inst.operands) value k
-        (ap (λ (os : List Operand). slice_get (filter_map value_in os) k) (sym operands) ∙ used) in
+    (ap (λ (os : List Operand). slice_get (filter_map value_in os) k) (sym operands) ∙ used) in
     let o = kept_back own inst.operands from.place from.item from.stands in
     let l = map_back (has_mark kept) inst.labels o.place true o.marked in
     let marked_label = mark_found marks l.before.0 (sym l.is) in

@@ -68,10 +68,10 @@ new_definitions marks func whole =
     ap (λ insts. map argument func.args ++ map outcome (filter named insts)) (instructions_mapped kept blocks)
     ∙ ap (λ insts. map argument func.args ++ map outcome insts) (filter_mapped kept (instructions_of blocks))
     ∙ ap (λ (ds : List Definition). map argument func.args ++ ds)
-      (map_through outcome (inst_kept kept) (λ inst. definition_kept kept (outcome inst)) (λ inst. refl) (filter named (instructions_of blocks))
-      ∙ sym (map_through (definition_kept kept) outcome (λ inst. definition_kept kept (outcome inst)) (λ inst. refl) (filter named (instructions_of blocks))))
+    (map_through outcome (inst_kept kept) (λ inst. definition_kept kept (outcome inst)) (λ inst. refl) (filter named (instructions_of blocks))
+    ∙ sym (map_through (definition_kept kept) outcome (λ inst. definition_kept kept (outcome inst)) (λ inst. refl) (filter named (instructions_of blocks))))
     ∙ ap (λ (ds : List Definition). ds ++ map (definition_kept kept) (map outcome (filter named (instructions_of blocks))))
-      (sym (map_through (definition_kept kept) argument argument (λ arg. refl) func.args))
+    (sym (map_through (definition_kept kept) argument argument (λ arg. refl) func.args))
     ∙ sym (map-append (definition_kept kept) (map argument func.args) (map outcome (filter named (instructions_of blocks))))
     ∙ ap (map (definition_kept kept)) (left_definitions marks func whole)
 
@@ -221,8 +221,8 @@ defines_kept marks func value number place marked defines =
       numbered =
           number_at_place after (marks_before marks number) place (inst_kept kept defines.inst) stands
           ∙ ap (λ (n : ℕ). length func.args + n)
-            (results_mapped kept (kept_of marks func.blocks) (marks_before marks number) place
-            ∙ sym (results_left marks func.blocks number place marked))
+          (results_mapped kept (kept_of marks func.blocks) (marks_before marks number) place
+          ∙ sym (results_left marks func.blocks number place marked))
           ∙ sym (before_past_trues (length func.args) (results_before func.blocks number place) (result_marks marks func.blocks))
           ∙ ap (marks_before (value_marks marks func)) (sym is);
     }

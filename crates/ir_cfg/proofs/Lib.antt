@@ -18,3 +18,4 @@ pub mod KeepsTypes
 pub mod KeepsNames
 pub mod KeepsDerived
 pub mod KeepsSource
+pub mod SampleLemmas
