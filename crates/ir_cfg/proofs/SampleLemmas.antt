@@ -1,5 +1,5 @@
 -- The function of the tests, alone in a module, is one of a source module.
-use Rattle.std.proofs.Common.{◌≡◌, ℕ, zero, suc, ◌<◌, ◌≤◌, Bool, true, false, List, [], ◌∷◌, ◌++◌, length, map, refl, ap, sym, arith, rules, codes, Option, Some, None, slice_get, inl, inr, ◌⊎◌, ◌∙◌}
+use Rattle.std.proofs.Common.{◌≡◌, ℕ, zero, suc, ◌<◌, ◌≤◌, Bool, true, false, List, [], ◌∷◌, ◌++◌, length, map, refl, ap, sym, arith, rules, codes, Option, Some, None, slice_get, inl, inr, ◌⊎◌, ◌∙◌, subst}
 use Rattle.std.specs.List.{All, Contains}
 use Rattle.std.proofs.lemmas.List.Elements.{All-nil, All-cons}
 use Rattle.std.proofs.lemmas.Option.{none-some}
@@ -10,7 +10,7 @@ use Rattle.ir_ast.specs.declared.types.Ty.TheVariants.{Int}
 use Rattle.ir_ast.specs.Insts.{Instruction}
 use Rattle.ir_ast.specs.Blocks.{BasicBlock}
 use Rattle.ir_ast.specs.Layouts.{ObjectLayout}
-use Rattle.ir_ast.specs.Funcs.{Function, instructions_of}
+use Rattle.ir_ast.specs.Funcs.{Function, LinedFunction, content_of, instructions_of}
 use Rattle.ir_ast.specs.Modules.{ModuleContent}
 use Rattle.ir_ast.specs.Formed.{IsFormed}
 use Rattle.ir_ast.specs.Lists.{Distinct}
@@ -197,7 +197,7 @@ faultless = record {
 }
 
 -- the module with this function alone
-pub source_sample : IsSourceModule sample
+source_sample : IsSourceModule sample
 source_sample = record {
   form = refl;
   no_fault = faultless;
@@ -213,3 +213,16 @@ source_sample = record {
   };
   instructions = omega arith;
 }
+
+abbrev module_of : List ObjectLayout → List LinedFunction → ModuleContent
+module_of layouts funcs = record { layouts = layouts; funcs = map content_of funcs; form = Source }
+
+abbrev alone_in : Function → ModuleContent
+alone_in func = record { layouts = []; funcs = func ∷ []; form = Source }
+
+-- a module without layouts of this function alone, whatever its lines
+pub source_with : (content : ModuleContent) (layouts : List ObjectLayout) (funcs : List LinedFunction) (func : LinedFunction)
+    → content ≡ module_of layouts funcs → layouts ≡ [] → funcs ≡ func ∷ [] → func.content ≡ waiting → IsSourceModule content
+source_with content layouts funcs func is none one same =
+    subst IsSourceModule
+    (sym (is ∙ ap (λ (ls : List ObjectLayout). module_of ls funcs) none ∙ ap (module_of []) one ∙ ap alone_in same)) source_sample
