@@ -6,7 +6,12 @@ use Rattle.std.proofs.lemmas.Option.{none-some}
 use Rattle.std.proofs.lemmas.Bool.{false≢true, true≢false}
 use Rattle.sp_ids.specs.declared.ids.BlockId.{BlockId}
 use Rattle.ir_ast.specs.declared.modules.Form.TheVariants.{Source}
+use Rattle.ir_ast.specs.declared.types.Ty.{Ty}
 use Rattle.ir_ast.specs.declared.types.Ty.TheVariants.{Int}
+use Rattle.ir_ast.specs.declared.funcs.Arg.{Arg}
+use Rattle.ir_ast.specs.declared.ops.Operand.{Operand}
+use Rattle.ir_ast.specs.Types.{is_first_class}
+use Rattle.ir_ast.specs.Derived.{Derived}
 use Rattle.ir_ast.specs.Insts.{Instruction}
 use Rattle.ir_ast.specs.Blocks.{BasicBlock}
 use Rattle.ir_ast.specs.Layouts.{ObjectLayout}
@@ -18,7 +23,7 @@ use Rattle.ir_ast.specs.Lines.{IsLine, is_rewritten}
 use Rattle.ir_ast.specs.Widths.{IsWidth}
 use Rattle.ir_ast.specs.Operands.{values_used}
 use Rattle.ir_ast.specs.Scope.{scope_of}
-use Rattle.ir_ast.specs.Values.{Definition, definition_name}
+use Rattle.ir_ast.specs.Values.{Definition, definitions_of, definition_name}
 use Rattle.ir_ast.specs.Faultless.{FunctionHasNoFault, HasNoFault}
 use Rattle.ir_ast.specs.Faults.EntryHasPred.{LeavesEntry}
 use Rattle.ir_ast.specs.Faults.PhiEdges.{is_phi, PhisAreRight}
@@ -42,6 +47,12 @@ each_line P one =
 
 only : {A : Type 0} (P : A → Type 0) (x : A) → P x → All P (x ∷ [])
 only P x one = All-cons P x [] one (All-nil P)
+
+each_block : (P : BasicBlock → Type 0) → P (jumping (codes "a") 2) → P (jumping (codes "b") 2) → P (jumping (codes "c") 2)
+    → All P waiting.blocks
+each_block P entry apart round =
+    All-cons P (jumping (codes "a") 2) (jumping (codes "b") 2 ∷ jumping (codes "c") 2 ∷ []) entry
+    (All-cons P (jumping (codes "b") 2) (jumping (codes "c") 2 ∷ []) apart (only P (jumping (codes "c") 2) round))
 
 no_phi : (op_is_phi : Bool) → op_is_phi ≡ false → op_is_phi ≡ true → ⊥
 no_phi op_is_phi plain phi = true≢false (sym phi ∙ plain)
@@ -139,9 +150,7 @@ source_function = record {
   names = record {
     own = refl;
     values = All-nil (λ (given : Definition). IsName (definition_name given));
-    labels = All-cons (λ (block : BasicBlock). IsName block.name) (jumping (codes "a") 2) _ refl
-        (All-cons (λ (block : BasicBlock). IsName block.name) (jumping (codes "b") 2) _ refl
-        (only (λ (block : BasicBlock). IsName block.name) (jumping (codes "c") 2) refl));
+    labels = each_block (λ (block : BasicBlock). IsName block.name) refl refl refl;
   };
   widths = only IsWidth 32 width;
   definite = λ number value block place uses. absurd (nothing_used number value block place uses);
@@ -155,9 +164,10 @@ not_inserted name other front = other (ap first_byte front.1)
 own_form : IsSource waiting
 own_form = record {
   values = All-nil (λ (given : Definition). IsInsertedName (definition_name given) → ⊥);
-  labels = All-cons (λ (block : BasicBlock). IsInsertedName block.name → ⊥) (jumping (codes "a") 2) _ (not_inserted (codes "a") (λ same. omega arith))
-      (All-cons (λ (block : BasicBlock). IsInsertedName block.name → ⊥) (jumping (codes "b") 2) _ (not_inserted (codes "b") (λ same. omega arith))
-      (only (λ (block : BasicBlock). IsInsertedName block.name → ⊥) (jumping (codes "c") 2) (not_inserted (codes "c") (λ same. omega arith))));
+  labels = each_block (λ (block : BasicBlock). IsInsertedName block.name → ⊥)
+      (not_inserted (codes "a") (λ same. omega arith))
+      (not_inserted (codes "b") (λ same. omega arith))
+      (not_inserted (codes "c") (λ same. omega arith));
   lines = each_line (λ (inst : Instruction). is_rewritten inst.op ≡ false) refl;
 }
 
@@ -171,28 +181,28 @@ no_fault = record {
   entry = each_line LeavesEntry leaves;
   phis = no_phis;
   pointers = each_line (λ (inst : Instruction). orders_pointers inst.op inst.ty ≡ false) refl;
-  form = (own_form, each_line (KeepsDerived waiting) (All-nil _));
+  form = (own_form, each_line (KeepsDerived waiting) (All-nil (λ (value : ℕ). Derived waiting value → ⊥)));
 }
 
 typed : FunctionIsTyped (scope_of sample waiting) waiting
 typed = record {
   answer = refl;
-  args = All-nil _;
-  lines = each_line (IsTyped (scope_of sample waiting)) (record { operands = tt; bundle = All-nil _; rule = tt });
+  args = All-nil (λ (arg : Arg). is_first_class arg.ty ≡ true);
+  lines = each_line (IsTyped (scope_of sample waiting)) (record { operands = tt; bundle = All-nil (λ (entry : Ty × Operand). Fits (scope_of sample waiting).values entry.1 entry.0); rule = tt });
 }
 
 faultless : HasNoFault sample
 faultless = record {
   names = record {
-    layouts = none_twice;
+    layouts = none_twice {A = List ℕ};
     functions = alone (codes "main");
     labels = only (λ (func : Function). Distinct (map (λ block. block.name) func.blocks)) waiting labels_apart;
-    values = only _ waiting none_twice;
+    values = only (λ (func : Function). Distinct (map definition_name (definitions_of func))) waiting (none_twice {A = List ℕ});
   };
   typed = only (λ (func : Function). FunctionIsTyped (scope_of sample func) func) waiting typed;
   functions = only (FunctionHasNoFault sample) waiting no_fault;
-  main = record { earlier = []; main = waiting; later = []; whole = refl; first = All-nil _; name = refl; args = refl; answer = inl refl };
-  fields = All-nil _;
+  main = record { earlier = []; main = waiting; later = []; whole = refl; first = All-nil (λ (func : Function). func.name ≡ codes "main" → ⊥); name = refl; args = refl; answer = inl refl };
+  fields = All-nil (λ (layout : ObjectLayout). 0 < length layout.fields);
   free = only (λ (func : Function). IsExternalName func.name → ⊥) waiting not_external;
 }
 
@@ -202,13 +212,13 @@ source_sample = record {
   form = refl;
   no_fault = faultless;
   functions = only IsSourceFunction waiting source_function;
-  layout_names = All-nil _;
+  layout_names = All-nil (λ (layout : ObjectLayout). IsName layout.name);
   limits = record {
     layouts = omega arith;
     functions = omega arith;
-    layout_names = All-nil _;
+    layout_names = All-nil (λ (layout : ObjectLayout). length layout.name ≤ 4096);
     function_names = only (λ (func : Function). length func.name ≤ 4096) waiting (omega arith);
-    fields = All-nil _;
+    fields = All-nil (λ (layout : ObjectLayout). length layout.fields ≤ 64);
     arguments = only (λ (func : Function). length func.args ≤ 64) waiting (omega arith);
   };
   instructions = omega arith;
