@@ -33,11 +33,11 @@ labels_of_last block inst ended found =
     let at : slice_get block.insts (length ended.before) ≡ Some ended.last = rw whole last in
     cc
 
-front_of : {A : Type 0} (P : A → Type 0) (xs ys : List A) → All P (xs ++ ys) → All P xs
+pub front_of : {A : Type 0} (P : A → Type 0) (xs ys : List A) → All P (xs ++ ys) → All P xs
 front_of P [] ys all = All-nil P
 front_of P (x ∷ xs) ys all = All-cons P x xs (All-head P x (xs ++ ys) all) (front_of P xs ys (All-tail P x (xs ++ ys) all))
 
-back_of : {A : Type 0} (P : A → Type 0) (xs ys : List A) → All P (xs ++ ys) → All P ys
+pub back_of : {A : Type 0} (P : A → Type 0) (xs ys : List A) → All P (xs ++ ys) → All P ys
 back_of P [] ys all = all
 back_of P (x ∷ xs) ys all = back_of P xs ys (All-tail P x (xs ++ ys) all)
 

@@ -134,7 +134,7 @@ few_kept [] (x ∷ xs) = omega arith
 few_kept (true ∷ marks) (x ∷ xs) = let rest = few_kept marks xs in omega arith
 few_kept (false ∷ marks) (x ∷ xs) = let rest = few_kept marks xs in omega arith
 
-few_instructions : (kept : Kept) (marks : List Bool) (blocks : List BasicBlock)
+pub few_instructions : (kept : Kept) (marks : List Bool) (blocks : List BasicBlock)
     → length (instructions_of (map (block_kept kept) (kept_of marks blocks))) ≤ length (instructions_of blocks)
 few_instructions kept marks [] = omega arith
 few_instructions kept [] (block ∷ blocks) = omega arith
@@ -172,7 +172,7 @@ formed_sources content source = λ k d below.
       entry = faultless.entry;
     }
 
-of_map : {A B : Type 0} (f : A → B) (P : B → Type 0) (xs : List A) → All P (map f xs) → All (λ x. P (f x)) xs
+pub of_map : {A B : Type 0} (f : A → B) (P : B → Type 0) (xs : List A) → All P (map f xs) → All (λ x. P (f x)) xs
 of_map f P xs all = λ k d below.
     let within : k < length (map f xs) = omega (arith, below, length-map xs f) in
     subst P (get_or-map f xs k d (f d) below) (all k (f d) within)

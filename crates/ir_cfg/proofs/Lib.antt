@@ -5,3 +5,17 @@ pub mod PlaceLemmas
 pub mod SearchLemmas
 pub mod CycleLemmas
 pub mod KeptLemmas
+pub mod KeepsPlaces
+pub mod KeepsLines
+pub mod KeepsValues
+pub mod KeepsPaths
+pub mod KeepsUses
+pub mod KeepsForms
+pub mod KeepsCounts
+pub mod KeepsEntry
+pub mod KeepsPhis
+pub mod KeepsTypes
+pub mod KeepsNames
+pub mod KeepsDerived
+pub mod KeepsSource
+pub mod SampleLemmas

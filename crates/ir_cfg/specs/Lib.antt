@@ -10,3 +10,4 @@ pub mod Turned
 pub mod Marks
 pub mod Cfgs
 pub mod Unreached
+pub mod Samples

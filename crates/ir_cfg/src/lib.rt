@@ -6,6 +6,8 @@ mod graphs;
 mod reach;
 mod renumber;
 mod rows;
+#[cfg(test)]
+mod tests;
 mod unreached;
 
 pub use cfg::Cfg;

@@ -16,7 +16,8 @@ use std::alloc::Global;
 /// name them. Blocks and values have new numbers, in the old order, and each line is 0.
 pub fn drop_unreachable(alloc: Global, source: Module) -> Result<Module, Memory>
     requires { IsSourceModule source.content }
-    ensures { IfOk result (λ after. ModuleDropsUnreached source.content after.content) }
+    ensures drops { IfOk result (λ after. ModuleDropsUnreached source.content after.content) }
+    ensures keeps_source { IfOk result (λ after. IsSourceModule after.content) }
 {
     let (layouts, old_funcs, form) = source.into_parts();
     let new_funcs = all_without(alloc, old_funcs)?;

@@ -1,0 +1,11 @@
+pub mod ListLemmas
+pub mod EdgeLemmas
+pub mod PathLemmas
+pub mod StampLemmas
+pub mod WalkLemmas
+pub mod TextLemmas
+pub mod HomeLemmas
+pub mod AskedLemmas
+pub mod UseLemmas
+pub mod FirstLemmas
+pub mod FaultLemmas

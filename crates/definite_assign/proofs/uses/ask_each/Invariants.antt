@@ -1,0 +1,7 @@
+use Rattle.std.proofs.Common.{◌≡◌, ◌++◌, take}
+use Rattle.std.specs.List.{flat_map}
+use Rattle.definite_assign.specs.Asked.{asked}
+use Rattle.definite_assign.proofs.uses.ask_each.Given as goal
+
+abbrev pub invariant-loop-operand : goal.invariant-loop-operand
+invariant-loop-operand l = l.uses.items ≡ l.initial.uses.items ++ flat_map (asked l.homes l.arguments l.spot l.place) (take l.operand-index l.operands)

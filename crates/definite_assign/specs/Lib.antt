@@ -1,0 +1,6 @@
+pub mod Faults
+pub mod Homes
+pub mod Asked
+pub mod FarUses
+pub mod Missed
+pub mod Searches
