@@ -8,11 +8,7 @@ pub mod Members
 pub mod AgainLemmas
 pub mod PlaceLemmas
 pub mod TopLemmas
-pub mod Founds
-pub mod Contained
-pub mod Heads
-pub mod CodeLemmas
-pub mod ScopeLemmas
-pub mod Union
-pub mod JoinLemmas
-pub mod CaseNotes
+pub mod FrontLemmas
+pub mod TableLemmas
+pub mod ExternalLemmas
+pub mod OuterLemmas
