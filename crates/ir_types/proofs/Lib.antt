@@ -12,3 +12,11 @@ pub mod FrontLemmas
 pub mod TableLemmas
 pub mod ExternalLemmas
 pub mod OuterLemmas
+pub mod Founds
+pub mod Contained
+pub mod Heads
+pub mod CodeLemmas
+pub mod ScopeLemmas
+pub mod JoinLemmas
+pub mod CaseNotes
+pub mod Union

@@ -505,6 +505,6 @@ pub notes-whole : (lines : List Line) (functions layouts : List (List ℕ)) (mai
 notes-whole lines functions layouts mains funcs old a b c new e f g h m n p q =
     notes-text lines old a b c new m
     (subst (λ (ls : List (List ℕ)). Notes a b (OuterFaults (map (λ one. one.name) (definitions_of lines)) ls lines)) f
-        (subst (λ (fs : List (List ℕ)). Notes a b (OuterFaults fs layouts lines)) e n))
+    (subst (λ (fs : List (List ℕ)). Notes a b (OuterFaults fs layouts lines)) e n))
     (subst (λ (fs : List Definition). Notes b c (LacksMain fs)) g p)
     (subst (λ (fs : List Definition). Notes c new (InFunctions lines fs)) h q)
