@@ -46,6 +46,6 @@ pub mod Contained
 pub mod Heads
 pub mod CodeLemmas
 pub mod ScopeLemmas
-pub mod Union
 pub mod JoinLemmas
 pub mod CaseNotes
+pub mod Union
