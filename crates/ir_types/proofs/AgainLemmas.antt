@@ -1,15 +1,18 @@
 -- Names that are added one after another, and what is found of them.
-use Rattle.std.proofs.Common.{◌≡◌, ◌∙◌, ℕ, ◌<◌, ◌≤◌, zero, suc, ◌⊎◌, inl, inr, Bool, true, false, List, [], ◌∷◌, ◌++◌, length, get_or, refl, ap, sym, subst, arith, append_assoc}
-use Rattle.std.specs.Prelude.{map, Option, Some, None, is_none, not}
+use Rattle.std.proofs.Common.{◌≡◌, ◌∙◌, ℕ, ◌⊎◌, inl, inr, Bool, true, false, List, [], ◌∷◌, ◌++◌, refl, ap, sym, subst, append_assoc}
+use Rattle.std.specs.Prelude.{map, Option, is_none, not, IsTrue, ◌↔◌}
 use Rattle.std.specs.List.{Contains}
 use Rattle.std.proofs.lemmas.List.{append-nil, map-append}
 use Rattle.ir_types.specs.declared.faults.Fault.{Fault}
-use Rattle.ir_types.specs.Notes.{Notes}
+use Rattle.ir_ast.specs.Faults.Reserved.{IsInsertedName}
+use Rattle.ir_types.specs.Notes.{Notes, Is}
+use Rattle.ir_types.specs.Places.{place_in}
 use Rattle.ir_types.specs.InBody.{Repeats}
-use Rattle.ir_types.specs.Again.{FoundAfter, IsAgain, IsBadName, NamesFound, NamesInserted}
+use Rattle.ir_types.specs.Again.{FoundAfter, IsAgain, IsBadName, NamesFound}
 use Rattle.ir_types.proofs.NoteLemmas.{Either, notes-then, notes-same}
-use Rattle.ir_types.proofs.Members.{contains-none, contains-here, contains-there, contains-cases}
-use Rattle.std.proofs.lemmas.List.Elements.{Contains-append_left, Contains-append_right, Contains-append_cases}
+use Rattle.ir_types.proofs.PlaceLemmas.{place-contains, contains-place}
+use Rattle.ir_types.proofs.Members.{contains-none, contains-here, contains-cases}
+use Rattle.std.proofs.lemmas.List.Elements.{Contains-append_right}
 
 abbrev pub Given : Type 0
 Given = ℕ × List ℕ
@@ -112,10 +115,11 @@ found-one F names at one line code f = of f.before f.name f.after f.whole f.faul
     of : (before : List Given) (name : List ℕ) (after : List Given) → (at, one) ∷ [] ≡ before ++ (line, name) ∷ after
         → F (names ++ names_of before) name code → (line ≡ at) × F names one code
     of [] name after e faulty =
-        let same : (at, one) ≡ (line, name) = cc in
-        (sym (ap (λ (p : Given). p.0) same),
-        subst (λ (xs : List (List ℕ)). F xs one code) (append-nil names)
-        (subst (λ (n : List ℕ). F (names ++ []) n code) (sym (ap (λ (p : Given). p.1) same)) faulty))
+        let same : (at, one) ≡ (line, name) = cc in (
+          sym (ap (λ (p : Given). p.0) same),
+          subst (λ (xs : List (List ℕ)). F xs one code) (append-nil names)
+              (subst (λ (n : List ℕ). F (names ++ []) n code) (sym (ap (λ (p : Given). p.1) same)) faulty),
+        )
     of (b ∷ bs) name after e faulty =
         absurd (not-nil bs (line, name) after (let rest : [] ≡ bs ++ (line, name) ∷ after = cc in rest))
 
@@ -131,6 +135,10 @@ one-found F names at one line code e f = record {
 
 -- ---- notes
 
+not-true : (b : Bool) → not b ≡ true → b ≡ false
+not-true false e = refl
+not-true true e = let bad : false ≡ true = e in cc
+
 pub notes-added : (F : Finds) (names : List (List ℕ)) (a b : List Given) (old between new : Option Fault)
     → Notes old between (FoundAfter F names a) → Notes between new (FoundAfter F (names ++ names_of a) b)
     → Notes old new (FoundAfter F names (a ++ b))
@@ -142,6 +150,53 @@ notes-added F names a b old between new m n =
     either : (line code : ℕ) → FoundAfter F names a line code ⊎ FoundAfter F (names ++ names_of a) b line code → FoundAfter F names (a ++ b) line code
     either line code (inl f) = found-left F names a b line code f
     either line code (inr f) = found-right F names a b line code f
+
+-- a name that may be one of others
+pub again-notes : (names : List (List ℕ)) (name : List ℕ) (line : ℕ) (is_new : Bool) (old new : Option Fault)
+    → is_new ≡ is_none (place_in names name) → Notes old new (λ l c. IsTrue (not is_new) × Is line 3 l c)
+    → Notes old new (FoundAfter IsAgain names ((line, name) ∷ []))
+again-notes names name line is_new old new known n =
+    notes-same old new (λ l c. IsTrue (not is_new) × Is line 3 l c) (FoundAfter IsAgain names ((line, name) ∷ []))
+    (λ l c f. one-found IsAgain names line name l c f.1.0 (f.1.1, place-contains names name (sym known ∙ not-true is_new f.0)))
+    (λ l c f. let g = found-one IsAgain names line name l c f in
+    (ap not (known ∙ contains-place names name g.1.1), (g.0, g.1.0)))
+    n
+
+abbrev pub NameNoted : ℕ → List ℕ → Bool → ℕ → ℕ → Type 0
+NameNoted line name is_new at code = (at ≡ line) × (((code ≡ 3) × (is_new ≡ false)) ⊎ ((code ≡ 14) × IsInsertedName name))
+
+pub name-notes : (line : ℕ) (name : List ℕ) (is_new inserted : Bool) (old between new : Option Fault)
+    → (IsTrue inserted ↔ IsInsertedName name)
+    → Notes old between (λ l c. IsTrue (not is_new) × Is line 3 l c) → Notes between new (λ l c. IsTrue inserted × Is line 14 l c)
+    → Notes old new (NameNoted line name is_new)
+name-notes line name is_new inserted old between new known m n =
+    notes-same old new (Either (λ l c. IsTrue (not is_new) × Is line 3 l c) (λ l c. IsTrue inserted × Is line 14 l c)) (NameNoted line name is_new)
+    to from (notes-then old between new (λ l c. IsTrue (not is_new) × Is line 3 l c) (λ l c. IsTrue inserted × Is line 14 l c) m n)
+  where
+    to : (l c : ℕ) → Either (λ l c. IsTrue (not is_new) × Is line 3 l c) (λ l c. IsTrue inserted × Is line 14 l c) l c → NameNoted line name is_new l c
+    to l c (inl f) = (f.1.0, inl (f.1.1, not-true is_new f.0))
+    to l c (inr f) = (f.1.0, inr (f.1.1, known.0 f.0))
+
+    from : (l c : ℕ) → NameNoted line name is_new l c → Either (λ l c. IsTrue (not is_new) × Is line 3 l c) (λ l c. IsTrue inserted × Is line 14 l c) l c
+    from l c (e, inl f) = inl (ap not f.1, (e, f.0))
+    from l c (e, inr f) = inr (known.1 f.1, (e, f.0))
+
+pub bad-notes : (names : List (List ℕ)) (name : List ℕ) (line : ℕ) (is_new : Bool) (old new : Option Fault)
+    → is_new ≡ is_none (place_in names name) → Notes old new (NameNoted line name is_new)
+    → Notes old new (FoundAfter IsBadName names ((line, name) ∷ []))
+bad-notes names name line is_new old new known n =
+    notes-same old new (NameNoted line name is_new) (FoundAfter IsBadName names ((line, name) ∷ [])) to from n
+  where
+    to : (l c : ℕ) → NameNoted line name is_new l c → FoundAfter IsBadName names ((line, name) ∷ []) l c
+    to l c (e, inl f) = one-found IsBadName names line name l c e (inl (f.0, place-contains names name (sym known ∙ f.1)))
+    to l c (e, inr f) = one-found IsBadName names line name l c e (inr f)
+
+    by : (l c : ℕ) → (l ≡ line) × IsBadName names name c → NameNoted line name is_new l c
+    by l c (e, inl f) = (e, inl (f.0, known ∙ contains-place names name f.1))
+    by l c (e, inr f) = (e, inr f)
+
+    from : (l c : ℕ) → FoundAfter IsBadName names ((line, name) ∷ []) l c → NameNoted line name is_new l c
+    from l c f = by l c (found-one IsBadName names line name l c f)
 
 -- ---- as repeats
 
@@ -173,14 +228,14 @@ pub record IsSplit {X : Type 0} (xs : List X) (x : X) : Type 0 where
   pub after : List X
   pub whole : xs ≡ before ++ x ∷ after
 
+split-more : {X : Type 0} (y : X) (ys : List X) (x : X) → (y ≡ x) ⊎ Contains ys x → (Contains ys x → IsSplit ys x) → IsSplit (y ∷ ys) x
+split-more y ys x (inl e) more = record { before = []; after = ys; whole = ap (λ z. z ∷ ys) e }
+split-more y ys x (inr d) more =
+    let s = more d in record { before = y ∷ s.before; after = s.after; whole = ap (λ zs. y ∷ zs) s.whole }
+
 pub split-at : {X : Type 0} (xs : List X) (x : X) → Contains xs x → IsSplit xs x
 split-at [] x c = absurd (contains-none x c)
-split-at (y ∷ ys) x c = of (contains-cases y ys x c)
-  where
-    of : (y ≡ x) ⊎ Contains ys x → IsSplit (y ∷ ys) x
-    of (inl e) = record { before = []; after = ys; whole = ap (λ z. z ∷ ys) e }
-    of (inr d) = let s = split-at ys x d in
-        record { before = y ∷ s.before; after = s.after; whole = ap (λ zs. y ∷ zs) s.whole }
+split-at (y ∷ ys) x c = split-more y ys x (contains-cases y ys x c) (split-at ys x)
 
 pub found-names : (given : List Given) (line code : ℕ) → NamesFound given line code → FoundAfter IsBadName [] given line code
 found-names given line code (inl (e, r)) =

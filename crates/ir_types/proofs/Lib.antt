@@ -37,3 +37,7 @@ pub mod ReadCounts
 pub mod ReadTypes
 pub mod ReadLaw
 pub mod ReadNames
+pub mod FrontLemmas
+pub mod TableLemmas
+pub mod ExternalLemmas
+pub mod OuterLemmas

@@ -1,5 +1,5 @@
 -- Elements of lists.
-use Rattle.std.proofs.Common.{◌≡◌, ◌∙◌, ℕ, ◌<◌, zero, suc, ◌⊎◌, inl, inr, List, [], ◌∷◌, ◌++◌, length, refl, ap, sym, subst, arith}
+use Rattle.std.proofs.Common.{◌≡◌, ◌<◌, zero, suc, ◌⊎◌, inl, inr, List, [], ◌∷◌, length, refl, sym, subst, arith}
 use Rattle.std.specs.Prelude.{map, flat_map}
 use Rattle.std.specs.List.{Contains}
 use Rattle.std.proofs.lemmas.List.Elements.{Contains-append_left, Contains-append_right, Contains-append_cases}
@@ -25,7 +25,7 @@ pub contains-cases : {X : Type 0} (x : X) (xs : List X) (y : X) → Contains (x 
 contains-cases x xs y c = either-one x xs y (Contains-append_cases (x ∷ []) xs y c)
 
 mapped : {X Y : Type 0} (f : X → Y) (y : X) (ys : List X) (x : X) → (y ≡ x) ⊎ Contains (map f ys) (f x) → Contains (map f (y ∷ ys)) (f x)
-mapped f y ys x (inl e) = subst (λ (z : X). Contains (map f (y ∷ ys)) (f z)) e (contains-here (f y) (map f ys))
+mapped {X} f y ys x (inl e) = subst (λ (z : X). Contains (map f (y ∷ ys)) (f z)) e (contains-here (f y) (map f ys))
 mapped f y ys x (inr c) = contains-there (f y) (map f ys) (f x) c
 
 right-of : {A B C : Type 0} → (B → C) → A ⊎ B → A ⊎ C
@@ -67,7 +67,7 @@ contains-joined f (x ∷ xs) y c =
 
 rejoined : {X Y : Type 0} (f : X → List Y) (x : X) (xs : List X) (of : X) (y : Y) → Contains (f of) y
     → (x ≡ of) ⊎ Contains (flat_map f xs) y → Contains (flat_map f (x ∷ xs)) y
-rejoined f x xs of y given (inl e) =
+rejoined {X} f x xs of y given (inl e) =
     Contains-append_left (f x) (flat_map f xs) y (subst (λ (z : X). Contains (f z) y) (sym e) given)
 rejoined f x xs of y given (inr c) = Contains-append_right (f x) (flat_map f xs) y c
 

@@ -1,10 +1,10 @@
 -- One pass after another keeps the first of the faults of both; at the end it is the least fault.
-use Rattle.std.proofs.Common.{◌≡◌, ℕ, ◌<◌, ◌≤◌, ◌⊎◌, inl, inr, List, refl, sym, subst, arith}
-use Rattle.std.specs.Prelude.{Option, Some, None}
+use Rattle.std.proofs.Common.{◌≡◌, ◌∙◌, ℕ, ◌⊎◌, inl, inr, Bool, true, false, List, refl, ap, sym, subst, arith}
+use Rattle.std.specs.Prelude.{Option, Some, None, not, IsTrue, ◌↔◌}
 use Rattle.ir_types.specs.declared.faults.Fault.{Fault}
 use Rattle.ir_types.specs.Statements.{Line}
 use Rattle.ir_types.specs.FaultSet.{ComesFirst, HasFault, IsLeastFault, HasNoFault}
-use Rattle.ir_types.specs.Notes.{Notes, IsUpTo, HasSource}
+use Rattle.ir_types.specs.Notes.{Notes, IsUpTo, HasSource, Is}
 
 abbrev pub Either : (ℕ → ℕ → Type 0) → (ℕ → ℕ → Type 0) → ℕ → ℕ → Type 0
 Either F G line code = F line code ⊎ G line code
@@ -91,8 +91,72 @@ kept (Some fault) F = inl refl
 
 -- nothing is found
 pub notes-nothing : (old : Option Fault) (F : ℕ → ℕ → Type 0) → ((line code : ℕ) → ¬ F line code) → Notes old old F
-notes-nothing old F no = record {
+notes-nothing old F none = record {
   source = kept old F;
   earlier = λ fault e. record { fault = fault; is = e; first = inr (refl, omega arith) };
-  least = λ line code f. absurd (no line code f);
+  least = λ line code f. absurd (none line code f);
 }
+
+-- ---- faults of one line that tests decide
+
+pub not-iff : (P : Type 0) (r : Bool) → (IsTrue r ↔ P) → (IsTrue (not r) ↔ ¬ P)
+not-iff P r is = (absent r is, present r is)
+  where
+    absent : (r : Bool) → (IsTrue r ↔ P) → IsTrue (not r) → ¬ P
+    absent false is t p = let bad : false ≡ true = is.1 p in cc
+    absent true is t p = let bad : false ≡ true = t in cc
+
+    present : (r : Bool) → (IsTrue r ↔ P) → (¬ P) → IsTrue (not r)
+    present false is n = refl
+    present true is n = absurd (n (is.0 refl))
+
+pub not-is : (r b : Bool) → r ≡ b → (IsTrue (not r) ↔ (b ≡ false))
+not-is r b e = ((λ t. sym e ∙ untrue r t), (λ f. ap not (e ∙ f)))
+  where
+    untrue : (r : Bool) → not r ≡ true → r ≡ false
+    untrue false t = refl
+    untrue true t = let bad : false ≡ true = t in cc
+
+abbrev pub Tested : Bool → ℕ → ℕ → ℕ → ℕ → Type 0
+Tested test line code l c = IsTrue test × Is line code l c
+
+pub one-noted : (line k : ℕ) (a : Bool) (P : Type 0) (f g : Option Fault) → (IsTrue a ↔ P) → Notes f g (Tested a line k)
+    → Notes f g (λ l c. (l ≡ line) × ((c ≡ k) × P))
+one-noted line k a P f g is n =
+    notes-same f g (Tested a line k) (λ l c. (l ≡ line) × ((c ≡ k) × P)) (λ l c t. (t.1.0, (t.1.1, is.0 t.0)))
+    (λ l c t. (is.1 t.1.1, (t.0, t.1.0))) n
+
+pub two-noted : (line k m : ℕ) (a b : Bool) (P Q : Type 0) (f g h : Option Fault) → (IsTrue a ↔ P) → (IsTrue b ↔ Q)
+    → Notes f g (Tested a line k) → Notes g h (Tested b line m)
+    → Notes f h (λ l c. (l ≡ line) × (((c ≡ k) × P) ⊎ ((c ≡ m) × Q)))
+two-noted line k m a b P Q f g h is other x y =
+    notes-same f h (Either (Tested a line k) (Tested b line m)) (λ l c. (l ≡ line) × (((c ≡ k) × P) ⊎ ((c ≡ m) × Q))) to from
+    (notes-then f g h (Tested a line k) (Tested b line m) x y)
+  where
+    to : (l c : ℕ) → Either (Tested a line k) (Tested b line m) l c → (l ≡ line) × (((c ≡ k) × P) ⊎ ((c ≡ m) × Q))
+    to l c (inl t) = (t.1.0, inl (t.1.1, is.0 t.0))
+    to l c (inr t) = (t.1.0, inr (t.1.1, other.0 t.0))
+
+    from : (l c : ℕ) → (l ≡ line) × (((c ≡ k) × P) ⊎ ((c ≡ m) × Q)) → Either (Tested a line k) (Tested b line m) l c
+    from l c (e, inl t) = inl (is.1 t.1, (e, t.0))
+    from l c (e, inr t) = inr (other.1 t.1, (e, t.0))
+
+pub three-noted : (line k m n : ℕ) (a b d : Bool) (P Q R : Type 0) (f g h i : Option Fault)
+    → (IsTrue a ↔ P) → (IsTrue b ↔ Q) → (IsTrue d ↔ R)
+    → Notes f g (Tested a line k) → Notes g h (Tested b line m) → Notes h i (Tested d line n)
+    → Notes f i (λ l c. (l ≡ line) × (((c ≡ k) × P) ⊎ (((c ≡ m) × Q) ⊎ ((c ≡ n) × R))))
+three-noted line k m n a b d P Q R f g h i is other third x y z =
+    notes-same f i (Either (Tested a line k) (λ l c. (l ≡ line) × (((c ≡ m) × Q) ⊎ ((c ≡ n) × R))))
+    (λ l c. (l ≡ line) × (((c ≡ k) × P) ⊎ (((c ≡ m) × Q) ⊎ ((c ≡ n) × R)))) to from
+    (notes-then f g i (Tested a line k) (λ l c. (l ≡ line) × (((c ≡ m) × Q) ⊎ ((c ≡ n) × R))) x
+    (two-noted line m n b d Q R g h i other third y z))
+  where
+    to : (l c : ℕ) → Either (Tested a line k) (λ l c. (l ≡ line) × (((c ≡ m) × Q) ⊎ ((c ≡ n) × R))) l c
+        → (l ≡ line) × (((c ≡ k) × P) ⊎ (((c ≡ m) × Q) ⊎ ((c ≡ n) × R)))
+    to l c (inl t) = (t.1.0, inl (t.1.1, is.0 t.0))
+    to l c (inr t) = (t.0, inr t.1)
+
+    from : (l c : ℕ) → (l ≡ line) × (((c ≡ k) × P) ⊎ (((c ≡ m) × Q) ⊎ ((c ≡ n) × R)))
+        → Either (Tested a line k) (λ l c. (l ≡ line) × (((c ≡ m) × Q) ⊎ ((c ≡ n) × R))) l c
+    from l c (e, inl t) = inl (is.1 t.1, (e, t.0))
+    from l c (e, inr t) = inr (e, t)

@@ -1,12 +1,12 @@
 -- Names by their places, and what stands beside them.
-use Rattle.std.proofs.Common.{◌≡◌, ◌∙◌, ℕ, ◌+◌, ◌<◌, ◌≤◌, ◌⊎◌, inl, inr, Bool, true, false, cond, List, [], ◌∷◌, length, get_or, refl, ap, sym, subst, arith}
-use Rattle.std.specs.Prelude.{map, find, position, nat_lt, not, slice_get, option_map, is_none, is_some, Option, Some, None}
+use Rattle.std.proofs.Common.{◌≡◌, ◌∙◌, ℕ, ◌+◌, ◌<◌, ◌≤◌, Bool, true, false, cond, List, [], ◌∷◌, length, get_or, refl, ap, sym, subst, arith}
+use Rattle.std.specs.Prelude.{map, find, position, nat_lt, not, slice_get, option_map, is_none, is_some, IsTrue, ◌↔◌, Option, Some, None}
 use Rattle.std.specs.Option.{option_and_then}
 use Rattle.std.specs.List.{Contains, prefix_len, position_or_len}
 use Rattle.std.specs.Str.{bytes_eq}
 use Rattle.std.proofs.lemmas.List.{length-map}
 use Rattle.std.proofs.lemmas.List.Folds.{find_at}
-use Rattle.std.proofs.lemmas.List.Sums.{prefix_len_passes, prefix_len_stops, prefix_len-le-length}
+use Rattle.std.proofs.lemmas.List.Sums.{prefix_len_passes, prefix_len_stops}
 use Rattle.std.proofs.lemmas.Option.{slice_get_past, slice_get-map}
 use Rattle.std.proofs.lemmas.Bool.Decides.{nat_tests}
 use Rattle.std.proofs.lemmas.Slice.Eq.{bytes_eq-Decides}
@@ -48,6 +48,21 @@ contains-place names name c = by (nat_lt (position_or_len (λ other. bytes_eq na
         = prefix_len_passes (λ (other : List ℕ). not (bytes_eq name other)) names c.0 name least in
         let same : not (bytes_eq name name) ≡ true = subst (λ (other : List ℕ). not (bytes_eq name other) ≡ true) c.2 passes in
         let bad : false ≡ true = ap not (sym (bytes_eq-self name)) ∙ same in cc)
+
+not-none : (found : Option ℕ) → is_some found ≡ true → is_none found ≡ false
+not-none (Some place) e = refl
+not-none None e = let bad : false ≡ true = e in cc
+
+some-not : (found : Option ℕ) → is_none found ≡ false → is_some found ≡ true
+some-not (Some place) e = refl
+some-not None e = let bad : true ≡ false = e in cc
+
+pub is-one : (names : List (List ℕ)) (name : List ℕ) (found : Option ℕ) (r : Bool) → found ≡ place_in names name → r ≡ is_some found
+    → (IsTrue r ↔ Contains names name)
+is-one names name found r at is = (
+  (λ t. place-contains names name (not-none (place_in names name) (ap is_some (sym at) ∙ sym is ∙ t))),
+  (λ c. is ∙ ap is_some at ∙ some-not (place_in names name) (contains-place names name c)),
+)
 
 -- ---- what stands beside the first of a name
 

@@ -1,14 +1,13 @@
 -- What the passes over names, declarations and heads find are the faults of codes 3, 10, 11, 12, 13 and 14.
-use Rattle.std.proofs.Common.{◌≡◌, ◌∙◌, ℕ, ◌⊎◌, inl, inr, Bool, true, false, List, [], ◌∷◌, ◌++◌, refl, ap, sym, subst}
+use Rattle.std.proofs.Common.{◌≡◌, ◌∙◌, ℕ, ◌⊎◌, inl, inr, Bool, true, false, List, [], ◌∷◌, refl, ap, sym, subst}
 use Rattle.std.specs.Prelude.{map, take_while, not, Option}
 use Rattle.std.specs.List.{Contains}
-use Rattle.std.proofs.lemmas.List.Elements.{Contains-append_left, Contains-append_right, Contains-append_cases}
+use Rattle.std.proofs.lemmas.List.Elements.{Contains-append_right, Contains-append_cases}
 use Rattle.ir_reader.specs.declared.readings.TypeWord.{TypeWord}
 use Rattle.ir_reader.specs.Lists.{Named}
 use Rattle.ir_ast.specs.Faults.Reserved.{IsExternalName, IsInsertedName}
 use Rattle.ir_types.specs.Statements.{Line, Statement, layout, declare, define}
 use Rattle.ir_types.specs.Sections.{Definition, Head, Naming, BlockLines, layouts_of, heads_of, definitions_of, values_of, blocks_of, definition_said, head_said, is_close, types_of}
-use Rattle.ir_types.specs.InBody.{InText, Repeats}
 use Rattle.ir_types.specs.Faults.NameTwice.{NameTwice, layout_again, head_again, declares_defined, label_again, value_again, DeclaresDefined}
 use Rattle.ir_types.specs.Faults.NoStrategy.{is_strategy, lacks_strategy, NoStrategy}
 use Rattle.ir_types.specs.Faults.NoMain.{NoMain}
@@ -16,9 +15,9 @@ use Rattle.ir_types.specs.Faults.UnknownExtern.{UnknownExtern}
 use Rattle.ir_types.specs.Faults.BadLayout.{are_cells, is_bad_layout, BadLayout}
 use Rattle.ir_types.specs.Faults.Reserved.{Reserved, defines_external, declares_helper, names_value, names_label}
 use Rattle.ir_types.specs.FaultSet.{HasFault, name_twice, no_strategy, no_main, unknown_extern, bad_layout, reserved}
-use Rattle.ir_types.specs.Again.{NamesFound, NamesInserted, TopAgain, FoundByNames, named_values, named_blocks}
-use Rattle.ir_types.specs.TopFaults.{DeclareFault, DefineFault, OuterFault, OuterFaults, LacksMain, FoundByTop}
-use Rattle.ir_types.proofs.Members.{contains-none, contains-here, contains-there, contains-one, contains-cases, contains-map, contains-image, IsImage, contains-joined, IsJoined, joined-contains}
+use Rattle.ir_types.specs.Again.{NamesInserted, FoundByNames, named_values, named_blocks}
+use Rattle.ir_types.specs.TopFaults.{DeclareFault, DefineFault, OuterFault, FoundByTop}
+use Rattle.ir_types.proofs.Members.{contains-none, contains-here, contains-there, contains-one, contains-cases, contains-map, contains-image, IsImage, contains-joined, joined-contains}
 
 abbrev pub at : ℕ → Statement → Line
 at number says = record { number = number; says = says }
@@ -33,13 +32,16 @@ first-line : (number : ℕ) (says : Statement) (ls : List Line) (func : Definiti
 first-line number (define answer name arguments strategy) ls func c = sym (ap head_line (contains-one _ func c))
 first-line number _ ls func c = absurd (contains-none func c)
 
+line-more : (l : Line) (ls : List Line) (func : Definition) → Contains (definition_said l.number l.says ls) func ⊎ Contains (definitions_of ls) func
+    → (Contains (definitions_of ls) func → Contains ls (head_line func)) → Contains (l ∷ ls) (head_line func)
+line-more l ls func (inl d) more =
+    subst (λ (one : Line). Contains (l ∷ ls) one) (sym (first-line l.number l.says ls func d)) (contains-here l ls)
+line-more l ls func (inr d) more = contains-there l ls (head_line func) (more d)
+
 pub definition-line : (lines : List Line) (func : Definition) → Contains (definitions_of lines) func → Contains lines (head_line func)
 definition-line [] func c = absurd (contains-none func c)
-definition-line (l ∷ ls) func c = by (Contains-append_cases (definition_said l.number l.says ls) (definitions_of ls) func c)
-  where
-    by : Contains (definition_said l.number l.says ls) func ⊎ Contains (definitions_of ls) func → Contains (l ∷ ls) (head_line func)
-    by (inl d) = subst (λ (one : Line). Contains (l ∷ ls) one) (sym (first-line l.number l.says ls func d)) (contains-here l ls)
-    by (inr d) = contains-there l ls (head_line func) (definition-line ls func d)
+definition-line (l ∷ ls) func c =
+    line-more l ls func (Contains-append_cases (definition_said l.number l.says ls) (definitions_of ls) func c) (definition-line ls func)
 
 pub record IsDefined (lines : List Line) (number : ℕ) (name : List ℕ) : Type 0 where
   pub func : Definition
@@ -47,41 +49,43 @@ pub record IsDefined (lines : List Line) (number : ℕ) (name : List ℕ) : Type
   pub line : func.line ≡ number
   pub named : func.name ≡ name
 
+abbrev here-definition : List Line → ℕ → TypeWord → List ℕ → List Named → Option (List ℕ) → Definition
+here-definition ls number answer name arguments strategy = record {
+  line = number;
+  answer = answer;
+  name = name;
+  arguments = arguments;
+  strategy = strategy;
+  body = take_while (λ one. not (is_close one.says)) ls;
+}
+
 here-defined : (l : Line) (ls : List Line) (number : ℕ) (answer : TypeWord) (name : List ℕ) (arguments : List Named) (strategy : Option (List ℕ))
     → l ≡ at number (define answer name arguments strategy) → IsDefined (l ∷ ls) number name
 here-defined l ls number answer name arguments strategy e =
     subst (λ (one : Line). IsDefined (one ∷ ls) number name) (sym e) (record {
-      func = here-definition;
-      defined = contains-here here-definition (definitions_of ls);
+      func = here-definition ls number answer name arguments strategy;
+      defined = contains-here (here-definition ls number answer name arguments strategy) (definitions_of ls);
       line = refl;
       named = refl;
     })
-  where
-    abbrev here-definition : Definition
-    here-definition = record {
-      line = number;
-      answer = answer;
-      name = name;
-      arguments = arguments;
-      strategy = strategy;
-      body = take_while (λ one. not (is_close one.says)) ls;
-    }
+
+defined-more : (l : Line) (ls : List Line) (number : ℕ) (answer : TypeWord) (name : List ℕ) (arguments : List Named) (strategy : Option (List ℕ))
+    → (l ≡ at number (define answer name arguments strategy)) ⊎ Contains ls (at number (define answer name arguments strategy))
+    → (Contains ls (at number (define answer name arguments strategy)) → IsDefined ls number name) → IsDefined (l ∷ ls) number name
+defined-more l ls number answer name arguments strategy (inl e) more = here-defined l ls number answer name arguments strategy e
+defined-more l ls number answer name arguments strategy (inr d) more = let is = more d in record {
+  func = is.func;
+  defined = Contains-append_right (definition_said l.number l.says ls) (definitions_of ls) is.func is.defined;
+  line = is.line;
+  named = is.named;
+}
 
 pub line-definition : (lines : List Line) (number : ℕ) (answer : TypeWord) (name : List ℕ) (arguments : List Named) (strategy : Option (List ℕ))
     → Contains lines (at number (define answer name arguments strategy)) → IsDefined lines number name
 line-definition [] number answer name arguments strategy c = absurd (contains-none _ c)
 line-definition (l ∷ ls) number answer name arguments strategy c =
-    by (contains-cases l ls (at number (define answer name arguments strategy)) c)
-  where
-    by : (l ≡ at number (define answer name arguments strategy)) ⊎ Contains ls (at number (define answer name arguments strategy))
-        → IsDefined (l ∷ ls) number name
-    by (inl e) = here-defined l ls number answer name arguments strategy e
-    by (inr d) = let is = line-definition ls number answer name arguments strategy d in record {
-      func = is.func;
-      defined = Contains-append_right (definition_said l.number l.says ls) (definitions_of ls) is.func is.defined;
-      line = is.line;
-      named = is.named;
-    }
+    defined-more l ls number answer name arguments strategy (contains-cases l ls (at number (define answer name arguments strategy)) c)
+    (line-definition ls number answer name arguments strategy)
 
 -- ---- heads and their lines
 
@@ -189,12 +193,12 @@ found_by_top-fault lines line code (inr (inr f)) =
     subst (λ (c : ℕ). HasFault lines line c) (sym f.0.1) (no_main (record { at_no_line = f.0.0; lacks = f.1 }))
 
 value-of : (func : Definition) (line : ℕ) (n : NamesInserted (named_values (values_of func)) line)
-    → IsImage (λ (one : Naming). (one.line, one.name)) (values_of func) (line, n.name)
-value-of func line n = contains-image (λ (one : Naming). (one.line, one.name)) (values_of func) (line, n.name) n.given
+    → IsImage {Y = ℕ × List ℕ} (λ (one : Naming). (one.line, one.name)) (values_of func) (line, n.name)
+value-of func line n = contains-image {Y = ℕ × List ℕ} (λ (one : Naming). (one.line, one.name)) (values_of func) (line, n.name) n.given
 
 block-of : (func : Definition) (line : ℕ) (n : NamesInserted (named_blocks (blocks_of func)) line)
-    → IsImage (λ (one : BlockLines). (one.line, one.name)) (blocks_of func) (line, n.name)
-block-of func line n = contains-image (λ (one : BlockLines). (one.line, one.name)) (blocks_of func) (line, n.name) n.given
+    → IsImage {Y = ℕ × List ℕ} (λ (one : BlockLines). (one.line, one.name)) (blocks_of func) (line, n.name)
+block-of func line n = contains-image {Y = ℕ × List ℕ} (λ (one : BlockLines). (one.line, one.name)) (blocks_of func) (line, n.name) n.given
 
 pub found_by_names-fault : (lines : List Line) (func : Definition) → Contains (definitions_of lines) func → (line code : ℕ)
     → FoundByNames func line code → HasFault lines line code
@@ -247,7 +251,7 @@ defined-found lines line d =
     let o = contains-joined said_at lines d.other d.other_stands in
     let known : Contains (function_names lines) d.declared.name
     = subst (λ (n : List ℕ). Contains (function_names lines) n) d.same
-      (head-defined lines o.of.number o.of.says d.other o.inside o.given d.is_defined) in
+    (head-defined lines o.of.number o.of.says d.other o.inside o.given d.is_defined) in
     declares-found lines line i.of.number i.of.says d.declared i.inside i.given d.is_declared d.number known
 
 pub name_twice-found : (lines : List Line) (line : ℕ) → NameTwice lines line → FoundByNamesOrTop lines line 3
@@ -298,20 +302,26 @@ reserved-found lines line (declares_helper answer name parameters stands h) =
 reserved-found lines line (names_value func one defined inside e inserted) = inr (record {
   func = func;
   defined = defined;
-  found = inl (inr (refl, record {
-    name = one.name;
-    given = subst (λ (n : ℕ). Contains (named_values (values_of func)) (n, one.name)) e
-        (contains-map (λ (one : Naming). (one.line, one.name)) (values_of func) one inside);
-    inserted = inserted;
-  }));
+  found = inl (inr (
+    refl,
+    record {
+      name = one.name;
+      given = subst (λ (n : ℕ). Contains (named_values (values_of func)) (n, one.name)) e
+          (contains-map {Y = ℕ × List ℕ} (λ (one : Naming). (one.line, one.name)) (values_of func) one inside);
+      inserted = inserted;
+    },
+  ));
 })
 reserved-found lines line (names_label func one defined inside e inserted) = inr (record {
   func = func;
   defined = defined;
-  found = inr (inr (refl, record {
-    name = one.name;
-    given = subst (λ (n : ℕ). Contains (named_blocks (blocks_of func)) (n, one.name)) e
-        (contains-map (λ (one : BlockLines). (one.line, one.name)) (blocks_of func) one inside);
-    inserted = inserted;
-  }));
+  found = inr (inr (
+    refl,
+    record {
+      name = one.name;
+      given = subst (λ (n : ℕ). Contains (named_blocks (blocks_of func)) (n, one.name)) e
+          (contains-map {Y = ℕ × List ℕ} (λ (one : BlockLines). (one.line, one.name)) (blocks_of func) one inside);
+      inserted = inserted;
+    },
+  ));
 })

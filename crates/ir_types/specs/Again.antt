@@ -1,7 +1,8 @@
 -- Names that are given again, and names of inserted values: what is found where names are added behind others.
-use Rattle.std.specs.Prelude.{◌≡◌, ℕ, ◌⊎◌, List, [], ◌∷◌, ◌++◌, map, flat_map, slice_get, Option}
+use Rattle.std.specs.Prelude.{◌≡◌, ℕ, ◌⊎◌, List, ◌∷◌, ◌++◌, map, flat_map, slice_get, Option}
 use Rattle.std.specs.List.{Contains}
 use Rattle.std.specs.Option.{option_and_then}
+use Rattle.ir_reader.specs.declared.readings.TypeWord.{TypeWord}
 use Rattle.ir_ast.specs.Faults.Reserved.{IsInsertedName}
 use Rattle.ir_types.specs.Parts.{gives}
 use Rattle.ir_types.specs.InBody.{Repeats}
@@ -25,6 +26,9 @@ named_values values = map (λ one. (one.line, one.name)) values
 
 abbrev pub named_blocks : List BlockLines → List (ℕ × List ℕ)
 named_blocks blocks = map (λ one. (one.line, one.name)) blocks
+
+abbrev pub layout_line : ℕ → List ℕ → List TypeWord → LayoutLine
+layout_line line name fields = record { line = line; name = name; fields = fields }
 
 -- what the lines of a function give
 abbrev pub results_of : List Line → List Naming

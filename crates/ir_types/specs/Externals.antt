@@ -21,17 +21,26 @@ own_helpers =
     ∷ external (codes "gc_same") (Int 1) (Managed ∷ Managed ∷ Managed ∷ Managed ∷ [])
     ∷ []
 
--- those whose names are whole
-abbrev pub own_externals : List External
-own_externals =
+abbrev pub own_basics : List External
+own_basics =
     external (codes "print_i64") Void (Int 64 ∷ [])
     ∷ external (codes "read_i64") (Int 64) []
     ∷ external (codes "task_start") Void (Plain ∷ Managed ∷ [])
-    ∷ own_helpers
+    ∷ []
+
+-- those whose names are whole
+abbrev pub own_externals : List External
+own_externals = own_basics ++ own_helpers
 
 -- each layout has its own `gc_new`
+abbrev pub makers_of : List (List ℕ) → List External
+makers_of layouts = map (λ layout. external (gc_new layout) Managed (Int 64 ∷ [])) layouts
+
 abbrev pub externals_of : List (List ℕ) → List External
-externals_of layouts = map (λ layout. external (gc_new layout) Managed (Int 64 ∷ [])) layouts ++ own_externals
+externals_of layouts = makers_of layouts ++ own_externals
+
+abbrev pub basics : List (List ℕ)
+basics = codes "print_i64" ∷ codes "read_i64" ∷ codes "task_start" ∷ []
 
 -- what only rewritten modules declare
 abbrev pub helpers : List (List ℕ)

@@ -1,6 +1,7 @@
 //! Names by number.
 
-ghost use Rattle.std.specs.Prelude.{◌≡◌, [], ◌∷◌, ◌++◌, is_none, map, OnOk, IfOk};
+ghost use Rattle.std.specs.Prelude.{◌≡◌, [], ◌∷◌, ◌++◌, ◌↔◌, IsTrue, is_none, map, OnOk, IfOk};
+ghost use Rattle.std.specs.List.{Contains};
 ghost use Rattle.std.specs.Str.{bytes_eq};
 ghost use Rattle.ir_types.specs.Places.{place_in, number_of, number_in};
 
@@ -71,6 +72,13 @@ impl<'n> Names<'n> {
         ensures { result ≡ place_in self.now name.now }
     {
         self.first.get(&name).copied()
+    }
+
+    /// Whether one of these names is this.
+    pub(crate) fn has(&self, name: &[u8]) -> bool
+        ensures { IsTrue result ↔ Contains self.now name.now }
+    {
+        self.find(name).is_some()
     }
 
     /// The number of the first of these names, or 2^32 - 1 where there is none.

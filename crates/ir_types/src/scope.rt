@@ -3,7 +3,7 @@
 ghost use Rattle.std.specs.Prelude.{◌≡◌, ◌↔◌, ◌⊎◌, IsTrue, [], ◌∷◌, ◌++◌, false, map, option_map, option_to_list, if◌then◌else◌, IfOk, OnOk};
 ghost use Rattle.ir_ast.specs.Faults.Reserved.{IsInsertedName};
 ghost use Rattle.ir_reader.specs.Seen.{seen_argument};
-ghost use Rattle.ir_types.specs.Again.{at_name, named_layouts, named_heads, named_values, named_blocks, FoundAfter, IsAgain, IsBadName, TopAgain, FoundByNames, results_of};
+ghost use Rattle.ir_types.specs.Again.{at_name, named_layouts, named_heads, named_values, named_blocks, FoundAfter, IsAgain, IsBadName, TopAgain, FoundByNames, results_of, layout_line};
 ghost use Rattle.ir_types.specs.Notes.{Notes};
 ghost use Rattle.ir_types.specs.Parts.{gives};
 ghost use Rattle.ir_types.specs.Sections.{layout_said, head_said, arguments_named, result_named, blocks_of};
@@ -37,6 +37,17 @@ pub(crate) struct Top<'t, 'a> {
     pub(crate) head_list: Vec<Head<'t, 'a>>,
     /// The names of the definitions.
     pub(crate) functions: Names<'a>,
+}
+
+// The name and the fields of a line that is a layout.
+fn layout_of<'t, 'a>(line: &'t NumberedReading<'a>) -> Option<(&'a [u8], &'t [TypeWord])>
+    ensures { option_to_list (option_map (λ one. layout_line line.now.line one.0.now one.1.now) result)
+        ≡ layout_said line.now.line (said line.now.reading) }
+{
+    match &line.reading {
+        Reading::Layout { name, fields } => Some((*name, fields.as_slice())),
+        _ => None,
+    }
 }
 
 /// The head of a line that is one.
@@ -104,11 +115,9 @@ impl<'t, 'a> Top<'t, 'a> {
         ensures noted { OnOk result (Notes first.old.found first.new.found
             (FoundAfter IsAgain self.old.layouts (named_layouts (layout_said line.now.line (said line.now.reading))))) }
     {
-        match &line.reading {
-            Reading::Layout { name, fields } => {
-                self.push_layout(line.line, name, fields.as_slice(), first)
-            }
-            _ => Ok(()),
+        match layout_of(line) {
+            Some((name, fields)) => self.push_layout(line.line, name, fields, first),
+            None => Ok(()),
         }
     }
 
@@ -247,8 +256,8 @@ impl<'n> Local<'n> {
         ensures noted { OnOk result (Notes first.old.found first.new.found
             (FoundAfter IsBadName self.old.values (named_values (arguments_named line [] (map seen_argument arguments.now))))) }
     {
-        for (argument, name) in arguments.iter().zip(names.iter()) {
-            self.add_value(line, name.as_slice(), argument.ty, first)?;
+        for (i, argument) in arguments.iter().enumerate() {
+            self.add_value(line, names[i].as_slice(), argument.ty, first)?;
         }
         Ok(())
     }
@@ -315,12 +324,7 @@ impl<'n> Local<'n> {
         Ok(())
     }
 
-    fn add_block(
-        &mut self,
-        line: u32,
-        name: &'n [u8],
-        first: &mut First,
-    ) -> Result<(), AllocError>
+    fn add_block(&mut self, line: u32, name: &'n [u8], first: &mut First) -> Result<(), AllocError>
         ensures values { OnOk result (self.new.values ≡ self.old.values) }
         ensures types { OnOk result (self.new.types.items ≡ self.old.types.items) }
         ensures blocks { OnOk result (self.new.blocks ≡ self.old.blocks ++ name.now ∷ []) }

@@ -1,6 +1,6 @@
 //! The definitions of a text, and their blocks.
 
-ghost use Rattle.std.specs.Prelude.{◌≡◌, ℕ, [], ◌++◌, not, take_while, map, decimal, option_map, option_to_list, unwrap_or, IfOk, OnOk};
+ghost use Rattle.std.specs.Prelude.{◌≡◌, ℕ, [], ◌++◌, ◌<◌, not, take_while, position, length, map, decimal, option_map, option_to_list, unwrap_or, IfSome, IfOk, OnOk};
 ghost use Rattle.std.specs.Option.{option_copied};
 ghost use Rattle.ir_reader.specs.Seen.{seen_argument};
 ghost use Rattle.ir_types.specs.Sections.{is_close, is_label, label_said, until_label, is_digit, is_number, is_numbered, count_numbered, arguments_named, definition_said, definitions_of, first_block, block_at, labelled_blocks, blocks_of};
@@ -45,11 +45,18 @@ fn label_of<'a>(reading: &Reading<'a>) -> Option<&'a [u8]>
     }
 }
 
+fn first_close(lines: &[NumberedReading]) -> Option<usize>
+    ensures is { result ≡ position (λ l. is_close (said l.reading)) lines.now }
+    ensures below { IfSome result (λ end. end < length lines.now) }
+{
+    lines.iter().position(|line| is_close(&line.reading))
+}
+
 // The lines before the closing brace.
 fn body_of<'t, 'a>(lines: &'t [NumberedReading<'a>]) -> &'t [NumberedReading<'a>]
     ensures { seen_lines result.now ≡ take_while (λ l. not (is_close l.says)) (seen_lines lines.now) }
 {
-    match lines.iter().position(|line| is_close(&line.reading)) {
+    match first_close(lines) {
         Some(end) => &lines[..end],
         None => lines,
     }
@@ -61,11 +68,18 @@ fn is_label(reading: &Reading) -> bool
     matches!(reading, Reading::Label { .. })
 }
 
+fn first_label(lines: &[NumberedReading]) -> Option<usize>
+    ensures is { result ≡ position (λ l. is_label (said l.reading)) lines.now }
+    ensures below { IfSome result (λ end. end < length lines.now) }
+{
+    lines.iter().position(|line| is_label(&line.reading))
+}
+
 // The lines before the next label.
 fn until_label<'t, 'a>(lines: &'t [NumberedReading<'a>]) -> &'t [NumberedReading<'a>]
     ensures { seen_lines result.now ≡ until_label (seen_lines lines.now) }
 {
-    match lines.iter().position(|line| is_label(&line.reading)) {
+    match first_label(lines) {
         Some(end) => &lines[..end],
         None => lines,
     }

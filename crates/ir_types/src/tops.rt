@@ -5,11 +5,11 @@ ghost use Rattle.std.specs.Option.{option_copied};
 ghost use Rattle.std.specs.Str.{bytes_eq};
 ghost use Rattle.std.specs.List.{Contains, list_all};
 ghost use Rattle.ir_ast.specs.Lists.{HasFront};
-ghost use Rattle.ir_ast.specs.Faults.Reserved.{IsExternalName};
+ghost use Rattle.ir_ast.specs.Faults.Reserved.{externals, IsExternalName};
 ghost use Rattle.ir_reader.specs.Seen.{seen_argument};
 ghost use Rattle.ir_types.specs.Sections.{types_of};
 ghost use Rattle.ir_types.specs.Types.{same_type, same_types, is_cell};
-ghost use Rattle.ir_types.specs.Externals.{external, externals_of, own_externals, own_helpers, helpers, gc_new};
+ghost use Rattle.ir_types.specs.Externals.{external, externals_of, makers_of, own_externals, own_basics, own_helpers, basics, helpers, gc_new};
 ghost use Rattle.ir_types.specs.Notes.{Notes};
 ghost use Rattle.ir_types.specs.Tables.{seen_definition};
 ghost use Rattle.ir_types.specs.TopFaults.{DeclareFault, DefineFault, OuterFault, OuterFaults, LacksMain};
@@ -68,15 +68,39 @@ fn is_of_llvm(name: &[u8]) -> bool
     name.starts_with(b"llvm.")
 }
 
+// Whether only rewritten modules declare it.
+fn is_of_rewritten(name: &[u8]) -> bool
+    ensures { IsTrue result ↔ (Contains helpers name.now ⊎ HasFront (codes "llvm.") name.now) }
+{
+    is_helper(name) || is_of_llvm(name)
+}
+
+fn is_basic(name: &[u8]) -> bool
+    ensures { IsTrue result ↔ Contains basics name.now }
+{
+    is_text(name, b"print_i64") || is_text(name, b"read_i64") || is_text(name, b"task_start")
+}
+
+// Whether it is the name of an external whose name is whole.
+fn is_whole_name(name: &[u8]) -> bool
+    ensures { IsTrue result ↔ Contains externals name.now }
+{
+    if is_basic(name) {
+        return true;
+    }
+    is_helper(name)
+}
+
 fn is_external_name(name: &[u8]) -> bool
     ensures { IsTrue result ↔ IsExternalName name.now }
 {
-    is_text(name, b"print_i64")
-        || is_text(name, b"read_i64")
-        || is_text(name, b"task_start")
-        || is_helper(name)
-        || name.starts_with(GC_NEW)
-        || is_of_llvm(name)
+    is_whole_name(name) || has_gc_new(name) || is_of_llvm(name)
+}
+
+fn is_type(ty: TypeWord, other: TypeWord) -> bool
+    ensures { result ≡ same_type ty other }
+{
+    ty == other
 }
 
 // Whether the declaration is the external of this name, with its answer and its parameters.
@@ -90,7 +114,13 @@ fn is_same(
 ) -> bool
     ensures { IsTrue result ↔ (external name.now answer (types_of (map seen_argument parameters.now)) ≡ external due.now gives takes.now) }
 {
-    is_text(name, due) && answer == gives && has_types(parameters, takes)
+    if !is_text(name, due) {
+        return false;
+    }
+    if !is_type(answer, gives) {
+        return false;
+    }
+    has_types(parameters, takes)
 }
 
 fn has_gc_new(name: &[u8]) -> bool
@@ -110,44 +140,69 @@ fn is_gc_new(answer: TypeWord, parameters: &[Argument]) -> bool
 fn is_own(name: &[u8], answer: TypeWord, parameters: &[Argument]) -> bool
     ensures { IsTrue result ↔ Contains own_externals (external name.now answer (types_of (map seen_argument parameters.now))) }
 {
-    is_same(name, answer, parameters, b"print_i64", TypeWord::Void, &[TypeWord::Int(64)])
-        || is_same(name, answer, parameters, b"read_i64", TypeWord::Int(64), &[])
-        || is_same(
-            name,
-            answer,
-            parameters,
-            b"task_start",
-            TypeWord::Void,
-            &[TypeWord::Plain, TypeWord::Managed],
-        )
-        || is_own_helper(name, answer, parameters)
+    if is_own_basic(name, answer, parameters) {
+        return true;
+    }
+    is_own_helper(name, answer, parameters)
+}
+
+fn is_own_basic(name: &[u8], answer: TypeWord, parameters: &[Argument]) -> bool
+    ensures { IsTrue result ↔ Contains own_basics (external name.now answer (types_of (map seen_argument parameters.now))) }
+{
+    is_same(
+        name,
+        answer,
+        parameters,
+        b"print_i64",
+        TypeWord::Void,
+        &[TypeWord::Int(64)],
+    ) || is_same(
+        name,
+        answer,
+        parameters,
+        b"read_i64",
+        TypeWord::Int(64),
+        &[],
+    ) || is_same(
+        name,
+        answer,
+        parameters,
+        b"task_start",
+        TypeWord::Void,
+        &[TypeWord::Plain, TypeWord::Managed],
+    )
 }
 
 fn is_own_helper(name: &[u8], answer: TypeWord, parameters: &[Argument]) -> bool
     ensures { IsTrue result ↔ Contains own_helpers (external name.now answer (types_of (map seen_argument parameters.now))) }
 {
-    is_same(name, answer, parameters, b"gc.safepoint_poll", TypeWord::Void, &[])
-        || is_same(
-            name,
-            answer,
-            parameters,
-            b"gc_check",
-            TypeWord::Void,
-            &[TypeWord::Managed, TypeWord::Managed, TypeWord::Int(64)],
-        )
-        || is_same(
-            name,
-            answer,
-            parameters,
-            b"gc_same",
-            TypeWord::Int(1),
-            &[
-                TypeWord::Managed,
-                TypeWord::Managed,
-                TypeWord::Managed,
-                TypeWord::Managed,
-            ],
-        )
+    is_same(
+        name,
+        answer,
+        parameters,
+        b"gc.safepoint_poll",
+        TypeWord::Void,
+        &[],
+    ) || is_same(
+        name,
+        answer,
+        parameters,
+        b"gc_check",
+        TypeWord::Void,
+        &[TypeWord::Managed, TypeWord::Managed, TypeWord::Int(64)],
+    ) || is_same(
+        name,
+        answer,
+        parameters,
+        b"gc_same",
+        TypeWord::Int(1),
+        &[
+            TypeWord::Managed,
+            TypeWord::Managed,
+            TypeWord::Managed,
+            TypeWord::Managed,
+        ],
+    )
 }
 
 impl Top<'_, '_> {
@@ -155,14 +210,30 @@ impl Top<'_, '_> {
     fn makes_layout(&self, name: &[u8]) -> bool
         ensures { IsTrue result ↔ Contains (map gc_new self.now.layouts) name.now }
     {
-        has_gc_new(name) && self.layouts.find(&name[GC_NEW.len()..]).is_some()
+        match name.strip_prefix(GC_NEW) {
+            Some(layout) => self.layouts.has(layout),
+            None => false,
+        }
+    }
+
+    // Whether it is `gc_new` of a layout, with its answer and its parameters.
+    fn is_made(&self, answer: TypeWord, name: &[u8], parameters: &[Argument]) -> bool
+        ensures { IsTrue result ↔ Contains (makers_of self.now.layouts) (external name.now answer (types_of (map seen_argument parameters.now))) }
+    {
+        if !is_gc_new(answer, parameters) {
+            return false;
+        }
+        self.makes_layout(name)
     }
 
     // Whether it is one of the externals, with its answer and its parameters.
     fn is_external(&self, answer: TypeWord, name: &[u8], parameters: &[Argument]) -> bool
         ensures { IsTrue result ↔ Contains (externals_of self.now.layouts) (external name.now answer (types_of (map seen_argument parameters.now))) }
     {
-        (self.makes_layout(name) && is_gc_new(answer, parameters)) || is_own(name, answer, parameters)
+        if self.is_made(answer, name, parameters) {
+            return true;
+        }
+        is_own(name, answer, parameters)
     }
 
     // Notes the faults of a declaration.
@@ -177,9 +248,9 @@ impl Top<'_, '_> {
         ensures { Notes first.old.found first.new.found (λ at code. (at ≡ line)
             × DeclareFault self.now.functions self.now.layouts answer name.now (map seen_argument parameters.now) code) }
     {
-        first.note_if(self.functions.find(name).is_some(), line, 3);
+        first.note_if(self.functions.has(name), line, 3);
         first.note_if(!self.is_external(answer, name, parameters), line, 12);
-        first.note_if(is_helper(name) || is_of_llvm(name), line, 14);
+        first.note_if(is_of_rewritten(name), line, 14);
     }
 
     // Notes the faults of a line outside functions.

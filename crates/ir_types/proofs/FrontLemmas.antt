@@ -1,0 +1,59 @@
+-- The front of a list, up to the first element that passes a test.
+use Rattle.std.proofs.Common.{◌≡◌, ◌∙◌, ℕ, ◌+◌, ◌<◌, ◌≤◌, Bool, true, false, cond, List, [], ◌∷◌, ◌++◌, length, get_or, take, drop, zero, suc, refl, ap, sym, arith, append_assoc}
+use Rattle.std.specs.Prelude.{map, position, nat_lt, not, take_while, Some, None}
+use Rattle.std.specs.List.{prefix_len, position_or_len}
+use Rattle.std.proofs.lemmas.List.{take-map, take_all, take_more, drop_more}
+use Rattle.std.proofs.lemmas.Bool.Decides.{nat_tests}
+
+prefix-map : {A B : Type 0} (q : A → Bool) (p : B → Bool) (v : A → B) → ((a : A) → p (v a) ≡ not (q a)) → (xs : List A)
+    → prefix_len p (map v xs) ≡ position_or_len q xs
+prefix-map q p v same [] = refl
+prefix-map q p v same (x ∷ xs) =
+    ap (λ t. cond t (1 + prefix_len p (map v xs)) 0) (same x) ∙ ap (λ n. cond (not (q x)) (1 + n) 0) (prefix-map q p v same xs)
+
+front : {A B : Type 0} (q : A → Bool) (p : B → Bool) (v : A → B) → ((a : A) → p (v a) ≡ not (q a)) → (xs : List A)
+    → map v (take (position_or_len q xs) xs) ≡ take_while p (map v xs)
+front q p v same xs =
+    sym (take-map v (position_or_len q xs) xs) ∙ ap (λ n. take n (map v xs)) (sym (prefix-map q p v same xs))
+
+pub front-some : {A B : Type 0} (q : A → Bool) (p : B → Bool) (v : A → B) → ((a : A) → p (v a) ≡ not (q a)) → (xs : List A) (n : ℕ)
+    → position q xs ≡ Some n → map v (take n xs) ≡ take_while p (map v xs)
+front-some q p v same xs n e = by (nat_lt (position_or_len q xs) (length xs)) refl
+  where
+    by : (t : Bool) → nat_lt (position_or_len q xs) (length xs) ≡ t → map v (take n xs) ≡ take_while p (map v xs)
+    by true is =
+        let at : Some (position_or_len q xs) ≡ Some n = sym (ap (λ t. cond t (Some (position_or_len q xs)) None) is) ∙ e in
+        let here : position_or_len q xs ≡ n = cc in
+        ap (λ m. map v (take m xs)) (sym here) ∙ front q p v same xs
+    by false is =
+        let at : None ≡ Some n = sym (ap (λ t. cond t (Some (position_or_len q xs)) None) is) ∙ e in cc
+
+pub front-none : {A B : Type 0} (q : A → Bool) (p : B → Bool) (v : A → B) → ((a : A) → p (v a) ≡ not (q a)) → (xs : List A)
+    → position q xs ≡ None → map v xs ≡ take_while p (map v xs)
+front-none q p v same xs e = by (nat_lt (position_or_len q xs) (length xs)) refl
+  where
+    by : (t : Bool) → nat_lt (position_or_len q xs) (length xs) ≡ t → map v xs ≡ take_while p (map v xs)
+    by true is =
+        let at : Some (position_or_len q xs) ≡ None = sym (ap (λ t. cond t (Some (position_or_len q xs)) None) is) ∙ e in cc
+    by false is =
+        let past : length xs ≤ position_or_len q xs = grind (arith, nat_tests) in
+        ap (map v) (sym (take_all (position_or_len q xs) xs past)) ∙ front q p v same xs
+
+-- ---- one more element
+
+pub taken : {X : Type 0} (xs : List X) (i : ℕ) (x : X) → i < length xs → x ≡ get_or xs i x → take (i + 1) xs ≡ take i xs ++ x ∷ []
+taken xs i x below is = take_more xs i x below ∙ ap (λ y. take i xs ++ y ∷ []) (sym is)
+
+pub dropped : {X : Type 0} (xs : List X) (i : ℕ) (x : X) → i < length xs → x ≡ get_or xs i x → drop i xs ≡ x ∷ drop (i + 1) xs
+dropped xs i x below is = drop_more xs i x below ∙ ap (λ y. y ∷ drop (i + 1) xs) (sym is)
+
+-- what is made so far and what the rest makes
+pub rest-moved : {B : Type 0} (items more here rest left whole : List B) → more ≡ items ++ here → left ≡ here ++ rest
+    → items ++ left ≡ whole → more ++ rest ≡ whole
+rest-moved items more here rest left whole is next e =
+    ap (λ xs. xs ++ rest) is ∙ append_assoc items here rest ∙ ap (λ xs. items ++ xs) (sym next) ∙ e
+
+pub get-map : {X Y : Type 0} (f : X → Y) (xs : List X) (i : ℕ) (d : X) (e : Y) → i < length xs → get_or (map f xs) i e ≡ f (get_or xs i d)
+get-map f [] i d e below = absurd (let b : i < 0 = below in omega arith)
+get-map f (x ∷ xs) zero d e below = refl
+get-map f (x ∷ xs) (suc i) d e below = get-map f xs i d e (let b : suc i < length (x ∷ xs) = below in omega arith)
