@@ -1,6 +1,6 @@
 -- Names that are added one after another, and what is found of them.
-use Rattle.std.proofs.Common.{◌≡◌, ◌∙◌, ℕ, ◌<◌, ◌≤◌, zero, suc, ◌⊎◌, inl, inr, Bool, true, false, List, [], ◌∷◌, ◌++◌, length, get_or, refl, ap, sym, subst, arith, append_assoc}
-use Rattle.std.specs.Prelude.{map, Option, Some, None, is_none, not, IsTrue, ◌↔◌}
+use Rattle.std.proofs.Common.{◌≡◌, ◌∙◌, ℕ, ◌⊎◌, inl, inr, Bool, true, false, List, [], ◌∷◌, ◌++◌, refl, ap, sym, subst, append_assoc}
+use Rattle.std.specs.Prelude.{map, Option, is_none, not, IsTrue, ◌↔◌}
 use Rattle.std.specs.List.{Contains}
 use Rattle.std.proofs.lemmas.List.{append-nil, map-append}
 use Rattle.ir_types.specs.declared.faults.Fault.{Fault}
@@ -8,11 +8,11 @@ use Rattle.ir_ast.specs.Faults.Reserved.{IsInsertedName}
 use Rattle.ir_types.specs.Notes.{Notes, Is}
 use Rattle.ir_types.specs.Places.{place_in}
 use Rattle.ir_types.specs.InBody.{Repeats}
-use Rattle.ir_types.specs.Again.{FoundAfter, IsAgain, IsBadName, NamesFound, NamesInserted}
+use Rattle.ir_types.specs.Again.{FoundAfter, IsAgain, IsBadName, NamesFound}
 use Rattle.ir_types.proofs.NoteLemmas.{Either, notes-then, notes-same}
 use Rattle.ir_types.proofs.PlaceLemmas.{place-contains, contains-place}
-use Rattle.ir_types.proofs.Members.{contains-none, contains-here, contains-there, contains-cases}
-use Rattle.std.proofs.lemmas.List.Elements.{Contains-append_left, Contains-append_right, Contains-append_cases}
+use Rattle.ir_types.proofs.Members.{contains-none, contains-here, contains-cases}
+use Rattle.std.proofs.lemmas.List.Elements.{Contains-append_right}
 
 abbrev pub Given : Type 0
 Given = ℕ × List ℕ

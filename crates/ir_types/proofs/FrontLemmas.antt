@@ -1,8 +1,8 @@
 -- The front of a list, up to the first element that passes a test.
-use Rattle.std.proofs.Common.{◌≡◌, ◌∙◌, ℕ, ◌+◌, ◌<◌, ◌≤◌, Bool, true, false, cond, List, [], ◌∷◌, ◌++◌, length, get_or, take, drop, zero, suc, refl, ap, sym, subst, arith, append_assoc}
-use Rattle.std.specs.Prelude.{map, position, nat_lt, not, take_while, Option, Some, None}
+use Rattle.std.proofs.Common.{◌≡◌, ◌∙◌, ℕ, ◌+◌, ◌<◌, ◌≤◌, Bool, true, false, cond, List, [], ◌∷◌, ◌++◌, length, get_or, take, drop, zero, suc, refl, ap, sym, arith, append_assoc}
+use Rattle.std.specs.Prelude.{map, position, nat_lt, not, take_while, Some, None}
 use Rattle.std.specs.List.{prefix_len, position_or_len}
-use Rattle.std.proofs.lemmas.List.{length-map, take-map, take_all, take_more, drop_more}
+use Rattle.std.proofs.lemmas.List.{take-map, take_all, take_more, drop_more}
 use Rattle.std.proofs.lemmas.Bool.Decides.{nat_tests}
 
 prefix-map : {A B : Type 0} (q : A → Bool) (p : B → Bool) (v : A → B) → ((a : A) → p (v a) ≡ not (q a)) → (xs : List A)

@@ -1,5 +1,5 @@
 -- One pass after another keeps the first of the faults of both; at the end it is the least fault.
-use Rattle.std.proofs.Common.{◌≡◌, ◌∙◌, ℕ, ◌<◌, ◌≤◌, ◌⊎◌, inl, inr, Bool, true, false, List, refl, ap, sym, subst, arith}
+use Rattle.std.proofs.Common.{◌≡◌, ◌∙◌, ℕ, ◌⊎◌, inl, inr, Bool, true, false, List, refl, ap, sym, subst, arith}
 use Rattle.std.specs.Prelude.{Option, Some, None, not, IsTrue, ◌↔◌}
 use Rattle.ir_types.specs.declared.faults.Fault.{Fault}
 use Rattle.ir_types.specs.Statements.{Line}

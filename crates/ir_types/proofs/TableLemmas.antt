@@ -1,5 +1,5 @@
 -- One more line, argument or block in a table, and what is noted of its names.
-use Rattle.std.proofs.Common.{◌≡◌, ◌∙◌, ℕ, ◌+◌, ◌<◌, zero, suc, ◌⊎◌, inl, inr, Bool, true, false, List, [], ◌∷◌, ◌++◌, length, get_or, take, refl, ap, sym, subst, arith, append_assoc}
+use Rattle.std.proofs.Common.{◌≡◌, ◌∙◌, ℕ, ◌+◌, ◌<◌, zero, suc, ◌⊎◌, inl, inr, List, [], ◌∷◌, ◌++◌, length, get_or, take, refl, ap, sym, subst, arith, append_assoc}
 use Rattle.std.specs.Prelude.{map, flat_map, filter, Option}
 use Rattle.std.proofs.lemmas.List.{append-nil, map-append, length-map, take_more}
 use Rattle.std.proofs.lemmas.List.Elements.{filter-append}
@@ -8,13 +8,11 @@ use Rattle.ir_reader.specs.Lists.{Named}
 use Rattle.ir_types.specs.declared.faults.Fault.{Fault}
 use Rattle.ir_types.specs.declared.scope.Top.{Top}
 use Rattle.ir_types.specs.declared.scope.Local.{Local}
-use Rattle.ir_types.specs.Statements.{Line, Statement, declare, define}
-use Rattle.ir_types.specs.Sections.{LayoutLine, Head, Definition, Naming, BlockLines, layouts_of, heads_of, definitions_of, layout_said, head_said, definition_said, arguments_named, result_named, values_of, blocks_of}
-use Rattle.ir_types.specs.Parts.{gives}
+use Rattle.ir_types.specs.Statements.{Line, Statement, define}
+use Rattle.ir_types.specs.Sections.{LayoutLine, Head, Definition, Naming, BlockLines, layouts_of, heads_of, definitions_of, layout_said, head_said, definition_said, arguments_named, values_of, blocks_of}
 use Rattle.ir_types.specs.Notes.{Notes}
-use Rattle.ir_types.specs.InBody.{Repeats}
 use Rattle.ir_types.specs.Tables.{seen_head, IsTop, AddsLayouts, AddsHeads, AddsValues, AddsBlocks}
-use Rattle.ir_types.specs.Again.{FoundAfter, IsAgain, IsBadName, NamesFound, TopAgain, FoundByNames, results_of, named_layouts, named_heads, named_values, named_blocks}
+use Rattle.ir_types.specs.Again.{FoundAfter, IsAgain, IsBadName, TopAgain, FoundByNames, named_layouts, named_heads, named_values, named_blocks}
 use Rattle.ir_types.proofs.NoteLemmas.{Either, notes-then, notes-same, notes-nothing}
 use Rattle.ir_types.proofs.AgainLemmas.{names_of, found-none, found-left, found-right, found-either, notes-added, again-repeats, repeats-again, names-found, found-names}
 

@@ -1,14 +1,13 @@
 -- What the passes over names, declarations and heads find are the faults of codes 3, 10, 11, 12, 13 and 14.
-use Rattle.std.proofs.Common.{◌≡◌, ◌∙◌, ℕ, ◌⊎◌, inl, inr, Bool, true, false, List, [], ◌∷◌, ◌++◌, refl, ap, sym, subst}
+use Rattle.std.proofs.Common.{◌≡◌, ◌∙◌, ℕ, ◌⊎◌, inl, inr, Bool, true, false, List, [], ◌∷◌, refl, ap, sym, subst}
 use Rattle.std.specs.Prelude.{map, take_while, not, Option}
 use Rattle.std.specs.List.{Contains}
-use Rattle.std.proofs.lemmas.List.Elements.{Contains-append_left, Contains-append_right, Contains-append_cases}
+use Rattle.std.proofs.lemmas.List.Elements.{Contains-append_right, Contains-append_cases}
 use Rattle.ir_reader.specs.declared.readings.TypeWord.{TypeWord}
 use Rattle.ir_reader.specs.Lists.{Named}
 use Rattle.ir_ast.specs.Faults.Reserved.{IsExternalName, IsInsertedName}
 use Rattle.ir_types.specs.Statements.{Line, Statement, layout, declare, define}
 use Rattle.ir_types.specs.Sections.{Definition, Head, Naming, BlockLines, layouts_of, heads_of, definitions_of, values_of, blocks_of, definition_said, head_said, is_close, types_of}
-use Rattle.ir_types.specs.InBody.{InText, Repeats}
 use Rattle.ir_types.specs.Faults.NameTwice.{NameTwice, layout_again, head_again, declares_defined, label_again, value_again, DeclaresDefined}
 use Rattle.ir_types.specs.Faults.NoStrategy.{is_strategy, lacks_strategy, NoStrategy}
 use Rattle.ir_types.specs.Faults.NoMain.{NoMain}
@@ -16,9 +15,9 @@ use Rattle.ir_types.specs.Faults.UnknownExtern.{UnknownExtern}
 use Rattle.ir_types.specs.Faults.BadLayout.{are_cells, is_bad_layout, BadLayout}
 use Rattle.ir_types.specs.Faults.Reserved.{Reserved, defines_external, declares_helper, names_value, names_label}
 use Rattle.ir_types.specs.FaultSet.{HasFault, name_twice, no_strategy, no_main, unknown_extern, bad_layout, reserved}
-use Rattle.ir_types.specs.Again.{NamesFound, NamesInserted, TopAgain, FoundByNames, named_values, named_blocks}
-use Rattle.ir_types.specs.TopFaults.{DeclareFault, DefineFault, OuterFault, OuterFaults, LacksMain, FoundByTop}
-use Rattle.ir_types.proofs.Members.{contains-none, contains-here, contains-there, contains-one, contains-cases, contains-map, contains-image, IsImage, contains-joined, IsJoined, joined-contains}
+use Rattle.ir_types.specs.Again.{NamesInserted, FoundByNames, named_values, named_blocks}
+use Rattle.ir_types.specs.TopFaults.{DeclareFault, DefineFault, OuterFault, FoundByTop}
+use Rattle.ir_types.proofs.Members.{contains-none, contains-here, contains-there, contains-one, contains-cases, contains-map, contains-image, IsImage, contains-joined, joined-contains}
 
 abbrev pub at : ℕ → Statement → Line
 at number says = record { number = number; says = says }

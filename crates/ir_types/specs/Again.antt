@@ -1,5 +1,5 @@
 -- Names that are given again, and names of inserted values: what is found where names are added behind others.
-use Rattle.std.specs.Prelude.{◌≡◌, ℕ, ◌⊎◌, List, [], ◌∷◌, ◌++◌, map, flat_map, slice_get, Option}
+use Rattle.std.specs.Prelude.{◌≡◌, ℕ, ◌⊎◌, List, ◌∷◌, ◌++◌, map, flat_map, slice_get, Option}
 use Rattle.std.specs.List.{Contains}
 use Rattle.std.specs.Option.{option_and_then}
 use Rattle.ir_reader.specs.declared.readings.TypeWord.{TypeWord}

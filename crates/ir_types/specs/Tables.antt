@@ -1,5 +1,5 @@
 -- What the tables of the code hold: the definitions, blocks and heads that they list, and when they are those of lines.
-use Rattle.std.specs.Prelude.{◌≡◌, ℕ, List, ◌++◌, map, filter, length}
+use Rattle.std.specs.Prelude.{◌≡◌, List, ◌++◌, map, filter, length}
 use Rattle.std.specs.Option.{option_copied}
 use Rattle.ir_reader.specs.Seen.{seen_argument}
 use Rattle.ir_types.specs.declared.sections.Definition.{Definition as DefinitionTable}

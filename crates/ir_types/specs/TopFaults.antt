@@ -1,5 +1,5 @@
 -- The faults that are seen without the lines of functions: those of layouts, declarations and heads, and of no main function.
-use Rattle.std.specs.Prelude.{◌≡◌, ℕ, Bool, false, ◌⊎◌, List, map, find, codes, Option}
+use Rattle.std.specs.Prelude.{◌≡◌, ℕ, false, ◌⊎◌, List, map, find, codes, Option}
 use Rattle.std.specs.List.{Contains}
 use Rattle.std.specs.Str.{bytes_eq}
 use Rattle.ir_reader.specs.declared.readings.TypeWord.{TypeWord}

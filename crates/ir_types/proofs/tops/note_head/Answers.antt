@@ -3,7 +3,6 @@ use Rattle.std.specs.Option.{option_copied}
 use Rattle.ir_ast.specs.Faults.Reserved.{IsExternalName}
 use Rattle.ir_types.specs.Faults.NoStrategy.{is_strategy}
 use Rattle.ir_types.proofs.NoteLemmas.{not-is, two-noted}
-use Rattle.std.proofs.Common.{Bool}
 use Rattle.std.specs.Prelude.{not}
 use Rattle.ir_types.proofs.tops.note_head.Goals as goal
 

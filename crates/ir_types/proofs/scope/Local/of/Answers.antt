@@ -3,7 +3,7 @@ use Rattle.std.specs.Prelude.{map}
 use Rattle.ir_reader.specs.Seen.{seen_argument}
 use Rattle.ir_types.specs.Again.{FoundAfter, IsBadName, named_values, named_blocks, results_of}
 use Rattle.ir_types.specs.Notes.{Notes}
-use Rattle.ir_types.specs.Sections.{Naming, BlockLines, arguments_named, blocks_of}
+use Rattle.ir_types.specs.Sections.{Naming, BlockLines, arguments_named}
 use Rattle.ir_types.specs.Tables.{seen_definition, seen_block}
 use Rattle.ir_types.specs.Views.{seen_lines}
 use Rattle.ir_types.proofs.TableLemmas.{names-noted}
