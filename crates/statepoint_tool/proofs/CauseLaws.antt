@@ -240,18 +240,20 @@ module _ (words : List (List ℕ)) (given : Given) where
   comes-HasSomeModuleFault has = (Stop (cause.Module has.0), module_fault_stops has.0 has.1, refl)
 
   pub comes-HasInputFault : HasInputFault words given → ComesWith InputRefused
-  comes-HasInputFault fault =
-      (Stop (cause.Input 1),
-      prepared fault.prepares (Stop (cause.Input 1))
-      (stops (cause.Input 1) (subst (λ (t : Taken). file_phase fault.prepares.reads.asks.input input_phase t (Stop (cause.Input 1))) (sym fault.text) refl)),
-      refl)
+  comes-HasInputFault fault = (
+    Stop (cause.Input 1),
+    prepared fault.prepares (Stop (cause.Input 1))
+        (stops (cause.Input 1) (subst (λ (t : Taken). file_phase fault.prepares.reads.asks.input input_phase t (Stop (cause.Input 1))) (sym fault.text) refl)),
+    refl,
+  )
 
   pub comes-HasPlanFault : HasPlanFault words given → ComesWith PlanRefused
-  comes-HasPlanFault fault =
-      (Stop (cause.Plan (plan_fault.NotYet 1)),
-      with_input fault.reads (Stop (cause.Plan (plan_fault.NotYet 1)))
-      (stops (cause.Plan (plan_fault.NotYet 1)) (subst (λ (t : Taken). file_phase fault.reads.prepares.reads.asks.plan plan_phase t (Stop (cause.Plan (plan_fault.NotYet 1)))) (sym fault.text) refl)),
-      refl)
+  comes-HasPlanFault fault = (
+    Stop (cause.Plan (plan_fault.NotYet 1)),
+    with_input fault.reads (Stop (cause.Plan (plan_fault.NotYet 1)))
+        (stops (cause.Plan (plan_fault.NotYet 1)) (subst (λ (t : Taken). file_phase fault.reads.prepares.reads.asks.plan plan_phase t (Stop (cause.Plan (plan_fault.NotYet 1)))) (sym fault.text) refl)),
+    refl,
+  )
 
   file_stops : (what : Taken) (reason : List ℕ → Cause) → ((A : Type 0) (name : List ℕ) (read : List ℕ → Step A → Type 0) → file_phase name read what (Stop (reason name))) →
       (name : List ℕ) → FileGives words given what name → work words given (Stop (reason name))

@@ -11,10 +11,7 @@ use sp_ids::Memory;
 use std::alloc::Global;
 
 /// The first line of a definition that can't be run yet.
-pub(crate) fn first_not_yet(
-    alloc: Global,
-    lines: &[NumberedReading],
-) -> Result<Option<u32>, Memory>
+pub(crate) fn first_not_yet(alloc: Global, lines: &[NumberedReading]) -> Result<Option<u32>, Memory>
     ensures { IfOk result (λ found. found ≡ first_not_yet (seen_lines lines.now)) }
 {
     for (i, line) in lines.iter().enumerate() {

@@ -47,7 +47,9 @@ impl FileName {
 #[derive(Debug, Drop)]
 pub(crate) enum Command {
     /// Write the text of the module.
-    Show { module: FileName },
+    Show {
+        module: FileName,
+    },
     /// Run the module with the input under the plan, for at most so many steps.
     Run {
         module: FileName,

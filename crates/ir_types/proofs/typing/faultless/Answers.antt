@@ -22,17 +22,17 @@ returns-in_err-whole-clause-answers c = let p = err_from_is_err_and c.from_resid
 pub returns-clause-answers : goal.returns-clause-answers
 returns-clause-answers c =
     let is : c.in_ok-whole.whole ≡ module_of (seen_lines c.args.raw.now.lines) =
-        subst (λ (rs : List NumberedReading). c.in_ok-whole.whole ≡ module_of (seen_lines rs)) c.lines-lines.ensures.lines c.in_ok-whole.ensures in
+    subst (λ (rs : List NumberedReading). c.in_ok-whole.whole ≡ module_of (seen_lines rs)) c.lines-lines.ensures.lines c.in_ok-whole.ensures in
     record { is = is; faultless = c.requires }
 
 pub returns-clause-typed : goal.returns-clause-typed
 returns-clause-typed c =
     let is : c.in_ok-whole.whole ≡ module_of (seen_lines c.args.raw.now.lines) =
-        subst (λ (rs : List NumberedReading). c.in_ok-whole.whole ≡ module_of (seen_lines rs)) c.lines-lines.ensures.lines c.in_ok-whole.ensures in
+    subst (λ (rs : List NumberedReading). c.in_ok-whole.whole ≡ module_of (seen_lines rs)) c.lines-lines.ensures.lines c.in_ok-whole.ensures in
     typed_whole c.args.raw.now c.lines-lines.ensures.read c.in_ok-whole.whole is c.requires
 
 pub returns-clause-formed : goal.returns-clause-formed
 returns-clause-formed c =
     let is : c.in_ok-whole.whole ≡ module_of (seen_lines c.args.raw.now.lines) =
-        subst (λ (rs : List NumberedReading). c.in_ok-whole.whole ≡ module_of (seen_lines rs)) c.lines-lines.ensures.lines c.in_ok-whole.ensures in
+    subst (λ (rs : List NumberedReading). c.in_ok-whole.whole ≡ module_of (seen_lines rs)) c.lines-lines.ensures.lines c.in_ok-whole.ensures in
     formed_module c.in_ok-whole.whole.content (typed_whole c.args.raw.now c.lines-lines.ensures.read c.in_ok-whole.whole is c.requires)
