@@ -49,3 +49,4 @@ pub mod ScopeLemmas
 pub mod JoinLemmas
 pub mod CaseNotes
 pub mod Union
+pub mod SearchLemmas
