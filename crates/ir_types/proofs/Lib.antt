@@ -50,3 +50,4 @@ pub mod JoinLemmas
 pub mod CaseNotes
 pub mod Union
 pub mod SearchLemmas
+pub mod DerivedLemmas

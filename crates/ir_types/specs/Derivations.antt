@@ -1,9 +1,10 @@
 -- Derived values by number: the steps, and the phis and selects with what they use.
 use Rattle.std.specs.Prelude.{◌≡◌, ◌↔◌, ℕ, Bool, true, false, ◌&&◌, List, [], ◌∷◌, map, filter_map, length, Option, None, Some, slice_get, if◌then◌else◌}
-use Rattle.std.specs.List.{Contains}
+use Rattle.std.specs.List.{Contains, list_any}
 use Rattle.ir_reader.specs.declared.readings.TypeWord.{TypeWord}
 use Rattle.ir_reader.specs.Parts.{Val}
-use Rattle.ir_types.specs.Statements.{Statement}
+use Rattle.ir_reader.specs.Lists.{Given, given, function}
+use Rattle.ir_types.specs.Statements.{Statement, store, call, ret}
 use Rattle.ir_types.specs.Parts.{gives, is_step, is_merge, values_named, uses, local_name}
 use Rattle.ir_types.specs.Places.{place_in}
 use Rattle.ir_types.specs.Sections.{Definition, values_of}
@@ -91,3 +92,14 @@ has_mark marks (Some value) = is_true (slice_get marks value)
 
 abbrev pub is_marked : List (List ℕ) → List Bool → Val → Bool
 is_marked names marks value = has_mark marks (number_named names (local_name value))
+
+abbrev pub given_marked : List (List ℕ) → List Bool → Given → Bool
+given_marked names marks (given ty value) = is_marked names marks value
+given_marked names marks (function name) = false
+
+-- a marked value is stored, passed or returned
+abbrev pub lets_out : List (List ℕ) → List Bool → Statement → Bool
+lets_out names marks (store ty value address) = is_marked names marks value
+lets_out names marks (call result answer callee passed) = list_any (given_marked names marks) passed
+lets_out names marks (ret ty value) = is_marked names marks value
+lets_out names marks _ = false

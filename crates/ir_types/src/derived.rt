@@ -1,13 +1,13 @@
 //! Derived pointers (Garbage Collection Safepoints in LLVM, "Base & Derived Pointers").
 
-ghost use Rattle.std.specs.Prelude.{◌≡◌, ◌<◌, ◌≤◌, ℕ, ◌&&◌, [], ◌∷◌, ◌++◌, false, replicate, length, map, filter_map, slice_get, slice_index_or, slice_set, Some, IfOk, OnOk};
-ghost use Rattle.std.specs.List.{Contains, list_any};
+ghost use Rattle.std.specs.Prelude.{◌≡◌, ◌<◌, ◌≤◌, ℕ, ◌&&◌, [], ◌∷◌, ◌++◌, false, replicate, length, map, slice_get, slice_index_or, slice_set, Some, IfOk, OnOk};
+ghost use Rattle.std.specs.List.{Contains, cons_option, list_any};
 ghost use Rattle.ir_reader.specs.Seen.{seen_value, seen_passed};
-ghost use Rattle.ir_types.specs.Derivations.{gives_first, count_given, one_if, all_if, number_named, numbers_used, steps_given, merged_given, AreSources, MarksDerived, is_true, has_mark, is_marked};
+ghost use Rattle.ir_types.specs.Derivations.{gives_first, count_given, one_if, all_if, number_named, numbers_used, steps_given, merged_given, AreSources, MarksDerived, is_true, has_mark, is_marked, given_marked, lets_out};
 ghost use Rattle.ir_types.specs.Follows.{UsedBy, AreInside, MarksFollowing, Visits, MarksOne, AddsUsers};
 ghost use Rattle.ir_types.specs.FunctionFaults.{EscapesOf, is_number};
 ghost use Rattle.ir_types.specs.Notes.{Notes};
-ghost use Rattle.ir_types.specs.Parts.{gives, uses, local_name, leaving, passed_value};
+ghost use Rattle.ir_types.specs.Parts.{gives, uses, local_name};
 ghost use Rattle.ir_types.specs.Tables.{seen_definition, IsLocal};
 ghost use Rattle.ir_types.specs.Views.{said, seen_lines};
 
@@ -149,7 +149,7 @@ fn number_of(local: &Local, value: &Value) -> Option<usize>
 }
 
 fn push_number(found: Option<usize>, numbers: &mut Vec<usize>) -> Result<(), AllocError>
-    ensures { IfOk result (λ _. numbers.new.items ≡ numbers.old.items ++ filter_map (λ one. one) (found ∷ [])) }
+    ensures { IfOk result (λ _. numbers.new.items ≡ numbers.old.items ++ cons_option found []) }
 {
     if let Some(number) = found {
         numbers.push(number)?;
@@ -165,8 +165,8 @@ fn numbers_used(
     ensures { IfOk result (λ numbers. numbers.items ≡ numbers_used local.now.values (map (λ one. (seen_value one.0, one.1)) used.now)) }
 {
     let mut numbers = Vec::new(alloc);
-    for (value, _) in used {
-        push_number(number_of(local, value), &mut numbers)?;
+    for one in used {
+        push_number(number_of(local, &one.0), &mut numbers)?;
     }
     Ok(numbers)
 }
@@ -291,21 +291,28 @@ fn is_marked(local: &Local, marks: &[bool], value: &Value) -> bool
 }
 
 fn passes_marked(local: &Local, marks: &[bool], passed: &[Passed]) -> bool
-    ensures { result ≡ list_any (is_marked local.now.values marks.now) (map (λ used. used.0) (filter_map passed_value (map seen_passed passed.now))) }
+    ensures { result ≡ list_any (given_marked local.now.values marks.now) (map seen_passed passed.now) }
 {
     for one in passed {
-        if let Passed::Value(_, value) = one {
-            if is_marked(local, marks, value) {
-                return true;
-            }
+        if is_marked_given(local, marks, one) {
+            return true;
         }
     }
     false
 }
 
+fn is_marked_given(local: &Local, marks: &[bool], passed: &Passed) -> bool
+    ensures { result ≡ given_marked local.now.values marks.now (seen_passed passed.now) }
+{
+    match passed {
+        Passed::Value(_, value) => is_marked(local, marks, value),
+        Passed::Function(_) => false,
+    }
+}
+
 // Whether a marked value is stored, passed or returned.
-fn lets_escape(local: &Local, marks: &[bool], reading: &Reading) -> bool
-    ensures { result ≡ list_any (is_marked local.now.values marks.now) (leaving (said reading.now)) }
+fn lets_out(local: &Local, marks: &[bool], reading: &Reading) -> bool
+    ensures { result ≡ lets_out local.now.values marks.now (said reading.now) }
 {
     match reading {
         Reading::Store { value, .. } => is_marked(local, marks, value),
@@ -328,7 +335,7 @@ pub(crate) fn note_escapes(
 {
     let marks = derived(alloc, local, func)?;
     for line in func.body {
-        first.note_if(lets_escape(local, marks.as_slice(), &line.reading), line.line, 9);
+        first.note_if(lets_out(local, marks.as_slice(), &line.reading), line.line, 9);
     }
     Ok(())
 }
