@@ -69,7 +69,7 @@ later-source r rs value user v one (inl used) = inl (record { row = used.row; at
 later-source r rs value user v one (inr e) = inr (ap suc e.0, e.1)
 
 first-source : (r : List ℕ) (rs : List (List ℕ)) (user one : ℕ) → Contains r one ⊎ (user ≡ one)
-    → UsedBy (r ∷ rs) 0 one ⊎ ((0 ≡ 0) × (one ≡ user))
+    → UsedBy (r ∷ rs) 0 one ⊎ ((zero ≡ zero) × (one ≡ user))
 first-source r rs user one (inl there) = inl (record { row = r; at = refl; inside = there })
 first-source r rs user one (inr e) = inr (refl, sym e)
 
@@ -105,10 +105,15 @@ adds_more values value user old rows new adds below is = subst (λ (n : List (Li
     source v one (inl used) = earlier v one (adds.source v one used)
     source v one (inr t) = inr (subst (λ (w : ℕ). Contains (values ++ value ∷ []) w) (sym t.0) (Contains-push values value), t.1)
 
+pub set-map : {X Y : Type 0} (f : X → Y) (xs : List X) (k : ℕ) (x : X) → map f (set xs k x) ≡ set (map f xs) k (f x)
+set-map f [] k x = refl
+set-map f (y ∷ ys) zero x = refl
+set-map f (y ∷ ys) (suc k) x = ap (λ zs. f y ∷ zs) (set-map f ys k x)
+
 -- what is made of an element stands before what is made of the rest
-pub option-front : (o : Option ℕ) (rest : List ℕ) → cons_option o rest ≡ cons_option o [] ++ rest
-option-front None rest = refl
-option-front (Some n) rest = refl
+pub option_front : (o : Option ℕ) (rest : List ℕ) → cons_option o rest ≡ cons_option o [] ++ rest
+option_front None rest = refl
+option_front (Some n) rest = refl
 
 -- ---- the place of a name
 
@@ -135,35 +140,37 @@ less (Some m) n e = let same : suc m ≡ suc n = same_Some (suc m) (suc n) e in 
 pub place-first : (front : List (List ℕ)) (name : List ℕ) (rest : List (List ℕ)) → place_in (front ++ name ∷ rest) name ≡ Some (length front)
     → ¬ Contains front name
 place-first [] name rest e c = contains-none name c
-place-first (f ∷ fs) name rest e c = by (bytes_eq name f) refl (contains-cases f fs name c)
+place-first (f ∷ fs) name rest e c = by (bytes_eq name f) refl (contains-cases f fs name c) (place-first fs name rest)
   where
     moved : (b : Bool) → bytes_eq name f ≡ b → cond b (Some 0) (option_map suc (place_in (fs ++ name ∷ rest) name)) ≡ Some (suc (length fs))
     moved b is = ap (λ b. cond b (Some 0) (option_map suc (place_in (fs ++ name ∷ rest) name))) (sym is)
         ∙ sym (position-cons (bytes_eq name) f (fs ++ name ∷ rest)) ∙ e
 
-    by : (b : Bool) → bytes_eq name f ≡ b → (f ≡ name) ⊎ Contains fs name → ⊥
-    by true is w = let bad : Some 0 ≡ Some (suc (length fs)) = moved true is in let worse : 0 ≡ suc (length fs) = same_Some 0 (suc (length fs)) bad in omega (arith, worse)
-    by false is (inl same) =
+    by : (b : Bool) → bytes_eq name f ≡ b → (f ≡ name) ⊎ Contains fs name
+        → (place_in (fs ++ name ∷ rest) name ≡ Some (length fs) → ¬ Contains fs name) → ⊥
+    by true is w ih = let bad : Some 0 ≡ Some (suc (length fs)) = moved true is in let worse : 0 ≡ suc (length fs) = same_Some 0 (suc (length fs)) bad in omega (arith, worse)
+    by false is (inl same) ih =
         let self : bytes_eq name f ≡ true = subst (λ (n : List ℕ). bytes_eq name n ≡ true) (sym same) (bytes_eq-self name) in
         let bad : false ≡ true = sym is ∙ self in cc
-    by false is (inr d) = place-first fs name rest (less (place_in (fs ++ name ∷ rest) name) (length fs) (moved false is)) d
+    by false is (inr d) ih = ih (less (place_in (fs ++ name ∷ rest) name) (length fs) (moved false is)) d
 
 pub place-name : (names : List (List ℕ)) (name : List ℕ) (k : ℕ) → place_in names name ≡ Some k → slice_get names k ≡ Some name
 place-name [] name k e = absurd (let bad : None ≡ Some k = e in cc)
-place-name (x ∷ xs) name k e = by (bytes_eq name x) refl (place_in xs name) refl
+place-name (x ∷ xs) name k e = by (bytes_eq name x) refl (place_in xs name) refl (place-name xs name)
   where
     moved : (b : Bool) (o : Option ℕ) → bytes_eq name x ≡ b → place_in xs name ≡ o → cond b (Some 0) (option_map suc o) ≡ Some k
     moved b o is at = ap (λ p. cond b (Some 0) (option_map suc p)) (sym at) ∙ ap (λ b. cond b (Some 0) (option_map suc (place_in xs name))) (sym is)
         ∙ sym (position-cons (bytes_eq name) x xs) ∙ e
 
-    by : (b : Bool) → bytes_eq name x ≡ b → (o : Option ℕ) → place_in xs name ≡ o → slice_get (x ∷ xs) k ≡ Some name
-    by true is o at =
+    by : (b : Bool) → bytes_eq name x ≡ b → (o : Option ℕ) → place_in xs name ≡ o
+        → ((j : ℕ) → place_in xs name ≡ Some j → slice_get xs j ≡ Some name) → slice_get (x ∷ xs) k ≡ Some name
+    by true is o at ih =
         let zero_is : 0 ≡ k = same_Some 0 k (moved true o is at) in
         subst (λ (n : ℕ). slice_get (x ∷ xs) n ≡ Some name) zero_is (ap (λ n. Some n) (sym ((bytes_eq-Decides name x).0 is)))
-    by false is None at = absurd (let bad : None ≡ Some k = moved false None is at in cc)
-    by false is (Some j) at =
+    by false is None at ih = absurd (let bad : None ≡ Some k = moved false None is at in cc)
+    by false is (Some j) at ih =
         let next : suc j ≡ k = same_Some (suc j) k (moved false (Some j) is at) in
-        subst (λ (n : ℕ). slice_get (x ∷ xs) n ≡ Some name) next (place-name xs name j at)
+        subst (λ (n : ℕ). slice_get (x ∷ xs) n ≡ Some name) next (ih j at)
 
 same-name : (names : List (List ℕ)) (a b : List ℕ) (k : ℕ) → place_in names a ≡ Some k → place_in names b ≡ Some k → a ≡ b
 same-name names a b k p q = same_Some a b (sym (place-name names a k p) ∙ place-name names b k q)
@@ -426,6 +433,12 @@ used-is names ((values.number literal, ty) ∷ us) value c = used-later names (v
 used-is names ((values.truth said, ty) ∷ us) value c = used-later names (values.truth said, ty) us value (used-is names us value c)
 used-is names ((values.null, ty) ∷ us) value c = used-later names (values.null, ty) us value (used-is names us value c)
 
+pub used-below : (names : List (List ℕ)) (here : Bool) (us : List (Val × TypeWord)) (value : ℕ) → Contains (all_if here (numbers_used names us)) value
+    → value < length names
+used-below names here us value c =
+    let is = used-is names us value (all-is here (numbers_used names us) value c).1 in
+    slice_get_within names value is.operand (place-name names is.operand value is.place)
+
 cons-there : (o : Option ℕ) (ns : List ℕ) (v : ℕ) → Contains ns v → Contains (cons_option o ns) v
 cons-there None ns v c = c
 cons-there (Some n) ns v c = contains-there n ns v c
@@ -433,12 +446,14 @@ cons-there (Some n) ns v c = contains-there n ns v c
 is-used : (names : List (List ℕ)) (us : List (Val × TypeWord)) (operand : List ℕ) (value : ℕ) → Contains (filter_map (λ one. local_name one.0) us) operand
     → place_in names operand ≡ Some value → Contains (numbers_used names us) value
 is-used names [] operand value c at = absurd (contains-none operand c)
-is-used names ((values.local name, ty) ∷ us) operand value c at = by (contains-cases name (filter_map (λ one. local_name one.0) us) operand c)
+is-used names ((values.local name, ty) ∷ us) operand value c at =
+    by (contains-cases name (filter_map (λ one. local_name one.0) us) operand c) (λ d. is-used names us operand value d at)
   where
-    by : (name ≡ operand) ⊎ Contains (filter_map (λ one. local_name one.0) us) operand → Contains (cons_option (place_in names name) (numbers_used names us)) value
-    by (inl e) = subst (λ (o : Option ℕ). Contains (cons_option o (numbers_used names us)) value)
+    by : (name ≡ operand) ⊎ Contains (filter_map (λ one. local_name one.0) us) operand
+        → (Contains (filter_map (λ one. local_name one.0) us) operand → Contains (numbers_used names us) value) → Contains (cons_option (place_in names name) (numbers_used names us)) value
+    by (inl e) ih = subst (λ (o : Option ℕ). Contains (cons_option o (numbers_used names us)) value)
         (sym (ap (place_in names) e ∙ at)) (contains-here value (numbers_used names us))
-    by (inr d) = cons-there (place_in names name) (numbers_used names us) value (is-used names us operand value d at)
+    by (inr d) ih = cons-there (place_in names name) (numbers_used names us) value (ih d)
 is-used names ((values.number literal, ty) ∷ us) operand value c at = is-used names us operand value c at
 is-used names ((values.truth said, ty) ∷ us) operand value c at = is-used names us operand value c at
 is-used names ((values.null, ty) ∷ us) operand value c at = is-used names us operand value c at
@@ -674,16 +689,18 @@ or-right false = refl
 escape-any : (func : Definition) (marks : List Bool) → MarksDerived func marks → (vs : List Val) (name : List ℕ) → Contains (filter_map local_name vs) name
     → Derived func name → list_any (is_marked (names_given func) marks) vs ≡ true
 escape-any func marks m [] name c d = absurd (contains-none name c)
-escape-any func marks m (values.local n ∷ vs) name c d = by (contains-cases n (filter_map local_name vs) name c)
+escape-any func marks m (values.local n ∷ vs) name c d =
+    by (contains-cases n (filter_map local_name vs) name c) (λ t. escape-any func marks m vs name t d)
   where
-    by : (n ≡ name) ⊎ Contains (filter_map local_name vs) name → list_any (is_marked (names_given func) marks) (values.local n ∷ vs) ≡ true
-    by (inl e) =
+    by : (n ≡ name) ⊎ Contains (filter_map local_name vs) name
+        → (Contains (filter_map local_name vs) name → list_any (is_marked (names_given func) marks) vs ≡ true) → list_any (is_marked (names_given func) marks) (values.local n ∷ vs) ≡ true
+    by (inl e) ih =
         let is = m.complete name d in
         let mark : is_marked (names_given func) marks (values.local n) ≡ true
         = ap (λ x. has_mark marks (place_in (names_given func) x)) e ∙ ap (has_mark marks) is.1 ∙ ap is_true is.2 in
         ap (λ b. b || list_any (is_marked (names_given func) marks) vs) mark
-    by (inr t) =
-        ap (λ b. is_marked (names_given func) marks (values.local n) || b) (escape-any func marks m vs name t d)
+    by (inr t) ih =
+        ap (λ b. is_marked (names_given func) marks (values.local n) || b) (ih t)
         ∙ or-right (is_marked (names_given func) marks (values.local n))
 escape-any func marks m (values.number literal ∷ vs) name c d = escape-any func marks m vs name c d
 escape-any func marks m (values.truth said ∷ vs) name c d = escape-any func marks m vs name c d

@@ -157,6 +157,7 @@ fn push_number(found: Option<usize>, numbers: &mut Vec<usize>) -> Result<(), All
     Ok(())
 }
 
+#[tactic(auto, using(crate::proofs::DerivedLemmas::option_front))]
 fn numbers_used(
     alloc: Global,
     local: &Local,
@@ -237,7 +238,14 @@ fn note_line(
     let is_first = gives_first(local, number, reading);
     push_if(both(is_first, is_step(reading)), number, steps)?;
     let merged = merged(alloc, both(is_first, is_merge(reading)), local, reading)?;
-    add_users(users, merged.as_slice(), number)
+    add_users(users, merged.as_slice(), number)?;
+    Ok(())
+}
+
+fn count_values(local: &Local) -> usize
+    ensures { result ≡ length local.now.values }
+{
+    local.values.list().len()
 }
 
 fn sources_of(alloc: Global, local: &Local, func: &Definition) -> Result<Sources, AllocError>
@@ -245,7 +253,7 @@ fn sources_of(alloc: Global, local: &Local, func: &Definition) -> Result<Sources
     ensures { IfOk result (λ found. AreSources (seen_definition func.now) found.steps.items (map (λ row. row.items) found.users.items)) }
 {
     let mut steps = Vec::new(alloc);
-    let mut users = no_users(alloc, local.values.list().len())?;
+    let mut users = no_users(alloc, count_values(local))?;
     let mut number = func.arguments.len();
     for line in func.body {
         note_line(alloc, local, number, &line.reading, &mut steps, &mut users)?;
@@ -261,7 +269,8 @@ fn derived(alloc: Global, local: &Local, func: &Definition) -> Result<Vec<bool>,
     ensures { IfOk result (λ marks. MarksDerived (seen_definition func.now) marks.items) }
 {
     let found = sources_of(alloc, local, func)?;
-    following(alloc, found.steps.as_slice(), found.users.as_slice())
+    let marks = following(alloc, found.steps.as_slice(), found.users.as_slice())?;
+    Ok(marks)
 }
 
 // ---- what leaves
