@@ -49,3 +49,5 @@ pub mod ScopeLemmas
 pub mod JoinLemmas
 pub mod CaseNotes
 pub mod Union
+pub mod SearchLemmas
+pub mod DerivedLemmas

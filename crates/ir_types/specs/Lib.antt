@@ -24,3 +24,5 @@ pub mod Built
 pub mod LineFaults
 pub mod Founds
 pub mod FunctionFaults
+pub mod Follows
+pub mod Derivations
