@@ -24,3 +24,4 @@ pub mod Built
 pub mod LineFaults
 pub mod Founds
 pub mod FunctionFaults
+pub mod Edges
