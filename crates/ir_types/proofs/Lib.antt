@@ -49,3 +49,8 @@ pub mod ScopeLemmas
 pub mod JoinLemmas
 pub mod CaseNotes
 pub mod Union
+pub mod CountLemmas
+pub mod EdgeLemmas
+pub mod PhiNotes
+pub mod PhiCounts
+pub mod PhiValues
