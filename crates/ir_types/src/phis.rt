@@ -1,13 +1,15 @@
 //! The edges into blocks and the entries of phis.
 
-ghost use Rattle.std.specs.Prelude.{◌≡◌, ◌≢◌, ◌<◌, ◌++◌, ◌∷◌, ◌↔◌, ◌||◌, ◌⊎◌, ℕ, [], true, not, IsTrue, Some, List, map, length, slice_set, slice_index_or, IfOk, OnOk};
+ghost use Rattle.std.specs.Prelude.{◌≡◌, ◌≢◌, ◌<◌, ◌++◌, ◌∷◌, ◌↔◌, ◌||◌, ℕ, [], false, not, nat_eq, IsTrue, Some, List, map, length, slice_set, slice_index_or, IfOk, OnOk};
 ghost use Rattle.std.specs.List.{cons_option};
 ghost use Rattle.std.specs.List.Sorted.{IsNonDecreasing};
 ghost use Rattle.std.specs.Option.{option_copied};
 ghost use Rattle.ir_ast.specs.declared.ops.Operand.{Operand};
-ghost use Rattle.ir_reader.specs.Seen.{seen_entry};
+ghost use Rattle.indexmap.specs.IndexMap.{get, Updates};
+ghost use Rattle.ir_reader.specs.Seen.{seen_entry, seen_value};
 ghost use Rattle.ir_types.specs.Edges.{times, labels_of, AddsEdges, AreEdges, AreUncounted, Differ, EntriesAreWrong, IsWrongBeside, PhisBeside};
 ghost use Rattle.ir_types.specs.FunctionFaults.{PhisOf};
+ghost use Rattle.ir_types.specs.Modules.{operand_in};
 ghost use Rattle.ir_types.specs.Notes.{Notes};
 ghost use Rattle.ir_types.specs.Parts.{targets, is_phi};
 ghost use Rattle.ir_types.specs.Places.{number_in};
@@ -157,12 +159,34 @@ fn are_uncounted(
 
 // Whether an operand, where there is one, isn't this one.
 fn is_other(earlier: Option<Operand>, operand: Operand) -> bool
-    ensures { IsTrue result ↔ ((one : Operand) × (earlier ≡ Some one) × (one ≢ operand)) }
+    ensures other { IsTrue result → (one : Operand) × (earlier ≡ Some one) × (one ≢ operand) }
+    ensures same { result ≡ false → (one : Operand) → earlier ≡ Some one → one ≡ operand }
 {
     match earlier {
         Some(earlier) => earlier != operand,
         None => false,
     }
+}
+
+// Adds the value of an entry, and answers whether the last entry of its block has another.
+fn add_value(
+    local: &Local,
+    ty: TypeWord,
+    entry: &Entry,
+    seen: &mut IndexMap<u32, Operand>,
+) -> Result<bool, AllocError>
+    ensures other { IfOk result (λ other. IsTrue other → (one : Operand)
+        × (get nat_eq seen.old (number_in local.now.blocks entry.now.label.now) ≡ Some one)
+        × (one ≢ operand_in local.now.values ty (seen_value entry.now.value))) }
+    ensures same { IfOk result (λ other. other ≡ false → (one : Operand)
+        → get nat_eq seen.old (number_in local.now.blocks entry.now.label.now) ≡ Some one
+        → one ≡ operand_in local.now.values ty (seen_value entry.now.value)) }
+    ensures added { OnOk result (Updates nat_eq seen.old seen.new (number_in local.now.blocks entry.now.label.now)
+        (Some (operand_in local.now.values ty (seen_value entry.now.value)))) }
+{
+    let operand = local.operand(ty, &entry.value);
+    let earlier = seen.insert(local.blocks.number(entry.label), operand)?;
+    Ok(is_other(earlier, operand))
 }
 
 // Whether two entries of one block have different values.
@@ -176,9 +200,7 @@ fn differ(
 {
     let mut seen: IndexMap<u32, Operand> = IndexMap::new(alloc);
     for entry in entries {
-        let operand = local.operand(ty, &entry.value);
-        let earlier = seen.insert(local.blocks.number(entry.label), operand)?;
-        if is_other(earlier, operand) {
+        if add_value(local, ty, entry, &mut seen)? {
             return Ok(true);
         }
     }
@@ -207,6 +229,13 @@ fn is_phi(reading: &Reading) -> bool
     ensures { result ≡ is_phi (said reading.now) }
 {
     matches!(reading, Reading::Phi { .. })
+}
+
+// Whether a line that is no phi stands before what is next.
+fn is_late(late: bool, reading: &Reading) -> bool
+    ensures { result ≡ (late || not (is_phi (said reading.now))) }
+{
+    late || !is_phi(reading)
 }
 
 // Whether a line is a wrong phi, which may stand after a line that is none.
@@ -244,7 +273,7 @@ fn note_phis_of(
     for line in lines {
         let wrong = is_wrong(alloc, local, &line.reading, late, into)?;
         first.note_if(wrong, line.line, 7);
-        late = late || !is_phi(&line.reading);
+        late = is_late(late, &line.reading);
     }
     Ok(())
 }
@@ -257,8 +286,7 @@ fn note_block(
     into: &[usize],
     first: &mut First,
 ) -> Result<(), AllocError>
-    ensures { OnOk result ((blocks : List ℕ) → ((one : ℕ) → times one blocks ≡ times one into.now)
-        → Notes first.old.found first.new.found (PhisBeside local.now.values local.now.blocks blocks (seen_lines lines.now))) }
+    ensures { OnOk result (Notes first.old.found first.new.found (PhisBeside local.now.values local.now.blocks into.now (seen_lines lines.now))) }
 {
     let into = sorted(alloc, into)?;
     note_phis_of(alloc, local, lines, into.as_slice(), first)

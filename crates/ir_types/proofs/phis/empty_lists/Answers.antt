@@ -16,9 +16,11 @@ loop-preserved c = record {
   empty = λ place.
       ap (λ lists. get_or (map (λ list. list.items) lists) place []) c.in_ok-push.ensures.items
       ∙ ap (λ lists. get_or lists place []) (map-append (λ list. list.items) c.loop.lists.items _)
-      ∙ ap (λ items. get_or (map (λ list. list.items) c.loop.lists.items ++ items ∷ []) place []) ?
+      ∙ ap (λ items. get_or (map (λ list. list.items) c.loop.lists.items ++ items ∷ []) place []) c.new.ensures.items
       ∙ blank-more (map (λ list. list.items) c.loop.lists.items) c.loop.invariant.empty place;
 }
 
 pub returns : goal.returns
-returns c = ?
+returns c =
+    let end : c.loop.index ≡ length c.args.blocks.now = omega arith in
+    (c.loop.invariant.long ∙ end, c.loop.invariant.empty)
