@@ -57,7 +57,7 @@ grown values blocks ty entries e seen next filled same update = record {
         (e, Contains-append_right entries (e ∷ []) e (contains-here e []), t.1, cc)
     from number operand is (inr t) =
         let f = filled.from number operand (sym (update.2 number t.0) ∙ is) in
-        (f.0, Contains-append_left entries (e ∷ []) f.0 f.1, f.2.0, f.2.1)
+        (f.0, Contains-append_left entries (e ∷ []) f.0 f.1, f.2, f.3)
 
 pub filled-more : {S : Type 0} (values blocks : List (List ℕ)) (ty : TypeWord) (entries : List (Val × List ℕ)) (i : ℕ) (e : Val × List ℕ)
     (seen next : HashMap ℕ Operand S) → slice_get entries i ≡ Some e → IsFilled values blocks ty (take i entries) seen
@@ -81,8 +81,8 @@ filled-differ values blocks ty entries i e seen at filled one is apart =
       other = e;
       first = subst (λ (es : List (Val × List ℕ)). Contains es f.0) (take-append-drop i entries) (Contains-append_left (take i entries) (drop i entries) f.0 f.1);
       second = (i, slice_get_within entries i e at, get_or_from_slice_get entries i e e at);
-      same = f.2.0;
-      apart = λ same. apart (sym f.2.1 ∙ same);
+      same = f.2;
+      apart = λ same. apart (sym f.3 ∙ same);
     }
 
 -- no entry has another value than an earlier one of its block

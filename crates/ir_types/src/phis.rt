@@ -200,7 +200,8 @@ fn differ(
 {
     let mut seen: IndexMap<u32, Operand> = IndexMap::new(alloc);
     for entry in entries {
-        if add_value(local, ty, entry, &mut seen)? {
+        let other = add_value(local, ty, entry, &mut seen)?;
+        if other {
             return Ok(true);
         }
     }
@@ -289,7 +290,8 @@ fn note_block(
     ensures { OnOk result (Notes first.old.found first.new.found (PhisBeside local.now.values local.now.blocks into.now (seen_lines lines.now))) }
 {
     let into = sorted(alloc, into)?;
-    note_phis_of(alloc, local, lines, into.as_slice(), first)
+    note_phis_of(alloc, local, lines, into.as_slice(), first)?;
+    Ok(())
 }
 
 /// Notes the phis of a function that aren't right.

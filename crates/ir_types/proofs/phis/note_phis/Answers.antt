@@ -1,6 +1,7 @@
 use Rattle.std.proofs.Common.{◌≡◌, ◌∙◌, ◌+◌, ◌<◌, ℕ, List, [], length, get_or, take, drop, ap, sym, subst, arith}
 use Rattle.std.specs.Prelude.{map, slice_get, Some}
 use Rattle.std.proofs.lemmas.List.{length-map, get_or-map}
+use Rattle.std.proofs.lemmas.Option.{slice_get_within}
 use Rattle.ir_types.specs.Sections.{BlockLines, blocks_of}
 use Rattle.ir_types.specs.Scope.{scope_of}
 use Rattle.ir_types.specs.Tables.{seen_definition, seen_block}
@@ -24,7 +25,17 @@ loop-i-preserved c = λ lines.
     let lists = map (λ list. list.items) c.in_ok-into.into.items in
     let shown = seen-at seen_block c.args.blocks.now i c.index-blocks-i.result c.loop-i-test.true c.index-blocks-i.is in
     let at : slice_get (blocks_of func) i ≡ Some block = subst (λ (bs : List BlockLines). slice_get bs i ≡ Some block) c.requires.blocks shown in
-    ?
+    let names : c.args.local.now.blocks ≡ map (λ one. one.name) (blocks_of func) = c.requires.local.blocks in
+    let into : AreEdges (map (λ one. one.name) (blocks_of func)) (blocks_of func) lists
+    = subst (λ (blocks : List (List ℕ)). AreEdges blocks (blocks_of func) lists) names
+        (subst (λ (list : List BlockLines). AreEdges c.args.local.now.blocks list lists) c.requires.blocks c.in_ok-into.ensures) in
+    let within : i < length (blocks_of func) = slice_get_within (blocks_of func) i block at in
+    let row : get_or lists i [] ≡ c.as_slice.result.now = ? in
+    notes-turn (BlockAt scope) (blocks_of func) i block c.args.first.now.found c.loop-i.first.found c.note_block.new.first.found at
+    (c.loop-i.invariant lines)
+    (notes-at-block scope (blocks_of func) i block c.loop-i.first.found c.note_block.new.first.found at
+    (notes-block scope i c.as_slice.result.now c.args.local.now.values c.args.local.now.blocks block.lines c.loop-i.first.found c.note_block.new.first.found
+    c.requires.local.values names (λ from. ap (times from) (sym row) ∙ into.counts i from within) c.in_ok-note_block.ensures))
 
 pub returns : goal.returns
 returns c = λ lines.

@@ -15,7 +15,7 @@ loop-line-preserved c =
     let at = seen-at seen_line c.args.lines.now i c.line-item.result c.loop-line-test.true c.line-item.is in
     let test = PhiBeside c.args.local.now.values c.args.local.now.blocks c.args.into.now in
     record {
-      late = c.is_late.ensures ∙ ap (λ b. b || not (is_phi l.says)) c.loop-line.invariant.late ∙ sym (late-more lines i l at);
+      late = c.is_late-late.ensures ∙ ap (λ b. b || not (is_phi l.says)) c.loop-line.invariant.late ∙ sym (late-more lines i l at);
       noted = notes-turn test lines i l c.args.first.now.found c.loop-line.first.found c.note_if.new.self.found at c.loop-line.invariant.noted
           (note-line c.args.local.now.values c.args.local.now.blocks c.args.into.now (take i lines) l (drop (i + 1) lines) c.loop-line.late c.in_ok-wrong.wrong
           c.loop-line.first.found c.note_if.new.self.found c.loop-line.invariant.late c.in_ok-wrong.ensures c.note_if.ensures);
