@@ -128,11 +128,7 @@ fn sorted(alloc: Global, numbers: &[usize]) -> Result<Vec<usize>, AllocError>
 }
 
 // The numbers of the blocks that the entries name.
-fn entry_blocks(
-    alloc: Global,
-    local: &Local,
-    entries: &[Entry],
-) -> Result<Vec<usize>, AllocError>
+fn entry_blocks(alloc: Global, local: &Local, entries: &[Entry]) -> Result<Vec<usize>, AllocError>
     ensures { IfOk result (λ numbers. numbers.items ≡ map (λ entry. number_in local.now.blocks entry.1) (map seen_entry entries.now)) }
 {
     let mut numbers = Vec::new(alloc);
@@ -190,12 +186,7 @@ fn add_value(
 }
 
 // Whether two entries of one block have different values.
-fn differ(
-    alloc: Global,
-    local: &Local,
-    ty: TypeWord,
-    entries: &[Entry],
-) -> Result<bool, AllocError>
+fn differ(alloc: Global, local: &Local, ty: TypeWord, entries: &[Entry]) -> Result<bool, AllocError>
     ensures { IfOk result (λ wrong. IsTrue wrong ↔ Differ local.now.values local.now.blocks ty (map seen_entry entries.now)) }
 {
     let mut seen: IndexMap<u32, Operand> = IndexMap::new(alloc);

@@ -38,7 +38,7 @@ more values blocks ty entries i d seen next below filled same update =
 pub returns-then-other : goal.returns-then-other
 returns-then-other c = (
   (λ t. found c.args.local.now.values c.args.local.now.blocks c.args.ty c.args.entries.now c.loop-entry.entry-index _ c.loop-entry.seen
-  c.loop-entry-test.true c.loop-entry.invariant (c.in_ok-other.ensures.other c.if-other.true)),
+      c.loop-entry-test.true c.loop-entry.invariant (c.in_ok-other.ensures.other c.if-other.true)),
   (λ d. refl),
 )
 
@@ -52,6 +52,7 @@ returns c =
     let entries = map seen_entry c.args.entries.now in
     let end : c.loop-entry.entry-index ≡ length c.args.entries.now = omega arith in
     let filled = subst (λ (es : List (Val × List ℕ)). IsFilled c.args.local.now.values c.args.local.now.blocks c.args.ty es c.loop-entry.seen)
-        (ap (λ n. take n entries) (end ∙ sym (length-map c.args.entries.now seen_entry)) ∙ take-length entries) c.loop-entry.invariant in
-    ((λ t. absurd (let bad : false ≡ true = t in cc)),
-    (λ d. absurd (filled-agree c.args.local.now.values c.args.local.now.blocks c.args.ty entries c.loop-entry.seen filled d)))
+    (ap (λ n. take n entries) (end ∙ sym (length-map c.args.entries.now seen_entry)) ∙ take-length entries) c.loop-entry.invariant in (
+      (λ t. absurd (let bad : false ≡ true = t in cc)),
+      (λ d. absurd (filled-agree c.args.local.now.values c.args.local.now.blocks c.args.ty entries c.loop-entry.seen filled d)),
+    )

@@ -28,14 +28,14 @@ loop-i-preserved c = λ lines.
     let names : c.args.local.now.blocks ≡ map (λ one. one.name) (blocks_of func) = c.requires.local.blocks in
     let into : AreEdges (map (λ one. one.name) (blocks_of func)) (blocks_of func) lists
     = subst (λ (blocks : List (List ℕ)). AreEdges blocks (blocks_of func) lists) names
-        (subst (λ (list : List BlockLines). AreEdges c.args.local.now.blocks list lists) c.requires.blocks c.in_ok-into.ensures) in
+    (subst (λ (list : List BlockLines). AreEdges c.args.local.now.blocks list lists) c.requires.blocks c.in_ok-into.ensures) in
     let within : i < length (blocks_of func) = slice_get_within (blocks_of func) i block at in
     let long = length-map c.in_ok-into.into.items (λ list. list.items) in
     let same = into.same in
     let there : i < length c.in_ok-into.into.items = omega arith in
     let row : get_or lists i [] ≡ c.as_slice.result.now
     = get_or-map (λ list. list.items) c.in_ok-into.into.items i c.index.result.now [] there
-        ∙ ap (λ list. list.items) (sym c.index.ensures) ∙ sym c.as_slice.ensures.value in
+    ∙ ap (λ list. list.items) (sym c.index.ensures) ∙ sym c.as_slice.ensures.value in
     notes-turn (BlockAt scope) (blocks_of func) i block c.args.first.now.found c.loop-i.first.found c.note_block.new.first.found at
     (c.loop-i.invariant lines)
     (notes-at-block scope (blocks_of func) i block c.loop-i.first.found c.note_block.new.first.found at
