@@ -1,7 +1,7 @@
 -- The phis of a block, one line after another, and of a function, one block after another.
-use Rattle.std.proofs.Common.{◌≡◌, ◌∙◌, ℕ, ◌+◌, ◌<◌, ◌⊎◌, inl, inr, Bool, true, false, not, ◌||◌, List, [], ◌∷◌, ◌++◌, length, take, drop, refl, ap, sym, subst, arith}
-use Rattle.std.specs.Prelude.{map, slice_get, IsTrue, ◌↔◌, Option, Some, None}
-use Rattle.std.specs.List.{list_any, Contains}
+use Rattle.std.proofs.Common.{◌≡◌, ◌∙◌, ℕ, ◌+◌, ◌<◌, inl, inr, Bool, true, false, not, ◌||◌, List, [], ◌∷◌, ◌++◌, length, take, drop, refl, ap, sym, subst, arith}
+use Rattle.std.specs.Prelude.{map, slice_get, IsTrue, ◌↔◌, Option, Some}
+use Rattle.std.specs.List.{Contains}
 use Rattle.std.proofs.lemmas.List.{take_more, length-take-le}
 use Rattle.std.proofs.lemmas.Option.{slice_get_within, get_or_from_slice_get}
 use Rattle.std.proofs.lemmas.List.Folds.{list_any-append, list_any_at}
@@ -13,7 +13,7 @@ use Rattle.ir_types.specs.Scope.{Scope, value_names}
 use Rattle.ir_types.specs.Notes.{Notes, Is}
 use Rattle.ir_types.specs.Faults.PhiEdges.{PhiIsWrong, late, uncounted, differ, edges}
 use Rattle.ir_types.specs.FunctionFaults.{StatementIsWrong, PhiAt, PhisOfBlock, BlockAt}
-use Rattle.ir_types.specs.Edges.{times, AreUncounted, Differ, EntriesAreWrong, IsWrongBeside, is_late, PhiBeside, PhisBeside}
+use Rattle.ir_types.specs.Edges.{times, IsWrongBeside, is_late, PhiBeside, PhisBeside}
 use Rattle.ir_types.proofs.NoteLemmas.{notes-same}
 use Rattle.ir_types.proofs.Founds.{notes-alike}
 use Rattle.ir_types.proofs.Members.{contains-here, contains-there}

@@ -1,9 +1,8 @@
 -- The values of the entries of a phi, by the number of their blocks.
-use Rattle.std.proofs.Common.{◌≡◌, ◌≢◌, ◌∙◌, ℕ, ◌+◌, ◌<◌, ◌⊎◌, inl, inr, Bool, true, false, not, List, [], ◌∷◌, ◌++◌, length, take, drop, refl, ap, sym, subst, arith}
-use Rattle.std.specs.Prelude.{nat_eq, map, slice_get, IsTrue, ◌↔◌, Option, Some, None}
+use Rattle.std.proofs.Common.{◌≡◌, ◌≢◌, ◌∙◌, ℕ, ◌+◌, ◌⊎◌, inl, inr, true, false, List, [], ◌∷◌, ◌++◌, take, drop, ap, sym, subst}
+use Rattle.std.specs.Prelude.{nat_eq, slice_get, Some, None}
 use Rattle.std.specs.List.{Contains}
 use Rattle.std.specs.HashMap.{HashMap, get, Updates}
-use Rattle.std.proofs.Math.Seq.{take-length}
 use Rattle.std.proofs.lemmas.List.{take_more, take-append-drop}
 use Rattle.std.proofs.lemmas.List.Elements.{Contains-append_left, Contains-append_right, Contains-append_cases}
 use Rattle.std.proofs.lemmas.Option.{slice_get_within, get_or_from_slice_get}

@@ -1,10 +1,9 @@
-use Rattle.std.proofs.Common.{◌∙◌, ◌+◌, ◌≡◌, ◌∷◌, ◌++◌, [], ap, sym, subst, List, ℕ, take, length, arith}
+use Rattle.std.proofs.Common.{◌∙◌, ◌≡◌, sym, subst, List, ℕ, take, length, arith}
 use Rattle.std.specs.Prelude.{map}
-use Rattle.ir_types.specs.Statements.{Line}
 use Rattle.ir_types.specs.Parts.{targets}
 use Rattle.ir_types.specs.Edges.{AddsEdges, labels_of}
 use Rattle.ir_types.specs.Views.{said, seen_line, seen_lines}
-use Rattle.ir_types.proofs.EdgeLemmas.{adds-none, adds-then, labels-more, labels-all}
+use Rattle.ir_types.proofs.EdgeLemmas.{adds-then, labels-more, labels-all}
 use Rattle.ir_types.proofs.Founds.{seen-at}
 use Rattle.std.proofs.lemmas.List.{length-map}
 use Rattle.ir_types.proofs.phis.add_edges_of.Goals as goal

@@ -1,9 +1,8 @@
-use Rattle.std.proofs.Common.{◌≡◌, ◌∙◌, ℕ, List, ap, sym}
+use Rattle.std.proofs.Common.{◌∙◌, ℕ, List, ap}
 use Rattle.std.specs.Prelude.{map, not}
 use Rattle.std.specs.Str.{bytes_eq}
 use Rattle.ir_reader.specs.Seen.{seen_entry}
-use Rattle.ir_types.specs.Places.{number_in}
-use Rattle.ir_types.specs.Edges.{times, count_in}
+use Rattle.ir_types.specs.Edges.{times}
 use Rattle.ir_types.proofs.PhiCounts.{uncounted-iff, entry-counts}
 use Rattle.ir_types.proofs.phis.are_uncounted.Goals as goal
 

@@ -1,5 +1,5 @@
 use Rattle.std.proofs.Common.{◌≡◌, ◌≢◌, ◌∙◌, ℕ, ◌+◌, ◌<◌, true, false, List, length, get_or, take, ap, sym, subst, refl, arith}
-use Rattle.std.specs.Prelude.{map, slice_get, Some, option_map, IsTrue, nat_eq}
+use Rattle.std.specs.Prelude.{map, slice_get, Some, option_map, nat_eq}
 use Rattle.std.specs.HashMap.{HashMap, get, Updates}
 use Rattle.std.proofs.lemmas.List.{length-map}
 use Rattle.std.proofs.Math.Seq.{take-length}

@@ -1,4 +1,4 @@
-use Rattle.std.proofs.Common.{◌≡◌, ◌∙◌, ◌+◌, ◌<◌, ℕ, List, [], length, get_or, take, drop, ap, sym, subst, arith}
+use Rattle.std.proofs.Common.{◌≡◌, ◌∙◌, ◌<◌, ℕ, List, [], length, get_or, ap, sym, subst, arith}
 use Rattle.std.specs.Prelude.{map, slice_get, Some}
 use Rattle.std.proofs.lemmas.List.{length-map, get_or-map}
 use Rattle.std.proofs.lemmas.Option.{slice_get_within}
@@ -6,8 +6,7 @@ use Rattle.ir_types.specs.Sections.{BlockLines, blocks_of}
 use Rattle.ir_types.specs.Scope.{scope_of}
 use Rattle.ir_types.specs.Tables.{seen_definition, seen_block}
 use Rattle.ir_types.specs.FunctionFaults.{BlockAt}
-use Rattle.ir_types.specs.Faults.PhiEdges.{edges}
-use Rattle.ir_types.specs.Edges.{times, edges_in, AreEdges}
+use Rattle.ir_types.specs.Edges.{times, AreEdges}
 use Rattle.ir_types.proofs.Founds.{notes-start, notes-turn, notes-all, seen-at}
 use Rattle.ir_types.proofs.PhiNotes.{notes-block, notes-at-block}
 use Rattle.ir_types.proofs.phis.note_phis.Goals as goal

@@ -1,8 +1,8 @@
 use Rattle.std.proofs.Common.{◌≡◌, ◌∙◌, ◌+◌, ◌||◌, not, length, take, drop, ap, sym, arith}
 use Rattle.std.proofs.lemmas.List.{length-map}
 use Rattle.ir_types.specs.Parts.{is_phi}
-use Rattle.ir_types.specs.Views.{said, seen_line, seen_lines}
-use Rattle.ir_types.specs.Edges.{PhiBeside, is_late}
+use Rattle.ir_types.specs.Views.{seen_line, seen_lines}
+use Rattle.ir_types.specs.Edges.{PhiBeside}
 use Rattle.ir_types.proofs.Founds.{notes-turn, notes-all, seen-at}
 use Rattle.ir_types.proofs.PhiNotes.{late-more, note-line}
 use Rattle.ir_types.proofs.phis.note_phis_of.Goals as goal
