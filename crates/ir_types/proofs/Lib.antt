@@ -51,3 +51,8 @@ pub mod CaseNotes
 pub mod Union
 pub mod SearchLemmas
 pub mod DerivedLemmas
+pub mod CountLemmas
+pub mod EdgeLemmas
+pub mod PhiNotes
+pub mod PhiCounts
+pub mod PhiValues

@@ -26,3 +26,4 @@ pub mod Founds
 pub mod FunctionFaults
 pub mod Follows
 pub mod Derivations
+pub mod Edges
