@@ -62,7 +62,6 @@ pushed-added (r ∷ rs) (suc value) user below =
     let more = pushed-added rs value user (let b : suc value < length (r ∷ rs) = below in omega arith) in
     record { row = more.row; at = more.at; inside = more.inside }
 
-
 later-source : (r : List ℕ) (rs : List (List ℕ)) (value user v one : ℕ) → UsedBy rs v one ⊎ ((v ≡ value) × (one ≡ user))
     → UsedBy (r ∷ rs) (suc v) one ⊎ ((suc v ≡ suc value) × (one ≡ user))
 later-source r rs value user v one (inl used) = inl (record { row = used.row; at = used.at; inside = used.inside })
@@ -536,7 +535,7 @@ of-merge func value user s =
       at = l.at;
       holds = (
         subst (λ (w : Statement). Contains (merged_given (names_given func) (number_at func l.k) w) value) (sym l.says)
-        (subst (λ (b : Bool). Contains (all_if b (numbers_used (names_given func) (uses s.what))) value) (sym test) there),
+            (subst (λ (b : Bool). Contains (all_if b (numbers_used (names_given func) (uses s.what))) value) (sym test) there),
         sym same,
       );
     }

@@ -152,7 +152,7 @@ pub search_start : (first : List ℕ) (users : List (List ℕ)) (none marks : Li
 search_start first users none marks empty order is_none is_empty visits =
     let v : Visits first (replicate (length users) false) [] marks order
     = subst (λ (e : List ℕ). Visits first (replicate (length users) false) e marks order) is_empty
-        (subst (λ (n : List Bool). Visits first n empty marks order) is_none visits) in
+    (subst (λ (n : List Bool). Visits first n empty marks order) is_none visits) in
     record {
       whole = v.whole ∙ length-replicate (length users) false;
       firsts = v.marked;

@@ -65,11 +65,7 @@ fn users_of(users: &[Vec<usize>], value: usize) -> &[usize]
 }
 
 // For each value whether it is one of the first or follows from one through users.
-fn following(
-    alloc: Global,
-    first: &[usize],
-    users: &[Vec<usize>],
-) -> Result<Vec<bool>, AllocError>
+fn following(alloc: Global, first: &[usize], users: &[Vec<usize>]) -> Result<Vec<bool>, AllocError>
     requires { AreInside first.now (map (λ row. row.items) users.now) }
     ensures { IfOk result (λ marks. MarksFollowing first.now (map (λ row. row.items) users.now) marks.items) }
 {
@@ -207,11 +203,7 @@ fn add_user(users: &mut Vec<Vec<usize>>, value: usize, user: usize) -> Result<()
     Ok(())
 }
 
-fn add_users(
-    users: &mut Vec<Vec<usize>>,
-    values: &[usize],
-    user: usize,
-) -> Result<(), AllocError>
+fn add_users(users: &mut Vec<Vec<usize>>, values: &[usize], user: usize) -> Result<(), AllocError>
     requires { (value : ℕ) → Contains values.now value → value < length users.old.items }
     ensures { IfOk result (λ _. AddsUsers values.now user (map (λ row. row.items) users.old.items) (map (λ row. row.items) users.new.items)) }
 {
@@ -344,7 +336,11 @@ pub(crate) fn note_escapes(
 {
     let marks = derived(alloc, local, func)?;
     for line in func.body {
-        first.note_if(lets_out(local, marks.as_slice(), &line.reading), line.line, 9);
+        first.note_if(
+            lets_out(local, marks.as_slice(), &line.reading),
+            line.line,
+            9,
+        );
     }
     Ok(())
 }
