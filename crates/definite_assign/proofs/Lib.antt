@@ -9,3 +9,4 @@ pub mod AskedLemmas
 pub mod UseLemmas
 pub mod FirstLemmas
 pub mod FaultLemmas
+pub mod TinyLemmas

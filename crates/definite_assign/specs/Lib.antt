@@ -4,3 +4,4 @@ pub mod Asked
 pub mod FarUses
 pub mod Missed
 pub mod Searches
+pub mod Tiny

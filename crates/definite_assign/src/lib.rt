@@ -7,3 +7,6 @@ mod search;
 mod uses;
 
 pub use faults::definite;
+
+#[cfg(test)]
+mod tests;
