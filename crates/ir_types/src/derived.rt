@@ -43,6 +43,7 @@ fn mark(value: usize, marks: &mut Vec<bool>, order: &mut Vec<usize>) -> Result<(
     Ok(())
 }
 
+// Marks each of these values.
 fn mark_all(
     values: &[usize],
     marks: &mut Vec<bool>,
@@ -57,6 +58,7 @@ fn mark_all(
     Ok(())
 }
 
+// The users of a value.
 fn users_of(users: &[Vec<usize>], value: usize) -> &[usize]
     requires { value < length users.now }
     ensures { slice_get (map (λ row. row.items) users.now) value ≡ Some result.now }
@@ -65,11 +67,7 @@ fn users_of(users: &[Vec<usize>], value: usize) -> &[usize]
 }
 
 // For each value whether it is one of the first or follows from one through users.
-fn following(
-    alloc: Global,
-    first: &[usize],
-    users: &[Vec<usize>],
-) -> Result<Vec<bool>, AllocError>
+fn following(alloc: Global, first: &[usize], users: &[Vec<usize>]) -> Result<Vec<bool>, AllocError>
     requires { AreInside first.now (map (λ row. row.items) users.now) }
     ensures { IfOk result (λ marks. MarksFollowing first.now (map (λ row. row.items) users.now) marks.items) }
 {
@@ -207,11 +205,7 @@ fn add_user(users: &mut Vec<Vec<usize>>, value: usize, user: usize) -> Result<()
     Ok(())
 }
 
-fn add_users(
-    users: &mut Vec<Vec<usize>>,
-    values: &[usize],
-    user: usize,
-) -> Result<(), AllocError>
+fn add_users(users: &mut Vec<Vec<usize>>, values: &[usize], user: usize) -> Result<(), AllocError>
     requires { (value : ℕ) → Contains values.now value → value < length users.old.items }
     ensures { IfOk result (λ _. AddsUsers values.now user (map (λ row. row.items) users.old.items) (map (λ row. row.items) users.new.items)) }
 {
@@ -242,12 +236,14 @@ fn note_line(
     Ok(())
 }
 
+// How many values a function has.
 fn count_values(local: &Local) -> usize
     ensures { result ≡ length local.now.values }
 {
     local.values.list().len()
 }
 
+// The steps of a function, and what its phis and selects use.
 fn sources_of(alloc: Global, local: &Local, func: &Definition) -> Result<Sources, AllocError>
     requires { IsLocal (seen_definition func.now) local.now }
     ensures { IfOk result (λ found. AreSources (seen_definition func.now) found.steps.items (map (λ row. row.items) found.users.items)) }
@@ -262,8 +258,8 @@ fn sources_of(alloc: Global, local: &Local, func: &Definition) -> Result<Sources
     Ok(Sources { steps, users })
 }
 
-/// For each value of a function whether it is derived: the results of `getelementptr`, and of each phi and select
-/// with a derived operand.
+// For each value of a function whether it is derived: the results of `getelementptr`, and of each phi and select
+// with a derived operand.
 fn derived(alloc: Global, local: &Local, func: &Definition) -> Result<Vec<bool>, AllocError>
     requires { IsLocal (seen_definition func.now) local.now }
     ensures { IfOk result (λ marks. MarksDerived (seen_definition func.now) marks.items) }
@@ -344,7 +340,11 @@ pub(crate) fn note_escapes(
 {
     let marks = derived(alloc, local, func)?;
     for line in func.body {
-        first.note_if(lets_out(local, marks.as_slice(), &line.reading), line.line, 9);
+        first.note_if(
+            lets_out(local, marks.as_slice(), &line.reading),
+            line.line,
+            9,
+        );
     }
     Ok(())
 }

@@ -34,8 +34,8 @@ pub mark_all-requires-in-loop-done : goal.mark_all-requires-in-loop-done
 mark_all-requires-in-loop-done c =
     let w = c.loop-done.invariant.search.whole in
     λ value there.
-        let b = inside_row c.args.first.now (map (λ row. row.items) c.args.users.now) c.index-from.result.now c.users_of.result.now c.requires c.users_of.ensures value there in
-        omega (arith, b, w)
+    let b = inside_row c.args.first.now (map (λ row. row.items) c.args.users.now) c.index-from.result.now c.users_of.result.now c.requires c.users_of.ensures value there in
+    omega (arith, b, w)
 
 pub loop-done-smaller : goal.loop-done-smaller
 loop-done-smaller c =
