@@ -34,7 +34,7 @@ AreCases lines n = cases_of lines ≡ take n lines ++ cases_of (drop n lines)
 pub cases-start : (lines : List Line) → AreCases lines 0
 cases-start lines = refl
 
-taken-more : (lines : List Line) (i : ℕ) (l : Line) → slice_get lines i ≡ Some l → take (i + 1) lines ≡ take i lines ++ l ∷ []
+pub taken-more : (lines : List Line) (i : ℕ) (l : Line) → slice_get lines i ≡ Some l → take (i + 1) lines ≡ take i lines ++ l ∷ []
 taken-more lines i l at =
     take_more lines i l (slice_get_within lines i l at) ∙ ap (λ x. take i lines ++ x ∷ []) (get_or_from_slice_get lines i l l at)
 
@@ -92,10 +92,10 @@ cases-end lines i n run =
 
 -- ---- their numbers
 
-eq-same : (x y : ℕ) → nat_eq x y ≡ true → x ≡ y
+pub eq-same : (x y : ℕ) → nat_eq x y ≡ true → x ≡ y
 eq-same x y e = elim (eqb_tells x y) [ inl t ↦ t.1 | inr t ↦ absurd (let bad : true ≡ false = sym e ∙ t.0 in cc) ]
 
-eq-itself : (x : ℕ) → nat_eq x x ≡ true
+pub eq-itself : (x : ℕ) → nat_eq x x ≡ true
 eq-itself x = elim (eqb_tells x x) [ inl t ↦ t.0 | inr t ↦ absurd (t.1 refl) ]
 
 eq-flip : (x y : ℕ) → nat_eq x y ≡ nat_eq y x

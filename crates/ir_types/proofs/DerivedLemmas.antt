@@ -3,11 +3,9 @@ use Rattle.std.proofs.Common.{◌≡◌, ◌∙◌, ℕ, zero, suc, ◌<◌, ◌
 use Rattle.std.specs.Prelude.{Option, Some, None, map, flat_map, filter_map, slice_get, option_map, nat_eq, IsTrue}
 use Rattle.std.specs.List.{Contains, cons_option, list_any}
 use Rattle.std.specs.Str.{bytes_eq}
-use Rattle.std.proofs.lemmas.List.{length-set, length-map, map-append, append-nil, take-append-drop, take_more}
+use Rattle.std.proofs.lemmas.List.{length-set, length-map, map-append, append-nil, take-append-drop}
 use Rattle.std.proofs.lemmas.List.Elements.{Contains-push, Contains-push_cases, Contains-append_left, Contains-append_right, Contains-append_cases}
-use Rattle.std.proofs.lemmas.Option.{slice_get_within, same_Some, get_or_from_slice_get}
-use Rattle.std.proofs.lemmas.Bool.{cases_eq}
-use Rattle.std.proofs.lemmas.Bool.Decides.{eqb_tells}
+use Rattle.std.proofs.lemmas.Option.{slice_get_within, same_Some}
 use Rattle.std.proofs.lemmas.Slice.Eq.{bytes_eq-Decides}
 use Rattle.ir_reader.specs.declared.readings.TypeWord.{TypeWord}
 use Rattle.ir_reader.specs.Parts.{Val}
@@ -24,7 +22,8 @@ use Rattle.ir_types.specs.FunctionFaults.{is_number, Escapes, EscapeAt}
 use Rattle.ir_types.specs.Faults.DerivedEscapes.{StandsFor, Derived, by_step, by_merge}
 use Rattle.ir_types.specs.Follows.{UsedBy, Follows, is_first, by_use, AreInside, Marked, MarksFollowing, AddsUsers}
 use Rattle.ir_types.specs.Derivations.{names_given, gives_first, count_given, one_if, all_if, number_named, numbers_used, steps_given, merged_given, IsStepAt, IsMergeAt, AreSources, MarksDerived, is_true, has_mark, is_marked, given_marked, lets_out}
-use Rattle.ir_types.proofs.Founds.{IsWholeAt, whole-at, split-at}
+use Rattle.ir_types.proofs.CaseNotes.{eq-same, eq-itself, taken-more}
+use Rattle.ir_types.proofs.Founds.{IsWholeAt, whole-at, split-at, cases_below}
 use Rattle.ir_types.proofs.LawNames.{position-cons}
 use Rattle.ir_types.proofs.Members.{contains-none, contains-here, contains-there, contains-one, contains-cases}
 use Rattle.ir_types.proofs.NoteLemmas.{notes-same}
@@ -221,10 +220,6 @@ number-more func i l at =
     ∙ length-append (front func (take i func.body)) (map name_of (gives_names l ++ []))
     ∙ ap (λ xs. number_at func i + length (map name_of xs)) (append-nil (gives_names l))
     ∙ ap (λ n. number_at func i + n) (length-given l.number (gives l.says))
-  where
-    taken-more : (lines : List Line) (i : ℕ) (l : Line) → slice_get lines i ≡ Some l → take (i + 1) lines ≡ take i lines ++ l ∷ []
-    taken-more lines i l at =
-        take_more lines i l (slice_get_within lines i l at) ∙ ap (λ x. take i lines ++ x ∷ []) (get_or_from_slice_get lines i l l at)
 
 pub number-below : (func : Definition) (k : ℕ) → number_at func k ≤ length (names_given func)
 number-below func k =
@@ -247,12 +242,6 @@ stands-place func name what s =
     let g = given-name s.number (gives what) name s.gives_it in
     ap (λ ns. place_in ns name) (names-split func s.before (record { number = s.number; says = what }) s.after name g.0 s.body g.1)
     ∙ place-front (front func s.before) name (map name_of (flat_map gives_names s.after)) s.first
-
-eq-same : (x y : ℕ) → nat_eq x y ≡ true → x ≡ y
-eq-same x y e = elim (eqb_tells x y) [ inl t ↦ t.1 | inr t ↦ absurd (let bad : true ≡ false = sym e ∙ t.0 in cc) ]
-
-eq-itself : (x : ℕ) → nat_eq x x ≡ true
-eq-itself x = elim (eqb_tells x x) [ inl t ↦ t.0 | inr t ↦ absurd (t.1 refl) ]
 
 number-same : (o : Option ℕ) (n : ℕ) → is_number o n ≡ true → o ≡ Some n
 number-same None n e = absurd (let bad : false ≡ true = e in cc)
@@ -312,12 +301,8 @@ up-more P lines i u = record { k = u.k; below = (let b : u.k < i = u.below in om
 up-here : (P : ℕ → Line → Type 0) (lines : List Line) (i : ℕ) (l : Line) → slice_get lines i ≡ Some l → P i l → UpTo P lines (i + 1)
 up-here P lines i l at p = record { k = i; below = omega arith; here = l; at = at; holds = p }
 
-earlier_or_now : (place done : ℕ) → place < done + 1 → (place < done) ⊎ (place ≡ done)
-earlier_or_now place done below =
-    elim (cases_eq place done) [ inl same ↦ inr same | inr other ↦ inl (omega arith) ]
-
 up-cases : (P : ℕ → Line → Type 0) (lines : List Line) (i : ℕ) (l : Line) → slice_get lines i ≡ Some l → UpTo P lines (i + 1) → UpTo P lines i ⊎ P i l
-up-cases P lines i l at u = by u.k u.here u.at u.holds (earlier_or_now u.k i u.below)
+up-cases P lines i l at u = by u.k u.here u.at u.holds (cases_below u.k i u.below)
   where
     by : (k : ℕ) (here : Line) → slice_get lines k ≡ Some here → P k here → (k < i) ⊎ (k ≡ i) → UpTo P lines i ⊎ P i l
     by k here is p (inl lt) = inl (record { k = k; below = lt; here = here; at = is; holds = p })

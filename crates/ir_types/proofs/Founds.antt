@@ -39,7 +39,7 @@ turn-by P xs i x at line code k here is faulty (inr e) =
     = subst (λ (n : ℕ). P (take n xs) here (drop (n + 1) xs) line code) e faulty in
     inr (subst (λ (y : _). P (take i xs) y (drop (i + 1) xs) line code) same moved)
 
-cases_below : (k i : ℕ) → k < i + 1 → (k < i) ⊎ (k ≡ i)
+pub cases_below : (k i : ℕ) → k < i + 1 → (k < i) ⊎ (k ≡ i)
 cases_below k i b = grind arith
 
 -- one more element

@@ -5,8 +5,8 @@ use Rattle.std.proofs.lemmas.List.{length-set, length-replicate, get_or-replicat
 use Rattle.std.proofs.lemmas.List.Sums.{sum_by-set}
 use Rattle.std.proofs.lemmas.List.Elements.{Contains-push, Contains-push_cases, Contains-append_left}
 use Rattle.std.proofs.lemmas.Option.{slice_get_within, slice_get-get_or, get_or_from_slice_get}
-use Rattle.std.proofs.lemmas.Bool.{cases_eq}
 use Rattle.ir_types.specs.Follows.{UsedBy, Follows, is_first, by_use, AreInside, Marked, MarksFollowing, Visits, MarksOne, had_mark, had_none}
+use Rattle.ir_types.proofs.Founds.{cases_below}
 use Rattle.ir_types.proofs.Members.{contains-none}
 
 -- ---- what stands at a place after a push and after a write
@@ -27,7 +27,7 @@ get_pushed [] y (suc k) x is = absurd (cc)
 get_pushed (z ∷ xs) y zero x is = inl is
 get_pushed (z ∷ xs) y (suc k) x is = get_pushed xs y k x is
 
-pub get_written : {A : Type 0} (xs : List A) (k : ℕ) (x y : A) → slice_get xs k ≡ Some x → slice_get (set xs k y) k ≡ Some y
+get_written : {A : Type 0} (xs : List A) (k : ℕ) (x y : A) → slice_get xs k ≡ Some x → slice_get (set xs k y) k ≡ Some y
 get_written [] k x y is = absurd (cc)
 get_written (z ∷ xs) zero x y is = refl
 get_written (z ∷ xs) (suc k) x y is = get_written xs k x y is
@@ -225,17 +225,13 @@ followed_user users marks new order after row done from followed is visits at pl
     let row_same : used.row ≡ row = cc in
     visits.marked user (subst (λ (r : List ℕ). Contains r user) row_same used.inside)
 
-earlier_or_now : (place done : ℕ) → place < done + 1 → (place < done) ⊎ (place ≡ done)
-earlier_or_now place done below =
-    elim (cases_eq place done) [ inl same ↦ inr same | inr other ↦ inl (omega arith) ]
-
 pub followed_more : (users : List (List ℕ)) (marks new : List Bool) (order after row : List ℕ) (done from : ℕ)
     → Followed users marks order done → slice_get users from ≡ Some row → Visits row marks order new after
     → slice_get order done ≡ Some from → Followed users new after (done + 1)
 followed_more users marks new order after row done from followed is visits at = record {
   below = let within = slice_get_within after done from (visits.front done from at) in omega arith;
   closed = λ place value user below stands used.
-      followed_user users marks new order after row done from followed is visits at place value user (earlier_or_now place done below) stands used;
+      followed_user users marks new order after row done from followed is visits at place value user (cases_below place done below) stands used;
 }
 
 marked_all : (first : List ℕ) (users : List (List ℕ)) (marks : List Bool) (order : List ℕ) (done : ℕ) → IsSearch first users marks order

@@ -1,5 +1,5 @@
 -- Derived values by number: the steps, and the phis and selects with what they use.
-use Rattle.std.specs.Prelude.{◌≡◌, ◌↔◌, ℕ, Bool, true, false, ◌&&◌, List, [], ◌∷◌, map, filter_map, length, Option, None, Some, slice_get, if◌then◌else◌}
+use Rattle.std.specs.Prelude.{◌≡◌, ℕ, Bool, true, false, ◌&&◌, List, [], ◌∷◌, map, filter_map, length, Option, None, Some, slice_get, if◌then◌else◌}
 use Rattle.std.specs.List.{Contains, list_any}
 use Rattle.ir_reader.specs.declared.readings.TypeWord.{TypeWord}
 use Rattle.ir_reader.specs.Parts.{Val}

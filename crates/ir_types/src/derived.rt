@@ -1,10 +1,10 @@
 //! Derived pointers (Garbage Collection Safepoints in LLVM, "Base & Derived Pointers").
 
-ghost use Rattle.std.specs.Prelude.{◌≡◌, ◌<◌, ◌≤◌, ℕ, ◌&&◌, [], ◌∷◌, ◌++◌, false, replicate, length, map, slice_get, slice_index_or, slice_set, Some, IfOk, OnOk};
+ghost use Rattle.std.specs.Prelude.{◌≡◌, ◌<◌, ℕ, ◌&&◌, [], ◌∷◌, ◌++◌, false, replicate, length, map, slice_get, slice_index_or, slice_set, Some, IfOk, OnOk};
 ghost use Rattle.std.specs.List.{Contains, cons_option, list_any};
 ghost use Rattle.ir_reader.specs.Seen.{seen_value, seen_passed};
 ghost use Rattle.ir_types.specs.Derivations.{gives_first, count_given, one_if, all_if, number_named, numbers_used, steps_given, merged_given, AreSources, MarksDerived, is_true, has_mark, is_marked, given_marked, lets_out};
-ghost use Rattle.ir_types.specs.Follows.{UsedBy, AreInside, MarksFollowing, Visits, MarksOne, AddsUsers};
+ghost use Rattle.ir_types.specs.Follows.{AreInside, MarksFollowing, Visits, MarksOne, AddsUsers};
 ghost use Rattle.ir_types.specs.FunctionFaults.{EscapesOf, is_number};
 ghost use Rattle.ir_types.specs.Notes.{Notes};
 ghost use Rattle.ir_types.specs.Parts.{gives, uses, local_name};
@@ -43,6 +43,7 @@ fn mark(value: usize, marks: &mut Vec<bool>, order: &mut Vec<usize>) -> Result<(
     Ok(())
 }
 
+// Marks each of these values.
 fn mark_all(
     values: &[usize],
     marks: &mut Vec<bool>,
@@ -57,6 +58,7 @@ fn mark_all(
     Ok(())
 }
 
+// The users of a value.
 fn users_of(users: &[Vec<usize>], value: usize) -> &[usize]
     requires { value < length users.now }
     ensures { slice_get (map (λ row. row.items) users.now) value ≡ Some result.now }
@@ -234,12 +236,14 @@ fn note_line(
     Ok(())
 }
 
+// How many values a function has.
 fn count_values(local: &Local) -> usize
     ensures { result ≡ length local.now.values }
 {
     local.values.list().len()
 }
 
+// The steps of a function, and what its phis and selects use.
 fn sources_of(alloc: Global, local: &Local, func: &Definition) -> Result<Sources, AllocError>
     requires { IsLocal (seen_definition func.now) local.now }
     ensures { IfOk result (λ found. AreSources (seen_definition func.now) found.steps.items (map (λ row. row.items) found.users.items)) }
@@ -254,8 +258,8 @@ fn sources_of(alloc: Global, local: &Local, func: &Definition) -> Result<Sources
     Ok(Sources { steps, users })
 }
 
-/// For each value of a function whether it is derived: the results of `getelementptr`, and of each phi and select
-/// with a derived operand.
+// For each value of a function whether it is derived: the results of `getelementptr`, and of each phi and select
+// with a derived operand.
 fn derived(alloc: Global, local: &Local, func: &Definition) -> Result<Vec<bool>, AllocError>
     requires { IsLocal (seen_definition func.now) local.now }
     ensures { IfOk result (λ marks. MarksDerived (seen_definition func.now) marks.items) }
