@@ -1,6 +1,6 @@
 //! The edges into blocks and the entries of phis.
 
-ghost use Rattle.std.specs.Prelude.{◌≡◌, ◌≢◌, ◌<◌, ◌++◌, ◌∷◌, ◌↔◌, ◌||◌, ℕ, [], false, not, nat_eq, IsTrue, Some, List, map, length, slice_set, slice_index_or, IfOk, OnOk};
+ghost use Rattle.std.specs.Prelude.{◌≡◌, ◌≢◌, ◌++◌, ◌∷◌, ◌↔◌, ◌||◌, ℕ, [], false, not, nat_eq, IsTrue, Some, List, map, length, slice_set, slice_index_or, IfOk, OnOk};
 ghost use Rattle.std.specs.List.{cons_option};
 ghost use Rattle.std.specs.List.Sorted.{IsNonDecreasing};
 ghost use Rattle.std.specs.Option.{option_copied};
