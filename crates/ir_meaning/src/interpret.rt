@@ -1,0 +1,150 @@
+//! The reference interpreter.
+
+ghost use Rattle.std.specs.Prelude.{◌≡◌, ◌≤◌, IfOk, OnErr, IsErrOf};
+ghost use Rattle.ir_cfg.specs.SourceModules.{IsSourceModule};
+ghost use Rattle.tool_io.specs.Counts.{Rose};
+ghost use Rattle.ir_meaning.specs.SourceRuns.{no_go, WritesFrontOfRun};
+ghost use Rattle.ir_meaning.specs.Stages.{IsToday};
+ghost use Rattle.ir_meaning.specs.Texts.{printed_line};
+ghost use Rattle.ir_meaning.specs.References.{IsRun};
+
+use crate::codes::Code;
+use crate::machine::{Did, Machine, front_of};
+use crate::stacks::Stack;
+use arrayvec::ArrayVec;
+use ir_ast::Module;
+use itoa::Buffer;
+use sp_ids::{End, FuncId, Memory, sign};
+use std::alloc::Global;
+use tool_io::{Failed, Sink};
+
+/// How a run ended: its end, the function that ran last, the steps and events, and the number of lines that
+/// `print_i64` wrote. Events and lines stand still at 2^64 - 1.
+#[derive(Clone, Copy, Debug, PartialEq, Eq)]
+pub struct Ran {
+    pub end: End,
+    pub func: FuncId,
+    pub steps: u64,
+    pub events: u64,
+    pub lines: u64,
+}
+
+/// Why a run is not written to its end.
+#[derive(Clone, Copy, Debug, PartialEq, Eq)]
+pub enum RefFault {
+    Memory,
+    /// The sink counted a fault.
+    Write,
+}
+
+impl From<Memory> for RefFault {
+    ghost use Rattle.std.specs.Prelude.{◌≡◌};
+    ghost use Rattle.ir_meaning.specs.declared.interpret.RefFault.TheVariants as faults;
+
+    ghost from_gives = { λ _ e. e ≡ faults.Memory };
+
+    fn from(_error: Memory) -> RefFault {
+        RefFault::Memory
+    }
+}
+
+impl From<Failed> for RefFault {
+    ghost use Rattle.std.specs.Prelude.{◌≡◌};
+    ghost use Rattle.ir_meaning.specs.declared.interpret.RefFault.TheVariants as faults;
+
+    ghost from_gives = { λ _ e. e ≡ faults.Write };
+
+    fn from(_failed: Failed) -> RefFault {
+        RefFault::Write
+    }
+}
+
+/// Runs `@main` of a source module without pointers, which may take these many steps, over this input, and
+/// writes each line that it prints by one `put`.
+///
+/// `Write` comes only where the sink counted a fault. After it, and after `Memory`, a front of what the run
+/// prints was written.
+pub fn reference<O: Sink>(
+    alloc: Global,
+    module: &Module,
+    input: &[i64],
+    steps: u64,
+    out: &mut O,
+) -> Result<Ran, RefFault>
+    requires source { IsSourceModule «module».now.content }
+    requires today { IsToday «module».now.content }
+    ensures ran { IfOk result (λ ran. IsRun «module».now.content input.now no_go steps ran (O.written out.old) (O.written out.new)) }
+    ensures front { OnErr result (WritesFrontOfRun «module».now.content input.now no_go steps (O.written out.old) (O.written out.new)) }
+    ensures failed { IsErrOf result RefFault.Write → Rose (O.faults out.old) (O.faults out.new) }
+    ensures count { O.faults out.old ≤ O.faults out.new }
+{
+    let code = Code::of(alloc, module)?;
+    let mut machine = opened(alloc, &code, input)?;
+    run(&code, &mut machine, steps, out)
+}
+
+// Task 0 at the front of `@main`.
+fn opened<'i>(alloc: Global, code: &Code, input: &'i [i64]) -> Result<Machine<'i>, Memory> {
+    let main = main_of(code)?;
+    let stack = Stack::new(alloc, front_of(code, main), code.register_count(main))?;
+    Ok(Machine {
+        stack,
+        moves: Vec::new(alloc),
+        input,
+        steps: 0,
+        events: 0,
+    })
+}
+
+// The number of `@main`.
+fn main_of(code: &Code) -> Result<u32, Memory> {
+    let funcs = code.module().funcs();
+    let main = funcs
+        .iter()
+        .position(|func| func.name().bytes() == b"main".as_slice())
+        .unwrap_or(funcs.len());
+    u32::try_from(main).map_err(|_| Memory)
+}
+
+// Runs to the end.
+fn run<O: Sink>(
+    code: &Code,
+    machine: &mut Machine,
+    bound: u64,
+    out: &mut O,
+) -> Result<Ran, RefFault> {
+    let mut lines = 0u64;
+    for _turn in 0..u64::MAX {
+        match machine.step(code, bound)? {
+            Did::GoesOn => {}
+            Did::Prints(number) => {
+                out.put(printed_line(number).as_slice())?;
+                lines = lines.saturating_add(1);
+            }
+            Did::Ends(end) => return Ok(how_ran(end, machine, lines)),
+        }
+    }
+    Err(RefFault::Memory)
+}
+
+fn how_ran(end: End, machine: &Machine, lines: u64) -> Ran {
+    Ran {
+        end,
+        func: FuncId(machine.stack.spot().func),
+        steps: machine.steps,
+        events: machine.events,
+        lines,
+    }
+}
+
+// The signed decimal of an `i64`, and a newline.
+#[tactic(auto, unfolding(crate::specs::Texts::printed_line))]
+fn printed_line(word: u64) -> ArrayVec<u8, 64>
+    ensures { result.items ≡ printed_line word }
+{
+    let mut buffer = Buffer::new();
+    let mut line = ArrayVec::new();
+    let _ = line.try_extend_from_slice(buffer.format(sign(64, word)).as_bytes());
+    let _ = line.try_extend_from_slice(b"\n");
+    line
+}
