@@ -49,12 +49,19 @@ member_write registers call answer member =
 abbrev pub group_length : List Line → ℕ
 group_length rest = prefix_len (λ line. is_member line.inst.op) rest
 
--- the frame goes on behind its call with the answer; a statepoint takes its group along
-abbrev pub answered_by : Frame → Line → List Line → Datum → Op → Frame
-answered_by frame call rest answer (Statepoint id callee types) = record frame {
+-- a state behind a statepoint whose callee gave this answer, its group taken along
+abbrev pub regrouped : Frame → Line → List Line → Datum → Frame
+regrouped frame call rest answer = record frame {
   rest = drop (group_length rest) rest;
   registers = put_all (map (member_write frame.registers call answer) (take (group_length rest) rest)) frame.registers;
 }
+
+abbrev pub grouped : State → Line → List Line → Datum → State
+grouped state call rest answer = record state { running = regrouped state.running call rest answer }
+
+-- a frame that waited at a call goes on behind it with the answer
+abbrev pub answered_by : Frame → Line → List Line → Datum → Op → Frame
+answered_by frame call rest answer (Statepoint id callee types) = regrouped frame call rest answer
 answered_by frame call rest answer _ = record frame { rest = rest; registers = put call.to answer frame.registers }
 
 abbrev pub answered_at : Frame → List Line → Datum → Frame
@@ -63,3 +70,6 @@ answered_at frame (call ∷ rest) answer = answered_by frame call rest answer ca
 
 abbrev pub answered : Frame → Datum → Frame
 answered frame answer = answered_at frame frame.rest answer
+
+abbrev pub resumed : State → Datum → State
+resumed state answer = record state { running = answered state.running answer }

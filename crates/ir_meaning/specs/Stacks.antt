@@ -30,11 +30,15 @@ pub record Frames : Type 0 where
   pub running : Seen
   pub below : List Seen
 
+-- a frame that waits stands at a call, which no poll stands before
+abbrev pub waiting_spot : Spot → Spot
+waiting_spot spot = record spot { due = Behind }
+
 -- the frames below, newest first, whose registers these are
 abbrev pub frames_below : List Saved → List Word → List Seen
 frames_below [] registers = []
 frames_below (saved ∷ others) registers =
-    record { spot = saved.spot; registers = drop saved.base registers } ∷ frames_below others (take saved.base registers)
+    record { spot = waiting_spot saved.spot; registers = drop saved.base registers } ∷ frames_below others (take saved.base registers)
 
 -- what follows the line at which the frame stands
 abbrev pub passed_spot : Spot → Instruction → Spot
@@ -87,19 +91,21 @@ entered_frames frames spot operands count = record {
     spot = spot;
     registers = map (word frames.running.registers) operands ++ replicate (count - length operands) (Number 0);
   };
-  below = frames.running ∷ frames.below;
+  below = record frames.running { spot = waiting_spot frames.running.spot } ∷ frames.below;
+}
+
+-- what a phi assigns on an edge from a block, and where its result goes
+abbrev pub move_of : ℕ → List Word → ℕ → Instruction → Move
+move_of from registers next phi = record {
+  to = (numbered next phi).to;
+  word = word_at registers phi.operands (position_or_len (λ label. label.0 == from) phi.labels);
 }
 
 -- what the phis at the front of these instructions assign on an edge from a block
 abbrev pub moves_of : ℕ → List Word → ℕ → List Instruction → List Move
 moves_of from registers next [] = []
 moves_of from registers next (inst ∷ insts) =
-    if is_phi inst.op
-    then record {
-      to = (numbered next inst).to;
-      word = word_at registers inst.operands (position_or_len (λ label. label.0 == from) inst.labels);
-    } ∷ moves_of from registers (following next inst) insts
-    else []
+    if is_phi inst.op then move_of from registers next inst ∷ moves_of from registers (following next inst) insts else []
 
 abbrev pub moved : List Move → List Word → List Word
 moved moves registers = fold (λ rest move. put move.to move.word rest) registers moves

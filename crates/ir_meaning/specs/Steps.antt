@@ -12,7 +12,7 @@ use Rattle.ir_meaning.specs.Registers.{nothing, operand, pointer_in}
 use Rattle.ir_meaning.specs.Computing.{value_of_line}
 use Rattle.ir_meaning.specs.Accesses.{Place, accessed, kind_asked, loaded, stored}
 use Rattle.ir_meaning.specs.States.{Frame, State, Setting, Effect, goes_on, ends}
-use Rattle.ir_meaning.specs.Frames.{passed, answered}
+use Rattle.ir_meaning.specs.Frames.{passed, grouped, resumed}
 use Rattle.ir_meaning.specs.Tasks.{task_ended}
 use Rattle.ir_meaning.specs.Calls.{stepped, called}
 use Rattle.ir_meaning.specs.Jumps.{jumped, label_at, branch_taken, case_taken}
@@ -35,7 +35,7 @@ storing state line rest datum (Err trap) = ends (Trapped trap) state
 abbrev pub returned : ℕ → Datum → List Frame → State → Effect
 returned width answer [] state = task_ended state width answer
 returned width answer (caller ∷ below) state =
-    goes_on (record state { running = answered caller answer; below = below })
+    goes_on (resumed (record state { running = caller; below = below }) answer)
 
 -- the cell that a line's pointer names
 abbrev pub accesses : Setting → State → Line → ℕ → Result Place Trap
@@ -43,18 +43,22 @@ accesses setting state line place =
     accessed setting.content.layouts state.objects (kind_asked line.inst.ty)
         (pointer_in (operand state.running.registers line.inst.operands place))
 
+-- a line that takes effect elsewhere
+abbrev pub skipped : State → List Line → Effect
+skipped state rest = goes_on (record state { running = record state.running { rest = rest } })
+
 -- a line with this operator; the state stands at it, and the rest follows it
 abbrev pub acts : Setting → State → Line → List Line → Op → Effect
 acts setting state line rest Load = loading state line rest (accesses setting state line 0)
 acts setting state line rest Store =
     storing state line rest (operand state.running.registers line.inst.operands 0) (accesses setting state line 1)
-acts setting state line rest (Call callee types) = called setting state callee line.inst.operands
+acts setting state line rest (Call callee types) = called setting state (passed state line rest) callee line.inst.operands
 acts setting state line rest (Statepoint id callee types) =
-    called setting state callee (take (length types) line.inst.operands)
+    called setting state (grouped state line rest) callee (take (length types) line.inst.operands)
 -- phis took effect at the jump, and a group's members with their statepoint
-acts setting state line rest Phi = goes_on (record state { running = record state.running { rest = rest } })
-acts setting state line rest GcResult = goes_on (record state { running = record state.running { rest = rest } })
-acts setting state line rest GcRelocate = goes_on (record state { running = record state.running { rest = rest } })
+acts setting state line rest Phi = skipped state rest
+acts setting state line rest GcResult = skipped state rest
+acts setting state line rest GcRelocate = skipped state rest
 acts setting state line rest Br = stepped setting state (jumped setting (label_at line.inst.labels 0))
 acts setting state line rest CondBr =
     stepped setting state

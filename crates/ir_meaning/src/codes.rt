@@ -1,12 +1,11 @@
 //! The module that is run, with the registers of its functions.
 
-ghost use Rattle.std.specs.Prelude.{◌≡◌, ◌++◌, ◌+◌, ◌^◌, ◌<◌, ◌≤◌, ℕ, List, [], ◌∷◌, map, drop, take, length, Option, Some, IfOk, IfSome, slice_get};
-ghost use Rattle.std.specs.List.{All};
-ghost use Rattle.ir_ast.specs.Ops.{is_terminator};
-ghost use Rattle.ir_meaning.specs.Lines.{following, after_all, first_registers, registers_of, insts_of, first_register, register_count};
-ghost use Rattle.ir_meaning.specs.Stages.{AllReady, IsReadyModule};
+ghost use Rattle.std.specs.Prelude.{◌≡◌, Some, None, IfOk, IfSome, MatchOption, slice_get};
+ghost use Rattle.ir_meaning.specs.Lines.{following, after_all, registers_of, insts_of, first_register, register_count};
+ghost use Rattle.ir_meaning.specs.Stages.{IsReady, AllReady, IsReadyModule};
 
-use ir_ast::{Block, Func, Inst, Module};
+use crate::spots::Spot;
+use ir_ast::{Func, Inst, Module};
 use sp_ids::Memory;
 use std::alloc::Global;
 use std::marker::Model;
@@ -77,6 +76,14 @@ impl<'m> Code<'m> {
                 Some(block) => block.insts(),
             },
         }
+    }
+
+    /// The instruction at which a frame stands.
+    pub fn inst(&self, spot: Spot) -> Option<&Inst>
+        ensures there { MatchOption result (slice_get (insts_of self.now spot.func spot.block) spot.at ≡ None) (λ inst. slice_get (insts_of self.now spot.func spot.block) spot.at ≡ Some inst.now) }
+        ensures ready { IfSome result (λ inst. IsReady inst.now) }
+    {
+        self.insts(spot.func, spot.block).get(spot.at)
     }
 
     /// The register of the first result of a block of a function.

@@ -1,17 +1,18 @@
 //! The frames of a task, with their registers in one list.
 
-ghost use Rattle.std.specs.Prelude.{◌≡◌, ◌++◌, ◌+◌, ◌-◌, ◌<◌, ◌≤◌, [], ◌∷◌, ℕ, List, length, map, take, drop, reverse, replicate, Some, IfOk, OnOk, slice_set, slice_index_or};
-ghost use Rattle.ir_meaning.specs.declared.spots.Spot.{Spot};
+ghost use Rattle.std.specs.Prelude.{◌≡◌, ◌==◌, ◌++◌, ◌<◌, [], ◌∷◌, length, map, take, drop, replicate, IfOk, OnOk, slice_set, slice_index_or};
 ghost use Rattle.ir_meaning.specs.declared.words.Word.TheVariants.{Number};
-ghost use Rattle.ir_meaning.specs.Lines.{numbered, following};
+ghost use Rattle.ir_meaning.specs.Lines.{numbered};
 ghost use Rattle.ir_ast.specs.Faults.PhiEdges.{is_phi};
-ghost use Rattle.ir_meaning.specs.Stacks.{frames_below, passed_spot, passed_frame, word, word_at, entered_frames, arrived_frames};
+ghost use Rattle.ir_meaning.specs.Stacks.{passed_spot, passed_frame, word, word_at, move_of, moved, entered_frames, arrived_frames};
+ghost use Rattle.ir_meaning.specs.Registers.{put};
+ghost use Rattle.std.specs.List.{position_or_len};
 
 use crate::codes::following;
 use crate::spots::{Due, Spot};
 use crate::words::Word;
 use ir_ast::{Inst, Op, Operand};
-use sp_ids::Memory;
+use sp_ids::{BlockId, Memory};
 use std::alloc::Global;
 use std::marker::Model;
 
@@ -117,15 +118,12 @@ impl Stack {
         self.spot = spot;
     }
 
-    /// The running frame goes on behind an instruction with this result.
-    pub fn pass(&mut self, inst: &Inst, outcome: Word) -> Result<(), Memory>
-        ensures { OnOk result (self.new ≡ record self.old { running = passed_frame self.old.running inst.now outcome }) }
+    /// The running frame goes on behind an instruction that gives nothing here.
+    pub fn skip(&mut self, inst: &Inst) -> Result<(), Memory>
+        ensures { OnOk result (self.new ≡ record self.old { running = record self.old.running { spot = passed_spot self.old.running.spot inst.now } }) }
     {
         let next = following(self.spot.next, inst)?;
         let at = self.spot.at.checked_add(1).ok_or(Memory)?;
-        if inst.result().is_some() {
-            self.put(self.spot.next, outcome);
-        }
         self.spot = Spot {
             at,
             next,
@@ -135,12 +133,30 @@ impl Stack {
         Ok(())
     }
 
-    fn put(&mut self, register: usize, word: Word)
+    /// The running frame goes on behind an instruction with this result.
+    pub fn pass(&mut self, inst: &Inst, outcome: Word) -> Result<(), Memory>
+        ensures { OnOk result (self.new ≡ record self.old { running = passed_frame self.old.running inst.now outcome }) }
+    {
+        let register = register_of(self.spot.next, inst);
+        self.skip(inst)?;
+        self.put(register, outcome);
+        Ok(())
+    }
+
+    fn put(&mut self, to: Option<usize>, word: Word)
+        ensures { self.new ≡ record self.old { running = record self.old.running { registers = put to word self.old.running.registers } } }
+    {
+        if let Some(register) = to {
+            self.set(register, word);
+        }
+    }
+
+    fn set(&mut self, register: usize, word: Word)
         ensures { self.new ≡ record self.old { running = record self.old.running { registers = slice_set self.old.running.registers register word } } }
     {
         let place = (self.base as usize).saturating_add(register);
-        if let Some(slot) = self.registers.get_mut(place) {
-            *slot = word;
+        if place < self.registers.len() {
+            self.registers[place] = word;
         }
     }
 
@@ -151,7 +167,7 @@ impl Stack {
     {
         let end = self.registers.len();
         let base = u32::try_from(end).map_err(|_| Memory)?;
-        self.hand_over(operands)?;
+        hand_over(&mut self.registers, self.base, operands)?;
         fill(&mut self.registers, count.saturating_sub(operands.len()))?;
         self.saved.push(Saved {
             spot: self.spot,
@@ -162,16 +178,6 @@ impl Stack {
         Ok(())
     }
 
-    // The values of these operands become more registers behind those of the running frame.
-    fn hand_over(&mut self, operands: &[Operand]) -> Result<(), Memory>
-    {
-        let end = self.registers.len();
-        for operand in operands {
-            let word = word_in(self.registers.as_slice(), self.base, end, operand);
-            self.registers.push(word)?;
-        }
-        Ok(())
-    }
 
     /// The newest of the frames that wait runs again, and the running one is gone.
     pub fn leave(&mut self)
@@ -180,7 +186,10 @@ impl Stack {
     {
         if let Some(saved) = self.saved.pop() {
             self.registers.truncate(self.base as usize);
-            self.spot = saved.spot;
+            self.spot = Spot {
+                due: Due::Behind,
+                ..saved.spot
+            };
             self.base = saved.base;
         }
     }
@@ -207,9 +216,7 @@ impl Stack {
             next = following(next, inst)?;
             at += 1;
         }
-        for one in moves.iter() {
-            self.do_move(one);
-        }
+        self.do_moves(moves.as_slice());
         self.spot = Spot {
             block,
             at,
@@ -222,24 +229,43 @@ impl Stack {
 
     // What a phi assigns on the edge from the block of the running frame.
     fn phi_move(&self, phi: &Inst, next: usize) -> Move
+        ensures { result ≡ move_of self.now.running.spot.block self.now.running.registers next phi.now }
     {
-        let from = self.spot.block;
-        let place = phi
-            .labels()
-            .iter()
-            .position(|label| label.0 == from)
-            .unwrap_or(phi.labels().len());
         Move {
             to: register_of(next, phi),
-            word: self.operand(phi.operands(), place),
+            word: self.operand(phi.operands(), entry_from(self.spot.block, phi.labels())),
         }
     }
 
-    fn do_move(&mut self, one: &Move) {
-        if let Some(to) = one.to {
-            self.put(to, one.word);
+    fn do_moves(&mut self, moves: &[Move])
+        ensures { self.new ≡ record self.old { running = record self.old.running { registers = moved moves.now self.old.running.registers } } }
+    {
+        for one in moves {
+            self.put(one.to, one.word);
         }
     }
+}
+
+// The first entry of a phi with the label of this block, or the number of entries.
+fn entry_from(block: u32, labels: &[BlockId]) -> usize
+    ensures { result ≡ position_or_len (λ label. label.0 == block) labels.now }
+{
+    labels
+        .iter()
+        .position(|label| label.0 == block)
+        .unwrap_or(labels.len())
+}
+
+// The values of these operands, in the frame that begins at this base, become more registers.
+fn hand_over(registers: &mut Vec<Word>, base: u32, operands: &[Operand]) -> Result<(), Memory>
+    ensures { OnOk result (registers.new.items ≡ registers.old.items ++ map (word (drop base registers.old.items)) operands.now) }
+{
+    let end = registers.len();
+    for operand in operands {
+        let word = word_in(registers.as_slice(), base, end, operand);
+        registers.push(word)?;
+    }
+    Ok(())
 }
 
 // The register that the result of an instruction goes to.
@@ -261,6 +287,7 @@ fn is_phi(op: &Op) -> bool
 
 // What an operand is in the frame whose registers these are, from its base up to this end.
 fn word_in(registers: &[Word], base: u32, end: usize, operand: &Operand) -> Word
+    ensures { result ≡ word (drop base (take end registers.now)) operand.now }
 {
     match operand {
         Operand::Value(id) => {

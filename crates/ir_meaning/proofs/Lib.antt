@@ -1,0 +1,4 @@
+pub mod ListLemmas
+pub mod LineLemmas
+pub mod WordLemmas
+pub mod PhiLemmas

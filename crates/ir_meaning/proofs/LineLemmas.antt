@@ -1,0 +1,91 @@
+-- The lines at which a frame of the interpreter stands, and the step there.
+use Rattle.std.proofs.Common.{◌≡◌, ℕ, ℤ, ◌+◌, Bool, true, false, List, [], ◌∷◌, map, drop, refl, sym, ap, ◌∙◌}
+use Rattle.std.specs.Prelude.{Some, None, slice_get}
+use Rattle.tool_io.specs.Counts.{raised}
+use Rattle.ir_ast.specs.Insts.{Instruction}
+use Rattle.ir_ast.specs.Modules.{ModuleContent}
+use Rattle.ir_meaning.specs.declared.spots.Due.TheVariants.{Front, Line as Next, Behind}
+use Rattle.ir_meaning.specs.declared.spots.Spot.{Spot}
+use Rattle.ir_meaning.specs.declared.words.Word.{Word}
+use Rattle.ir_meaning.specs.Lines.{Line, poll, numbered, retreats, insts_of}
+use Rattle.ir_meaning.specs.States.{State, Setting, Effect, goes_on, ends}
+use Rattle.ir_meaning.specs.Frames.{passed}
+use Rattle.ir_meaning.specs.Steps.{step, steps_at, acts}
+use Rattle.ir_meaning.specs.Stacks.{Seen, Frames, passed_frame, waiting_spot, lines_at, lines_behind}
+use Rattle.ir_meaning.specs.Words.{datum}
+use Rattle.ir_meaning.specs.Machines.{state_from, today, StandsAt, does}
+use Rattle.ir_meaning.proofs.ListLemmas.{drop_at, drop_end}
+use Rattle.ir_meaning.proofs.WordLemmas.{put_is}
+use Rattle.sp_ids.specs.declared.ends.End.TheVariants.{Trap}
+use Rattle.sp_ids.specs.declared.ends.Trap.TheVariants.{Unreachable}
+
+pub at_front : (content : ModuleContent) (spot : Spot) → spot.due ≡ Front
+    → lines_at content spot ≡ poll ∷ lines_at content (record spot { due = Next })
+at_front content spot e = rw e refl
+
+pub at_line : (content : ModuleContent) (spot : Spot) (inst : Instruction) → spot.due ≡ Next
+    → slice_get (insts_of content spot.func spot.block) spot.at ≡ Some inst → retreats spot.block inst ≡ false
+    → lines_at content spot ≡ numbered spot.next inst ∷ lines_behind content spot inst
+at_line content spot inst due there none =
+    let cut = drop_at (insts_of content spot.func spot.block) spot.at inst there in rw (due, cut, none) refl
+
+pub at_poll : (content : ModuleContent) (spot : Spot) (inst : Instruction) → spot.due ≡ Next
+    → slice_get (insts_of content spot.func spot.block) spot.at ≡ Some inst → retreats spot.block inst ≡ true
+    → lines_at content spot ≡ poll ∷ lines_at content (waiting_spot spot)
+at_poll content spot inst due there polls =
+    let cut = drop_at (insts_of content spot.func spot.block) spot.at inst there in rw (due, cut, polls) refl
+
+pub at_waiting : (content : ModuleContent) (spot : Spot) (inst : Instruction)
+    → slice_get (insts_of content spot.func spot.block) spot.at ≡ Some inst
+    → lines_at content (waiting_spot spot) ≡ numbered spot.next inst ∷ lines_behind content spot inst
+at_waiting content spot inst there =
+    let cut = drop_at (insts_of content spot.func spot.block) spot.at inst there in rw cut refl
+
+pub at_behind : (content : ModuleContent) (spot : Spot) (inst : Instruction) → spot.due ≡ Behind
+    → slice_get (insts_of content spot.func spot.block) spot.at ≡ Some inst
+    → lines_at content spot ≡ numbered spot.next inst ∷ lines_behind content spot inst
+at_behind content spot inst due there = rw due (at_waiting content spot inst there)
+
+pub at_line_end : (content : ModuleContent) (spot : Spot) → spot.due ≡ Next
+    → slice_get (insts_of content spot.func spot.block) spot.at ≡ None → lines_at content spot ≡ []
+at_line_end content spot due none =
+    let cut = drop_end (insts_of content spot.func spot.block) spot.at none in rw (due, cut) refl
+
+pub at_behind_end : (content : ModuleContent) (spot : Spot) → spot.due ≡ Behind
+    → slice_get (insts_of content spot.func spot.block) spot.at ≡ None → lines_at content spot ≡ []
+at_behind_end content spot due none =
+    let cut = drop_end (insts_of content spot.func spot.block) spot.at none in rw (due, cut) refl
+
+-- the step at a line
+pub step_is : (setting : Setting) (state : State) (line : Line) (rest : List Line) → state.running.rest ≡ line ∷ rest
+    → step setting state ≡ acts setting state line rest line.inst.op
+unfolding step
+step_is setting state line rest e = ap (steps_at setting state) e
+
+pub step_at_end : (setting : Setting) (state : State) → state.running.rest ≡ [] → step setting state ≡ ends (Trap Unreachable) state
+unfolding step
+step_at_end setting state e = ap (steps_at setting state) e
+
+pub does_is : (content : ModuleContent) (bound : ℕ) (frames : Frames) (input : List ℤ) (steps events : ℕ) (inst : Instruction)
+    → lines_at content frames.running.spot ≡ numbered frames.running.spot.next inst ∷ lines_behind content frames.running.spot inst
+    → does content bound (state_from content frames input steps events) frames.running.spot inst
+      ≡ step (today content bound) (state_from content frames input steps events)
+does_is content bound frames input steps events inst e =
+    sym (step_is (today content bound) (state_from content frames input steps events) (numbered frames.running.spot.next inst)
+        (lines_behind content frames.running.spot inst) e)
+
+-- a poll is one event, and the frame then stands behind it
+pub step_polls : (content : ModuleContent) (bound : ℕ) (frames : Frames) (input : List ℤ) (steps events : ℕ) (spot : Spot)
+    → lines_at content frames.running.spot ≡ poll ∷ lines_at content spot
+    → spot.func ≡ frames.running.spot.func → spot.block ≡ frames.running.spot.block
+    → goes_on (state_from content (record frames { running = record frames.running { spot = spot } }) input steps (raised events))
+      ≡ step (today content bound) (state_from content frames input steps events)
+step_polls content bound frames input steps events spot e func block =
+    rw (func, block) (sym (step_is (today content bound) (state_from content frames input steps events) poll (lines_at content spot) e))
+
+pub passed_is : (content : ModuleContent) (frames : Frames) (input : List ℤ) (steps events : ℕ) (inst : Instruction) (one : Word)
+    → state_from content (record frames { running = passed_frame frames.running inst one }) input steps events
+      ≡ passed (state_from content frames input steps events) (numbered frames.running.spot.next inst)
+          (lines_behind content frames.running.spot inst) (datum one)
+passed_is content frames input steps events inst one =
+    rw (put_is (numbered frames.running.spot.next inst).to one frames.running.registers) refl
