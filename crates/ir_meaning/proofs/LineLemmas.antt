@@ -1,6 +1,10 @@
 -- The lines at which a frame of the interpreter stands, and the step there.
 use Rattle.std.proofs.Common.{◌≡◌, ℕ, ℤ, ◌+◌, Bool, true, false, List, [], ◌∷◌, map, drop, refl, sym, ap, ◌∙◌}
-use Rattle.std.specs.Prelude.{Some, None, slice_get}
+use Rattle.std.specs.Prelude.{Some, None, slice_get, Result, Ok, Err}
+use Rattle.sp_ids.specs.declared.ends.Trap.{Trap as Kind}
+use Rattle.ir_ast.specs.Objects.{Datum}
+use Rattle.ir_meaning.specs.Computing.{computed, value_of_line}
+use Rattle.ir_meaning.specs.Registers.{operand}
 use Rattle.tool_io.specs.Counts.{raised}
 use Rattle.ir_ast.specs.Insts.{Instruction}
 use Rattle.ir_ast.specs.Modules.{ModuleContent}
@@ -10,12 +14,12 @@ use Rattle.ir_meaning.specs.declared.words.Word.{Word}
 use Rattle.ir_meaning.specs.Lines.{Line, poll, numbered, retreats, insts_of}
 use Rattle.ir_meaning.specs.States.{State, Setting, Effect, goes_on, ends}
 use Rattle.ir_meaning.specs.Frames.{passed}
-use Rattle.ir_meaning.specs.Steps.{step, steps_at, acts}
-use Rattle.ir_meaning.specs.Stacks.{Seen, Frames, passed_frame, waiting_spot, lines_at, lines_behind}
-use Rattle.ir_meaning.specs.Words.{datum}
+use Rattle.ir_meaning.specs.Steps.{step, steps_at, acts, settled}
+use Rattle.ir_meaning.specs.Stacks.{Seen, Frames, word_at, passed_frame, waiting_spot, lines_at, lines_behind}
+use Rattle.ir_meaning.specs.Words.{datum, datum_result}
 use Rattle.ir_meaning.specs.Machines.{state_from, today, StandsAt, does}
 use Rattle.ir_meaning.proofs.ListLemmas.{drop_at, drop_end}
-use Rattle.ir_meaning.proofs.WordLemmas.{put_is}
+use Rattle.ir_meaning.proofs.WordLemmas.{operand_is, put_is}
 use Rattle.sp_ids.specs.declared.ends.End.TheVariants.{Trap}
 use Rattle.sp_ids.specs.declared.ends.Trap.TheVariants.{Unreachable}
 
@@ -89,3 +93,26 @@ pub passed_is : (content : ModuleContent) (frames : Frames) (input : List ℤ) (
           (lines_behind content frames.running.spot inst) (datum one)
 passed_is content frames input steps events inst one =
     rw (put_is (numbered frames.running.spot.next inst).to one frames.running.registers) refl
+
+-- a line that computes gives what the interpreter computed
+pub value_is : (content : ModuleContent) (registers : List Word) (inst : Instruction) (first second third : Word) (outcome : Result Word Kind)
+    → datum_result outcome ≡ computed content.layouts inst.op inst.ty (datum first) (datum second) (datum third)
+    → first ≡ word_at registers inst.operands 0 → second ≡ word_at registers inst.operands 1 → third ≡ word_at registers inst.operands 2
+    → datum_result outcome ≡ value_of_line content.layouts (map datum registers) inst.op inst.ty inst.operands
+value_is content registers inst first second third outcome e one two three =
+    e ∙ ap (λ a. computed content.layouts inst.op inst.ty a (datum second) (datum third)) (ap datum one ∙ operand_is registers inst.operands 0)
+    ∙ ap (λ b. computed content.layouts inst.op inst.ty (operand (map datum registers) inst.operands 0) b (datum third)) (ap datum two ∙ operand_is registers inst.operands 1)
+    ∙ ap (λ d. computed content.layouts inst.op inst.ty (operand (map datum registers) inst.operands 0) (operand (map datum registers) inst.operands 1) d) (ap datum three ∙ operand_is registers inst.operands 2)
+
+pub settled_ok : (content : ModuleContent) (frames : Frames) (input : List ℤ) (steps events : ℕ) (inst : Instruction) (one : Word)
+    (value : Result Datum Kind) → datum_result (Ok one) ≡ value
+    → goes_on (state_from content (record frames { running = passed_frame frames.running inst one }) input steps events)
+      ≡ settled (state_from content frames input steps events) (numbered frames.running.spot.next inst)
+          (lines_behind content frames.running.spot inst) value
+settled_ok content frames input steps events inst one value e =
+    ap goes_on (passed_is content frames input steps events inst one)
+    ∙ ap (settled (state_from content frames input steps events) (numbered frames.running.spot.next inst) (lines_behind content frames.running.spot inst)) e
+
+pub settled_err : (state : State) (line : Line) (rest : List Line) (trap : Kind) (value : Result Datum Kind) → datum_result (Err trap) ≡ value
+    → ends (Trap trap) state ≡ settled state line rest value
+settled_err state line rest trap value e = ap (settled state line rest) e

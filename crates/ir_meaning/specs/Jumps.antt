@@ -1,6 +1,6 @@
 -- Jumps: where a terminator leads, and the phis of the block there (LLVM Language Reference, "'phi' Instruction").
 use Rattle.std.specs.Prelude.{ℕ, suc, ◌==◌, Bool, true, false, if◌then◌else◌, List, take, drop, map, Option, slice_get}
-use Rattle.std.specs.List.{prefix_len, position, position_or_len}
+use Rattle.std.specs.List.{prefix_len, position}
 use Rattle.std.specs.Option.{option_map_or}
 use Rattle.sp_ids.specs.declared.ids.BlockId.{BlockId}
 use Rattle.ir_ast.specs.declared.ops.Operand.{Operand}
@@ -9,13 +9,13 @@ use Rattle.ir_ast.specs.Insts.{Instruction}
 use Rattle.ir_ast.specs.Faults.PhiEdges.{is_phi}
 use Rattle.ir_ast.specs.Objects.{Datum}
 use Rattle.ir_meaning.specs.Lines.{Line}
-use Rattle.ir_meaning.specs.Registers.{operand, is_set, number_in, Write, put_all}
+use Rattle.ir_meaning.specs.Registers.{nothing, operand, is_set, number_in, Write, put_all}
 use Rattle.ir_meaning.specs.States.{Frame, State, Setting, Effect, goes_on}
 
 -- the operand of a phi on an edge from this block: its first entry with the block's label
 abbrev pub incoming : ℕ → List Datum → Instruction → Datum
 incoming from registers phi =
-    operand registers phi.operands (position_or_len (λ label. label.0 == from) phi.labels)
+    option_map_or (operand registers phi.operands) (position (λ label. label.0 == from) phi.labels) nothing
 
 abbrev pub phi_write : ℕ → List Datum → Line → Write
 phi_write from registers phi = record { to = phi.to; value = incoming from registers phi.inst }

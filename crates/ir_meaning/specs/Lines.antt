@@ -1,6 +1,6 @@
 -- The lines of a function as they are run: each instruction with the register of its result, and a poll at each
 -- poll point (Garbage Collection Safepoints in LLVM, "Safepoint Semantics & Verification").
-use Rattle.std.specs.Prelude.{ℕ, ◌+◌, Bool, true, false, ◌==◌, ◌&&◌, nat_le, if◌then◌else◌, List, [], ◌∷◌, ◌++◌, length, map, Option, Some, None, is_some, slice_get, slice_index}
+use Rattle.std.specs.Prelude.{ℕ, ◌+◌, ◌-◌, Bool, true, false, ◌==◌, ◌&&◌, nat_le, if◌then◌else◌, List, [], ◌∷◌, ◌++◌, length, map, Option, Some, None, is_some, slice_get, slice_index}
 use Rattle.std.specs.List.{list_any, position_or_len}
 use Rattle.std.specs.Option.{option_map_or}
 use Rattle.std.specs.Str.{bytes_eq}
@@ -61,9 +61,11 @@ first_registers next (block ∷ blocks) = next ∷ first_registers (after_all ne
 abbrev pub registers_of : Function → List ℕ
 registers_of func = first_registers (length func.args) func.blocks
 
+abbrev pub insts_in : Function → ℕ → List Instruction
+insts_in func number = option_map_or (λ block. block.insts) (slice_get func.blocks number) []
+
 abbrev pub insts_of : ModuleContent → ℕ → ℕ → List Instruction
-insts_of content func number =
-    option_map_or (λ defined. option_map_or (λ block. block.insts) (slice_get defined.blocks number) []) (slice_get content.funcs func) []
+insts_of content func number = option_map_or (λ defined. insts_in defined number) (slice_get content.funcs func) []
 
 abbrev pub first_register : ModuleContent → ℕ → ℕ → ℕ
 first_register content func number =
@@ -72,7 +74,7 @@ first_register content func number =
 -- how many registers a function has
 abbrev pub register_count : ModuleContent → ℕ → ℕ
 register_count content func =
-    option_map_or (λ defined. slice_index (registers_of defined) (length defined.blocks)) (slice_get content.funcs func) 0
+    option_map_or (λ defined. slice_index (registers_of defined) (length (registers_of defined) - 1)) (slice_get content.funcs func) 0
 
 abbrev pub lines_of : ModuleContent → ℕ → ℕ → List Line
 lines_of content func number = lines_from number (first_register content func number) (insts_of content func number)

@@ -1,7 +1,7 @@
 -- The interpreter's frames: where each stands, and its registers. All registers are in one list, and each frame begins at
 -- its base.
-use Rattle.std.specs.Prelude.{ℕ, ◌+◌, ◌-◌, ◌==◌, if◌then◌else◌, List, [], ◌∷◌, ◌++◌, length, map, take, drop, replicate, fold, slice_get, slice_index_or}
-use Rattle.std.specs.List.{prefix_len, position_or_len}
+use Rattle.std.specs.Prelude.{ℕ, ◌+◌, ◌-◌, ◌==◌, List, [], ◌∷◌, ◌++◌, length, map, take, drop, replicate, fold, slice_get, slice_index_or}
+use Rattle.std.specs.List.{prefix_len, position}
 use Rattle.std.specs.Option.{option_map_or}
 use Rattle.ir_ast.specs.declared.ops.Operand.{Operand}
 use Rattle.ir_ast.specs.declared.ops.Operand.TheVariants.{Value, Int, Null, Fun}
@@ -95,17 +95,17 @@ entered_frames frames spot operands count = record {
 }
 
 -- what a phi assigns on an edge from a block, and where its result goes
-abbrev pub move_of : ℕ → List Word → ℕ → Instruction → Move
-move_of from registers next phi = record {
-  to = (numbered next phi).to;
-  word = word_at registers phi.operands (position_or_len (λ label. label.0 == from) phi.labels);
-}
+abbrev pub word_from : ℕ → List Word → Instruction → Word
+word_from from registers phi =
+    option_map_or (word_at registers phi.operands) (position (λ label. label.0 == from) phi.labels) (Number 0)
 
--- what the phis at the front of these instructions assign on an edge from a block
+abbrev pub move_of : ℕ → List Word → ℕ → Instruction → Move
+move_of from registers next phi = record { to = (numbered next phi).to; word = word_from from registers phi }
+
+-- what these phis assign on an edge from a block
 abbrev pub moves_of : ℕ → List Word → ℕ → List Instruction → List Move
 moves_of from registers next [] = []
-moves_of from registers next (inst ∷ insts) =
-    if is_phi inst.op then move_of from registers next inst ∷ moves_of from registers (following next inst) insts else []
+moves_of from registers next (phi ∷ phis) = move_of from registers next phi ∷ moves_of from registers (following next phi) phis
 
 abbrev pub moved : List Move → List Word → List Word
 moved moves registers = fold (λ rest move. put move.to move.word rest) registers moves
@@ -121,5 +121,5 @@ arrived_frames frames insts block first = record frames { running = record {
     next = after_all first (take (phis_of insts) insts);
     due = Next;
   };
-  registers = moved (moves_of frames.running.spot.block frames.running.registers first insts) frames.running.registers;
+  registers = moved (moves_of frames.running.spot.block frames.running.registers first (take (phis_of insts) insts)) frames.running.registers;
 } }

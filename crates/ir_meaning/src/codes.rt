@@ -1,7 +1,7 @@
 //! The module that is run, with the registers of its functions.
 
-ghost use Rattle.std.specs.Prelude.{◌≡◌, Some, None, IfOk, IfSome, MatchOption, slice_get};
-ghost use Rattle.ir_meaning.specs.Lines.{following, after_all, registers_of, insts_of, first_register, register_count};
+ghost use Rattle.std.specs.Prelude.{◌≡◌, ◌-◌, Some, None, IfOk, IfSome, MatchOption, map, length, slice_get, slice_index};
+ghost use Rattle.ir_meaning.specs.Lines.{following, after_all, registers_of, insts_in, insts_of, first_register, register_count};
 ghost use Rattle.ir_meaning.specs.Stages.{IsReady, AllReady, IsReadyModule};
 
 use crate::spots::Spot;
@@ -22,6 +22,21 @@ impl Model for Registers {
     ghost Value = { List ℕ };
 
     ghost view = { λ registers. registers.list.items };
+}
+
+impl Registers {
+    // The one at a place, or 0 where there is none.
+    fn at(&self, place: usize) -> usize
+        ensures { result ≡ slice_index self.now place }
+    {
+        self.list.get(place).copied().unwrap_or(0)
+    }
+
+    fn last(&self) -> usize
+        ensures { result ≡ slice_index self.now (length self.now - 1) }
+    {
+        self.list.last().copied().unwrap_or(0)
+    }
 }
 
 /// A module as it is run. Contracts see its content.
@@ -50,10 +65,7 @@ impl<'m> Code<'m> {
         requires { IsReadyModule «module».now.content }
         ensures { IfOk result (λ code. code ≡ «module».now.content) }
     {
-        let mut registers = Vec::with_capacity(alloc, module.funcs().len())?;
-        for func in module.funcs() {
-            registers.push(registers_of(alloc, func)?)?;
-        }
+        let registers = all_registers(alloc, module.funcs())?;
         Ok(Code { module, registers })
     }
 
@@ -69,13 +81,7 @@ impl<'m> Code<'m> {
         ensures value { result.now ≡ insts_of self.now func block }
         ensures ready { AllReady result.now }
     {
-        match self.module.funcs().get(func as usize) {
-            None => &[],
-            Some(func) => match func.blocks().get(block as usize) {
-                None => &[],
-                Some(block) => block.insts(),
-            },
-        }
+        block_insts(self.module, func, block)
     }
 
     /// The instruction at which a frame stands.
@@ -92,7 +98,7 @@ impl<'m> Code<'m> {
     {
         match self.registers.get(func as usize) {
             None => 0,
-            Some(registers) => registers.list.get(block as usize).copied().unwrap_or(0),
+            Some(registers) => registers.at(block as usize),
         }
     }
 
@@ -102,9 +108,37 @@ impl<'m> Code<'m> {
     {
         match self.registers.get(func as usize) {
             None => 0,
-            Some(registers) => registers.list.last().copied().unwrap_or(0),
+            Some(registers) => registers.last(),
         }
     }
+}
+
+fn block_insts(module: &Module, func: u32, block: u32) -> &[Inst]
+    ensures { result.now ≡ insts_of «module».now.content func block }
+{
+    match module.funcs().get(func as usize) {
+        None => &[],
+        Some(func) => insts_in(func, block),
+    }
+}
+
+fn insts_in(func: &Func, block: u32) -> &[Inst]
+    ensures { result.now ≡ insts_in func.now.content block }
+{
+    match func.blocks().get(block as usize) {
+        None => &[],
+        Some(block) => block.insts(),
+    }
+}
+
+fn all_registers(alloc: Global, funcs: &[Func]) -> Result<Vec<Registers>, Memory>
+    ensures { IfOk result (λ all. all.items ≡ map (λ func. registers_of func.content) funcs.now) }
+{
+    let mut all = Vec::with_capacity(alloc, funcs.len())?;
+    for func in funcs {
+        all.push(registers_of(alloc, func)?)?;
+    }
+    Ok(all)
 }
 
 fn registers_of(alloc: Global, func: &Func) -> Result<Registers, Memory>
@@ -114,7 +148,8 @@ fn registers_of(alloc: Global, func: &Func) -> Result<Registers, Memory>
     let mut next = func.args().len();
     for block in func.blocks() {
         list.push(next)?;
-        next = after_all(next, block.insts())?;
+        let after = after_all(next, block.insts())?;
+        next = after;
     }
     list.push(next)?;
     Ok(Registers { list })
@@ -125,7 +160,8 @@ fn after_all(first: usize, insts: &[Inst]) -> Result<usize, Memory>
 {
     let mut next = first;
     for inst in insts {
-        next = following(next, inst)?;
+        let after = following(next, inst)?;
+        next = after;
     }
     Ok(next)
 }

@@ -90,6 +90,7 @@ fn opened<'i>(alloc: Global, code: &Code, input: &'i [i64]) -> Result<Machine<'i
     Ok(Machine {
         stack,
         moves: Vec::new(alloc),
+        args: Vec::new(alloc),
         input,
         steps: 0,
         events: 0,

@@ -38,12 +38,13 @@ pub enum Did {
     Ends(End),
 }
 
-/// A run: the frames of its task, room for the moves of phis, what is left of the input, and the steps and
+/// A run: the frames of its task, room for the moves of phis and for arguments, what is left of the input, and the steps and
 /// events so far.
 #[derive(Drop)]
 pub struct Machine<'i> {
     pub stack: Stack,
     pub moves: Vec<Move>,
+    pub args: Vec<Word>,
     pub input: &'i [i64],
     pub steps: u64,
     pub events: u64,
@@ -63,6 +64,7 @@ impl Machine<'_> {
     }
 
     // The line at which the running frame stands, or the poll before it.
+    #[tactic(auto, using(crate::proofs::LineLemmas::step_polls))]
     fn line(&mut self, code: &Code, bound: u64, spot: Spot) -> Result<Did, Memory>
         requires running { spot ≡ self.old.stack.running.spot }
         requires due { spot.due ≡ dues.Line }
@@ -81,6 +83,7 @@ impl Machine<'_> {
     }
 
     // The line at which the running frame stands, whose poll was executed.
+    #[tactic(auto, using(crate::proofs::LineLemmas::does_is))]
     fn behind(&mut self, code: &Code, bound: u64, spot: Spot) -> Result<Did, Memory>
         requires running { spot ≡ self.old.stack.running.spot }
         requires due { spot.due ≡ dues.Behind }
@@ -133,6 +136,7 @@ impl Machine<'_> {
     }
 
     // A phi, which took effect at the jump.
+    #[tactic(auto, using(crate::proofs::LineLemmas::passed_is))]
     fn skip(&mut self, code: &Code, spot: Spot, inst: &Inst) -> Result<Did, Memory>
         requires running { spot ≡ self.old.stack.running.spot }
         ensures { IfOk result (λ did. effect_of did (state_of code.now self.new) ≡ skipped (state_of code.now self.old) (lines_behind code.now spot inst.now)) }
@@ -142,6 +146,7 @@ impl Machine<'_> {
     }
 
     // A line that computes a value from values alone.
+    #[tactic(auto, using(crate::proofs::LineLemmas::passed_is, crate::proofs::LineLemmas::settled_ok))]
     fn compute(&mut self, code: &Code, spot: Spot, inst: &Inst) -> Result<Did, Memory>
         requires running { spot ≡ self.old.stack.running.spot }
         ensures { IfOk result (λ did. effect_of did (state_of code.now self.new) ≡ settled (state_of code.now self.old) (numbered spot.next inst.now) (lines_behind code.now spot inst.now) (value_of_line code.now.layouts (map datum self.old.stack.running.registers) inst.now.op inst.now.ty inst.now.operands)) }
@@ -163,6 +168,7 @@ impl Machine<'_> {
         }
     }
 
+    #[tactic(auto, using(crate::proofs::FrameLemmas::jumped_is))]
     fn jump(&mut self, code: &Code, bound: u64, block: u32) -> Result<Did, Memory>
         ensures { IfOk result (λ did. effect_of did (state_of code.now self.new) ≡ stepped (today code.now bound) (state_of code.now self.old) (jumped (today code.now bound) block)) }
     {
@@ -191,6 +197,7 @@ impl Machine<'_> {
         }
     }
 
+    #[tactic(auto, using(crate::proofs::FrameLemmas::returned_end))]
     fn ret(&mut self, code: &Code, bound: u64, inst: &Inst) -> Result<Did, Memory>
         ensures { IfOk result (λ did. effect_of did (state_of code.now self.new) ≡ stepped (today code.now bound) (state_of code.now self.old) (returned (width_of inst.now.ty) (operand (map datum self.old.stack.running.registers) inst.now.operands 0) (map (frame_of code.now) self.old.stack.below))) }
     {
@@ -210,6 +217,7 @@ impl Machine<'_> {
     }
 
     // The running frame, which waited at a call, goes on with its answer.
+    #[tactic(auto, using(crate::proofs::FrameLemmas::resumed_is))]
     fn answered(&mut self, code: &Code, answer: Word) -> Result<Did, Memory>
         requires { self.old.stack.running.spot.due ≡ dues.Behind }
         ensures { IfOk result (λ did. effect_of did (state_of code.now self.new) ≡ goes_on (resumed (state_of code.now self.old) (datum answer))) }
@@ -245,6 +253,7 @@ impl Machine<'_> {
         }
     }
 
+    #[tactic(auto, using(crate::proofs::FrameLemmas::entering_is))]
     fn enter(
         &mut self,
         code: &Code,
@@ -263,6 +272,7 @@ impl Machine<'_> {
             return Ok(Did::Ends(End::Trap(Trap::Depth)));
         }
         self.stack.enter(
+            &mut self.args,
             front_of(code, func),
             operands,
             code.register_count(func),
@@ -270,6 +280,7 @@ impl Machine<'_> {
         Ok(Did::GoesOn)
     }
 
+    #[tactic(auto, using(crate::proofs::LineLemmas::passed_is))]
     fn print(&mut self, code: &Code, spot: Spot, inst: &Inst) -> Result<Did, Memory>
         requires running { spot ≡ self.old.stack.running.spot }
         ensures { IfOk result (λ did. effect_of did (state_of code.now self.new) ≡ prints (number_in (operand (map datum self.old.stack.running.registers) inst.now.operands 0)) (passed (state_of code.now self.old) (numbered spot.next inst.now) (lines_behind code.now spot inst.now) nothing)) }
@@ -279,6 +290,7 @@ impl Machine<'_> {
         Ok(Did::Prints(number))
     }
 
+    #[tactic(auto, using(crate::proofs::LineLemmas::passed_is))]
     fn read(&mut self, code: &Code, spot: Spot, inst: &Inst) -> Result<Did, Memory>
         requires running { spot ≡ self.old.stack.running.spot }
         ensures { IfOk result (λ did. effect_of did (state_of code.now self.new) ≡ taking (state_of code.now self.old) (passed (state_of code.now self.old) (numbered spot.next inst.now) (lines_behind code.now spot inst.now)) self.old.input.now) }

@@ -1,12 +1,13 @@
 //! The frames of a task, with their registers in one list.
 
-ghost use Rattle.std.specs.Prelude.{◌≡◌, ◌==◌, ◌++◌, ◌<◌, [], ◌∷◌, length, map, take, drop, replicate, IfOk, OnOk, slice_set, slice_index_or};
+ghost use Rattle.std.specs.Prelude.{◌≡◌, ◌==◌, ◌-◌, ◌++◌, ◌<◌, ◌≤◌, [], ◌∷◌, length, map, take, drop, replicate, IfOk, OnOk, slice_set, slice_index_or};
+ghost use Rattle.ir_meaning.specs.declared.spots.Due.TheVariants as dues;
 ghost use Rattle.ir_meaning.specs.declared.words.Word.TheVariants.{Number};
-ghost use Rattle.ir_meaning.specs.Lines.{numbered};
+ghost use Rattle.ir_meaning.specs.Lines.{numbered, after_all};
 ghost use Rattle.ir_ast.specs.Faults.PhiEdges.{is_phi};
-ghost use Rattle.ir_meaning.specs.Stacks.{passed_spot, passed_frame, word, word_at, move_of, moved, entered_frames, arrived_frames};
+ghost use Rattle.ir_meaning.specs.Stacks.{passed_spot, passed_frame, word, word_at, word_from, move_of, moves_of, moved, phis_of, entered_frames, arrived_frames};
 ghost use Rattle.ir_meaning.specs.Registers.{put};
-ghost use Rattle.std.specs.List.{position_or_len};
+ghost use Rattle.std.specs.List.{position};
 
 use crate::codes::following;
 use crate::spots::{Due, Spot};
@@ -161,14 +162,19 @@ impl Stack {
     }
 
     /// A new frame runs, with these operands of the old one as its first registers and so many registers at
-    /// least; the old one waits.
-    pub fn enter(&mut self, spot: Spot, operands: &[Operand], count: usize) -> Result<(), Memory>
+    /// least; the old one waits. `args` is room for the operands.
+    pub fn enter(
+        &mut self,
+        args: &mut Vec<Word>,
+        spot: Spot,
+        operands: &[Operand],
+        count: usize,
+    ) -> Result<(), Memory>
         ensures { OnOk result (self.new ≡ entered_frames self.old spot operands.now count) }
     {
-        let end = self.registers.len();
-        let base = u32::try_from(end).map_err(|_| Memory)?;
-        hand_over(&mut self.registers, self.base, operands)?;
-        fill(&mut self.registers, count.saturating_sub(operands.len()))?;
+        let base = base_of(self.registers.len())?;
+        self.arguments(args, operands)?;
+        extend(&mut self.registers, args.as_slice(), count)?;
         self.saved.push(Saved {
             spot: self.spot,
             base: self.base,
@@ -178,11 +184,22 @@ impl Stack {
         Ok(())
     }
 
+    // The values of these operands.
+    fn arguments(&self, args: &mut Vec<Word>, operands: &[Operand]) -> Result<(), Memory>
+        ensures { OnOk result (args.new.items ≡ map (word self.now.running.registers) operands.now) }
+    {
+        args.clear();
+        for operand in operands {
+            args.push(self.value(operand))?;
+        }
+        Ok(())
+    }
 
     /// The newest of the frames that wait runs again, and the running one is gone.
     pub fn leave(&mut self)
         requires { 0 < length self.old.below }
-        ensures { self.old.below ≡ self.new.running ∷ self.new.below }
+        ensures below { self.old.below ≡ self.new.running ∷ self.new.below }
+        ensures due { self.new.running.spot.due ≡ dues.Behind }
     {
         if let Some(saved) = self.saved.pop() {
             self.registers.truncate(self.base as usize);
@@ -205,17 +222,8 @@ impl Stack {
     ) -> Result<(), Memory>
         ensures { OnOk result (self.new ≡ arrived_frames self.old insts.now block first) }
     {
-        moves.clear();
-        let mut at = 0;
-        let mut next = first;
-        for inst in insts {
-            if !is_phi(inst.op()) {
-                break;
-            }
-            moves.push(self.phi_move(inst, next))?;
-            next = following(next, inst)?;
-            at += 1;
-        }
+        let at = phi_count(insts);
+        let next = self.phi_moves(moves, first, &insts[..at])?;
         self.do_moves(moves.as_slice());
         self.spot = Spot {
             block,
@@ -227,13 +235,42 @@ impl Stack {
         Ok(())
     }
 
+    // What these phis assign on the edge from the block of the running frame, and the register after theirs.
+    fn phi_moves(
+        &self,
+        moves: &mut Vec<Move>,
+        first: usize,
+        phis: &[Inst],
+    ) -> Result<usize, Memory>
+        ensures moves { OnOk result (moves.new.items ≡ moves_of self.now.running.spot.block self.now.running.registers first phis.now) }
+        ensures next { IfOk result (λ next. next ≡ after_all first phis.now) }
+    {
+        moves.clear();
+        let mut next = first;
+        for phi in phis {
+            moves.push(self.phi_move(phi, next))?;
+            let after = following(next, phi)?;
+            next = after;
+        }
+        Ok(next)
+    }
+
     // What a phi assigns on the edge from the block of the running frame.
     fn phi_move(&self, phi: &Inst, next: usize) -> Move
         ensures { result ≡ move_of self.now.running.spot.block self.now.running.registers next phi.now }
     {
         Move {
             to: register_of(next, phi),
-            word: self.operand(phi.operands(), entry_from(self.spot.block, phi.labels())),
+            word: self.incoming(phi),
+        }
+    }
+
+    fn incoming(&self, phi: &Inst) -> Word
+        ensures { result ≡ word_from self.now.running.spot.block self.now.running.registers phi.now }
+    {
+        match entry_from(self.spot.block, phi.labels()) {
+            None => Word::Number(0),
+            Some(entry) => self.operand(phi.operands(), entry),
         }
     }
 
@@ -246,26 +283,41 @@ impl Stack {
     }
 }
 
-// The first entry of a phi with the label of this block, or the number of entries.
-fn entry_from(block: u32, labels: &[BlockId]) -> usize
-    ensures { result ≡ position_or_len (λ label. label.0 == block) labels.now }
+// The first entry of a phi with the label of this block.
+fn entry_from(block: u32, labels: &[BlockId]) -> Option<usize>
+    ensures { result ≡ position (λ label. label.0 == block) labels.now }
 {
-    labels
-        .iter()
-        .position(|label| label.0 == block)
-        .unwrap_or(labels.len())
+    labels.iter().position(|label| label.0 == block)
 }
 
-// The values of these operands, in the frame that begins at this base, become more registers.
-fn hand_over(registers: &mut Vec<Word>, base: u32, operands: &[Operand]) -> Result<(), Memory>
-    ensures { OnOk result (registers.new.items ≡ registers.old.items ++ map (word (drop base registers.old.items)) operands.now) }
+// How many phis stand at the front.
+fn phi_count(insts: &[Inst]) -> usize
+    ensures value { result ≡ phis_of insts.now }
+    ensures within { result ≤ length insts.now }
 {
-    let end = registers.len();
-    for operand in operands {
-        let word = word_in(registers.as_slice(), base, end, operand);
-        registers.push(word)?;
+    let mut count = 0;
+    while count < insts.len() && is_phi(insts[count].op()) {
+        count += 1;
     }
-    Ok(())
+    count
+}
+
+fn base_of(count: usize) -> Result<u32, Memory>
+    ensures { IfOk result (λ base. base ≡ count) }
+{
+    if count <= u32::MAX as usize {
+        Ok(count as u32)
+    } else {
+        Err(Memory)
+    }
+}
+
+// More registers: these words first, and each other one 0.
+fn extend(registers: &mut Vec<Word>, words: &[Word], count: usize) -> Result<(), Memory>
+    ensures { OnOk result (registers.new.items ≡ registers.old.items ++ words.now ++ replicate (count - length words.now) (Number 0)) }
+{
+    registers.extend_from_slice(words)?;
+    fill(registers, count.saturating_sub(words.len()))
 }
 
 // The register that the result of an instruction goes to.
@@ -285,33 +337,11 @@ fn is_phi(op: &Op) -> bool
     matches!(op, Op::Phi)
 }
 
-// What an operand is in the frame whose registers these are, from its base up to this end.
-fn word_in(registers: &[Word], base: u32, end: usize, operand: &Operand) -> Word
-    ensures { result ≡ word (drop base (take end registers.now)) operand.now }
-{
-    match operand {
-        Operand::Value(id) => {
-            let place = base as usize + id.0 as usize;
-            if place < end {
-                registers.get(place).copied().unwrap_or(Word::Number(0))
-            } else {
-                Word::Number(0)
-            }
-        }
-        Operand::Int(number) => Word::Number(*number),
-        Operand::Null => Word::Pointer {
-            object: 0,
-            offset: 0,
-        },
-        Operand::Fun(_) => Word::Number(0),
-    }
-}
-
 // More registers, each 0.
 fn fill(registers: &mut Vec<Word>, count: usize) -> Result<(), Memory>
     ensures { OnOk result (registers.new.items ≡ registers.old.items ++ replicate count (Number 0)) }
 {
-    for _register in 0..count {
+    for _ in 0..count {
         registers.push(Word::Number(0))?;
     }
     Ok(())
