@@ -5,3 +5,5 @@ pub mod PhiLemmas
 pub mod RegisterLemmas
 pub mod StackLemmas
 pub mod FrameLemmas
+pub mod RunLemmas
+pub mod ReadyLemmas

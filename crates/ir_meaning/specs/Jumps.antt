@@ -1,5 +1,5 @@
 -- Jumps: where a terminator leads, and the phis of the block there (LLVM Language Reference, "'phi' Instruction").
-use Rattle.std.specs.Prelude.{ℕ, suc, ◌==◌, Bool, true, false, if◌then◌else◌, List, take, drop, map, Option, slice_get}
+use Rattle.std.specs.Prelude.{ℕ, ◌+◌, ◌==◌, Bool, true, false, if◌then◌else◌, List, take, drop, map, Option, slice_get}
 use Rattle.std.specs.List.{prefix_len, position}
 use Rattle.std.specs.Option.{option_map_or}
 use Rattle.sp_ids.specs.declared.ids.BlockId.{BlockId}
@@ -47,4 +47,4 @@ abbrev pub branch_taken : Datum → ℕ
 branch_taken condition = if is_set condition then 0 else 1
 
 abbrev pub case_taken : Datum → List Operand → ℕ
-case_taken value cases = option_map_or suc (position (is_case (number_in value)) cases) 0
+case_taken value cases = option_map_or (λ place. place + 1) (position (is_case (number_in value)) cases) 0

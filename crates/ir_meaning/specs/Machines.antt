@@ -1,12 +1,14 @@
 -- The state that the interpreter stands for, and what it did.
-use Rattle.std.specs.Prelude.{◌≡◌, ℕ, ℤ, List, [], ◌∷◌, map, Some, slice_get}
+use Rattle.std.specs.Prelude.{◌≡◌, ℕ, ℤ, List, [], ◌∷◌, map, replicate, Some, slice_get}
 use Rattle.ir_ast.specs.Modules.{ModuleContent}
 use Rattle.ir_meaning.specs.declared.machine.Did.{Did}
 use Rattle.ir_meaning.specs.declared.machine.Did.TheVariants.{GoesOn, Prints, Ends}
 use Rattle.ir_meaning.specs.declared.machine.Machine.{Machine}
 use Rattle.ir_meaning.specs.declared.spots.Spot.{Spot}
 use Rattle.ir_ast.specs.Insts.{Instruction}
-use Rattle.ir_meaning.specs.Lines.{numbered, insts_of}
+use Rattle.ir_meaning.specs.declared.spots.Due.TheVariants.{Front}
+use Rattle.ir_meaning.specs.declared.words.Word.TheVariants.{Number}
+use Rattle.ir_meaning.specs.Lines.{numbered, insts_of, main_of, first_register, register_count}
 use Rattle.ir_meaning.specs.States.{State, Setting, Effect, goes_on, prints, ends}
 use Rattle.ir_meaning.specs.Stages.{IsReady}
 use Rattle.ir_meaning.specs.SourceRuns.{source_setting, no_go}
@@ -48,3 +50,12 @@ abbrev pub effect_of : Did → State → Effect
 effect_of GoesOn state = goes_on state
 effect_of (Prints word) state = prints word state
 effect_of (Ends end) state = ends end state
+
+-- the machine stands at the front of `@main`
+pub record IsOpened (content : ModuleContent) (input : List ℤ) (machine : Machine) : Type 0 where
+  pub spot : machine.stack.running.spot ≡ record { func = main_of content; block = 0; at = 0; next = first_register content (main_of content) 0; due = Front }
+  pub registers : machine.stack.running.registers ≡ replicate (register_count content (main_of content)) (Number 0)
+  pub below : machine.stack.below ≡ []
+  pub input_is : machine.input.now ≡ input
+  pub steps : machine.steps ≡ 0
+  pub events : machine.events ≡ 0

@@ -60,8 +60,12 @@ whole_text content end last = text_of last.lines ++ closing_text content end las
 abbrev pub line_count : List (List ℕ) → ℕ
 line_count lines = min (length lines) (2 ^ 64 - 1)
 
--- a sink grew by a front of what the run prints: of what it has printed in some state that it comes to
-pub record WritesFrontOfRun (content : ModuleContent) (input : List ℤ) (go : ℕ → Option ℕ) (bound : ℕ) (old new : Option (List ℕ)) : Type 0 where
+-- a sink grew by a front of what a run prints: of what it has printed in some state that it comes to
+pub record WritesFrontFrom (setting : Setting) (start : Progress) (old new : Option (List ℕ)) : Type 0 where
   pub now : Progress
-  pub reached : Reaches {E = End} (proceeds (source_setting content go bound)) (opening (source_setting content go bound) input) now
+  pub reached : Reaches {E = End} (proceeds setting) start now
   pub front : AppendsFront old new (text_of now.lines)
+
+abbrev pub WritesFrontOfRun : ModuleContent → List ℤ → (ℕ → Option ℕ) → ℕ → Option (List ℕ) → Option (List ℕ) → Type 0
+WritesFrontOfRun content input go bound old new =
+    WritesFrontFrom (source_setting content go bound) (opening (source_setting content go bound) input) old new

@@ -1,18 +1,16 @@
 //! The lines that compute a value from values alone.
 
-ghost use Rattle.std.specs.Prelude.{◌≡◌, ◌≤◌};
-ghost use Rattle.sp_ids.specs.Numbers.{wrapped};
-ghost use Rattle.ir_ast.specs.Objects.{pointer, advanced};
+ghost use Rattle.std.specs.Prelude.{◌≡◌, ◌≤◌, true};
 ghost use Rattle.ir_meaning.specs.Comparisons.{compares, bit, pointers_related};
-ghost use Rattle.ir_meaning.specs.Computing.{computed, with_number, element_bytes, field_bytes, address_of};
-ghost use Rattle.ir_meaning.specs.Numbers.{width_of};
-ghost use Rattle.ir_meaning.specs.Registers.{number_in, pointer_in, is_set};
+ghost use Rattle.ir_meaning.specs.Computing.{computed, with_number};
+ghost use Rattle.ir_meaning.specs.Stages.{runs_today};
+ghost use Rattle.ir_meaning.specs.Registers.{number_in, is_set};
 ghost use Rattle.ir_meaning.specs.Words.{datum, datum_result};
 
 use crate::numbers::{arithmetic, compare, sign_extended, truncated, width_of};
 use crate::words::Word;
-use ir_ast::{Elem, Layout, Op, Pred, Ty};
-use sp_ids::{Trap, sign};
+use ir_ast::{Layout, Op, Pred, Ty};
+use sp_ids::Trap;
 
 /// The value of a line with this operator and type, of its first three operands.
 pub fn computed(
@@ -23,6 +21,7 @@ pub fn computed(
     second: Word,
     third: Word,
 ) -> Result<Word, Trap>
+    requires { runs_today op.now ≡ true }
     ensures { datum_result result ≡ computed layouts.now op.now ty.now (datum first) (datum second) (datum third) }
 {
     match op {
@@ -38,18 +37,7 @@ pub fn computed(
             number_in(first),
         ))),
         Op::Select => Ok(if is_set(first) { second } else { third }),
-        Op::Gep {
-            elem,
-            index_width,
-            place,
-        } => Ok(address_of(
-            layouts,
-            elem,
-            width_of(&Ty::Int(*index_width)),
-            *place,
-            first,
-            number_in(second),
-        )),
+        Op::Gep { .. } => unreachable!(),
         _ => with_number(arithmetic(
             op,
             width_of(ty),
@@ -98,64 +86,6 @@ fn compare_pointers(pred: Pred, same: bool) -> bool
         Pred::Eq => same,
         Pred::Ne => !same,
         _ => false,
-    }
-}
-
-// `getelementptr E, P from, iN index` (LLVM Language Reference, "'getelementptr' Instruction").
-fn address_of(
-    layouts: &[Layout],
-    elem: &Elem,
-    index_width: u32,
-    place: Option<u32>,
-    from: Word,
-    index: u64,
-) -> Word
-    requires some_bits { 1 ≤ index_width }
-    requires word { index_width ≤ 64 }
-    ensures { datum result ≡ pointer (address_of layouts.now elem.now index_width place (pointer_in (datum from)) index) }
-{
-    let signed = sign(index_width, index).cast_unsigned();
-    let by = signed
-        .wrapping_mul(element_bytes(layouts, elem))
-        .wrapping_add(field_bytes(place));
-    advanced(from, by)
-}
-
-fn advanced(from: Word, by: u64) -> Word
-    ensures { datum result ≡ pointer (advanced (pointer_in (datum from)) by) }
-{
-    match from {
-        Word::Number(_) => Word::Pointer {
-            object: 0,
-            offset: by,
-        },
-        Word::Pointer { object, offset } => Word::Pointer {
-            object,
-            offset: offset.wrapping_add(by),
-        },
-    }
-}
-
-// The bytes of a source element, modulo 2^64.
-fn element_bytes(layouts: &[Layout], elem: &Elem) -> u64
-    ensures { result ≡ wrapped 64 (element_bytes layouts.now elem.now) }
-{
-    match elem {
-        Elem::Int(width) => u64::from(*width / 8),
-        Elem::Ptr => 8,
-        Elem::Layout(layout) => match layouts.get(*layout as usize) {
-            None => 0,
-            Some(layout) => (layout.fields().len() as u64).wrapping_mul(8),
-        },
-    }
-}
-
-fn field_bytes(place: Option<u32>) -> u64
-    ensures { result ≡ field_bytes place }
-{
-    match place {
-        None => 0,
-        Some(place) => 8 * u64::from(place),
     }
 }
 

@@ -1,18 +1,22 @@
 //! The reference interpreter.
 
-ghost use Rattle.std.specs.Prelude.{◌≡◌, ◌≤◌, IfOk, OnErr, IsErrOf};
+ghost use Rattle.std.specs.Prelude.{◌≡◌, ◌≤◌, ◌<◌, length, codes, IfOk, IfSome, OnErr, IsErrOf};
+ghost use Rattle.std.specs.List.{position};
+ghost use Rattle.std.specs.Str.{bytes_eq};
 ghost use Rattle.ir_cfg.specs.SourceModules.{IsSourceModule};
 ghost use Rattle.tool_io.specs.Counts.{Rose};
-ghost use Rattle.ir_meaning.specs.SourceRuns.{no_go, WritesFrontOfRun};
+ghost use Rattle.ir_meaning.specs.Lines.{main_of};
+ghost use Rattle.ir_meaning.specs.Machines.{state_of, today, IsOpened};
+ghost use Rattle.ir_meaning.specs.SourceRuns.{no_go, WritesFrontFrom, WritesFrontOfRun};
 ghost use Rattle.ir_meaning.specs.Stages.{IsToday};
 ghost use Rattle.ir_meaning.specs.Texts.{printed_line};
-ghost use Rattle.ir_meaning.specs.References.{IsRun};
+ghost use Rattle.ir_meaning.specs.References.{IsRun, IsRunFrom, unprinted};
 
 use crate::codes::Code;
 use crate::machine::{Did, Machine, front_of};
 use crate::stacks::Stack;
 use arrayvec::ArrayVec;
-use ir_ast::Module;
+use ir_ast::{Func, Module};
 use itoa::Buffer;
 use sp_ids::{End, FuncId, Memory, sign};
 use std::alloc::Global;
@@ -72,7 +76,7 @@ pub fn reference<O: Sink>(
     out: &mut O,
 ) -> Result<Ran, RefFault>
     requires source { IsSourceModule «module».now.content }
-    requires today { IsToday «module».now.content }
+    requires now { IsToday «module».now.content }
     ensures ran { IfOk result (λ ran. IsRun «module».now.content input.now no_go steps ran (O.written out.old) (O.written out.new)) }
     ensures front { OnErr result (WritesFrontOfRun «module».now.content input.now no_go steps (O.written out.old) (O.written out.new)) }
     ensures failed { IsErrOf result RefFault.Write → Rose (O.faults out.old) (O.faults out.new) }
@@ -84,8 +88,10 @@ pub fn reference<O: Sink>(
 }
 
 // Task 0 at the front of `@main`.
-fn opened<'i>(alloc: Global, code: &Code, input: &'i [i64]) -> Result<Machine<'i>, Memory> {
-    let main = main_of(code)?;
+fn opened<'i>(alloc: Global, code: &Code, input: &'i [i64]) -> Result<Machine<'i>, Memory>
+    ensures { IfOk result (λ machine. IsOpened code.now input.now machine) }
+{
+    let main = main_of(code);
     let stack = Stack::new(alloc, front_of(code, main), code.register_count(main))?;
     Ok(Machine {
         stack,
@@ -98,13 +104,26 @@ fn opened<'i>(alloc: Global, code: &Code, input: &'i [i64]) -> Result<Machine<'i
 }
 
 // The number of `@main`.
-fn main_of(code: &Code) -> Result<u32, Memory> {
-    let funcs = code.module().funcs();
-    let main = funcs
-        .iter()
-        .position(|func| func.name().bytes() == b"main".as_slice())
-        .unwrap_or(funcs.len());
-    u32::try_from(main).map_err(|_| Memory)
+fn main_of(code: &Code) -> u32
+    ensures { result ≡ main_of code.now }
+{
+    match main_among(code.module().funcs()) {
+        None => 0,
+        Some(place) => place as u32,
+    }
+}
+
+fn main_among(funcs: &[Func]) -> Option<usize>
+    ensures value { result ≡ position (λ func. bytes_eq func.content.name (codes "main")) funcs.now }
+    ensures within { IfSome result (λ place. place < length funcs.now) }
+{
+    funcs.iter().position(|func| is_main(func))
+}
+
+fn is_main(func: &Func) -> bool
+    ensures { result ≡ bytes_eq func.now.content.name (codes "main") }
+{
+    func.name().bytes() == b"main".as_slice()
 }
 
 // Runs to the end.
@@ -113,9 +132,14 @@ fn run<O: Sink>(
     machine: &mut Machine,
     bound: u64,
     out: &mut O,
-) -> Result<Ran, RefFault> {
+) -> Result<Ran, RefFault>
+    ensures ran { IfOk result (λ ran. IsRunFrom (today code.now bound) (unprinted (state_of code.now machine.old)) ran (O.written out.old) (O.written out.new)) }
+    ensures front { OnErr result (WritesFrontFrom (today code.now bound) (unprinted (state_of code.now machine.old)) (O.written out.old) (O.written out.new)) }
+    ensures failed { IsErrOf result RefFault.Write → Rose (O.faults out.old) (O.faults out.new) }
+    ensures count { O.faults out.old ≤ O.faults out.new }
+{
     let mut lines = 0u64;
-    for _turn in 0..u64::MAX {
+    for _ in 0..u64::MAX {
         match machine.step(code, bound)? {
             Did::GoesOn => {}
             Did::Prints(number) => {
@@ -128,7 +152,9 @@ fn run<O: Sink>(
     Err(RefFault::Memory)
 }
 
-fn how_ran(end: End, machine: &Machine, lines: u64) -> Ran {
+fn how_ran(end: End, machine: &Machine, lines: u64) -> Ran
+    ensures { result ≡ record { end = end; func = record { 0 = machine.now.stack.running.spot.func }; steps = machine.now.steps; events = machine.now.events; lines = lines } }
+{
     Ran {
         end,
         func: FuncId(machine.stack.spot().func),

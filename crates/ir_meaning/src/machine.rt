@@ -1,6 +1,6 @@
 //! One step of the running task.
 
-ghost use Rattle.std.specs.Prelude.{◌≡◌, true, nat_le, suc, IfOk, map, drop};
+ghost use Rattle.std.specs.Prelude.{◌≡◌, ◌+◌, ◌<◌, true, nat_le, IfOk, IfSome, map, drop, length};
 ghost use Rattle.std.specs.List.{position, list_any};
 ghost use Rattle.std.specs.Option.{option_map_or};
 ghost use Rattle.tool_io.specs.Counts.{raised};
@@ -8,7 +8,7 @@ ghost use Rattle.ir_meaning.specs.Lines.{numbered, retreats, first_register};
 ghost use Rattle.ir_meaning.specs.Registers.{value, operand, number_in, nothing};
 ghost use Rattle.ir_meaning.specs.Frames.{passed, resumed};
 ghost use Rattle.ir_meaning.specs.Calls.{called, stepped, entering, taking};
-ghost use Rattle.ir_meaning.specs.Stages.{calls_today};
+ghost use Rattle.ir_meaning.specs.Stages.{runs_today, calls_today};
 ghost use Rattle.ir_meaning.specs.Jumps.{jumped, label_at, branch_taken, case_taken, is_case};
 ghost use Rattle.ir_meaning.specs.Numbers.{width_of};
 ghost use Rattle.ir_meaning.specs.Steps.{step, returned, settled, skipped};
@@ -149,6 +149,7 @@ impl Machine<'_> {
     #[tactic(auto, using(crate::proofs::LineLemmas::passed_is, crate::proofs::LineLemmas::settled_ok))]
     fn compute(&mut self, code: &Code, spot: Spot, inst: &Inst) -> Result<Did, Memory>
         requires running { spot ≡ self.old.stack.running.spot }
+        requires today { runs_today inst.now.op ≡ true }
         ensures { IfOk result (λ did. effect_of did (state_of code.now self.new) ≡ settled (state_of code.now self.old) (numbered spot.next inst.now) (lines_behind code.now spot inst.now) (value_of_line code.now.layouts (map datum self.old.stack.running.registers) inst.now.op inst.now.ty inst.now.operands)) }
     {
         let outcome = computed(
@@ -268,7 +269,7 @@ impl Machine<'_> {
             return Ok(Did::Ends(End::OutOfSteps));
         }
         self.steps += 1;
-        if self.stack.waiting() + 1 >= FRAMES as usize {
+        if self.stack.waiting() >= FRAMES as usize - 1 {
             return Ok(Did::Ends(End::Trap(Trap::Depth)));
         }
         self.stack.enter(
@@ -352,19 +353,32 @@ fn branch_taken(condition: Word) -> usize
 fn case_taken(word: Word, operands: &[Operand]) -> usize
     ensures { result ≡ case_taken (datum word) (drop 1 operands.now) }
 {
+    case_among(number_in(word), cases_of(operands))
+}
+
+fn cases_of(operands: &[Operand]) -> &[Operand]
+    ensures { result.now ≡ drop 1 operands.now }
+{
     match operands {
-        [] => 0,
-        [_value, cases @ ..] => case_among(number_in(word), cases),
+        [] => &[],
+        [_value, cases @ ..] => cases,
     }
 }
 
 fn case_among(number: u64, cases: &[Operand]) -> usize
-    ensures { result ≡ option_map_or suc (position (is_case number) cases.now) 0 }
+    ensures { result ≡ option_map_or (λ place. place + 1) (position (is_case number) cases.now) 0 }
 {
-    match cases.iter().position(|one| is_case(number, one)) {
+    match place_of(number, cases) {
         None => 0,
         Some(place) => place + 1,
     }
+}
+
+fn place_of(number: u64, cases: &[Operand]) -> Option<usize>
+    ensures value { result ≡ position (is_case number) cases.now }
+    ensures within { IfSome result (λ place. place < length cases.now) }
+{
+    cases.iter().position(|one| is_case(number, one))
 }
 
 fn is_case(number: u64, operand: &Operand) -> bool
