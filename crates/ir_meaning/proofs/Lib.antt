@@ -7,3 +7,4 @@ pub mod StackLemmas
 pub mod FrameLemmas
 pub mod RunLemmas
 pub mod ReadyLemmas
+pub mod NumberLemmas

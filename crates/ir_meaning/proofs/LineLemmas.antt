@@ -8,6 +8,10 @@ use Rattle.ir_meaning.specs.Registers.{operand}
 use Rattle.tool_io.specs.Counts.{raised}
 use Rattle.ir_ast.specs.Insts.{Instruction}
 use Rattle.ir_ast.specs.Modules.{ModuleContent}
+use Rattle.std.specs.Int.{w64, cast_unsigned}
+use Rattle.ir_meaning.specs.Calls.{taking}
+use Rattle.ir_meaning.specs.declared.words.Word.TheVariants.{Number}
+use Rattle.ir_meaning.specs.declared.spots.Due.{Due}
 use Rattle.ir_meaning.specs.declared.spots.Due.TheVariants.{Front, Line as Next, Behind}
 use Rattle.ir_meaning.specs.declared.spots.Spot.{Spot}
 use Rattle.ir_meaning.specs.declared.words.Word.{Word}
@@ -79,13 +83,12 @@ does_is content bound frames input steps events inst e =
         (lines_behind content frames.running.spot inst) e)
 
 -- a poll is one event, and the frame then stands behind it
-pub step_polls : (content : ModuleContent) (bound : ℕ) (frames : Frames) (input : List ℤ) (steps events : ℕ) (spot : Spot)
-    → lines_at content frames.running.spot ≡ poll ∷ lines_at content spot
-    → spot.func ≡ frames.running.spot.func → spot.block ≡ frames.running.spot.block
-    → goes_on (state_from content (record frames { running = record frames.running { spot = spot } }) input steps (raised events))
+pub step_polls : (content : ModuleContent) (bound : ℕ) (frames : Frames) (input : List ℤ) (steps events : ℕ) (due : Due)
+    → lines_at content frames.running.spot ≡ poll ∷ lines_at content (record frames.running.spot { due = due })
+    → goes_on (state_from content (record frames { running = record frames.running { spot = record frames.running.spot { due = due } } }) input steps (raised events))
       ≡ step (today content bound) (state_from content frames input steps events)
-step_polls content bound frames input steps events spot e func block =
-    rw (func, block) (sym (step_is (today content bound) (state_from content frames input steps events) poll (lines_at content spot) e))
+step_polls content bound frames input steps events due e =
+    sym (step_is (today content bound) (state_from content frames input steps events) poll (lines_at content (record frames.running.spot { due = due })) e)
 
 pub passed_is : (content : ModuleContent) (frames : Frames) (input : List ℤ) (steps events : ℕ) (inst : Instruction) (one : Word)
     → state_from content (record frames { running = passed_frame frames.running inst one }) input steps events
@@ -116,3 +119,16 @@ settled_ok content frames input steps events inst one value e =
 pub settled_err : (state : State) (line : Line) (rest : List Line) (trap : Kind) (value : Result Datum Kind) → datum_result (Err trap) ≡ value
     → ends (Trap trap) state ≡ settled state line rest value
 settled_err state line rest trap value e = ap (settled state line rest) e
+
+-- the next number of the input
+pub taken_is : (content : ModuleContent) (frames : Frames) (input : List ℤ) (steps events : ℕ) (inst : Instruction) (first : ℤ) (word : ℕ) (rest : List ℤ)
+    → slice_get input 0 ≡ Some first → word ≡ cast_unsigned w64 first → rest ≡ drop 1 input
+    → goes_on (state_from content (record frames { running = passed_frame frames.running inst (Number word) }) rest steps events)
+      ≡ taking (state_from content frames input steps events)
+          (passed (state_from content frames input steps events) (numbered frames.running.spot.next inst) (lines_behind content frames.running.spot inst)) input
+taken_is content frames [] steps events inst first word rest found is left = cc
+taken_is content frames (number ∷ numbers) steps events inst first word rest found is left =
+    let same : number ≡ first = cc in
+    let spelled : word ≡ cast_unsigned w64 number = is ∙ ap (cast_unsigned w64) (sym same) in
+    rw (left, spelled) (ap (λ (state : State). goes_on (record state { input = numbers }))
+        (passed_is content frames (number ∷ numbers) steps events inst (Number (cast_unsigned w64 number))))

@@ -40,8 +40,8 @@ pub phi_rest : (block next : ℕ) (insts : List Instruction)
       ≡ lines_from block (after_all next (take (phis_of insts) insts)) (drop (phis_of insts) insts)
 phi_rest block next [] = refl
 phi_rest block next (inst ∷ insts) = elim (known (is_phi inst.op)) [
-    inl yes ↦ rw (phi_line block next inst insts yes, yes) (phi_rest block (following next inst) insts)
-  | inr no ↦ rw (other_line block next inst insts no, no) refl
+    inl is ↦ rw (phi_line block next inst insts is, is) (phi_rest block (following next inst) insts)
+  | inr other ↦ rw (other_line block next inst insts other, other) refl
   ]
 
 -- what an operand or an entry is, in both
@@ -58,6 +58,6 @@ pub phi_writes : (from : ℕ) (registers : List Word) (block next : ℕ) (insts 
       ≡ map (phi_write from (map datum registers)) (take (phi_count (lines_from block next insts)) (lines_from block next insts))
 phi_writes from registers block next [] = refl
 phi_writes from registers block next (inst ∷ insts) = elim (known (is_phi inst.op)) [
-    inl yes ↦ rw (phi_line block next inst insts yes, yes) (cc (incoming_is from registers inst, phi_writes from registers block (following next inst) insts))
-  | inr no ↦ rw (other_line block next inst insts no, no) refl
+    inl is ↦ rw (phi_line block next inst insts is, is) (cc (incoming_is from registers inst, phi_writes from registers block (following next inst) insts))
+  | inr other ↦ rw (other_line block next inst insts other, other) refl
   ]

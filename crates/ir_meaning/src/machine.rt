@@ -1,6 +1,6 @@
 //! One step of the running task.
 
-ghost use Rattle.std.specs.Prelude.{◌≡◌, ◌+◌, ◌<◌, true, nat_le, IfOk, IfSome, map, drop, length};
+ghost use Rattle.std.specs.Prelude.{◌≡◌, ◌+◌, ◌<◌, true, nat_le, IfOk, IfSome, map, drop, length, slice_get};
 ghost use Rattle.std.specs.List.{position, list_any};
 ghost use Rattle.std.specs.Option.{option_map_or};
 ghost use Rattle.tool_io.specs.Counts.{raised};
@@ -64,7 +64,6 @@ impl Machine<'_> {
     }
 
     // The line at which the running frame stands, or the poll before it.
-    #[tactic(auto, using(crate::proofs::LineLemmas::step_polls))]
     fn line(&mut self, code: &Code, bound: u64, spot: Spot) -> Result<Did, Memory>
         requires running { spot ≡ self.old.stack.running.spot }
         requires due { spot.due ≡ dues.Line }
@@ -83,7 +82,6 @@ impl Machine<'_> {
     }
 
     // The line at which the running frame stands, whose poll was executed.
-    #[tactic(auto, using(crate::proofs::LineLemmas::does_is))]
     fn behind(&mut self, code: &Code, bound: u64, spot: Spot) -> Result<Did, Memory>
         requires running { spot ≡ self.old.stack.running.spot }
         requires due { spot.due ≡ dues.Behind }
@@ -136,7 +134,6 @@ impl Machine<'_> {
     }
 
     // A phi, which took effect at the jump.
-    #[tactic(auto, using(crate::proofs::LineLemmas::passed_is))]
     fn skip(&mut self, code: &Code, spot: Spot, inst: &Inst) -> Result<Did, Memory>
         requires running { spot ≡ self.old.stack.running.spot }
         ensures { IfOk result (λ did. effect_of did (state_of code.now self.new) ≡ skipped (state_of code.now self.old) (lines_behind code.now spot inst.now)) }
@@ -146,7 +143,6 @@ impl Machine<'_> {
     }
 
     // A line that computes a value from values alone.
-    #[tactic(auto, using(crate::proofs::LineLemmas::passed_is, crate::proofs::LineLemmas::settled_ok))]
     fn compute(&mut self, code: &Code, spot: Spot, inst: &Inst) -> Result<Did, Memory>
         requires running { spot ≡ self.old.stack.running.spot }
         requires today { runs_today inst.now.op ≡ true }
@@ -169,7 +165,6 @@ impl Machine<'_> {
         }
     }
 
-    #[tactic(auto, using(crate::proofs::FrameLemmas::jumped_is))]
     fn jump(&mut self, code: &Code, bound: u64, block: u32) -> Result<Did, Memory>
         ensures { IfOk result (λ did. effect_of did (state_of code.now self.new) ≡ stepped (today code.now bound) (state_of code.now self.old) (jumped (today code.now bound) block)) }
     {
@@ -198,7 +193,6 @@ impl Machine<'_> {
         }
     }
 
-    #[tactic(auto, using(crate::proofs::FrameLemmas::returned_end))]
     fn ret(&mut self, code: &Code, bound: u64, inst: &Inst) -> Result<Did, Memory>
         ensures { IfOk result (λ did. effect_of did (state_of code.now self.new) ≡ stepped (today code.now bound) (state_of code.now self.old) (returned (width_of inst.now.ty) (operand (map datum self.old.stack.running.registers) inst.now.operands 0) (map (frame_of code.now) self.old.stack.below))) }
     {
@@ -218,7 +212,6 @@ impl Machine<'_> {
     }
 
     // The running frame, which waited at a call, goes on with its answer.
-    #[tactic(auto, using(crate::proofs::FrameLemmas::resumed_is))]
     fn answered(&mut self, code: &Code, answer: Word) -> Result<Did, Memory>
         requires { self.old.stack.running.spot.due ≡ dues.Behind }
         ensures { IfOk result (λ did. effect_of did (state_of code.now self.new) ≡ goes_on (resumed (state_of code.now self.old) (datum answer))) }
@@ -254,7 +247,6 @@ impl Machine<'_> {
         }
     }
 
-    #[tactic(auto, using(crate::proofs::FrameLemmas::entering_is))]
     fn enter(
         &mut self,
         code: &Code,
@@ -281,7 +273,6 @@ impl Machine<'_> {
         Ok(Did::GoesOn)
     }
 
-    #[tactic(auto, using(crate::proofs::LineLemmas::passed_is))]
     fn print(&mut self, code: &Code, spot: Spot, inst: &Inst) -> Result<Did, Memory>
         requires running { spot ≡ self.old.stack.running.spot }
         ensures { IfOk result (λ did. effect_of did (state_of code.now self.new) ≡ prints (number_in (operand (map datum self.old.stack.running.registers) inst.now.operands 0)) (passed (state_of code.now self.old) (numbered spot.next inst.now) (lines_behind code.now spot inst.now) nothing)) }
@@ -291,20 +282,33 @@ impl Machine<'_> {
         Ok(Did::Prints(number))
     }
 
-    #[tactic(auto, using(crate::proofs::LineLemmas::passed_is))]
     fn read(&mut self, code: &Code, spot: Spot, inst: &Inst) -> Result<Did, Memory>
         requires running { spot ≡ self.old.stack.running.spot }
         ensures { IfOk result (λ did. effect_of did (state_of code.now self.new) ≡ taking (state_of code.now self.old) (passed (state_of code.now self.old) (numbered spot.next inst.now) (lines_behind code.now spot inst.now)) self.old.input.now) }
     {
-        match self.input {
-            [] => Ok(Did::Ends(End::Trap(Trap::Input))),
-            [first, rest @ ..] => {
-                let word = Word::Number(first.cast_unsigned());
-                self.input = rest;
-                self.stack.pass(inst, word)?;
+        match first_of(self.input) {
+            None => Ok(Did::Ends(End::Trap(Trap::Input))),
+            Some(first) => {
+                self.input = rest_of(self.input);
+                self.stack.pass(inst, Word::Number(first.cast_unsigned()))?;
                 Ok(Did::GoesOn)
             }
         }
+    }
+}
+
+fn first_of(input: &[i64]) -> Option<i64>
+    ensures { result ≡ slice_get input.now 0 }
+{
+    input.first().copied()
+}
+
+fn rest_of(input: &[i64]) -> &[i64]
+    ensures { result.now ≡ drop 1 input.now }
+{
+    match input {
+        [] => &[],
+        [_first, rest @ ..] => rest,
     }
 }
 
