@@ -48,7 +48,7 @@ pub jumped_is : (content : ModuleContent) (bound : ℕ) (frames : Frames) (input
 jumped_is content bound frames input steps events block =
     ap (λ (frame : Frame). goes_on (record (state_from content frames input steps events) { running = frame })) (arrived_is content frames block)
 
-zeros_are : (count : ℕ) → map datum (replicate count (Number 0)) ≡ replicate count nothing
+pub zeros_are : (count : ℕ) → map datum (replicate count (Number 0)) ≡ replicate count nothing
 zeros_are zero = refl
 zeros_are (suc count) = ap (λ rest. nothing ∷ rest) (zeros_are count)
 

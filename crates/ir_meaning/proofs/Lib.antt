@@ -8,3 +8,4 @@ pub mod FrameLemmas
 pub mod RunLemmas
 pub mod ReadyLemmas
 pub mod NumberLemmas
+pub mod OpeningLemmas

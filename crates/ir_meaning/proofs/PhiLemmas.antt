@@ -1,5 +1,5 @@
 -- The phis at the front of a block, in the interpreter and in the meaning.
-use Rattle.std.proofs.Common.{◌≡◌, ℕ, zero, suc, ◌+◌, Bool, true, false, inl, inr, List, [], ◌∷◌, ◌++◌, map, take, drop, refl, sym, ap, ◌∙◌}
+use Rattle.std.proofs.Common.{◌≡◌, ℕ, zero, suc, ◌+◌, Bool, true, false, inl, inr, List, [], ◌∷◌, ◌++◌, map, take, drop, refl, sym, ap, ◌∙◌, arith}
 use Rattle.std.specs.Prelude.{if◌then◌else◌, ◌==◌, Option, Some, None}
 use Rattle.std.specs.List.{position}
 use Rattle.std.specs.Option.{option_map_or}
@@ -35,12 +35,18 @@ other_line block next inst insts e =
     | false ↦ rw e refl
     ]
 
+one_more : (n : ℕ) → 1 + n ≡ suc n
+one_more n = omega arith
+
 pub phi_rest : (block next : ℕ) (insts : List Instruction)
     → drop (phi_count (lines_from block next insts)) (lines_from block next insts)
       ≡ lines_from block (after_all next (take (phis_of insts) insts)) (drop (phis_of insts) insts)
 phi_rest block next [] = refl
 phi_rest block next (inst ∷ insts) = elim (known (is_phi inst.op)) [
-    inl is ↦ rw (phi_line block next inst insts is, is) (phi_rest block (following next inst) insts)
+    inl is ↦
+      let lines = one_more (phi_count (lines_from block (following next inst) insts)) in
+      let phis = one_more (phis_of insts) in
+      rw (phi_line block next inst insts is, is, lines, phis) (phi_rest block (following next inst) insts)
   | inr other ↦ rw (other_line block next inst insts other, other) refl
   ]
 
@@ -58,6 +64,9 @@ pub phi_writes : (from : ℕ) (registers : List Word) (block next : ℕ) (insts 
       ≡ map (phi_write from (map datum registers)) (take (phi_count (lines_from block next insts)) (lines_from block next insts))
 phi_writes from registers block next [] = refl
 phi_writes from registers block next (inst ∷ insts) = elim (known (is_phi inst.op)) [
-    inl is ↦ rw (phi_line block next inst insts is, is) (cc (incoming_is from registers inst, phi_writes from registers block (following next inst) insts))
+    inl is ↦
+      let lines = one_more (phi_count (lines_from block (following next inst) insts)) in
+      let phis = one_more (phis_of insts) in
+      rw (phi_line block next inst insts is, is, lines, phis) (cc (incoming_is from registers inst, phi_writes from registers block (following next inst) insts))
   | inr other ↦ rw (other_line block next inst insts other, other) refl
   ]

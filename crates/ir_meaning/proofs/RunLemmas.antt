@@ -2,16 +2,20 @@
 use Rattle.std.proofs.Common.{◌≡◌, ℕ, zero, suc, ◌+◌, ◌-◌, ◌^◌, min, List, [], ◌∷◌, ◌++◌, length, Option, refl, sym, ap, ◌∙◌, arith}
 use Rattle.std.proofs.lemmas.List.{append-nil}
 use Rattle.tool_io.specs.Sink.{append_known, AppendsFront}
-use Rattle.tool_io.proofs.AppendLaws.{append_known-nil, append_known-then, AppendsFront-second, AppendsFront-all}
+use Rattle.tool_io.proofs.AppendLaws.{append_known-nil, append_known-then, AppendsFront-second, AppendsFront-all, AppendsFront-same}
 use Rattle.sp_ids.specs.declared.ends.End.{End}
 use Rattle.sp_ids.specs.declared.ids.FuncId.{FuncId}
+use Rattle.std.specs.Prelude.{Some, None}
+use Rattle.ir_meaning.specs.declared.machine.Did.{Did}
+use Rattle.ir_meaning.specs.declared.machine.Did.TheVariants.{GoesOn, Prints, Ends as Finishes}
+use Rattle.ir_meaning.specs.Machines.{effect_of}
 use Rattle.ir_meaning.specs.declared.interpret.Ran.{Ran}
 use Rattle.ir_meaning.specs.Runs.{Next, Go, End as Over, advance, goes, Ends, Reaches}
 use Rattle.ir_meaning.specs.States.{State, Setting, goes_on, prints, ends}
 use Rattle.ir_meaning.specs.Steps.{step}
 use Rattle.ir_meaning.specs.Texts.{printed_line, text_of, closing_text}
 use Rattle.ir_meaning.specs.SourceRuns.{Progress, after, proceeds, line_count, WritesFrontFrom}
-use Rattle.ir_meaning.specs.References.{IsRunFrom, unprinted, Follows}
+use Rattle.ir_meaning.specs.References.{IsRunFrom, unprinted, Follows, ended_of, Wrote, WroteFront}
 
 -- one more step comes last
 pub goes_more : {E A : Type 0} (step : A → Next E A) (count : ℕ) (next : Next E A) → goes step (suc count) next ≡ advance step (goes step count next)
@@ -101,3 +105,37 @@ follows_end setting start state last end count func steps events old now follows
   lines = follows.counted;
   written = follows.written ∙ ap (append_known old) (sym (ap (λ more. text_of follows.lines ++ more) quiet ∙ append-nil (text_of follows.lines)));
 }
+
+-- a step of the machine that isn't the last
+pub follows_more : (setting : Setting) (start : Progress) (state next : State) (did : Did) (count more : ℕ) (old now new : Option (List ℕ))
+    → Follows setting start state count old now → effect_of did next ≡ step setting state → ended_of did ≡ None → Wrote did count more now new
+    → Follows setting start next more old new
+follows_more setting start state next GoesOn count more old now new follows e goes wrote =
+    rw (wrote.0, wrote.1) (follows_on setting start state next count old now follows e)
+follows_more setting start state next (Prints word) count more old now new follows e goes wrote =
+    follows_printed setting start state next word count more old now new follows e wrote.0 wrote.1
+follows_more setting start state next (Finishes end) count more old now new follows e goes wrote = cc
+
+pub front_more : (setting : Setting) (start : Progress) (state next : State) (did : Did) (count : ℕ) (old now new : Option (List ℕ))
+    → Follows setting start state count old now → effect_of did next ≡ step setting state → ended_of did ≡ None → WroteFront did now new
+    → WritesFrontFrom setting start old new
+front_more setting start state next GoesOn count old now new follows e goes wrote = record {
+  now = record { state = state; lines = follows.lines };
+  reached = follows.reached;
+  front = AppendsFront-same (AppendsFront-second old (text_of follows.lines) follows.written wrote) (text_of follows.lines) (sym (append-nil (text_of follows.lines)));
+}
+front_more setting start state next (Prints word) count old now new follows e goes wrote =
+    front_printed setting start state next word count old now new follows e wrote
+front_more setting start state next (Finishes end) count old now new follows e goes wrote = cc
+
+-- the last step
+pub end_more : (setting : Setting) (start : Progress) (state last : State) (did : Did) (end : End) (count : ℕ) (ran : Ran) (old now : Option (List ℕ))
+    → Follows setting start state count old now → effect_of did last ≡ step setting state → ended_of did ≡ Some end
+    → ran ≡ record { end = end; func = record { 0 = last.running.func }; steps = last.steps; events = last.events; lines = count }
+    → closing_text setting.content end last ≡ [] → IsRunFrom setting start ran old now
+end_more setting start state last GoesOn end count ran old now follows e ended is quiet = cc
+end_more setting start state last (Prints word) end count ran old now follows e ended is quiet = cc
+end_more setting start state last (Finishes over) end count ran old now follows e ended is quiet =
+    let same : over ≡ end = cc in
+    let ends_so : ends end last ≡ step setting state = ap (λ (how : End). ends how last) (sym same) ∙ e in
+    rw is (follows_end setting start state last end count (record { 0 = last.running.func }) last.steps last.events old now follows ends_so refl refl refl quiet)

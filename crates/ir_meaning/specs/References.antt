@@ -1,12 +1,14 @@
 -- What the reference interpreter answers.
-use Rattle.std.specs.Prelude.{◌≡◌, ℕ, ℤ, List, [], Option}
-use Rattle.tool_io.specs.Sink.{append_known}
+use Rattle.std.specs.Prelude.{◌≡◌, ℕ, ◌+◌, ◌-◌, ◌^◌, min, ℤ, List, [], Option, Some, None}
+use Rattle.tool_io.specs.Sink.{append_known, AppendsFront}
 use Rattle.sp_ids.specs.declared.ends.End.{End}
 use Rattle.ir_ast.specs.Modules.{ModuleContent}
 use Rattle.ir_meaning.specs.declared.interpret.Ran.{Ran}
+use Rattle.ir_meaning.specs.declared.machine.Did.{Did}
+use Rattle.ir_meaning.specs.declared.machine.Did.TheVariants.{Prints, Ends as Finishes}
 use Rattle.ir_meaning.specs.Runs.{Ends, Reaches}
 use Rattle.ir_meaning.specs.States.{State, Setting}
-use Rattle.ir_meaning.specs.Texts.{text_of}
+use Rattle.ir_meaning.specs.Texts.{printed_line, text_of}
 use Rattle.ir_meaning.specs.SourceRuns.{Progress, proceeds, opening, source_setting, whole_text, line_count}
 
 -- the answer is that of the run from here, and all that the run writes was written
@@ -34,3 +36,17 @@ pub record Follows (setting : Setting) (start : Progress) (state : State) (count
   pub reached : Reaches {E = End} (proceeds setting) start (record { state = state; lines = lines })
   pub counted : count ≡ line_count lines
   pub written : now ≡ append_known old (text_of lines)
+
+-- the end of the run, where the step was its last
+abbrev pub ended_of : Did → Option End
+ended_of (Finishes end) = Some end
+ended_of _ = None
+
+-- what a step printed was written, and counted
+abbrev pub Wrote : Did → ℕ → ℕ → Option (List ℕ) → Option (List ℕ) → Type 0
+Wrote (Prints word) count more old new = (more ≡ min (count + 1) (2 ^ 64 - 1)) × (new ≡ append_known old (printed_line word))
+Wrote _ count more old new = (more ≡ count) × (new ≡ old)
+
+abbrev pub WroteFront : Did → Option (List ℕ) → Option (List ℕ) → Type 0
+WroteFront (Prints word) old new = AppendsFront old new (printed_line word)
+WroteFront _ old new = AppendsFront old new []

@@ -8,9 +8,9 @@ ghost use Rattle.tool_io.specs.Counts.{Rose};
 ghost use Rattle.ir_meaning.specs.Lines.{main_of};
 ghost use Rattle.ir_meaning.specs.Machines.{state_of, today, IsOpened};
 ghost use Rattle.ir_meaning.specs.SourceRuns.{no_go, WritesFrontFrom, WritesFrontOfRun};
-ghost use Rattle.ir_meaning.specs.Stages.{IsToday};
+ghost use Rattle.ir_meaning.specs.Stages.{IsToday, IsReadyModule};
 ghost use Rattle.ir_meaning.specs.Texts.{printed_line};
-ghost use Rattle.ir_meaning.specs.References.{IsRun, IsRunFrom, unprinted};
+ghost use Rattle.ir_meaning.specs.References.{IsRun, IsRunFrom, unprinted, ended_of, Wrote, WroteFront};
 
 use crate::codes::Code;
 use crate::machine::{Did, Machine, front_of};
@@ -133,6 +133,7 @@ fn run<O: Sink>(
     bound: u64,
     out: &mut O,
 ) -> Result<Ran, RefFault>
+    requires { IsReadyModule code.now }
     ensures ran { IfOk result (λ ran. IsRunFrom (today code.now bound) (unprinted (state_of code.now machine.old)) ran (O.written out.old) (O.written out.new)) }
     ensures front { OnErr result (WritesFrontFrom (today code.now bound) (unprinted (state_of code.now machine.old)) (O.written out.old) (O.written out.new)) }
     ensures failed { IsErrOf result RefFault.Write → Rose (O.faults out.old) (O.faults out.new) }
@@ -140,16 +141,40 @@ fn run<O: Sink>(
 {
     let mut lines = 0u64;
     for _ in 0..u64::MAX {
-        match machine.step(code, bound)? {
-            Did::GoesOn => {}
-            Did::Prints(number) => {
-                out.put(printed_line(number).as_slice())?;
-                lines = lines.saturating_add(1);
-            }
-            Did::Ends(end) => return Ok(how_ran(end, machine, lines)),
+        let did = machine.step(code, bound)?;
+        if let Some(end) = ended(did) {
+            return Ok(how_ran(end, machine, lines));
         }
+        let more = write_line(did, lines, out)?;
+        lines = more;
     }
     Err(RefFault::Memory)
+}
+
+// The end of the run, where the step was its last.
+fn ended(did: Did) -> Option<End>
+    ensures { result ≡ ended_of did }
+{
+    match did {
+        Did::Ends(end) => Some(end),
+        _ => None,
+    }
+}
+
+// Writes what a step printed, and counts the line.
+fn write_line<O: Sink>(did: Did, lines: u64, out: &mut O) -> Result<u64, Failed>
+    ensures ok { IfOk result (λ more. Wrote did lines more (O.written out.old) (O.written out.new)) }
+    ensures err { OnErr result (WroteFront did (O.written out.old) (O.written out.new)) }
+    ensures failed { OnErr result (Rose (O.faults out.old) (O.faults out.new)) }
+    ensures count { O.faults out.old ≤ O.faults out.new }
+{
+    match did {
+        Did::Prints(number) => {
+            out.put(printed_line(number).as_slice())?;
+            Ok(lines.saturating_add(1))
+        }
+        _ => Ok(lines),
+    }
 }
 
 fn how_ran(end: End, machine: &Machine, lines: u64) -> Ran

@@ -1,4 +1,4 @@
-use Rattle.std.proofs.Common.{sym}
+use Rattle.std.proofs.Common.{◌≡◌, sym}
 use Rattle.ir_meaning.specs.declared.spots.Due.TheVariants.{Behind}
 use Rattle.ir_meaning.specs.Machines.{state_of, today}
 use Rattle.ir_meaning.proofs.LineLemmas.{at_line, at_line_end, at_poll, step_at_end, step_polls, does_is}
@@ -23,7 +23,8 @@ returns-then-retreats c =
     let due = rw c.requires.running at c.requires.due in
     let there = rw c.requires.running at c.in-Some.ensures.there in
     let polls = rw c.requires.running at (sym c.if-retreats.ensures) in
-    rw (c.poll.ensures.did, c.poll.ensures.stack, c.poll.ensures.input, c.poll.ensures.steps, c.poll.ensures.events, c.requires.running)
+    let stack : c.poll.new.self.stack ≡ record c.args.self.now.stack { running = record c.args.self.now.stack.running { spot = record c.args.spot { due = Behind } } } = c.poll.ensures.stack in
+    rw (c.poll.ensures.did, stack, c.poll.ensures.input, c.poll.ensures.steps, c.poll.ensures.events, c.requires.running)
     (step_polls c.args.code.now c.args.bound c.args.self.now.stack c.args.self.now.input.now c.args.self.now.steps c.args.self.now.events Behind
         (at_poll c.args.code.now c.args.self.now.stack.running.spot c.in-Some.inst.now due there polls))
 
