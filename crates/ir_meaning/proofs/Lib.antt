@@ -9,3 +9,4 @@ pub mod RunLemmas
 pub mod ReadyLemmas
 pub mod NumberLemmas
 pub mod OpeningLemmas
+pub mod TodayLemmas

@@ -54,7 +54,8 @@ ready_function : (func : Function) → IsSourceFunction func → FunctionIsToday
 ready_function func source today = λ k d h.
     let inst = get_or (instructions_of func.blocks) k d in
     record {
-      runs = first_holds (runs_today inst.op) (not (is_pointer inst.ty) && list_all (λ operand. not (is_null operand)) inst.operands) (today k d h);
+      runs = first_holds (runs_today inst.op) (not (is_pointer inst.ty))
+          (first_holds (runs_today inst.op && not (is_pointer inst.ty)) (list_all (λ operand. not (is_null operand)) inst.operands) (today k d h));
       no_bundle = source.no_bundle k d h;
     }
 

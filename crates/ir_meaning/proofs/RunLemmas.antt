@@ -2,7 +2,7 @@
 use Rattle.std.proofs.Common.{◌≡◌, ℕ, zero, suc, ◌+◌, ◌-◌, ◌^◌, min, List, [], ◌∷◌, ◌++◌, length, Option, refl, sym, ap, ◌∙◌, arith}
 use Rattle.std.proofs.lemmas.List.{append-nil}
 use Rattle.tool_io.specs.Sink.{append_known, AppendsFront}
-use Rattle.tool_io.proofs.AppendLaws.{append_known-nil, append_known-then, AppendsFront-second, AppendsFront-all, AppendsFront-same}
+use Rattle.tool_io.proofs.AppendLaws.{append_known-nil, append_known-then, AppendsFront-second, AppendsFront-all, AppendsFront-same, AppendsFront-nothing}
 use Rattle.sp_ids.specs.declared.ends.End.{End}
 use Rattle.sp_ids.specs.declared.ids.FuncId.{FuncId}
 use Rattle.std.specs.Prelude.{Some, None}
@@ -139,3 +139,8 @@ end_more setting start state last (Finishes over) end count ran old now follows 
     let same : over ≡ end = cc in
     let ends_so : ends end last ≡ step setting state = ap (λ (how : End). ends how last) (sym same) ∙ e in
     rw is (follows_end setting start state last end count (record { 0 = last.running.func }) last.steps last.events old now follows ends_so refl refl refl quiet)
+
+-- nothing was written
+pub front_none : (setting : Setting) (start : Progress) (old : Option (List ℕ)) → WritesFrontFrom setting start old old
+front_none setting start old =
+    record { now = start; reached = record { after = 0; by = refl }; front = AppendsFront-nothing old (text_of start.lines) }

@@ -22,7 +22,7 @@ loop-preserved g c = record {
 
 pub returns-in_err-did-clause-front : goal.returns-in_err-did-clause-front
 returns-in_err-did-clause-front g c =
-    let p = err_from_is_err_and c.from_residual-in_err-did.result c.from_residual-in_err-did.ensures.1 in
+    let p = err_from_is_err_and c.from_residual.result c.from_residual.ensures.1 in
     rw p.1 (follows_front (today c.args.code.now c.args.bound) (unprinted (state_of c.args.code.now c.args.machine.now)) (state_of c.args.code.now c.loop.machine) c.loop.lines (g.O.Sink.written c.args.out.now) (g.O.Sink.written c.loop.out) c.loop.invariant.follows)
 
 pub returns-in_err-more-clause-front : goal.returns-in_err-more-clause-front
