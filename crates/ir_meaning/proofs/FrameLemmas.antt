@@ -31,7 +31,7 @@ use Rattle.ir_meaning.proofs.PhiLemmas.{phi_rest, phi_writes}
 
 pub arrived_is : (content : ModuleContent) (frames : Frames) (block : ℕ)
     → frame_of content (arrived_frames frames (insts_of content frames.running.spot.func block) block (first_register content frames.running.spot.func block)).running
-      ≡ arrived (frame_of content frames.running) block (lines_of content frames.running.spot.func block)
+    ≡ arrived (frame_of content frames.running) block (lines_of content frames.running.spot.func block)
 arrived_is content frames block =
     let insts = insts_of content frames.running.spot.func block in
     let first = first_register content frames.running.spot.func block in
@@ -44,7 +44,7 @@ arrived_is content frames block =
 
 pub jumped_is : (content : ModuleContent) (bound : ℕ) (frames : Frames) (input : List ℤ) (steps events block : ℕ)
     → goes_on (state_from content (arrived_frames frames (insts_of content frames.running.spot.func block) block (first_register content frames.running.spot.func block)) input steps events)
-      ≡ jumped (today content bound) block (state_from content frames input steps events)
+    ≡ jumped (today content bound) block (state_from content frames input steps events)
 jumped_is content bound frames input steps events block =
     ap (λ (frame : Frame). goes_on (record (state_from content frames input steps events) { running = frame })) (arrived_is content frames block)
 
@@ -56,7 +56,7 @@ zeros_are (suc count) = ap (λ rest. nothing ∷ rest) (zeros_are count)
 pub entered_is : (content : ModuleContent) (bound : ℕ) (frames : Frames) (spot : Spot) (func : ℕ) (operands : List Operand)
     → spot ≡ record { func = func; block = 0; at = 0; next = first_register content func 0; due = Front }
     → frame_of content (entered_frames frames spot operands (register_count content func)).running
-      ≡ entered (today content bound) func (map (value (map datum frames.running.registers)) operands)
+    ≡ entered (today content bound) func (map (value (map datum frames.running.registers)) operands)
 entered_is content bound frames spot func operands e =
     let registers = frames.running.registers in
     let count = register_count content func - length operands in
@@ -70,10 +70,10 @@ pub entering_is : (content : ModuleContent) (bound : ℕ) (frames : Frames) (inp
     → spot ≡ record { func = func; block = 0; at = 0; next = first_register content func 0; due = Front }
     → lines_at content (waiting_spot frames.running.spot) ≡ lines_at content frames.running.spot
     → goes_on (state_from content (entered_frames frames spot operands (register_count content func)) input steps events)
-      ≡ goes_on (record (state_from content frames input steps events) {
-          running = entered (today content bound) func (map (value (map datum frames.running.registers)) operands);
-          below = frame_of content frames.running ∷ map (frame_of content) frames.below;
-        })
+    ≡ goes_on (record (state_from content frames input steps events) {
+      running = entered (today content bound) func (map (value (map datum frames.running.registers)) operands);
+      below = frame_of content frames.running ∷ map (frame_of content) frames.below;
+    })
 entering_is content bound frames input steps events spot func operands e waits =
     ap (λ (frame : Frame). goes_on (record (state_from content frames input steps events) {
       running = frame;
@@ -94,7 +94,7 @@ pub resumed_is : (content : ModuleContent) (frames : Frames) (input : List ℤ) 
     → slice_get (insts_of content frames.running.spot.func frames.running.spot.block) frames.running.spot.at ≡ Some call
     → runs_today call.op ≡ true
     → goes_on (state_from content (record frames { running = passed_frame frames.running call answer }) input steps events)
-      ≡ goes_on (resumed (state_from content frames input steps events) (datum answer))
+    ≡ goes_on (resumed (state_from content frames input steps events) (datum answer))
 resumed_is content frames input steps events call answer due there runs =
     let state = state_from content frames input steps events in
     let line = numbered frames.running.spot.next call in
@@ -102,8 +102,8 @@ resumed_is content frames input steps events call answer due there runs =
     let stands = at_behind content frames.running.spot call due there in
     ap goes_on (passed_is content frames input steps events call answer)
     ∙ ap (λ (frame : Frame). goes_on (record (state_from content frames input steps events) { running = frame }))
-        (sym (ap (λ (rest : List Line). answered_at (frame_of content frames.running) rest (datum answer)) stands
-            ∙ answered_plain (frame_of content frames.running) line behind (datum answer) call.op runs))
+    (sym (ap (λ (rest : List Line). answered_at (frame_of content frames.running) rest (datum answer)) stands
+    ∙ answered_plain (frame_of content frames.running) line behind (datum answer) call.op runs))
 
 pub resumed_end : (content : ModuleContent) (frames : Frames) (input : List ℤ) (steps events : ℕ) (answer : Word)
     → frames.running.spot.due ≡ Behind
@@ -111,7 +111,7 @@ pub resumed_end : (content : ModuleContent) (frames : Frames) (input : List ℤ)
     → goes_on (state_from content frames input steps events) ≡ goes_on (resumed (state_from content frames input steps events) (datum answer))
 resumed_end content frames input steps events answer due none =
     ap (λ (frame : Frame). goes_on (record (state_from content frames input steps events) { running = frame }))
-        (sym (ap (λ (rest : List Line). answered_at (frame_of content frames.running) rest (datum answer)) (at_behind_end content frames.running.spot due none)))
+    (sym (ap (λ (rest : List Line). answered_at (frame_of content frames.running) rest (datum answer)) (at_behind_end content frames.running.spot due none)))
 
 -- task 0 returns from its first frame
 pub returned_end : (content : ModuleContent) (below : List Seen) (width : ℕ) (answer : Datum) (state : State) → length below ≡ 0
@@ -123,6 +123,6 @@ returned_end content (seen ∷ below) width answer state none first = cc
 pub returned_more : (content : ModuleContent) (below : List Seen) (caller : Seen) (others : List Seen) (width : ℕ) (answer : Datum) (state : State)
     → below ≡ caller ∷ others
     → goes_on (resumed (record state { running = frame_of content caller; below = map (frame_of content) others }) answer)
-      ≡ returned width answer (map (frame_of content) below) state
+    ≡ returned width answer (map (frame_of content) below) state
 returned_more content below caller others width answer state e =
     ap (λ (frames : List Seen). returned width answer (map (frame_of content) frames) state) (sym e)

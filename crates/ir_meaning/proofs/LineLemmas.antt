@@ -77,23 +77,23 @@ step_at_end setting state e = ap (steps_at setting state) e
 pub does_is : (content : ModuleContent) (bound : ℕ) (frames : Frames) (input : List ℤ) (steps events : ℕ) (inst : Instruction)
     → lines_at content frames.running.spot ≡ numbered frames.running.spot.next inst ∷ lines_behind content frames.running.spot inst
     → does content bound (state_from content frames input steps events) frames.running.spot inst
-      ≡ step (today content bound) (state_from content frames input steps events)
+    ≡ step (today content bound) (state_from content frames input steps events)
 does_is content bound frames input steps events inst e =
     sym (step_is (today content bound) (state_from content frames input steps events) (numbered frames.running.spot.next inst)
-        (lines_behind content frames.running.spot inst) e)
+    (lines_behind content frames.running.spot inst) e)
 
 -- a poll is one event, and the frame then stands behind it
 pub step_polls : (content : ModuleContent) (bound : ℕ) (frames : Frames) (input : List ℤ) (steps events : ℕ) (due : Due)
     → lines_at content frames.running.spot ≡ poll ∷ lines_at content (record frames.running.spot { due = due })
     → goes_on (state_from content (record frames { running = record frames.running { spot = record frames.running.spot { due = due } } }) input steps (raised events))
-      ≡ step (today content bound) (state_from content frames input steps events)
+    ≡ step (today content bound) (state_from content frames input steps events)
 step_polls content bound frames input steps events due e =
     sym (step_is (today content bound) (state_from content frames input steps events) poll (lines_at content (record frames.running.spot { due = due })) e)
 
 pub passed_is : (content : ModuleContent) (frames : Frames) (input : List ℤ) (steps events : ℕ) (inst : Instruction) (one : Word)
     → state_from content (record frames { running = passed_frame frames.running inst one }) input steps events
-      ≡ passed (state_from content frames input steps events) (numbered frames.running.spot.next inst)
-          (lines_behind content frames.running.spot inst) (datum one)
+    ≡ passed (state_from content frames input steps events) (numbered frames.running.spot.next inst)
+    (lines_behind content frames.running.spot inst) (datum one)
 passed_is content frames input steps events inst one =
     rw (put_is (numbered frames.running.spot.next inst).to one frames.running.registers) refl
 
@@ -110,8 +110,8 @@ value_is content registers inst first second third outcome e one two three =
 pub settled_ok : (content : ModuleContent) (frames : Frames) (input : List ℤ) (steps events : ℕ) (inst : Instruction) (one : Word)
     (value : Result Datum Kind) → datum_result (Ok one) ≡ value
     → goes_on (state_from content (record frames { running = passed_frame frames.running inst one }) input steps events)
-      ≡ settled (state_from content frames input steps events) (numbered frames.running.spot.next inst)
-          (lines_behind content frames.running.spot inst) value
+    ≡ settled (state_from content frames input steps events) (numbered frames.running.spot.next inst)
+    (lines_behind content frames.running.spot inst) value
 settled_ok content frames input steps events inst one value e =
     ap goes_on (passed_is content frames input steps events inst one)
     ∙ ap (settled (state_from content frames input steps events) (numbered frames.running.spot.next inst) (lines_behind content frames.running.spot inst)) e
@@ -124,11 +124,11 @@ settled_err state line rest trap value e = ap (settled state line rest) e
 pub taken_is : (content : ModuleContent) (frames : Frames) (input : List ℤ) (steps events : ℕ) (inst : Instruction) (first : ℤ) (word : ℕ) (rest : List ℤ)
     → slice_get input 0 ≡ Some first → word ≡ cast_unsigned w64 first → rest ≡ drop 1 input
     → goes_on (state_from content (record frames { running = passed_frame frames.running inst (Number word) }) rest steps events)
-      ≡ taking (state_from content frames input steps events)
-          (passed (state_from content frames input steps events) (numbered frames.running.spot.next inst) (lines_behind content frames.running.spot inst)) input
+    ≡ taking (state_from content frames input steps events)
+    (passed (state_from content frames input steps events) (numbered frames.running.spot.next inst) (lines_behind content frames.running.spot inst)) input
 taken_is content frames [] steps events inst first word rest found is left = cc
 taken_is content frames (number ∷ numbers) steps events inst first word rest found is left =
     let same : number ≡ first = cc in
     let spelled : word ≡ cast_unsigned w64 number = is ∙ ap (cast_unsigned w64) (sym same) in
     rw (left, spelled) (ap (λ (state : State). goes_on (record state { input = numbers }))
-        (passed_is content frames (number ∷ numbers) steps events inst (Number (cast_unsigned w64 number))))
+    (passed_is content frames (number ∷ numbers) steps events inst (Number (cast_unsigned w64 number))))

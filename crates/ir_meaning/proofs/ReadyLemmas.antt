@@ -69,8 +69,8 @@ quiet_lines Front block next insts all = refl
 quiet_lines Next block next [] all = refl
 quiet_lines Next block next (inst ∷ insts) all =
     elim (retreats block inst) as (λ polls. bundle_of ((if polls then poll ∷ [] else []) ++ numbered next inst ∷ lines_from block (following next inst) insts) ≡ []) [
-      true ↦ refl
-    | false ↦ (All-head IsReady inst insts all).no_bundle
+      | true ↦ refl
+      | false ↦ (All-head IsReady inst insts all).no_bundle
     ]
 quiet_lines Behind block next [] all = refl
 quiet_lines Behind block next (inst ∷ insts) all = (All-head IsReady inst insts all).no_bundle

@@ -58,7 +58,7 @@ reaches_printed : (setting : Setting) (start : Progress) (state next : State) (w
 unfolding proceeds
 reaches_printed setting start state next word count old now follows e =
     reaches_more (proceeds setting) start (record { state = state; lines = follows.lines })
-        (record { state = next; lines = printed_line word ∷ follows.lines }) follows.reached (ap (after follows.lines) (sym e))
+    (record { state = next; lines = printed_line word ∷ follows.lines }) follows.reached (ap (after follows.lines) (sym e))
 
 counted_more : (length count more : ℕ) → count ≡ min length (2 ^ 64 - 1) → more ≡ min (count + 1) (2 ^ 64 - 1) → more ≡ min (suc length) (2 ^ 64 - 1)
 counted_more length count more one two = omega arith

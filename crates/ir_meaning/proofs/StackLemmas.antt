@@ -29,7 +29,7 @@ whole (word ∷ registers) more = ap (λ rest. word ∷ rest) (whole registers m
 -- the frame that runs becomes the newest that waits
 pub saved_below : (saved : List Saved) (one : Saved) (registers more : List Word) (base : ℕ) → base ≡ length registers
     → frames_below (reverse (saved ++ one ∷ [])) (take base (registers ++ more))
-      ≡ record { spot = waiting_spot one.spot; registers = drop one.base registers } ∷ frames_below (reverse saved) (take one.base registers)
+    ≡ record { spot = waiting_spot one.spot; registers = drop one.base registers } ∷ frames_below (reverse saved) (take one.base registers)
 saved_below saved one registers more base is =
     ap (λ order. frames_below order (take base (registers ++ more))) (reverse-append saved (one ∷ []))
     ∙ ap (frames_below (one ∷ reverse saved)) (ap (λ n. take n (registers ++ more)) is ∙ whole registers more)

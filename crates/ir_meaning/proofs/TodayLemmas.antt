@@ -29,7 +29,7 @@ blocks_hold : (blocks : List BasicBlock) → blocks_today blocks ≡ true → Al
 blocks_hold [] e = All-nil LineIsToday
 blocks_hold (block ∷ blocks) e =
     All-append LineIsToday block.insts (instructions_of blocks) (insts_hold block.insts (left (list_all is_today block.insts) (blocks_today blocks) e))
-        (blocks_hold blocks (right (list_all is_today block.insts) (blocks_today blocks) e))
+    (blocks_hold blocks (right (list_all is_today block.insts) (blocks_today blocks) e))
 
 funcs_hold : (funcs : List LinedFunction) → list_all (λ func. blocks_today func.content.blocks) funcs ≡ true → All FunctionIsToday (map content_of funcs)
 funcs_hold [] e = All-nil FunctionIsToday

@@ -24,8 +24,8 @@ pub operand_is : (registers : List Word) (operands : List Operand) (place : ℕ)
     → datum (word_at registers operands place) ≡ operand (map datum registers) operands place
 operand_is registers operands place =
     elim (slice_get operands place) as (λ found. datum (option_map_or (word registers) found (Number 0)) ≡ option_map_or (value (map datum registers)) found nothing) [
-      None ↦ refl
-    | Some one ↦ word_is registers one
+      | None ↦ refl
+      | Some one ↦ word_is registers one
     ]
 
 pub words_are : (registers : List Word) (operands : List Operand)

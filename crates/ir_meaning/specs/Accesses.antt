@@ -45,4 +45,4 @@ loaded objects place =
 abbrev pub stored : List Object → Place → Datum → List Object
 stored objects place datum =
     option_map_or (λ object. slice_set objects (place.object - 1) (record object { cells = slice_set object.cells place.cell datum }))
-        (slice_get objects (place.object - 1)) objects
+    (slice_get objects (place.object - 1)) objects

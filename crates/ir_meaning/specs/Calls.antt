@@ -76,7 +76,7 @@ called setting state done TaskStart operands =
 called setting state done Poll operands = goes_on (polled setting (done nothing))
 called setting state done Check operands =
     checked state done (accessed setting.content.layouts state.objects
-        (number_in (operand state.running.registers operands 2)) (pointer_in (operand state.running.registers operands 1)))
+    (number_in (operand state.running.registers operands 2)) (pointer_in (operand state.running.registers operands 1)))
 called setting state done Same operands =
     goes_on (done (number (bit (same_pointer
-        (pointer_in (operand state.running.registers operands 1)) (pointer_in (operand state.running.registers operands 3))))))
+    (pointer_in (operand state.running.registers operands 1)) (pointer_in (operand state.running.registers operands 3))))))

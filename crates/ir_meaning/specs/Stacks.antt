@@ -114,12 +114,14 @@ abbrev pub phis_of : List Instruction → ℕ
 phis_of insts = prefix_len (λ inst. is_phi inst.op) insts
 
 abbrev pub arrived_frames : Frames → List Instruction → ℕ → ℕ → Frames
-arrived_frames frames insts block first = record frames { running = record {
-  spot = record frames.running.spot {
-    block = block;
-    at = phis_of insts;
-    next = after_all first (take (phis_of insts) insts);
-    due = Next;
+arrived_frames frames insts block first = record frames {
+  running = record {
+    spot = record frames.running.spot {
+      block = block;
+      at = phis_of insts;
+      next = after_all first (take (phis_of insts) insts);
+      due = Next;
+    };
+    registers = moved (moves_of frames.running.spot.block frames.running.registers first (take (phis_of insts) insts)) frames.running.registers;
   };
-  registers = moved (moves_of frames.running.spot.block frames.running.registers first (take (phis_of insts) insts)) frames.running.registers;
-} }
+}

@@ -41,7 +41,7 @@ returned width answer (caller ∷ below) state =
 abbrev pub accesses : Setting → State → Line → ℕ → Result Place Trap
 accesses setting state line place =
     accessed setting.content.layouts state.objects (kind_asked line.inst.ty)
-        (pointer_in (operand state.running.registers line.inst.operands place))
+    (pointer_in (operand state.running.registers line.inst.operands place))
 
 -- a line that takes effect elsewhere
 abbrev pub skipped : State → List Line → Effect
@@ -62,18 +62,18 @@ acts setting state line rest GcRelocate = skipped state rest
 acts setting state line rest Br = stepped setting state (jumped setting (label_at line.inst.labels 0))
 acts setting state line rest CondBr =
     stepped setting state
-        (jumped setting (label_at line.inst.labels (branch_taken (operand state.running.registers line.inst.operands 0))))
+    (jumped setting (label_at line.inst.labels (branch_taken (operand state.running.registers line.inst.operands 0))))
 acts setting state line rest Switch =
     stepped setting state
-        (jumped setting (label_at line.inst.labels
-            (case_taken (operand state.running.registers line.inst.operands 0) (drop 1 line.inst.operands))))
+    (jumped setting (label_at line.inst.labels
+    (case_taken (operand state.running.registers line.inst.operands 0) (drop 1 line.inst.operands))))
 acts setting state line rest Ret =
     stepped setting state
-        (returned (width_of line.inst.ty) (operand state.running.registers line.inst.operands 0) state.below)
+    (returned (width_of line.inst.ty) (operand state.running.registers line.inst.operands 0) state.below)
 acts setting state line rest Unreachable = stepped setting state (ends (Trapped Executed))
 acts setting state line rest op =
     settled state line rest
-        (value_of_line setting.content.layouts state.running.registers op line.inst.ty line.inst.operands)
+    (value_of_line setting.content.layouts state.running.registers op line.inst.ty line.inst.operands)
 
 -- the step of the running frame at these lines; every block ends at a terminator, so there is one
 abbrev pub steps_at : Setting → State → List Line → Effect

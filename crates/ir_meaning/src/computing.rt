@@ -26,10 +26,7 @@ pub fn computed(
 {
     match op {
         Op::Icmp(pred) => Ok(bit(compares(*pred, width_of(ty), first, second))),
-        Op::Trunc(to) => Ok(Word::Number(truncated(
-            width_of(&Ty::Int(*to)),
-            number_in(first),
-        ))),
+        Op::Trunc(to) => Ok(Word::Number(truncated(width_of(&Ty::Int(*to)), number_in(first)))),
         Op::Zext(_) => Ok(Word::Number(number_in(first))),
         Op::Sext(to) => Ok(Word::Number(sign_extended(
             width_of(ty),
@@ -38,12 +35,7 @@ pub fn computed(
         ))),
         Op::Select => Ok(if is_set(first) { second } else { third }),
         Op::Gep { .. } => unreachable!(),
-        _ => with_number(arithmetic(
-            op,
-            width_of(ty),
-            number_in(first),
-            number_in(second),
-        )),
+        _ => with_number(arithmetic(op, width_of(ty), number_in(first), number_in(second))),
     }
 }
 

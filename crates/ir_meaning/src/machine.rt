@@ -202,10 +202,7 @@ impl Machine<'_> {
         self.steps += 1;
         let answer = self.stack.operand(inst.operands(), 0);
         if self.stack.waiting() == 0 {
-            return Ok(Did::Ends(End::Return(sign(
-                width_of(inst.ty()),
-                number_in(answer),
-            ))));
+            return Ok(Did::Ends(End::Return(sign(width_of(inst.ty()), number_in(answer)))));
         }
         self.stack.leave();
         self.answered(code, answer)

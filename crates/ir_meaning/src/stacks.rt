@@ -109,7 +109,10 @@ impl Stack {
         ensures { result ≡ slice_index_or self.now.running.registers register (Number 0) }
     {
         let place = self.base as usize + register as usize;
-        self.registers.get(place).copied().unwrap_or(Word::Number(0))
+        self.registers
+            .get(place)
+            .copied()
+            .unwrap_or(Word::Number(0))
     }
 
     /// The running frame stands elsewhere.
@@ -236,12 +239,7 @@ impl Stack {
     }
 
     // What these phis assign on the edge from the block of the running frame, and the register after theirs.
-    fn phi_moves(
-        &self,
-        moves: &mut Vec<Move>,
-        first: usize,
-        phis: &[Inst],
-    ) -> Result<usize, Memory>
+    fn phi_moves(&self, moves: &mut Vec<Move>, first: usize, phis: &[Inst]) -> Result<usize, Memory>
         ensures moves { OnOk result (moves.new.items ≡ moves_of self.now.running.spot.block self.now.running.registers first phis.now) }
         ensures next { IfOk result (λ next. next ≡ after_all first phis.now) }
     {

@@ -6,9 +6,9 @@ use Rattle.ir_meaning.proofs.interpret.main_of.Goals as goal
 pub returns-in-None : goal.returns-in-None
 returns-in-None c =
     sym (main_is c.args.code.now c.funcs.result.now (rw c.module.ensures at c.funcs.ensures.content)
-        ∙ ap (λ found. unwrap_or found 0) (sym c.main_among.ensures.value ∙ c.in-None.is))
+    ∙ ap (λ found. unwrap_or found 0) (sym c.main_among.ensures.value ∙ c.in-None.is))
 
 pub returns-in-Some : goal.returns-in-Some
 returns-in-Some c =
     sym (main_is c.args.code.now c.funcs.result.now (rw c.module.ensures at c.funcs.ensures.content)
-        ∙ ap (λ found. unwrap_or found 0) (sym c.main_among.ensures.value ∙ c.in-Some.is))
+    ∙ ap (λ found. unwrap_or found 0) (sym c.main_among.ensures.value ∙ c.in-Some.is))

@@ -15,12 +15,12 @@ returns-in-None c =
     let due = rw c.requires.running at c.requires.due in
     let none = rw c.requires.running at c.in-None.ensures.there in
     sym (step_at_end (today c.args.code.now c.args.bound) (state_of c.args.code.now c.args.self.now)
-        (at_behind_end c.args.code.now c.args.self.now.stack.running.spot due none))
+    (at_behind_end c.args.code.now c.args.self.now.stack.running.spot due none))
 
 pub returns-in-Some : goal.returns-in-Some
 returns-in-Some c =
     let due = rw c.requires.running at c.requires.due in
     let there = rw c.requires.running at c.in-Some.ensures.there in
     let is = does_is c.args.code.now c.args.bound c.args.self.now.stack c.args.self.now.input.now c.args.self.now.steps c.args.self.now.events c.in-Some.inst.now
-        (at_behind c.args.code.now c.args.self.now.stack.running.spot c.in-Some.inst.now due there) in
+    (at_behind c.args.code.now c.args.self.now.stack.running.spot c.in-Some.inst.now due there) in
     rw (← is) (rw c.requires.running at c.act.ensures)

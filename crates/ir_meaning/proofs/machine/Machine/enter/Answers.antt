@@ -13,4 +13,4 @@ returns c =
     let fits = lt-ltb (length (map (frame_of c.args.code.now) c.args.self.now.stack.below) + 1) 4096 few in
     rw (left, fits, c.in_ok-enter.ensures, c.register_count.ensures)
     (entering_is c.args.code.now c.args.bound c.args.self.now.stack c.args.self.now.input.now (c.args.self.now.steps + 1) c.args.self.now.events
-        c.front_of.result c.args.func c.args.operands.now c.front_of.ensures c.requires)
+    c.front_of.result c.args.func c.args.operands.now c.front_of.ensures c.requires)

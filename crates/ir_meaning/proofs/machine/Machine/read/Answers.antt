@@ -11,4 +11,4 @@ returns-in_ok-pass-in-Some c =
     let word = rw (to_z-of_z w64 c.in-Some.first fits) at c.cast_unsigned.ensures in
     rw (c.in_ok-pass-in-Some.ensures, c.requires.running)
     (taken_is c.args.code.now c.args.self.now.stack c.args.self.now.input.now c.args.self.now.steps c.args.self.now.events c.args.inst.now
-        c.in-Some.first c.cast_unsigned.result c.rest_of-self.result.now (sym c.first_of.ensures ∙ c.in-Some.is) word c.rest_of-self.ensures)
+    c.in-Some.first c.cast_unsigned.result c.rest_of-self.result.now (sym c.first_of.ensures ∙ c.in-Some.is) word c.rest_of-self.ensures)

@@ -9,4 +9,4 @@ returns-in-Front c =
     let stack : c.poll.new.self.stack ≡ record c.args.self.now.stack { running = record c.args.self.now.stack.running { spot = record c.spot-spot.result { due = Next } } } = c.poll.ensures.stack in
     rw (c.poll.ensures.did, stack, c.poll.ensures.input, c.poll.ensures.steps, c.poll.ensures.events, c.spot-spot.ensures)
     (step_polls c.args.code.now c.args.bound c.args.self.now.stack c.args.self.now.input.now c.args.self.now.steps c.args.self.now.events Next
-        (at_front c.args.code.now c.args.self.now.stack.running.spot due))
+    (at_front c.args.code.now c.args.self.now.stack.running.spot due))
