@@ -1,0 +1,12 @@
+pub mod ListLemmas
+pub mod LineLemmas
+pub mod WordLemmas
+pub mod PhiLemmas
+pub mod RegisterLemmas
+pub mod StackLemmas
+pub mod FrameLemmas
+pub mod RunLemmas
+pub mod ReadyLemmas
+pub mod NumberLemmas
+pub mod OpeningLemmas
+pub mod TodayLemmas

@@ -1,0 +1,134 @@
+-- The lines at which a frame of the interpreter stands, and the step there.
+use Rattle.std.proofs.Common.{◌≡◌, ℕ, ℤ, ◌+◌, Bool, true, false, List, [], ◌∷◌, map, drop, refl, sym, ap, ◌∙◌}
+use Rattle.std.specs.Prelude.{Some, None, slice_get, Result, Ok, Err}
+use Rattle.sp_ids.specs.declared.ends.Trap.{Trap as Kind}
+use Rattle.ir_ast.specs.Objects.{Datum}
+use Rattle.ir_meaning.specs.Computing.{computed, value_of_line}
+use Rattle.ir_meaning.specs.Registers.{operand}
+use Rattle.tool_io.specs.Counts.{raised}
+use Rattle.ir_ast.specs.Insts.{Instruction}
+use Rattle.ir_ast.specs.Modules.{ModuleContent}
+use Rattle.std.specs.Int.{w64, cast_unsigned}
+use Rattle.ir_meaning.specs.Calls.{taking}
+use Rattle.ir_meaning.specs.declared.words.Word.TheVariants.{Number}
+use Rattle.ir_meaning.specs.declared.spots.Due.{Due}
+use Rattle.ir_meaning.specs.declared.spots.Due.TheVariants.{Front, Line as Next, Behind}
+use Rattle.ir_meaning.specs.declared.spots.Spot.{Spot}
+use Rattle.ir_meaning.specs.declared.words.Word.{Word}
+use Rattle.ir_meaning.specs.Lines.{Line, poll, numbered, retreats, insts_of}
+use Rattle.ir_meaning.specs.States.{State, Setting, Effect, goes_on, ends}
+use Rattle.ir_meaning.specs.Frames.{passed}
+use Rattle.ir_meaning.specs.Steps.{step, steps_at, acts, settled}
+use Rattle.ir_meaning.specs.Stacks.{Seen, Frames, word_at, passed_frame, waiting_spot, lines_at, lines_behind}
+use Rattle.ir_meaning.specs.Words.{datum, datum_result}
+use Rattle.ir_meaning.specs.Machines.{state_from, today, StandsAt, does}
+use Rattle.ir_meaning.proofs.ListLemmas.{drop_at, drop_end}
+use Rattle.ir_meaning.proofs.WordLemmas.{operand_is, put_is}
+use Rattle.sp_ids.specs.declared.ends.End.TheVariants.{Trap}
+use Rattle.sp_ids.specs.declared.ends.Trap.TheVariants.{Unreachable}
+
+pub at_front : (content : ModuleContent) (spot : Spot) → spot.due ≡ Front
+    → lines_at content spot ≡ poll ∷ lines_at content (record spot { due = Next })
+at_front content spot e = rw e refl
+
+pub at_line : (content : ModuleContent) (spot : Spot) (inst : Instruction) → spot.due ≡ Next
+    → slice_get (insts_of content spot.func spot.block) spot.at ≡ Some inst → retreats spot.block inst ≡ false
+    → lines_at content spot ≡ numbered spot.next inst ∷ lines_behind content spot inst
+at_line content spot inst due there none =
+    let cut = drop_at (insts_of content spot.func spot.block) spot.at inst there in rw (due, cut, none) refl
+
+pub at_poll : (content : ModuleContent) (spot : Spot) (inst : Instruction) → spot.due ≡ Next
+    → slice_get (insts_of content spot.func spot.block) spot.at ≡ Some inst → retreats spot.block inst ≡ true
+    → lines_at content spot ≡ poll ∷ lines_at content (waiting_spot spot)
+at_poll content spot inst due there polls =
+    let cut = drop_at (insts_of content spot.func spot.block) spot.at inst there in rw (due, cut, polls) refl
+
+pub at_waiting : (content : ModuleContent) (spot : Spot) (inst : Instruction)
+    → slice_get (insts_of content spot.func spot.block) spot.at ≡ Some inst
+    → lines_at content (waiting_spot spot) ≡ numbered spot.next inst ∷ lines_behind content spot inst
+at_waiting content spot inst there =
+    let cut = drop_at (insts_of content spot.func spot.block) spot.at inst there in rw cut refl
+
+pub at_behind : (content : ModuleContent) (spot : Spot) (inst : Instruction) → spot.due ≡ Behind
+    → slice_get (insts_of content spot.func spot.block) spot.at ≡ Some inst
+    → lines_at content spot ≡ numbered spot.next inst ∷ lines_behind content spot inst
+at_behind content spot inst due there = rw due (at_waiting content spot inst there)
+
+pub at_line_end : (content : ModuleContent) (spot : Spot) → spot.due ≡ Next
+    → slice_get (insts_of content spot.func spot.block) spot.at ≡ None → lines_at content spot ≡ []
+at_line_end content spot due none =
+    let cut = drop_end (insts_of content spot.func spot.block) spot.at none in rw (due, cut) refl
+
+pub at_behind_end : (content : ModuleContent) (spot : Spot) → spot.due ≡ Behind
+    → slice_get (insts_of content spot.func spot.block) spot.at ≡ None → lines_at content spot ≡ []
+at_behind_end content spot due none =
+    let cut = drop_end (insts_of content spot.func spot.block) spot.at none in rw (due, cut) refl
+
+-- the step at a line
+pub step_is : (setting : Setting) (state : State) (line : Line) (rest : List Line) → state.running.rest ≡ line ∷ rest
+    → step setting state ≡ acts setting state line rest line.inst.op
+unfolding step
+step_is setting state line rest e = ap (steps_at setting state) e
+
+pub step_at_end : (setting : Setting) (state : State) → state.running.rest ≡ [] → step setting state ≡ ends (Trap Unreachable) state
+unfolding step
+step_at_end setting state e = ap (steps_at setting state) e
+
+pub does_is : (content : ModuleContent) (bound : ℕ) (frames : Frames) (input : List ℤ) (steps events : ℕ) (inst : Instruction)
+    → lines_at content frames.running.spot ≡ numbered frames.running.spot.next inst ∷ lines_behind content frames.running.spot inst
+    → does content bound (state_from content frames input steps events) frames.running.spot inst
+    ≡ step (today content bound) (state_from content frames input steps events)
+does_is content bound frames input steps events inst e =
+    sym (step_is (today content bound) (state_from content frames input steps events) (numbered frames.running.spot.next inst)
+    (lines_behind content frames.running.spot inst) e)
+
+-- a poll is one event, and the frame then stands behind it
+pub step_polls : (content : ModuleContent) (bound : ℕ) (frames : Frames) (input : List ℤ) (steps events : ℕ) (due : Due)
+    → lines_at content frames.running.spot ≡ poll ∷ lines_at content (record frames.running.spot { due = due })
+    → goes_on (state_from content (record frames { running = record frames.running { spot = record frames.running.spot { due = due } } }) input steps (raised events))
+    ≡ step (today content bound) (state_from content frames input steps events)
+step_polls content bound frames input steps events due e =
+    sym (step_is (today content bound) (state_from content frames input steps events) poll (lines_at content (record frames.running.spot { due = due })) e)
+
+pub passed_is : (content : ModuleContent) (frames : Frames) (input : List ℤ) (steps events : ℕ) (inst : Instruction) (one : Word)
+    → state_from content (record frames { running = passed_frame frames.running inst one }) input steps events
+    ≡ passed (state_from content frames input steps events) (numbered frames.running.spot.next inst)
+    (lines_behind content frames.running.spot inst) (datum one)
+passed_is content frames input steps events inst one =
+    rw (put_is (numbered frames.running.spot.next inst).to one frames.running.registers) refl
+
+-- a line that computes gives what the interpreter computed
+pub value_is : (content : ModuleContent) (registers : List Word) (inst : Instruction) (first second third : Word) (outcome : Result Word Kind)
+    → datum_result outcome ≡ computed content.layouts inst.op inst.ty (datum first) (datum second) (datum third)
+    → first ≡ word_at registers inst.operands 0 → second ≡ word_at registers inst.operands 1 → third ≡ word_at registers inst.operands 2
+    → datum_result outcome ≡ value_of_line content.layouts (map datum registers) inst.op inst.ty inst.operands
+value_is content registers inst first second third outcome e one two three =
+    e ∙ ap (λ a. computed content.layouts inst.op inst.ty a (datum second) (datum third)) (ap datum one ∙ operand_is registers inst.operands 0)
+    ∙ ap (λ b. computed content.layouts inst.op inst.ty (operand (map datum registers) inst.operands 0) b (datum third)) (ap datum two ∙ operand_is registers inst.operands 1)
+    ∙ ap (λ d. computed content.layouts inst.op inst.ty (operand (map datum registers) inst.operands 0) (operand (map datum registers) inst.operands 1) d) (ap datum three ∙ operand_is registers inst.operands 2)
+
+pub settled_ok : (content : ModuleContent) (frames : Frames) (input : List ℤ) (steps events : ℕ) (inst : Instruction) (one : Word)
+    (value : Result Datum Kind) → datum_result (Ok one) ≡ value
+    → goes_on (state_from content (record frames { running = passed_frame frames.running inst one }) input steps events)
+    ≡ settled (state_from content frames input steps events) (numbered frames.running.spot.next inst)
+    (lines_behind content frames.running.spot inst) value
+settled_ok content frames input steps events inst one value e =
+    ap goes_on (passed_is content frames input steps events inst one)
+    ∙ ap (settled (state_from content frames input steps events) (numbered frames.running.spot.next inst) (lines_behind content frames.running.spot inst)) e
+
+pub settled_err : (state : State) (line : Line) (rest : List Line) (trap : Kind) (value : Result Datum Kind) → datum_result (Err trap) ≡ value
+    → ends (Trap trap) state ≡ settled state line rest value
+settled_err state line rest trap value e = ap (settled state line rest) e
+
+-- the next number of the input
+pub taken_is : (content : ModuleContent) (frames : Frames) (input : List ℤ) (steps events : ℕ) (inst : Instruction) (first : ℤ) (word : ℕ) (rest : List ℤ)
+    → slice_get input 0 ≡ Some first → word ≡ cast_unsigned w64 first → rest ≡ drop 1 input
+    → goes_on (state_from content (record frames { running = passed_frame frames.running inst (Number word) }) rest steps events)
+    ≡ taking (state_from content frames input steps events)
+    (passed (state_from content frames input steps events) (numbered frames.running.spot.next inst) (lines_behind content frames.running.spot inst)) input
+taken_is content frames [] steps events inst first word rest found is left = cc
+taken_is content frames (number ∷ numbers) steps events inst first word rest found is left =
+    let same : number ≡ first = cc in
+    let spelled : word ≡ cast_unsigned w64 number = is ∙ ap (cast_unsigned w64) (sym same) in
+    rw (left, spelled) (ap (λ (state : State). goes_on (record state { input = numbers }))
+    (passed_is content frames (number ∷ numbers) steps events inst (Number (cast_unsigned w64 number))))

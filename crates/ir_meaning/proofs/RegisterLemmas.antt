@@ -1,0 +1,43 @@
+-- The steps of the loops that number registers.
+use Rattle.std.proofs.Common.{◌≡◌, ℕ, ◌+◌, ◌<◌, List, [], ◌∷◌, ◌++◌, length, map, drop, get_or, refl, sym, ap, ◌∙◌, append_assoc}
+use Rattle.std.proofs.lemmas.List.{drop_more}
+use Rattle.ir_ast.specs.Insts.{Instruction}
+use Rattle.ir_ast.specs.Blocks.{BasicBlock}
+use Rattle.ir_meaning.specs.declared.words.Word.{Word}
+use Rattle.ir_meaning.specs.declared.stacks.Move.{Move}
+use Rattle.ir_meaning.specs.Lines.{following, after_all, first_registers}
+use Rattle.ir_meaning.specs.Stacks.{move_of, moves_of}
+
+-- the rest of a list from a place that was read
+pub rest_at : {X : Type 0} (xs : List X) (i : ℕ) (x : X) → i < length xs → x ≡ get_or xs i x → drop i xs ≡ x ∷ drop (i + 1) xs
+rest_at xs i x below read = drop_more xs i x below ∙ ap (λ y. y ∷ drop (i + 1) xs) (sym read)
+
+pub after_more : (first next after : ℕ) (insts : List Instruction) (i : ℕ) (inst : Instruction) → i < length insts
+    → inst ≡ get_or insts i inst → after ≡ following next inst → after_all next (drop i insts) ≡ after_all first insts
+    → after_all after (drop (i + 1) insts) ≡ after_all first insts
+after_more first next after insts i inst below read is so_far =
+    ap (λ n. after_all n (drop (i + 1) insts)) is
+    ∙ ap (after_all next) (sym (rest_at insts i inst below read)) ∙ so_far
+
+pub firsts_more : (all list : List ℕ) (next after : ℕ) (blocks : List BasicBlock) (i : ℕ) (block : BasicBlock)
+    → i < length blocks → block ≡ get_or blocks i block → after ≡ after_all next block.insts
+    → list ++ first_registers next (drop i blocks) ≡ all
+    → (list ++ next ∷ []) ++ first_registers after (drop (i + 1) blocks) ≡ all
+firsts_more all list next after blocks i block below read is so_far =
+    append_assoc list (next ∷ []) (first_registers after (drop (i + 1) blocks))
+    ∙ ap (λ n. list ++ next ∷ first_registers n (drop (i + 1) blocks)) is
+    ∙ ap (λ rest. list ++ first_registers next rest) (sym (rest_at blocks i block below read)) ∙ so_far
+
+pub moves_more : (from : ℕ) (registers : List Word) (all list : List Move) (move : Move) (next after : ℕ) (phis : List Instruction)
+    (i : ℕ) (phi : Instruction) → i < length phis → phi ≡ get_or phis i phi → move ≡ move_of from registers next phi
+    → after ≡ following next phi → list ++ moves_of from registers next (drop i phis) ≡ all
+    → (list ++ move ∷ []) ++ moves_of from registers after (drop (i + 1) phis) ≡ all
+moves_more from registers all list move next after phis i phi below read here is so_far =
+    append_assoc list (move ∷ []) (moves_of from registers after (drop (i + 1) phis))
+    ∙ ap (λ m. list ++ m ∷ moves_of from registers after (drop (i + 1) phis)) here
+    ∙ ap (λ n. list ++ move_of from registers next phi ∷ moves_of from registers n (drop (i + 1) phis)) is
+    ∙ ap (λ rest. list ++ moves_of from registers next rest) (sym (rest_at phis i phi below read)) ∙ so_far
+
+pub map_both : {A B C : Type 0} (g : B → C) (f : A → B) (xs : List A) → map (λ x. g (f x)) xs ≡ map g (map f xs)
+map_both g f [] = refl
+map_both g f (x ∷ xs) = ap (λ ys. g (f x) ∷ ys) (map_both g f xs)

@@ -1,0 +1,146 @@
+-- A run by its steps, and what it has written.
+use Rattle.std.proofs.Common.{◌≡◌, ℕ, zero, suc, ◌+◌, ◌-◌, ◌^◌, min, List, [], ◌∷◌, ◌++◌, length, Option, refl, sym, ap, ◌∙◌, arith}
+use Rattle.std.proofs.lemmas.List.{append-nil}
+use Rattle.tool_io.specs.Sink.{append_known, AppendsFront}
+use Rattle.tool_io.proofs.AppendLaws.{append_known-nil, append_known-then, AppendsFront-second, AppendsFront-all, AppendsFront-same, AppendsFront-nothing}
+use Rattle.sp_ids.specs.declared.ends.End.{End}
+use Rattle.sp_ids.specs.declared.ids.FuncId.{FuncId}
+use Rattle.std.specs.Prelude.{Some, None}
+use Rattle.ir_meaning.specs.declared.machine.Did.{Did}
+use Rattle.ir_meaning.specs.declared.machine.Did.TheVariants.{GoesOn, Prints, Ends as Finishes}
+use Rattle.ir_meaning.specs.Machines.{effect_of}
+use Rattle.ir_meaning.specs.declared.interpret.Ran.{Ran}
+use Rattle.ir_meaning.specs.Runs.{Next, Go, End as Over, advance, goes, Ends, Reaches}
+use Rattle.ir_meaning.specs.States.{State, Setting, goes_on, prints, ends}
+use Rattle.ir_meaning.specs.Steps.{step}
+use Rattle.ir_meaning.specs.Texts.{printed_line, text_of, closing_text}
+use Rattle.ir_meaning.specs.SourceRuns.{Progress, after, proceeds, line_count, WritesFrontFrom}
+use Rattle.ir_meaning.specs.References.{IsRunFrom, unprinted, Follows, ended_of, Wrote, WroteFront}
+
+-- one more step comes last
+pub goes_more : {E A : Type 0} (step : A → Next E A) (count : ℕ) (next : Next E A) → goes step (suc count) next ≡ advance step (goes step count next)
+goes_more step zero next = refl
+goes_more step (suc count) next = goes_more step count (advance step next)
+
+pub reaches_more : {E A : Type 0} (step : A → Next E A) (start now next : A) → Reaches {E = E} step start now → step now ≡ Go next
+    → Reaches {E = E} step start next
+reaches_more step start now next reached e =
+    record { after = suc reached.after; by = goes_more step reached.after (Go start) ∙ ap (advance step) reached.by ∙ e }
+
+pub ends_more : {E A : Type 0} (step : A → Next E A) (start now : A) (end : E) (last : A) → Reaches {E = E} step start now
+    → step now ≡ Over end last → Ends step start end last
+ends_more step start now end last reached e =
+    record { within = suc reached.after; by = goes_more step reached.after (Go start) ∙ ap (advance step) reached.by ∙ e }
+
+pub follows_start : (setting : Setting) (state : State) (old : Option (List ℕ)) → Follows setting (unprinted state) state 0 old old
+follows_start setting state old = record {
+  lines = [];
+  reached = record { after = 0; by = refl };
+  counted = refl;
+  written = sym (append_known-nil old);
+}
+
+pub follows_on : (setting : Setting) (start : Progress) (state next : State) (count : ℕ) (old now : Option (List ℕ))
+    → Follows setting start state count old now → goes_on next ≡ step setting state → Follows setting start next count old now
+unfolding proceeds
+follows_on setting start state next count old now follows e = record {
+  lines = follows.lines;
+  reached = reaches_more (proceeds setting) start (record { state = state; lines = follows.lines }) (record { state = next; lines = follows.lines })
+      follows.reached (ap (after follows.lines) (sym e));
+  counted = follows.counted;
+  written = follows.written;
+}
+
+-- the run has printed one more line, and it was written
+reaches_printed : (setting : Setting) (start : Progress) (state next : State) (word count : ℕ) (old now : Option (List ℕ))
+    → (follows : Follows setting start state count old now) → prints word next ≡ step setting state
+    → Reaches {E = End} (proceeds setting) start (record { state = next; lines = printed_line word ∷ follows.lines })
+unfolding proceeds
+reaches_printed setting start state next word count old now follows e =
+    reaches_more (proceeds setting) start (record { state = state; lines = follows.lines })
+    (record { state = next; lines = printed_line word ∷ follows.lines }) follows.reached (ap (after follows.lines) (sym e))
+
+counted_more : (length count more : ℕ) → count ≡ min length (2 ^ 64 - 1) → more ≡ min (count + 1) (2 ^ 64 - 1) → more ≡ min (suc length) (2 ^ 64 - 1)
+counted_more length count more one two = omega arith
+
+pub follows_printed : (setting : Setting) (start : Progress) (state next : State) (word count more : ℕ) (old now new : Option (List ℕ))
+    → Follows setting start state count old now → prints word next ≡ step setting state
+    → more ≡ min (count + 1) (2 ^ 64 - 1) → new ≡ append_known now (printed_line word) → Follows setting start next more old new
+follows_printed setting start state next word count more old now new follows e counts added = record {
+  lines = printed_line word ∷ follows.lines;
+  reached = reaches_printed setting start state next word count old now follows e;
+  counted = counted_more (length follows.lines) count more follows.counted counts;
+  written = append_known-then old now new (text_of follows.lines) (printed_line word) follows.written added;
+}
+
+pub follows_front : (setting : Setting) (start : Progress) (state : State) (count : ℕ) (old now : Option (List ℕ))
+    → Follows setting start state count old now → WritesFrontFrom setting start old now
+follows_front setting start state count old now follows = record {
+  now = record { state = state; lines = follows.lines };
+  reached = follows.reached;
+  front = AppendsFront-all old now (text_of follows.lines) follows.written;
+}
+
+pub front_printed : (setting : Setting) (start : Progress) (state next : State) (word count : ℕ) (old now new : Option (List ℕ))
+    → Follows setting start state count old now → prints word next ≡ step setting state
+    → AppendsFront now new (printed_line word) → WritesFrontFrom setting start old new
+front_printed setting start state next word count old now new follows e front = record {
+  now = record { state = next; lines = printed_line word ∷ follows.lines };
+  reached = reaches_printed setting start state next word count old now follows e;
+  front = AppendsFront-second old (text_of follows.lines) follows.written front;
+}
+
+pub follows_end : (setting : Setting) (start : Progress) (state last : State) (end : End) (count : ℕ) (func : FuncId) (steps events : ℕ) (old now : Option (List ℕ))
+    → Follows setting start state count old now → ends end last ≡ step setting state
+    → func.0 ≡ last.running.func → steps ≡ last.steps → events ≡ last.events → closing_text setting.content end last ≡ []
+    → IsRunFrom setting start (record { end = end; func = func; steps = steps; events = events; lines = count }) old now
+unfolding proceeds
+follows_end setting start state last end count func steps events old now follows e in_func takes sees quiet = record {
+  last = record { state = last; lines = follows.lines };
+  run = ends_more (proceeds setting) start (record { state = state; lines = follows.lines }) end (record { state = last; lines = follows.lines })
+      follows.reached (ap (after follows.lines) (sym e));
+  func = in_func;
+  steps = takes;
+  events = sees;
+  lines = follows.counted;
+  written = follows.written ∙ ap (append_known old) (sym (ap (λ more. text_of follows.lines ++ more) quiet ∙ append-nil (text_of follows.lines)));
+}
+
+-- a step of the machine that isn't the last
+pub follows_more : (setting : Setting) (start : Progress) (state next : State) (did : Did) (count more : ℕ) (old now new : Option (List ℕ))
+    → Follows setting start state count old now → effect_of did next ≡ step setting state → ended_of did ≡ None → Wrote did count more now new
+    → Follows setting start next more old new
+follows_more setting start state next GoesOn count more old now new follows e goes wrote =
+    rw (wrote.0, wrote.1) (follows_on setting start state next count old now follows e)
+follows_more setting start state next (Prints word) count more old now new follows e goes wrote =
+    follows_printed setting start state next word count more old now new follows e wrote.0 wrote.1
+follows_more setting start state next (Finishes end) count more old now new follows e goes wrote = cc
+
+pub front_more : (setting : Setting) (start : Progress) (state next : State) (did : Did) (count : ℕ) (old now new : Option (List ℕ))
+    → Follows setting start state count old now → effect_of did next ≡ step setting state → ended_of did ≡ None → WroteFront did now new
+    → WritesFrontFrom setting start old new
+front_more setting start state next GoesOn count old now new follows e goes wrote = record {
+  now = record { state = state; lines = follows.lines };
+  reached = follows.reached;
+  front = AppendsFront-same (AppendsFront-second old (text_of follows.lines) follows.written wrote) (text_of follows.lines) (sym (append-nil (text_of follows.lines)));
+}
+front_more setting start state next (Prints word) count old now new follows e goes wrote =
+    front_printed setting start state next word count old now new follows e wrote
+front_more setting start state next (Finishes end) count old now new follows e goes wrote = cc
+
+-- the last step
+pub end_more : (setting : Setting) (start : Progress) (state last : State) (did : Did) (end : End) (count : ℕ) (ran : Ran) (old now : Option (List ℕ))
+    → Follows setting start state count old now → effect_of did last ≡ step setting state → ended_of did ≡ Some end
+    → ran ≡ record { end = end; func = record { 0 = last.running.func }; steps = last.steps; events = last.events; lines = count }
+    → closing_text setting.content end last ≡ [] → IsRunFrom setting start ran old now
+end_more setting start state last GoesOn end count ran old now follows e ended is quiet = cc
+end_more setting start state last (Prints word) end count ran old now follows e ended is quiet = cc
+end_more setting start state last (Finishes over) end count ran old now follows e ended is quiet =
+    let same : over ≡ end = cc in
+    let ends_so : ends end last ≡ step setting state = ap (λ (how : End). ends how last) (sym same) ∙ e in
+    rw is (follows_end setting start state last end count (record { 0 = last.running.func }) last.steps last.events old now follows ends_so refl refl refl quiet)
+
+-- nothing was written
+pub front_none : (setting : Setting) (start : Progress) (old : Option (List ℕ)) → WritesFrontFrom setting start old old
+front_none setting start old =
+    record { now = start; reached = record { after = 0; by = refl }; front = AppendsFront-nothing old (text_of start.lines) }

@@ -1,0 +1,10 @@
+use Rattle.std.proofs.Common.{◌≡◌, ◌<◌, ◌+◌, lt-ltb, arith}
+use Rattle.ir_meaning.proofs.FrameLemmas.{jumped_is}
+use Rattle.ir_meaning.proofs.machine.Machine.jump.Goals as goal
+
+pub returns : goal.returns
+returns c =
+    let below : c.args.self.now.steps < c.args.bound = omega arith in
+    let left = lt-ltb c.args.self.now.steps c.args.bound below in
+    rw (left, c.in_ok-arrive.ensures, c.insts.ensures.value, c.first_register.ensures, c.spot-func.ensures)
+    (jumped_is c.args.code.now c.args.bound c.args.self.now.stack c.args.self.now.input.now (c.args.self.now.steps + 1) c.args.self.now.events c.args.block)

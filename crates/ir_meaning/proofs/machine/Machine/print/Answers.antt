@@ -1,0 +1,20 @@
+use Rattle.std.proofs.Common.{◌≡◌, List, map, ap, ◌∙◌}
+use Rattle.ir_ast.specs.declared.ops.Operand.{Operand}
+use Rattle.ir_meaning.specs.declared.words.Word.{Word}
+use Rattle.ir_meaning.specs.declared.words.Word.TheVariants.{Number}
+use Rattle.ir_meaning.specs.Registers.{operand, number_in}
+use Rattle.ir_meaning.specs.States.{prints}
+use Rattle.ir_meaning.specs.Words.{datum}
+use Rattle.ir_meaning.proofs.WordLemmas.{operand_is}
+use Rattle.ir_meaning.proofs.LineLemmas.{passed_is}
+use Rattle.ir_meaning.proofs.machine.Machine.print.Goals as goal
+
+pub returns : goal.returns
+returns c =
+    let number : c.number_in-number.result ≡ number_in (operand (map datum c.args.self.now.stack.running.registers) c.args.inst.now.operands 0) =
+    c.number_in-number.ensures ∙ ap (λ (word : Word). number_in (datum word)) c.operand.ensures
+    ∙ ap number_in (operand_is c.args.self.now.stack.running.registers c.operands.result.now 0)
+    ∙ ap (λ (operands : List Operand). number_in (operand (map datum c.args.self.now.stack.running.registers) operands 0)) c.operands.ensures in
+    rw (number, c.in_ok-pass.ensures, c.requires.running)
+    (ap (prints (number_in (operand (map datum c.args.self.now.stack.running.registers) c.args.inst.now.operands 0)))
+    (passed_is c.args.code.now c.args.self.now.stack c.args.self.now.input.now c.args.self.now.steps c.args.self.now.events c.args.inst.now (Number 0)))

@@ -1,0 +1,15 @@
+//! The source meaning of a module, and the interpreter that computes it.
+#![tactic(auto)]
+
+mod codes;
+mod computing;
+mod interpret;
+mod machine;
+mod numbers;
+mod spots;
+mod stacks;
+mod stages;
+mod words;
+
+pub use interpret::{Ran, RefFault, reference};
+pub use stages::first_not_yet;
