@@ -1,3 +1,6 @@
 pub mod Steps
 pub mod Spellings
 pub mod PartSteps
+pub mod Forms
+pub mod Listed
+pub mod LinesRead

@@ -11,9 +11,9 @@ use Rattle.ir_reader.specs.declared.readings.Literal.{Literal}
 use Rattle.ir_reader.specs.Gives.{after, one_at}
 use Rattle.ir_reader.specs.Numbers.{width_of, literal_of, positive_literal, literal_spelled}
 use Rattle.ir_reader.specs.Parts.{Val, is_value_type, is_answer_type, is_managed, is_scalar_type, is_case_value, case_value_at, pred_of, pred_word, place_at, strategy_at}
-use Rattle.ir_reader.specs.Slots.{Item, width, ty, value, pred, scalar, place, strategy, Slot, blank, m, a_managed, a_width, a_type, an_answer, a_value, a_case, a_pred, a_scalar, a_place, a_strategy, part}
+use Rattle.ir_reader.specs.Slots.{Item, width, ty, value, pred, scalar, place, strategy, Slot, blank, m, a_managed, a_width, a_type, an_answer, a_value, a_case, a_pred, a_scalar, a_place, a_strategy, part, parse}
 use Rattle.read_back.proofs.Steps.{Reads, Stops, step, one, first_of, stops-kind}
-use Rattle.read_back.proofs.Spellings.{SpellsType, SpellsValue, allowed, integer_says, integer_type, number_value, Spellable, decimal-digits, decimal-is, literal_digits, positive}
+use Rattle.read_back.proofs.Spellings.{SpellsType, SpellsValue, allowed, integer_says, width_spelled, decimal_token, decimal-digits, decimal-is, literal_digits, positive}
 
 -- ---- types
 
@@ -60,7 +60,7 @@ width_part n most ts = rw (integer_says n most) refl
 pub width_step : {f : List Slot} {rest : List ℕ} {first : Option Tok} {items : List Item} (n : ℕ) → n ≤ 64 → Stops rest
     → Reads f rest first items → Reads (a_width ∷ f) (105 ∷ (decimal n ++ rest)) (Some (tok kinds.Word (105 ∷ decimal n))) (width n ∷ items)
 width_step {rest = rest} n most stop r =
-    step a_width (105 ∷ decimal n) (tok kinds.Word (105 ∷ decimal n)) (tokens rest) (width n ∷ []) ((integer_type n most).spelled rest stop) (width_part n most (tokens rest)) r
+    step a_width (105 ∷ decimal n) (tok kinds.Word (105 ∷ decimal n)) (tokens rest) (width n ∷ []) (width_spelled n most rest stop) (width_part n most (tokens rest)) r
 
 -- ---- values
 
@@ -124,8 +124,12 @@ place_none_part : part a_place [] ≡ Some (place None ∷ [], [])
 unfolding part after place_at
 place_none_part = refl
 
-pub no_place : {f : List Slot} {items : List Item} → Reads f [] None items → part a_place (tokens []) ≡ Some (place None ∷ [], tokens [])
-no_place r = let e : tokens [] ≡ [] = nothing_left (tokens []) r.begins in rw e place_none_part
+pub no_place : {f : List Slot} {items : List Item} → Reads f [] None items → Reads (a_place ∷ f) [] None (place None ∷ items)
+unfolding parse after
+no_place {f} {items} r = record { whole = rw e (rw place_none_part (rw (rw e at r.whole) refl)); begins = r.begins }
+  where
+    e : tokens [] ≡ []
+    e = nothing_left (tokens []) r.begins
 
 place_part : (n : ℕ) → n < 2 ^ 64 → (ts : List Tok) → part a_place (tok kinds.Punct (codes ",") ∷ tok kinds.Word (codes "i32") ∷ tok kinds.Number (decimal n) ∷ ts) ≡ Some (place (Some (record { negative = false; magnitude = n })) ∷ [], ts)
 unfolding part after place_at one_at
@@ -139,7 +143,7 @@ place_spelled n small rest stop =
     ∙ ap (λ ts. tok kinds.Punct (codes ",") ∷ ts) (tokens-blank 32 (codes "i32 " ++ (decimal n ++ rest)) refl
     ∙ (tokens-spelled kinds.Word (codes "i32") (codes " " ++ (decimal n ++ rest)) refl refl
     ∙ ap (λ ts. tok kinds.Word (codes "i32") ∷ ts) (tokens-blank 32 (decimal n ++ rest) refl
-    ∙ tokens-spelled kinds.Number (decimal n) rest (number_value (pos n) small).is (stops-kind kinds.Number rest stop))))
+    ∙ tokens-spelled kinds.Number (decimal n) rest (decimal_token n small) (stops-kind kinds.Number rest stop))))
 
 pub place_step : {f : List Slot} {rest : List ℕ} {first : Option Tok} {items : List Item} (n : ℕ) → n < 2 ^ 64 → Stops rest
     → Reads f rest first items → Reads (a_place ∷ f) (codes ", i32 " ++ (decimal n ++ rest)) (Some (tok kinds.Punct (codes ","))) (place (Some (record { negative = false; magnitude = n })) ∷ items)

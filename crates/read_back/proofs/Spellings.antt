@@ -104,7 +104,7 @@ no_letter (b ∷ bs) c cs digits high =
     below : (b : ℕ) → is_ascii_digit b ≡ true → b < 58
     below b digit = grind (arith, nat_tests)
 
-integer_flag : (ds : List ℕ) → are_digits ds ≡ true → (which : Flags) (ts : List Tok) → past_one_of (flag_words which) (tok kinds.Word (105 ∷ ds) ∷ ts) ≡ None
+pub integer_flag : (ds : List ℕ) → are_digits ds ≡ true → (which : Flags) (ts : List Tok) → past_one_of (flag_words which) (tok kinds.Word (105 ∷ ds) ∷ ts) ≡ None
 integer_flag ds digits flags.Calling ts = refl
 integer_flag ds digits flags.SameSign ts = refl
 integer_flag ds digits flags.Wrapping ts = refl
@@ -114,7 +114,7 @@ integer_flag ds digits flags.NonNegative ts = refl
 integer_flag ds digits flags.Bounds ts = rw (no_letter ds 110 (codes "bounds") digits (omega arith)) refl
 integer_flag ds digits flags.Nothing ts = refl
 
-integer_group : (ds : List ℕ) → are_digits ds ≡ true → (ts : List Tok) → past_group (tok kinds.Word (105 ∷ ds) ∷ ts) ≡ None
+pub integer_group : (ds : List ℕ) → are_digits ds ≡ true → (ts : List Tok) → past_group (tok kinds.Word (105 ∷ ds) ∷ ts) ≡ None
 integer_group ds digits ts =
     let no : is_attribute_word (105 ∷ ds) ≡ false = ap not (or_right (is_one_of reserved (105 ∷ ds)) (are_digits ds) digits) in
     rw no refl
@@ -125,6 +125,9 @@ integer_says n most =
     let number : decimal_from 0 (decimal n) ≡ n = (decimal-is n small).number in
     let least : min n 65 ≡ n = omega arith in
     rw (decimal-numeral n small) (rw number (rw least refl))
+
+pub width_spelled : (n : ℕ) → n ≤ 64 → (rest : List ℕ) → Stops rest → tokens ((105 ∷ decimal n) ++ rest) ≡ tok kinds.Word (105 ∷ decimal n) ∷ tokens rest
+width_spelled n most rest stop = tokens-spelled kinds.Word (105 ∷ decimal n) rest (or_left _ _ (digits-in_word (decimal n) (decimal-is n (omega arith)).digits)) (stops-kind kinds.Word rest stop)
 
 pub integer_type : (n : ℕ) → n ≤ 64 → SpellsType (105 ∷ decimal n) (types.Int n)
 unfolding spelled_type_at
@@ -251,6 +254,9 @@ negative n small = rw (le-leb n (2 ^ 63) small) refl
 abbrev pub Spellable : ℤ → Type 0
 Spellable (pos n) = n < 2 ^ 64
 Spellable (negsuc n) = suc n ≤ 2 ^ 63
+
+pub decimal_token : (n : ℕ) → n < 2 ^ 64 → is_token kinds.Number (decimal n) ≡ true
+decimal_token n small = or_left (are_digits (decimal n)) (first_then 45 are_digits (decimal n)) (decimal-digits n small)
 
 pub number_value : (z : ℤ) → Spellable z → SpellsValue (signed_decimal z) (values.number (literal_of z))
 number_value (pos n) small = record {

@@ -152,7 +152,7 @@ unfolding past_at_most
 at_most-none zero what ts none = refl
 at_most-none (suc count) what ts none = rw (none, past_at_most) refl
 
-past_all-none : (what : Dropped) (ts : List Tok) → past_dropped what ts ≡ None → past_all what ts ≡ ts
+pub past_all-none : (what : Dropped) (ts : List Tok) → past_dropped what ts ≡ None → past_all what ts ≡ ts
 unfolding past_all
 past_all-none what ts none = at_most-none (length ts) what ts none
 
