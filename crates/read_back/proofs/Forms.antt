@@ -22,7 +22,7 @@ use Rattle.ir_reader.specs.Drops.{past_all, past_at_most, past_dropped}
 use Rattle.ir_reader.specs.Parts.{Val, pred_word, is_value_type, is_scalar_type, is_case_value}
 use Rattle.ir_reader.specs.Forms.{slots, form_of, named_form, word_form, binary_word, binary_flags, conversion_word, conversion_flags}
 use Rattle.ir_reader.specs.Slots.{Item, name, width, ty, value, pred, scalar, layout, place, Slot, blank, m, w, dropped, a_local, a_place, parse}
-use Rattle.read_back.proofs.Steps.{Reads, Stops, past_all-none, end, step, one, mark, word, local, layout_step, spaced, space, over_blank, drop_at, drop_end, first_of}
+use Rattle.read_back.proofs.Steps.{Reads, Stops, IsClean, clean-both, name-clean, past_all-none, end, step, one, mark, word, local, layout_step, spaced, space, over_blank, drop_at, drop_end, first_of}
 use Rattle.read_back.proofs.Spellings.{SpellsType, SpellsValue, integer_type, integer_says, pointer_type, integer_flag, decimal-digits}
 use Rattle.read_back.proofs.PartSteps.{type_step, managed_step, scalar_step, width_step, value_step, case_step, pred_step, no_place, place_step}
 
@@ -30,6 +30,7 @@ use Rattle.read_back.proofs.PartSteps.{type_step, managed_step, scalar_step, wid
 pub record ReadsAs (text : List ℕ) (form : Form) (items : List Item) : Type 0 where
   pub form_is : form_of (tokens text) ≡ Some form
   pub whole : parse (slots form) (tokens text) ≡ Some (items, [])
+  pub clean : IsClean text
 
 -- ---- which form
 
@@ -41,14 +42,14 @@ by_word spelled (t ∷ ts) form e says = let same : t ≡ tok kinds.Word spelled
 -- a line that begins with a word
 pub word_line : {text : List ℕ} {items : List Item} (spelled : List ℕ) (form : Form) → ((more : List Tok) → word_form spelled more ≡ Some form)
     → Reads (slots form) text (Some (tok kinds.Word spelled)) items → ReadsAs text form items
-word_line {text} spelled form says r = record { form_is = by_word spelled (tokens text) form r.begins says; whole = r.whole }
+word_line {text} spelled form says r = record { form_is = by_word spelled (tokens text) form r.begins says; whole = r.whole; clean = r.clean }
 
 -- a line that begins with a word and a token
 pub second_line : {items : List Item} (rest spelled : List ℕ) (t : Tok) (form : Form) → is_token kinds.Word spelled ≡ true → first_of (tokens rest) ≡ Some t
     → ((more : List Tok) → word_form spelled (t ∷ more) ≡ Some form)
     → Reads (slots form) (spelled ++ (32 ∷ rest)) (Some (tok kinds.Word spelled)) items → ReadsAs (spelled ++ (32 ∷ rest)) form items
 unfolding form_of
-second_line rest spelled t form is second says r = record { form_is = rw e (by (tokens rest) second); whole = r.whole }
+second_line rest spelled t form is second says r = record { form_is = rw e (by (tokens rest) second); whole = r.whole; clean = r.clean }
   where
     e : tokens (spelled ++ (32 ∷ rest)) ≡ tok kinds.Word spelled ∷ tokens rest
     e = tokens-spelled kinds.Word spelled (32 ∷ rest) is refl ∙ ap (λ ts. tok kinds.Word spelled ∷ ts) (tokens-blank 32 rest refl)
@@ -56,14 +57,14 @@ second_line rest spelled t form is second says r = record { form_is = rw e (by (
     by [] first = cc
     by (u ∷ us) first = let same : u ≡ t = cc in rw same (says us)
 
-result_tokens : (n text : List ℕ) → is_name n ≡ true → tokens (37 ∷ (n ++ (32 ∷ 61 ∷ 32 ∷ text))) ≡ tok kinds.Local (37 ∷ n) ∷ tok kinds.Punct (codes "=") ∷ tokens text
+pub result_tokens : (n text : List ℕ) → is_name n ≡ true → tokens (37 ∷ (n ++ (32 ∷ 61 ∷ 32 ∷ text))) ≡ tok kinds.Local (37 ∷ n) ∷ tok kinds.Punct (codes "=") ∷ tokens text
 result_tokens n text is =
     tokens-spelled kinds.Local (37 ∷ n) (32 ∷ 61 ∷ 32 ∷ text) is refl
     ∙ ap (λ ts. tok kinds.Local (37 ∷ n) ∷ ts) (tokens-blank 32 (61 ∷ 32 ∷ text) refl
     ∙ (tokens-spelled kinds.Punct (codes "=") (32 ∷ text) refl refl
     ∙ ap (λ ts. tok kinds.Punct (codes "=") ∷ ts) (tokens-blank 32 text refl)))
 
-named_by : (n spelled : List ℕ) (ts : List Tok) (form : Form) → first_of ts ≡ Some (tok kinds.Word spelled) → ((more : List Tok) → named_form spelled more ≡ Some form)
+pub named_by : (n spelled : List ℕ) (ts : List Tok) (form : Form) → first_of ts ≡ Some (tok kinds.Word spelled) → ((more : List Tok) → named_form spelled more ≡ Some form)
     → form_of (tok kinds.Local (37 ∷ n) ∷ tok kinds.Punct (codes "=") ∷ ts) ≡ Some form
 unfolding form_of
 named_by n spelled [] form e says = cc
@@ -75,7 +76,8 @@ pub named_line : {text : List ℕ} {items : List Item} {f : List Slot} (n spelle
     → Reads f text (Some (tok kinds.Word spelled)) items → ReadsAs (37 ∷ (n ++ (32 ∷ 61 ∷ 32 ∷ text))) form (name n ∷ items)
 named_line {text} {items} {f} n spelled form is says shape r = record {
   form_is = rw (result_tokens n text is) (named_by n spelled (tokens text) form r.begins says);
-  whole = rw shape (local n is refl (space (mark 61 refl refl (space r)))).whole;
+  whole = rw shape (local n is refl (space (mark 61 refl refl refl (space r)))).whole;
+  clean = (local n is refl (space (mark 61 refl refl refl (space r)))).clean;
 }
 
 -- the same, where the form depends on the token behind the word
@@ -86,7 +88,8 @@ pub named_second : {items : List Item} {f : List Slot} (rest n spelled : List �
 unfolding form_of
 named_second rest n spelled t form is token second says shape r = record {
   form_is = rw (result_tokens n (spelled ++ (32 ∷ rest)) is) (rw e (by (tokens rest) second));
-  whole = rw shape (local n is refl (space (mark 61 refl refl (space r)))).whole;
+  whole = rw shape (local n is refl (space (mark 61 refl refl refl (space r)))).whole;
+  clean = (local n is refl (space (mark 61 refl refl refl (space r)))).clean;
 }
   where
     e : tokens (spelled ++ (32 ∷ rest)) ≡ tok kinds.Word spelled ∷ tokens rest
@@ -127,6 +130,21 @@ binary_same ops.Shl = refl
 binary_same ops.Lshr = refl
 binary_same ops.Ashr = refl
 
+binary_clean : (op : Binary) → IsClean (binary_word op)
+binary_clean ops.Add = refl
+binary_clean ops.Sub = refl
+binary_clean ops.Mul = refl
+binary_clean ops.Udiv = refl
+binary_clean ops.Sdiv = refl
+binary_clean ops.Urem = refl
+binary_clean ops.Srem = refl
+binary_clean ops.And = refl
+binary_clean ops.Or = refl
+binary_clean ops.Xor = refl
+binary_clean ops.Shl = refl
+binary_clean ops.Lshr = refl
+binary_clean ops.Ashr = refl
+
 binary_form : (op : Binary) (more : List Tok) → named_form (binary_word op) more ≡ Some (forms.Binary op)
 unfolding named_form
 binary_form ops.Add more = refl
@@ -151,9 +169,9 @@ pub binary_line : (op : Binary) (n : List ℕ) → is_name n ≡ true → (bits 
     (forms.Binary op) (name n ∷ width bits ∷ value l ∷ value r ∷ [])
 binary_line op n is bits most {left} {right} {l} {r} s t =
     rw (← append-nil right) (named_line n (binary_word op) (forms.Binary op) is (binary_form op) refl
-    (word (binary_word op) (binary_is op) (binary_same op) refl
+    (word (binary_word op) (binary_is op) (binary_same op) (binary_clean op) refl
     (spaced (drop_at (drops.Words (binary_flags op)) (integer_drop bits most (binary_flags op)) (over_blank (width_step bits most refl
-    (space (value_step s refl (mark 44 refl refl (space (value_step t refl (drop_end drops.Attachments end))))))))))))
+    (space (value_step s refl (mark 44 refl refl refl (space (value_step t refl (drop_end drops.Attachments end))))))))))))
 
 -- ---- comparisons
 
@@ -179,9 +197,9 @@ pub compare_line : (p : Pred) (n : List ℕ) → is_name n ≡ true → {spelled
     forms.Compare (name n ∷ pred p ∷ ty of_type ∷ value l ∷ value r ∷ [])
 compare_line p n is of_type allow {right = right} s t =
     rw (← append-nil right) (named_line n (codes "icmp") forms.Compare is compare_form refl
-    (word (codes "icmp") refl refl refl
+    (word (codes "icmp") refl refl refl refl
     (spaced (drop_at (drops.Words flags.SameSign) (pred_flag p) (over_blank (pred_step p refl
-    (space (type_step of_type allow refl (space (value_step s refl (mark 44 refl refl (space (value_step t refl (drop_end drops.Attachments end))))))))))))))
+    (space (type_step of_type allow refl (space (value_step s refl (mark 44 refl refl refl (space (value_step t refl (drop_end drops.Attachments end))))))))))))))
 
 -- ---- conversions
 
@@ -195,6 +213,11 @@ conversion_same convs.Trunc = refl
 conversion_same convs.Zext = refl
 conversion_same convs.Sext = refl
 
+conversion_clean : (op : Conversion) → IsClean (conversion_word op)
+conversion_clean convs.Trunc = refl
+conversion_clean convs.Zext = refl
+conversion_clean convs.Sext = refl
+
 conversion_form : (op : Conversion) (more : List Tok) → named_form (conversion_word op) more ≡ Some (forms.Convert op)
 unfolding named_form
 conversion_form convs.Trunc more = refl
@@ -206,9 +229,9 @@ pub convert_line : (op : Conversion) (n : List ℕ) → is_name n ≡ true → (
     (forms.Convert op) (name n ∷ width bits ∷ value l ∷ width to ∷ [])
 convert_line op n is bits most to high {left} {l} s =
     rw (← append-nil (decimal to)) (named_line n (conversion_word op) (forms.Convert op) is (conversion_form op) refl
-    (word (conversion_word op) (conversion_is op) (conversion_same op) refl
+    (word (conversion_word op) (conversion_is op) (conversion_same op) (conversion_clean op) refl
     (spaced (drop_at (drops.Words (conversion_flags op)) (integer_drop bits most (conversion_flags op)) (over_blank (width_step bits most refl
-    (space (value_step s refl (space (word (codes "to") refl refl refl (space (width_step to high refl (drop_end drops.Attachments end)))))))))))))
+    (space (value_step s refl (space (word (codes "to") refl refl refl refl (space (width_step to high refl (drop_end drops.Attachments end)))))))))))))
 
 -- ---- select
 
@@ -222,8 +245,8 @@ pub select_line : (n : List ℕ) → is_name n ≡ true → {spelled : List ℕ}
     forms.Select (name n ∷ value c ∷ ty of_type ∷ value l ∷ ty of_type ∷ value r ∷ [])
 select_line n is of_type allow {right = right} c s t =
     rw (← append-nil right) (named_line n (codes "select") forms.Select is select_form refl
-    (word (codes "select") refl refl refl (space (word (codes "i1") refl refl refl (space (value_step c refl (mark 44 refl refl
-    (space (type_step of_type allow refl (space (value_step s refl (mark 44 refl refl
+    (word (codes "select") refl refl refl refl (space (word (codes "i1") refl refl refl refl (space (value_step c refl (mark 44 refl refl refl
+    (space (type_step of_type allow refl (space (value_step s refl (mark 44 refl refl refl
     (space (type_step of_type allow refl (space (value_step t refl (drop_end drops.Attachments end)))))))))))))))))
 
 -- ---- memory
@@ -238,7 +261,7 @@ pub load_line : (n : List ℕ) → is_name n ≡ true → {spelled : List ℕ} {
     forms.Load (name n ∷ ty of_type ∷ value l ∷ [])
 load_line n is of_type allow {left = left} s =
     rw (← append-nil left) (named_line n (codes "load") forms.Load is load_form refl
-    (word (codes "load") refl refl refl (space (type_step of_type allow refl (mark 44 refl refl
+    (word (codes "load") refl refl refl refl (space (type_step of_type allow refl (mark 44 refl refl refl
     (space (managed_step pointer_type refl (space (value_step s refl (drop_end drops.Alignments (drop_end drops.Attachments end)))))))))))
 
 store_form : (more : List Tok) → word_form (codes "store") more ≡ Some forms.Store
@@ -250,7 +273,7 @@ pub store_line : {spelled : List ℕ} {of_type : TypeWord} → SpellsType spelle
     → ReadsAs (codes "store " ++ (spelled ++ (32 ∷ (left ++ (codes ", ptr addrspace(1) " ++ right))))) forms.Store (ty of_type ∷ value l ∷ value r ∷ [])
 store_line of_type allow {right = right} s t =
     rw (← append-nil right) (word_line (codes "store") forms.Store store_form
-    (word (codes "store") refl refl refl (space (type_step of_type allow refl (space (value_step s refl (mark 44 refl refl
+    (word (codes "store") refl refl refl refl (space (type_step of_type allow refl (space (value_step s refl (mark 44 refl refl refl
     (space (managed_step pointer_type refl (space (value_step t refl (drop_end drops.Alignments (drop_end drops.Attachments end)))))))))))))
 
 -- ---- terminators
@@ -264,24 +287,24 @@ unfolding form_of
 switch_end_form = refl
 
 pub close_line : ReadsAs (codes "}") forms.Close []
-close_line = record { form_is = rw (tokens-spelled kinds.Punct (codes "}") [] refl refl, tokens-nil) close_form; whole = (mark 125 refl refl end).whole }
+close_line = record { form_is = rw (tokens-spelled kinds.Punct (codes "}") [] refl refl, tokens-nil) close_form; whole = (mark 125 refl refl refl end).whole; clean = refl }
 
 pub switch_end_line : ReadsAs (codes "]") forms.SwitchEnd []
-switch_end_line = record { form_is = rw (tokens-spelled kinds.Punct (codes "]") [] refl refl, tokens-nil) switch_end_form; whole = (mark 93 refl refl (drop_end drops.Attachments end)).whole }
+switch_end_line = record { form_is = rw (tokens-spelled kinds.Punct (codes "]") [] refl refl, tokens-nil) switch_end_form; whole = (mark 93 refl refl refl (drop_end drops.Attachments end)).whole; clean = refl }
 
 unreachable_form : (more : List Tok) → word_form (codes "unreachable") more ≡ Some forms.Unreachable
 unfolding word_form
 unreachable_form more = refl
 
 pub unreachable_line : ReadsAs (codes "unreachable") forms.Unreachable []
-unreachable_line = word_line (codes "unreachable") forms.Unreachable unreachable_form (word (codes "unreachable") refl refl refl (drop_end drops.Attachments end))
+unreachable_line = word_line (codes "unreachable") forms.Unreachable unreachable_form (word (codes "unreachable") refl refl refl refl (drop_end drops.Attachments end))
 
 -- a word, a space, and what begins with another token
-pub second_word : {f : List Slot} {rest : List ℕ} {items : List Item} (spelled : List ℕ) (t : Tok) (form : Form) → is_token kinds.Word spelled ≡ true → is_word spelled (tok kinds.Word spelled) ≡ true
+pub second_word : {f : List Slot} {rest : List ℕ} {items : List Item} (spelled : List ℕ) (t : Tok) (form : Form) → is_token kinds.Word spelled ≡ true → is_word spelled (tok kinds.Word spelled) ≡ true → IsClean spelled
     → ((more : List Tok) → word_form spelled (t ∷ more) ≡ Some form) → slots form ≡ w spelled ∷ blank ∷ f
     → Reads f rest (Some t) items → ReadsAs (spelled ++ (32 ∷ rest)) form items
-second_word {f} {rest} {items} spelled t form is same says shape r =
-    second_line rest spelled t form is r.begins says (rw shape (word spelled is same refl (space r)))
+second_word {f} {rest} {items} spelled t form is same clean says shape r =
+    second_line rest spelled t form is r.begins says (rw shape (word spelled is same clean refl (space r)))
 
 jump_form : (more : List Tok) → word_form (codes "br") (tok kinds.Word (codes "label") ∷ more) ≡ Some forms.Jump
 unfolding word_form
@@ -289,8 +312,8 @@ jump_form more = refl
 
 pub jump_line : (n : List ℕ) → is_name n ≡ true → ReadsAs (codes "br label %" ++ n) forms.Jump (name n ∷ [])
 jump_line n is =
-    rw (append-nil n) at (second_word (codes "br") (tok kinds.Word (codes "label")) forms.Jump refl refl jump_form refl
-    (word (codes "label") refl refl refl (space (local n is refl (drop_end drops.Attachments end)))))
+    rw (append-nil n) at (second_word (codes "br") (tok kinds.Word (codes "label")) forms.Jump refl refl refl jump_form refl
+    (word (codes "label") refl refl refl refl (space (local n is refl (drop_end drops.Attachments end)))))
 
 branch_form : (more : List Tok) → word_form (codes "br") (tok kinds.Word (codes "i1") ∷ more) ≡ Some forms.Branch
 unfolding word_form
@@ -299,17 +322,17 @@ branch_form more = refl
 pub branch_line : {condition : List ℕ} {c : Val} → SpellsValue condition c → (n o : List ℕ) → is_name n ≡ true → is_name o ≡ true
     → ReadsAs (codes "br i1 " ++ (condition ++ (codes ", label %" ++ (n ++ (codes ", label %" ++ o))))) forms.Branch (value c ∷ name n ∷ name o ∷ [])
 branch_line s n o n_is o_is =
-    rw (append-nil o) at (second_word (codes "br") (tok kinds.Word (codes "i1")) forms.Branch refl refl branch_form refl
-    (word (codes "i1") refl refl refl (space (value_step s refl (mark 44 refl refl (space (word (codes "label") refl refl refl (space (local n n_is refl
-    (mark 44 refl refl (space (word (codes "label") refl refl refl (space (local o o_is refl (drop_end drops.Attachments end)))))))))))))))
+    rw (append-nil o) at (second_word (codes "br") (tok kinds.Word (codes "i1")) forms.Branch refl refl refl branch_form refl
+    (word (codes "i1") refl refl refl refl (space (value_step s refl (mark 44 refl refl refl (space (word (codes "label") refl refl refl refl (space (local n n_is refl
+    (mark 44 refl refl refl (space (word (codes "label") refl refl refl refl (space (local o o_is refl (drop_end drops.Attachments end)))))))))))))))
 
 return_void_form : (more : List Tok) → word_form (codes "ret") (tok kinds.Word (codes "void") ∷ more) ≡ Some forms.ReturnVoid
 unfolding word_form
 return_void_form more = refl
 
 pub return_void_line : ReadsAs (codes "ret void") forms.ReturnVoid []
-return_void_line = second_word {rest = codes "void"} (codes "ret") (tok kinds.Word (codes "void")) forms.ReturnVoid refl refl return_void_form refl
-    (word (codes "void") refl refl refl (drop_end drops.Attachments end))
+return_void_line = second_word {rest = codes "void"} (codes "ret") (tok kinds.Word (codes "void")) forms.ReturnVoid refl refl refl return_void_form refl
+    (word (codes "void") refl refl refl refl (drop_end drops.Attachments end))
 
 return_form : (spelled : List ℕ) → is_word (codes "void") (tok kinds.Word spelled) ≡ false → (more : List Tok) → word_form (codes "ret") (tok kinds.Word spelled ∷ more) ≡ Some forms.Return
 unfolding word_form
@@ -319,7 +342,7 @@ pub return_line : {spelled : List ℕ} {of_type : TypeWord} (t : SpellsType spel
     → {left : List ℕ} {l : Val} → SpellsValue left l
     → ReadsAs (codes "ret " ++ (spelled ++ (32 ∷ left))) forms.Return (ty of_type ∷ value l ∷ [])
 return_line of_type allow other {left} s =
-    rw (← append-nil left) (second_word (codes "ret") (tok kinds.Word of_type.first) forms.Return refl refl (return_form of_type.first other) refl
+    rw (← append-nil left) (second_word (codes "ret") (tok kinds.Word of_type.first) forms.Return refl refl refl (return_form of_type.first other) refl
     (type_step of_type allow refl (space (value_step s refl (drop_end drops.Attachments end)))))
 
 switch_form : (more : List Tok) → word_form (codes "switch") more ≡ Some forms.Switch
@@ -330,8 +353,8 @@ pub switch_line : (bits : ℕ) → bits ≤ 64 → {left : List ℕ} {l : Val} �
     → ReadsAs (codes "switch i" ++ (decimal bits ++ (32 ∷ (left ++ (codes ", label %" ++ (n ++ codes " [")))))) forms.Switch (width bits ∷ value l ∷ name n ∷ [])
 switch_line bits most s n is =
     word_line (codes "switch") forms.Switch switch_form
-    (word (codes "switch") refl refl refl (space (width_step bits most refl (space (value_step s refl (mark 44 refl refl
-    (space (word (codes "label") refl refl refl (space (local n is refl (space (mark 91 refl refl end))))))))))))
+    (word (codes "switch") refl refl refl refl (space (width_step bits most refl (space (value_step s refl (mark 44 refl refl refl
+    (space (word (codes "label") refl refl refl refl (space (local n is refl (space (mark 91 refl refl refl end))))))))))))
 
 case_form_is : (bits : ℕ) → bits ≤ 64 → (more : List Tok) → word_form (105 ∷ decimal bits) more ≡ Some forms.Case
 unfolding word_form
@@ -341,7 +364,7 @@ pub case_line : (bits : ℕ) → bits ≤ 64 → {left : List ℕ} {l : Val} →
     → ReadsAs (105 ∷ (decimal bits ++ (32 ∷ (left ++ (codes ", label %" ++ n))))) forms.Case (width bits ∷ value l ∷ name n ∷ [])
 case_line bits most s allow n is =
     rw (append-nil n) at (word_line (105 ∷ decimal bits) forms.Case (case_form_is bits most)
-    (width_step bits most refl (space (case_step s allow refl (mark 44 refl refl (space (word (codes "label") refl refl refl (space (local n is refl end)))))))))
+    (width_step bits most refl (space (case_step s allow refl (mark 44 refl refl refl (space (word (codes "label") refl refl refl refl (space (local n is refl end)))))))))
 
 -- ---- steps of addresses
 
@@ -356,7 +379,7 @@ element_line : {f : List Slot} {rest : List ℕ} {t : Tok} {items : List Item} (
     → Reads f rest (Some t) items → ReadsAs (37 ∷ (n ++ (32 ∷ 61 ∷ 32 ∷ (codes "getelementptr " ++ rest)))) form (name n ∷ items)
 element_line {f} {rest} {t} n form is says none shape r =
     named_second rest n (codes "getelementptr") t form is refl r.begins says shape
-    (word (codes "getelementptr") refl refl refl (spaced (drop_at (drops.Words flags.Bounds) none (over_blank r))))
+    (word (codes "getelementptr") refl refl refl refl (spaced (drop_at (drops.Words flags.Bounds) none (over_blank r))))
 
 pub scalar_line : (n : List ℕ) → is_name n ≡ true → {spelled : List ℕ} {element : TypeWord} → SpellsType spelled element → is_scalar_type element ≡ true
     → (bits : ℕ) → bits ≤ 64 → {left right : List ℕ} {l r : Val} → SpellsValue left l → SpellsValue right r
@@ -364,7 +387,7 @@ pub scalar_line : (n : List ℕ) → is_name n ≡ true → {spelled : List ℕ}
     forms.ScalarElement (name n ∷ scalar element ∷ value l ∷ width bits ∷ value r ∷ [])
 scalar_line n is element allow bits most {right = right} s t =
     rw (← append-nil right) (element_line n forms.ScalarElement is (scalar_form element.first (element.flag flags.Bounds)) (element.flag flags.Bounds) refl
-    (scalar_step element allow refl (mark 44 refl refl (space (managed_step pointer_type refl (space (value_step s refl (mark 44 refl refl
+    (scalar_step element allow refl (mark 44 refl refl refl (space (managed_step pointer_type refl (space (value_step s refl (mark 44 refl refl refl
     (space (width_step bits most refl (space (value_step t refl (drop_end drops.Attachments end)))))))))))))
 
 layout_form : (t : List ℕ) (more : List Tok) → named_form (codes "getelementptr") (tok kinds.Local t ∷ more) ≡ Some forms.LayoutElement
@@ -377,7 +400,7 @@ pub layout_line : (n : List ℕ) → is_name n ≡ true → (o : List ℕ) → i
     forms.LayoutElement (name n ∷ layout o ∷ value l ∷ width bits ∷ value r ∷ place None ∷ [])
 layout_line n is o o_is bits most {right = right} s t =
     rw (← append-nil right) (element_line n forms.LayoutElement is (layout_form (37 ∷ o)) (λ more. refl) refl
-    (layout_step o o_is refl (mark 44 refl refl (space (managed_step pointer_type refl (space (value_step s refl (mark 44 refl refl
+    (layout_step o o_is refl (mark 44 refl refl refl (space (managed_step pointer_type refl (space (value_step s refl (mark 44 refl refl refl
     (space (width_step bits most refl (space (value_step t refl (no_place (drop_end drops.Attachments end))))))))))))))
 
 pub field_line : (n : List ℕ) → is_name n ≡ true → (o : List ℕ) → is_name o ≡ true
@@ -386,5 +409,5 @@ pub field_line : (n : List ℕ) → is_name n ≡ true → (o : List ℕ) → is
     forms.LayoutElement (name n ∷ layout o ∷ value l ∷ width bits ∷ value r ∷ place (Some (record { negative = false; magnitude = field })) ∷ [])
 field_line n is o o_is bits most s t field small =
     rw (← append-nil (decimal field)) (element_line n forms.LayoutElement is (layout_form (37 ∷ o)) (λ more. refl) refl
-    (layout_step o o_is refl (mark 44 refl refl (space (managed_step pointer_type refl (space (value_step s refl (mark 44 refl refl
+    (layout_step o o_is refl (mark 44 refl refl refl (space (managed_step pointer_type refl (space (value_step s refl (mark 44 refl refl refl
     (space (width_step bits most refl (space (value_step t refl (place_step field small refl (drop_end drops.Attachments end))))))))))))))

@@ -3,4 +3,5 @@ pub mod Spellings
 pub mod PartSteps
 pub mod Forms
 pub mod Listed
+pub mod ListForms
 pub mod LinesRead

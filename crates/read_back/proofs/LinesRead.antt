@@ -1,34 +1,42 @@
 -- A text is read line by line: what its lines say, and what is known behind them.
 use Rattle.std.proofs.Common.{◌≡◌, refl, ap, sym, ◌∙◌, ℕ, zero, suc, ◌+◌, ◌-◌, ◌<◌, ◌≤◌, Bool, true, false, not, ◌&&◌, cond, List, [], ◌∷◌, ◌++◌, length, map, Option, Some, None, Result, Ok, Err, arith, codes, append_assoc, append-nil, get_or}
-use Rattle.std.specs.Prelude.{◌==◌, slice_index}
-use Rattle.std.specs.List.{All, slice_split, onto_first, list_all}
+use Rattle.std.specs.Prelude.{◌==◌, slice_index, drop}
+use Rattle.std.specs.List.{All, slice_split, onto_first, list_all, list_any, prefix_len}
 use Rattle.std.specs.Str.Lines.{lines, lines_of_parts, strip_carriage_return}
 use Rattle.std.proofs.lemmas.Bool.{and_parts, not-true, ne_eqb, or_parts}
-use Rattle.sp_text.specs.Tokens.{tokens, is_name}
+use Rattle.sp_text.specs.Tokens.{Tok, tokens, is_name}
+use Rattle.sp_text.specs.Bytes.{is_blank}
+use Rattle.sp_text.proofs.Spelled.{label-spelled}
+use Rattle.ir_reader.specs.Gives.{after}
+use Rattle.ir_reader.specs.Forms.{slots, form_of}
+use Rattle.ir_reader.specs.Slots.{Item, parse}
+use Rattle.ir_reader.specs.Places.{behind, behind_label, is_dropped_form}
+use Rattle.ir_reader.specs.Limits.{said_fits, counts_fit}
+use Rattle.read_back.proofs.Steps.{IsClean, in_line}
 use Rattle.sp_text.proofs.TokenLemmas.{tokens-nil}
 use Rattle.sp_text.specs.Lines.{NumberedLine, numbered, lines_of}
-use Rattle.sp_text.specs.Labels.{label_of, is_metadata}
+use Rattle.sp_text.specs.Labels.{label_of, is_metadata, is_colon}
 use Rattle.ir_reader.specs.declared.forms.Form.{Form}
 use Rattle.ir_reader.specs.declared.forms.Place.{Place}
 use Rattle.ir_reader.specs.declared.forms.Place.TheVariants as places
 use Rattle.ir_reader.specs.declared.forms.State.{State}
-use Rattle.ir_reader.specs.Seen.{Said}
-use Rattle.ir_reader.specs.Text.{Outcome, nothing, said, outcome, Fault, Numbered, with_first, readings_by, readings, is_top, labelled, tokens_outcome}
+use Rattle.ir_reader.specs.Seen.{Said, label, of_form, line_at}
+use Rattle.ir_reader.specs.Text.{Outcome, nothing, said, outcome, Fault, Numbered, with_first, readings_by, readings, is_top, next_state, labelled, tokens_outcome}
 use Rattle.ir_types.specs.Statements.{Statement, stated}
 
 abbrev pub newline : ℕ
 newline = 10
 
--- a byte of a printed line
-abbrev pub in_line : ℕ → Bool
-in_line b = not (b == 10) && not (b == 13)
+-- a byte that ends no line
+abbrev pub ends_none : ℕ → Bool
+ends_none b = not (b == 10) && not (b == 13)
 
 -- the lines of a line that a newline ends, and of what follows
 
-split_here : (line rest : List ℕ) → list_all in_line line ≡ true → slice_split (λ b. b == 10) (line ++ (10 ∷ rest)) ≡ line ∷ slice_split (λ b. b == 10) rest
+split_here : (line rest : List ℕ) → list_all ends_none line ≡ true → slice_split (λ b. b == 10) (line ++ (10 ∷ rest)) ≡ line ∷ slice_split (λ b. b == 10) rest
 split_here [] rest clean = refl
 split_here (b ∷ bs) rest clean =
-    let parts = and_parts (in_line b) (list_all in_line bs) clean in
+    let parts = and_parts (ends_none b) (list_all ends_none bs) clean in
     let other : (b == 10) ≡ false = not-true (b == 10) (and_parts (not (b == 10)) (not (b == 13)) parts.0).0 in
     rw other (rw (split_here bs rest parts.1) refl)
 
@@ -42,15 +50,15 @@ split_some (b ∷ bs) = by (b == 10) (split_some bs)
     by true more = ([], slice_split (λ b. b == 10) bs, refl)
     by false more = (b ∷ more.0, more.1, rw more.2 refl)
 
-last_clean : (b : ℕ) (bs : List ℕ) → list_all in_line (b ∷ bs) ≡ true → (slice_index (b ∷ bs) (length bs) == 13) ≡ false
-last_clean b [] clean = not-true (b == 13) (and_parts (not (b == 10)) (not (b == 13)) (and_parts (in_line b) true clean).0).1
-last_clean b (c ∷ cs) clean = last_clean c cs (and_parts (in_line b) (list_all in_line (c ∷ cs)) clean).1
+last_clean : (b : ℕ) (bs : List ℕ) → list_all ends_none (b ∷ bs) ≡ true → (slice_index (b ∷ bs) (length bs) == 13) ≡ false
+last_clean b [] clean = not-true (b == 13) (and_parts (not (b == 10)) (not (b == 13)) (and_parts (ends_none b) true clean).0).1
+last_clean b (c ∷ cs) clean = last_clean c cs (and_parts (ends_none b) (list_all ends_none (c ∷ cs)) clean).1
 
-no_return : (line : List ℕ) → list_all in_line line ≡ true → strip_carriage_return line ≡ line
+no_return : (line : List ℕ) → list_all ends_none line ≡ true → strip_carriage_return line ≡ line
 no_return [] clean = refl
 no_return (b ∷ bs) clean = let less : suc (length bs) - 1 ≡ length bs = omega arith in rw less (rw (last_clean b bs clean) refl)
 
-pub lines-first : (line rest : List ℕ) → list_all in_line line ≡ true → lines (line ++ (10 ∷ rest)) ≡ line ∷ lines rest
+pub lines-first : (line rest : List ℕ) → list_all ends_none line ≡ true → lines (line ++ (10 ∷ rest)) ≡ line ∷ lines rest
 lines-first line rest clean =
     let more = split_some rest in
     rw (split_here line rest clean) (rw more.2 (rw (no_return line clean) refl))
@@ -98,7 +106,7 @@ with_first-before one (Ok more) = refl
 with_first-before one (Err fault) = refl
 
 -- a line that says something
-pub says-line : (s t : State) (line : List ℕ) (what : Said) → list_all in_line line ≡ true → outcome s line ≡ said what t → Says s (line ++ (10 ∷ [])) t (stated what ∷ [])
+pub says-line : (s t : State) (line : List ℕ) (what : Said) → list_all ends_none line ≡ true → outcome s line ≡ said what t → Says s (line ++ (10 ∷ [])) t (stated what ∷ [])
 unfolding readings
 says-line s t line what clean is = record {
   read = λ number. record { line = number; said = what } ∷ [];
@@ -106,6 +114,54 @@ says-line s t line what clean is = record {
   reads = λ number rest. rw (append_assoc line (10 ∷ []) rest) (rw (lines-first line rest clean) (rw is (with_first-before _ _)));
   says = λ number. refl;
 }
+
+-- ---- lines of a form
+
+ends_none-clean : (bs : List ℕ) → IsClean bs → list_all ends_none bs ≡ true
+ends_none-clean [] clean = refl
+ends_none-clean (b ∷ bs) clean =
+    let parts = and_parts (in_line b) (list_all in_line bs) clean in
+    let first = and_parts (not (b == 10)) (not (b == 13) && not (b == 58)) parts.0 in
+    let second = and_parts (not (b == 13)) (not (b == 58)) first.1 in
+    rw (first.0, second.0) (ends_none-clean bs parts.1)
+
+no_colon : (bs : List ℕ) → IsClean bs → list_any is_colon bs ≡ false
+no_colon [] clean = refl
+no_colon (b ∷ bs) clean =
+    let parts = and_parts (in_line b) (list_all in_line bs) clean in
+    let first = and_parts (not (b == 10)) (not (b == 13) && not (b == 58)) parts.0 in
+    let second = and_parts (not (b == 13)) (not (b == 58)) first.1 in
+    let other : (b == 58) ≡ false = not-true (b == 58) second.1 in
+    rw other (no_colon bs parts.1)
+
+clean-drop : (count : ℕ) (bs : List ℕ) → IsClean bs → IsClean (drop count bs)
+clean-drop zero bs clean = clean
+clean-drop (suc count) [] clean = refl
+clean-drop (suc count) (b ∷ bs) clean = clean-drop count bs (and_parts (in_line b) (list_all in_line bs) clean).1
+
+label-none : (bs : List ℕ) → IsClean bs → label_of bs ≡ None
+label-none bs clean = rw (no_colon (drop (prefix_len is_blank bs) bs) (clean-drop (prefix_len is_blank bs) bs clean)) refl
+
+tokens_said : (s : State) (ts : List Tok) (form : Form) (place : Place) (items : List Item) → form_of ts ≡ Some form → parse (slots form) ts ≡ Some (items, [])
+    → behind s.place form ≡ Some place → is_dropped_form form ≡ false → said_fits (of_form form items) ≡ true → counts_fit (next_state s place (of_form form items)).counts ≡ true
+    → tokens_outcome s ts ≡ said (of_form form items) (next_state s place (of_form form items))
+unfolding tokens_outcome form_of line_at after
+tokens_said s [] form place items is whole stands kept fits counts = cc
+tokens_said s (t ∷ ts) form place items is whole stands kept fits counts = rw is (rw stands (rw whole (rw kept (rw (fits, counts) refl))))
+
+-- a line of a form, where it may stand and passes no limit
+pub formed_outcome : (s : State) (line : List ℕ) (form : Form) (place : Place) (items : List Item) → IsClean line → (is_top s.place && is_metadata line) ≡ false
+    → form_of (tokens line) ≡ Some form → parse (slots form) (tokens line) ≡ Some (items, [])
+    → behind s.place form ≡ Some place → is_dropped_form form ≡ false → said_fits (of_form form items) ≡ true → counts_fit (next_state s place (of_form form items)).counts ≡ true
+    → outcome s line ≡ said (of_form form items) (next_state s place (of_form form items))
+unfolding outcome
+formed_outcome s line form place items clean plain is whole stands kept fits counts =
+    rw plain (rw (label-none line clean) (tokens_said s (tokens line) form place items is whole stands kept fits counts))
+
+pub label_line : (s : State) (name : List ℕ) (place : Place) → is_name name ≡ true → is_top s.place ≡ false → behind_label s.place ≡ Some place
+    → outcome s (name ++ (58 ∷ [])) ≡ said (label name) (record { place = place; counts = s.counts })
+unfolding outcome
+label_line s name place is inside stands = rw inside (rw (label-spelled name is) (rw stands refl))
 
 -- an empty line
 empty_outcome : (s : State) → outcome s [] ≡ nothing

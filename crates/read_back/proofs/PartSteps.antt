@@ -12,7 +12,7 @@ use Rattle.ir_reader.specs.Gives.{after, one_at}
 use Rattle.ir_reader.specs.Numbers.{width_of, literal_of, positive_literal, literal_spelled}
 use Rattle.ir_reader.specs.Parts.{Val, is_value_type, is_answer_type, is_managed, is_scalar_type, is_case_value, case_value_at, pred_of, pred_word, place_at, strategy_at}
 use Rattle.ir_reader.specs.Slots.{Item, width, ty, value, pred, scalar, place, strategy, Slot, blank, m, a_managed, a_width, a_type, an_answer, a_value, a_case, a_pred, a_scalar, a_place, a_strategy, part, parse}
-use Rattle.read_back.proofs.Steps.{Reads, Stops, step, one, first_of, stops-kind}
+use Rattle.read_back.proofs.Steps.{Reads, Stops, step, one, first_of, stops-kind, IsClean, digits-clean}
 use Rattle.read_back.proofs.Spellings.{SpellsType, SpellsValue, allowed, integer_says, width_spelled, decimal_token, decimal-digits, decimal-is, literal_digits, positive}
 
 -- ---- types
@@ -24,7 +24,7 @@ type_part {text} {word} t allow ts = rw (allowed text word t is_value_type allow
 pub type_step : {f : List Slot} {text rest : List ℕ} {word : TypeWord} {first : Option Tok} {items : List Item} (t : SpellsType text word) → is_value_type word ≡ true → Stops rest
     → Reads f rest first items → Reads (a_type ∷ f) (text ++ rest) (Some (tok kinds.Word t.first)) (ty word ∷ items)
 type_step {text = text} {rest = rest} {word = word} t allow stop r =
-    step a_type text (tok kinds.Word t.first) (t.more ++ tokens rest) (ty word ∷ []) (t.spelled rest stop) (type_part t allow (tokens rest)) r
+    step a_type text (tok kinds.Word t.first) (t.more ++ tokens rest) (ty word ∷ []) t.clean (t.spelled rest stop) (type_part t allow (tokens rest)) r
 
 answer_part : {text : List ℕ} {word : TypeWord} (t : SpellsType text word) → is_answer_type word ≡ true → (ts : List Tok) → part an_answer (tok kinds.Word t.first ∷ (t.more ++ ts)) ≡ Some (ty word ∷ [], ts)
 unfolding part after
@@ -42,7 +42,7 @@ managed_part {text} t ts = rw (allowed text types.Managed t is_managed refl ts) 
 pub managed_step : {f : List Slot} {text rest : List ℕ} {first : Option Tok} {items : List Item} (t : SpellsType text types.Managed) → Stops rest
     → Reads f rest first items → Reads (a_managed ∷ f) (text ++ rest) (Some (tok kinds.Word t.first)) items
 managed_step {text = text} {rest = rest} t stop r =
-    step a_managed text (tok kinds.Word t.first) (t.more ++ tokens rest) [] (t.spelled rest stop) (managed_part t (tokens rest)) r
+    step a_managed text (tok kinds.Word t.first) (t.more ++ tokens rest) [] t.clean (t.spelled rest stop) (managed_part t (tokens rest)) r
 
 scalar_part : {text : List ℕ} {word : TypeWord} (t : SpellsType text word) → is_scalar_type word ≡ true → (ts : List Tok) → part a_scalar (tok kinds.Word t.first ∷ (t.more ++ ts)) ≡ Some (scalar word ∷ [], ts)
 unfolding part after
@@ -51,7 +51,7 @@ scalar_part {text} {word} t allow ts = rw (allowed text word t is_scalar_type al
 pub scalar_step : {f : List Slot} {text rest : List ℕ} {word : TypeWord} {first : Option Tok} {items : List Item} (t : SpellsType text word) → is_scalar_type word ≡ true → Stops rest
     → Reads f rest first items → Reads (a_scalar ∷ f) (text ++ rest) (Some (tok kinds.Word t.first)) (scalar word ∷ items)
 scalar_step {text = text} {rest = rest} {word = word} t allow stop r =
-    step a_scalar text (tok kinds.Word t.first) (t.more ++ tokens rest) (scalar word ∷ []) (t.spelled rest stop) (scalar_part t allow (tokens rest)) r
+    step a_scalar text (tok kinds.Word t.first) (t.more ++ tokens rest) (scalar word ∷ []) t.clean (t.spelled rest stop) (scalar_part t allow (tokens rest)) r
 
 width_part : (n : ℕ) → n ≤ 64 → (ts : List Tok) → part a_width (tok kinds.Word (105 ∷ decimal n) ∷ ts) ≡ Some (width n ∷ [], ts)
 unfolding part after one_at
@@ -60,7 +60,7 @@ width_part n most ts = rw (integer_says n most) refl
 pub width_step : {f : List Slot} {rest : List ℕ} {first : Option Tok} {items : List Item} (n : ℕ) → n ≤ 64 → Stops rest
     → Reads f rest first items → Reads (a_width ∷ f) (105 ∷ (decimal n ++ rest)) (Some (tok kinds.Word (105 ∷ decimal n))) (width n ∷ items)
 width_step {rest = rest} n most stop r =
-    step a_width (105 ∷ decimal n) (tok kinds.Word (105 ∷ decimal n)) (tokens rest) (width n ∷ []) (width_spelled n most rest stop) (width_part n most (tokens rest)) r
+    step a_width (105 ∷ decimal n) (tok kinds.Word (105 ∷ decimal n)) (tokens rest) (width n ∷ []) (digits-clean (decimal n) (decimal-is n (omega arith)).digits) (width_spelled n most rest stop) (width_part n most (tokens rest)) r
 
 -- ---- values
 
@@ -70,7 +70,7 @@ value_part s ts = rw s.says refl
 
 pub value_step : {f : List Slot} {text rest : List ℕ} {v : Val} {first : Option Tok} {items : List Item} (s : SpellsValue text v) → Stops rest
     → Reads f rest first items → Reads (a_value ∷ f) (text ++ rest) (Some (tok s.kind text)) (value v ∷ items)
-value_step {text = text} {v = v} s stop r = one a_value s.kind text (value v ∷ []) s.is stop (value_part s) r
+value_step {text = text} {v = v} s stop r = one a_value s.kind text (value v ∷ []) s.is s.clean stop (value_part s) r
 
 case_part : {text : List ℕ} {v : Val} (s : SpellsValue text v) → is_case_value v ≡ true → (ts : List Tok) → part a_case (tok s.kind text ∷ ts) ≡ Some (value v ∷ [], ts)
 unfolding part after one_at case_value_at
@@ -78,7 +78,7 @@ case_part s allow ts = rw s.says (rw allow refl)
 
 pub case_step : {f : List Slot} {text rest : List ℕ} {v : Val} {first : Option Tok} {items : List Item} (s : SpellsValue text v) → is_case_value v ≡ true → Stops rest
     → Reads f rest first items → Reads (a_case ∷ f) (text ++ rest) (Some (tok s.kind text)) (value v ∷ items)
-case_step {text = text} {v = v} s allow stop r = one a_case s.kind text (value v ∷ []) s.is stop (case_part s allow) r
+case_step {text = text} {v = v} s allow stop r = one a_case s.kind text (value v ∷ []) s.is s.clean stop (case_part s allow) r
 
 -- ---- words of choice
 
@@ -93,6 +93,18 @@ pred_is preds.Sgt = refl
 pred_is preds.Sge = refl
 pred_is preds.Slt = refl
 pred_is preds.Sle = refl
+
+pred_clean : (p : Pred) → IsClean (pred_word p)
+pred_clean preds.Eq = refl
+pred_clean preds.Ne = refl
+pred_clean preds.Ugt = refl
+pred_clean preds.Uge = refl
+pred_clean preds.Ult = refl
+pred_clean preds.Ule = refl
+pred_clean preds.Sgt = refl
+pred_clean preds.Sge = refl
+pred_clean preds.Slt = refl
+pred_clean preds.Sle = refl
 
 pred_says : (p : Pred) → pred_of (tok kinds.Word (pred_word p)) ≡ Some p
 pred_says preds.Eq = refl
@@ -112,7 +124,7 @@ pred_part p ts = rw (pred_says p) refl
 
 pub pred_step : {f : List Slot} {rest : List ℕ} {first : Option Tok} {items : List Item} (p : Pred) → Stops rest
     → Reads f rest first items → Reads (a_pred ∷ f) (pred_word p ++ rest) (Some (tok kinds.Word (pred_word p))) (pred p ∷ items)
-pred_step p stop r = one a_pred kinds.Word (pred_word p) (pred p ∷ []) (pred_is p) stop (pred_part p) r
+pred_step p stop r = one a_pred kinds.Word (pred_word p) (pred p ∷ []) (pred_is p) (pred_clean p) stop (pred_part p) r
 
 -- ---- places
 
@@ -126,7 +138,7 @@ place_none_part = refl
 
 pub no_place : {f : List Slot} {items : List Item} → Reads f [] None items → Reads (a_place ∷ f) [] None (place None ∷ items)
 unfolding parse after
-no_place {f} {items} r = record { whole = rw e (rw place_none_part (rw (rw e at r.whole) refl)); begins = r.begins }
+no_place {f} {items} r = record { whole = rw e (rw place_none_part (rw (rw e at r.whole) refl)); begins = r.begins; clean = refl }
   where
     e : tokens [] ≡ []
     e = nothing_left (tokens []) r.begins
@@ -149,7 +161,7 @@ pub place_step : {f : List Slot} {rest : List ℕ} {first : Option Tok} {items :
     → Reads f rest first items → Reads (a_place ∷ f) (codes ", i32 " ++ (decimal n ++ rest)) (Some (tok kinds.Punct (codes ","))) (place (Some (record { negative = false; magnitude = n })) ∷ items)
 place_step {f} {rest} {first} {items} n small stop r =
     let text : codes ", i32 " ++ (decimal n ++ rest) ≡ (codes ", i32 " ++ decimal n) ++ rest = refl in
-    step {text = rest} a_place (codes ", i32 " ++ decimal n) (tok kinds.Punct (codes ",")) (tok kinds.Word (codes "i32") ∷ tok kinds.Number (decimal n) ∷ tokens rest) (place (Some (record { negative = false; magnitude = n })) ∷ []) (place_spelled n small rest stop) (place_part n small (tokens rest)) r
+    step {text = rest} a_place (codes ", i32 " ++ decimal n) (tok kinds.Punct (codes ",")) (tok kinds.Word (codes "i32") ∷ tok kinds.Number (decimal n) ∷ tokens rest) (place (Some (record { negative = false; magnitude = n })) ∷ []) (digits-clean (decimal n) (decimal-is n small).digits) (place_spelled n small rest stop) (place_part n small (tokens rest)) r
 
 -- ---- strategies
 
@@ -171,7 +183,11 @@ strategy_spelled rest =
     anywhere [] = refl
     anywhere (c ∷ cs) = refl
 
+strategy_clean : IsClean (codes "gc " ++ strategy_word)
+unfolding strategy_word
+strategy_clean = refl
+
 pub strategy_step : {f : List Slot} {rest : List ℕ} {first : Option Tok} {items : List Item} → Reads f rest first items
     → Reads (a_strategy ∷ f) (codes "gc " ++ (strategy_word ++ rest)) (Some (tok kinds.Word (codes "gc"))) (strategy (Some (codes "statepoint-example")) ∷ items)
 strategy_step {rest = rest} r =
-    step {text = rest} a_strategy (codes "gc " ++ strategy_word) (tok kinds.Word (codes "gc")) (tok kinds.Quoted strategy_word ∷ tokens rest) (strategy (Some (codes "statepoint-example")) ∷ []) (strategy_spelled rest) (strategy_part (tokens rest)) r
+    step {text = rest} a_strategy (codes "gc " ++ strategy_word) (tok kinds.Word (codes "gc")) (tok kinds.Quoted strategy_word ∷ tokens rest) (strategy (Some (codes "statepoint-example")) ∷ []) strategy_clean (strategy_spelled rest) (strategy_part (tokens rest)) r

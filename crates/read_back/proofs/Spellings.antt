@@ -29,7 +29,7 @@ use Rattle.ir_reader.specs.Parts.{Val, value_of, spelled_type_at, allowed_type_a
 use Rattle.ir_reader.specs.Parts as values
 use Rattle.ir_printer.specs.Words.{integer_text}
 use Rattle.read_back.specs.Said.{literal_of, integer_value}
-use Rattle.read_back.proofs.Steps.{Stops, stops-kind}
+use Rattle.read_back.proofs.Steps.{Stops, stops-kind, IsClean, digits-clean, name-clean}
 
 -- ---- decimals
 
@@ -86,6 +86,7 @@ digits-in_word (b ∷ bs) all =
 
 -- how a type is spelled, and that the reader takes the tokens for it
 pub record SpellsType (text : List ℕ) (word : TypeWord) : Type 0 where
+  pub clean : IsClean text
   pub first : List ℕ
   pub more : List Tok
   pub spelled : (rest : List ℕ) → Stops rest → tokens (text ++ rest) ≡ tok kinds.Word first ∷ (more ++ tokens rest)
@@ -132,6 +133,7 @@ width_spelled n most rest stop = tokens-spelled kinds.Word (105 ∷ decimal n) r
 pub integer_type : (n : ℕ) → n ≤ 64 → SpellsType (105 ∷ decimal n) (types.Int n)
 unfolding spelled_type_at
 integer_type n most = record {
+  clean = digits-clean (decimal n) all;
   first = 105 ∷ decimal n;
   more = [];
   spelled = λ rest stop. tokens-spelled kinds.Word (105 ∷ decimal n) rest (or_left _ _ (digits-in_word (decimal n) all)) (stops-kind kinds.Word rest stop);
@@ -178,6 +180,7 @@ pointer_says ts = refl
 
 pub pointer_type : SpellsType (codes "ptr addrspace(1)") types.Managed
 pointer_type = record {
+  clean = refl;
   first = codes "ptr";
   more = tok kinds.Word (codes "addrspace") ∷ tok kinds.Punct (codes "(") ∷ tok kinds.Number (codes "1") ∷ tok kinds.Punct (codes ")") ∷ [];
   spelled = λ rest stop. pointer_spelled rest;
@@ -202,6 +205,7 @@ void_says ts = refl
 
 pub void_type : SpellsType (codes "void") types.Void
 void_type = record {
+  clean = refl;
   first = codes "void";
   more = [];
   spelled = λ rest stop. tokens-spelled kinds.Word (codes "void") rest refl (stops-kind kinds.Word rest stop);
@@ -218,22 +222,23 @@ allowed text word t allows allow ts = rw (t.says ts) (rw allow refl)
 
 -- a value is one token
 pub record SpellsValue (text : List ℕ) (value : Val) : Type 0 where
+  pub clean : IsClean text
   pub kind : Kind
   pub is : is_token kind text ≡ true
   pub says : value_of (tok kind text) ≡ Some value
   pub group : (ts : List Tok) → past_group (tok kind text ∷ ts) ≡ None
 
 pub local_value : (name : List ℕ) → is_name name ≡ true → SpellsValue (37 ∷ name) (values.local name)
-local_value name is = record { kind = kinds.Local; is = is; says = refl; group = λ ts. refl }
+local_value name is = record { clean = name-clean name is; kind = kinds.Local; is = is; says = refl; group = λ ts. refl }
 
 pub null_value : SpellsValue (codes "null") values.null
-null_value = record { kind = kinds.Word; is = refl; says = refl; group = λ ts. refl }
+null_value = record { clean = refl; kind = kinds.Word; is = refl; says = refl; group = λ ts. refl }
 
 pub true_value : SpellsValue (codes "true") (values.truth true)
-true_value = record { kind = kinds.Word; is = refl; says = refl; group = λ ts. refl }
+true_value = record { clean = refl; kind = kinds.Word; is = refl; says = refl; group = λ ts. refl }
 
 pub false_value : SpellsValue (codes "false") (values.truth false)
-false_value = record { kind = kinds.Word; is = refl; says = refl; group = λ ts. refl }
+false_value = record { clean = refl; kind = kinds.Word; is = refl; says = refl; group = λ ts. refl }
 
 pub literal_digits : (ds : List ℕ) → are_digits ds ≡ true → literal_spelled ds ≡ positive_literal (decimal_from 0 ds)
 literal_digits [] digits = cc
@@ -260,12 +265,14 @@ decimal_token n small = or_left (are_digits (decimal n)) (first_then 45 are_digi
 
 pub number_value : (z : ℤ) → Spellable z → SpellsValue (signed_decimal z) (values.number (literal_of z))
 number_value (pos n) small = record {
+  clean = digits-clean (decimal n) (decimal-is n small).digits;
   kind = kinds.Number;
   is = or_left (are_digits (decimal n)) (first_then 45 are_digits (decimal n)) (decimal-digits n small);
   says = ap (λ l. Some (values.number l)) (literal_digits (decimal n) (decimal-digits n small) ∙ (ap positive_literal (decimal-is n small).number ∙ positive n small));
   group = λ ts. refl;
 }
 number_value (negsuc n) small = record {
+  clean = digits-clean (decimal (suc n)) (decimal-is (suc n) (omega arith)).digits;
   kind = kinds.Number;
   is = or_right (are_digits (45 ∷ decimal (suc n))) (are_digits (decimal (suc n))) (decimal-digits (suc n) (omega arith));
   says = ap (λ l. Some (values.number l)) (ap negative_literal (decimal-is (suc n) (omega arith)).number ∙ negative (suc n) small);

@@ -1,12 +1,15 @@
 -- A printed line is read by the slots of its form, slot by slot, from its end to its front.
-use Rattle.std.proofs.Common.{◌≡◌, refl, ap, sym, ◌∙◌, ℕ, zero, suc, Bool, true, false, List, [], ◌∷◌, ◌++◌, length, Option, Some, None}
+use Rattle.std.proofs.Common.{◌≡◌, refl, ap, sym, ◌∙◌, ℕ, zero, suc, Bool, true, false, not, ◌&&◌, List, [], ◌∷◌, ◌++◌, length, Option, Some, None, cond, inl, inr, arith}
 use Rattle.std.specs.Prelude.{codes}
 use Rattle.std.specs.Str.{bytes_eq}
 use Rattle.std.specs.Prelude.{◌==◌, ◌||◌}
 use Rattle.std.specs.Char.{is_ascii_digit, is_ascii_alphabetic}
-use Rattle.std.proofs.lemmas.Bool.{or_parts, or_from, not_from_false, not-true}
+use Rattle.std.proofs.lemmas.Bool.{or_parts, or_from, or_left, or_cases, eqb-true, and_parts, and_from, not_from_false, not-true}
+use Rattle.std.proofs.lemmas.Bool.Decides.{nat_tests}
+use Rattle.std.proofs.lemmas.List.Folds.{list_all-append}
+use Rattle.std.specs.List.{list_all}
 use Rattle.sp_text.specs.Bytes.{in_name, in_word, begins_name, begins_word, minus, dollar, dot, underscore}
-use Rattle.sp_text.specs.Tokens.{Tok, tok, tokens, is_token, is_name}
+use Rattle.sp_text.specs.Tokens.{Tok, tok, tokens, is_token, is_name, is_plain_name, is_numeral, is_nothing, are_digits}
 use Rattle.sp_text.specs.declared.tokens.Kind.{Kind}
 use Rattle.sp_text.specs.declared.tokens.Kind.TheVariants as kinds
 use Rattle.sp_text.proofs.Spelled.{stops, continues, tokens-spelled, tokens-blank}
@@ -22,26 +25,77 @@ abbrev pub first_of : List Tok → Option Tok
 first_of [] = None
 first_of (t ∷ ts) = Some t
 
+-- a byte of a printed line: no newline, no carriage return and, but in a label, no colon
+abbrev pub in_line : ℕ → Bool
+in_line b = not (b == 10) && (not (b == 13) && not (b == 58))
+
+abbrev pub IsClean : List ℕ → Type 0
+IsClean text = list_all in_line text ≡ true
+
+pub clean-both : (a b : List ℕ) → IsClean a → IsClean b → IsClean (a ++ b)
+clean-both a b first second = rw (list_all-append in_line a b, first, second) refl
+
+clean-each : (p : ℕ → Bool) (bs : List ℕ) → ((b : ℕ) → p b ≡ true → in_line b ≡ true) → list_all p bs ≡ true → IsClean bs
+clean-each p [] each all = refl
+clean-each p (b ∷ bs) each all =
+    let parts = and_parts (p b) (list_all p bs) all in
+    and_from (in_line b) (list_all in_line bs) (each b parts.0) (clean-each p bs each parts.1)
+
+in_name-clean : (b : ℕ) → in_name b ≡ true → in_line b ≡ true
+in_name-clean b name = grind (arith, nat_tests)
+
+digit-clean : (b : ℕ) → is_ascii_digit b ≡ true → in_line b ≡ true
+digit-clean b digit = grind (arith, nat_tests)
+
+pub digits-clean : (bs : List ℕ) → list_all is_ascii_digit bs ≡ true → IsClean bs
+digits-clean bs digits = clean-each is_ascii_digit bs digit-clean digits
+
+plain_bytes : (bs : List ℕ) → is_plain_name bs ≡ true → list_all in_name bs ≡ true
+plain_bytes [] name = cc
+plain_bytes (b ∷ bs) name =
+    let parts = and_parts (begins_name b) (list_all in_name bs) name in
+    and_from (in_name b) (list_all in_name bs) (or_left (begins_name b) (is_ascii_digit b) parts.0) parts.1
+
+numeral_digits : (bs : List ℕ) → is_numeral bs ≡ true → list_all is_ascii_digit bs ≡ true
+numeral_digits [] numeral = refl
+numeral_digits (b ∷ bs) numeral = by (b == 48) refl bs numeral
+  where
+    by : (zero_first : Bool) → (b == 48) ≡ zero_first → (bs : List ℕ) → cond zero_first (is_nothing bs) (are_digits (b ∷ bs)) ≡ true → list_all is_ascii_digit (b ∷ bs) ≡ true
+    by true is [] nothing = let same : b ≡ 48 = eqb-true b 48 is in rw same refl
+    by true is (c ∷ cs) nothing = cc
+    by false is bs digits = digits
+
+pub name-clean : (n : List ℕ) → is_name n ≡ true → IsClean n
+name-clean n name = elim (or_cases (is_plain_name n) (is_numeral n) name) [
+  | inl plain ↦ clean-each in_name n in_name-clean (plain_bytes n plain)
+  | inr numeral ↦ digits-clean n (numeral_digits n numeral)
+]
+
 -- The text is the end of a line: its first token, and what the slots say of the whole of it.
 pub record Reads (f : List Slot) (text : List ℕ) (first : Option Tok) (items : List Item) : Type 0 where
   pub whole : parse f (tokens text) ≡ Some (items, [])
   pub begins : first_of (tokens text) ≡ first
+  pub clean : IsClean text
 
 pub end : Reads [] [] None []
 unfolding parse
-end = record { whole = whole; begins = rw tokens-nil refl }
+end = record { whole = whole; begins = rw tokens-nil refl; clean = refl }
   where
     whole : parse [] (tokens []) ≡ Some ([], [])
     whole = rw tokens-nil refl
 
 -- one slot, which leaves the tokens of the rest
-pub step : {f : List Slot} {text : List ℕ} {first : Option Tok} {items : List Item} (s : Slot) (front : List ℕ) (t : Tok) (more : List Tok) (here : List Item)
-    → tokens (front ++ text) ≡ t ∷ more → part s (t ∷ more) ≡ Some (here, tokens text) → Reads f text first items → Reads (s ∷ f) (front ++ text) (Some t) (here ++ items)
+pub step_to : {f : List Slot} {text : List ℕ} {first : Option Tok} {items : List Item} (s : Slot) (all : List ℕ) (t : Tok) (more : List Tok) (here : List Item) → IsClean all
+    → tokens all ≡ t ∷ more → part s (t ∷ more) ≡ Some (here, tokens text) → Reads f text first items → Reads (s ∷ f) all (Some t) (here ++ items)
 unfolding parse after
-step {f} {text} {first} {items} s front t more here e p r = record { whole = whole; begins = rw e refl }
+step_to {f} {text} {first} {items} s all t more here clean e p r = record { whole = whole; begins = rw e refl; clean = clean }
   where
-    whole : parse (s ∷ f) (tokens (front ++ text)) ≡ Some (here ++ items, [])
+    whole : parse (s ∷ f) (tokens all) ≡ Some (here ++ items, [])
     whole = rw e (rw p (rw r.whole refl))
+
+pub step : {f : List Slot} {text : List ℕ} {first : Option Tok} {items : List Item} (s : Slot) (front : List ℕ) (t : Tok) (more : List Tok) (here : List Item) → IsClean front
+    → tokens (front ++ text) ≡ t ∷ more → part s (t ∷ more) ≡ Some (here, tokens text) → Reads f text first items → Reads (s ∷ f) (front ++ text) (Some t) (here ++ items)
+step {text = text} s front t more here clean e p r = step_to s (front ++ text) t more here (clean-both front text clean r.clean) e p r
 
 -- what follows doesn't continue a token
 abbrev pub Stops : List ℕ → Type 0
@@ -80,19 +134,19 @@ stops-kind kinds.Punct (b ∷ bs) stop = refl
 
 -- one token
 pub one : {f : List Slot} {text : List ℕ} {first : Option Tok} {items : List Item} (s : Slot) (kind : Kind) (word : List ℕ) (here : List Item)
-    → is_token kind word ≡ true → Stops text → ((ts : List Tok) → part s (tok kind word ∷ ts) ≡ Some (here, ts)) → Reads f text first items
+    → is_token kind word ≡ true → IsClean word → Stops text → ((ts : List Tok) → part s (tok kind word ∷ ts) ≡ Some (here, ts)) → Reads f text first items
     → Reads (s ∷ f) (word ++ text) (Some (tok kind word)) (here ++ items)
-one {f} {text} s kind word here is stop says r =
-    step s word (tok kind word) (tokens text) here (tokens-spelled kind word text is (stops-kind kind text stop)) (says (tokens text)) r
+one {f} {text} s kind word here is clean stop says r =
+    step s word (tok kind word) (tokens text) here clean (tokens-spelled kind word text is (stops-kind kind text stop)) (says (tokens text)) r
 
 mark_part : (b : ℕ) → is_mark (b ∷ []) (tok kinds.Punct (b ∷ [])) ≡ true → (ts : List Tok) → part (m (b ∷ [])) (tok kinds.Punct (b ∷ []) ∷ ts) ≡ Some ([], ts)
 unfolding part after one_at
 mark_part b is ts = rw is refl
 
-pub mark : {f : List Slot} {text : List ℕ} {first : Option Tok} {items : List Item} (b : ℕ) → is_token kinds.Punct (b ∷ []) ≡ true → is_mark (b ∷ []) (tok kinds.Punct (b ∷ [])) ≡ true
+pub mark : {f : List Slot} {text : List ℕ} {first : Option Tok} {items : List Item} (b : ℕ) → is_token kinds.Punct (b ∷ []) ≡ true → is_mark (b ∷ []) (tok kinds.Punct (b ∷ [])) ≡ true → IsClean (b ∷ [])
     → Reads f text first items → Reads (m (b ∷ []) ∷ f) (b ∷ text) (Some (tok kinds.Punct (b ∷ []))) items
-mark {f} {text} b is same r =
-    step (m (b ∷ [])) (b ∷ []) (tok kinds.Punct (b ∷ [])) (tokens text) [] (tokens-spelled kinds.Punct (b ∷ []) text is (anywhere text)) (mark_part b same (tokens text)) r
+mark {f} {text} b is same clean r =
+    step (m (b ∷ [])) (b ∷ []) (tok kinds.Punct (b ∷ [])) (tokens text) [] clean (tokens-spelled kinds.Punct (b ∷ []) text is (anywhere text)) (mark_part b same (tokens text)) r
   where
     anywhere : (text : List ℕ) → stops (continues kinds.Punct) text ≡ true
     anywhere [] = refl
@@ -103,8 +157,8 @@ unfolding part after one_at
 word_part text is ts = rw is refl
 
 pub word : {f : List Slot} {text : List ℕ} {first : Option Tok} {items : List Item} (spelled : List ℕ) → is_token kinds.Word spelled ≡ true → is_word spelled (tok kinds.Word spelled) ≡ true
-    → Stops text → Reads f text first items → Reads (w spelled ∷ f) (spelled ++ text) (Some (tok kinds.Word spelled)) items
-word spelled is same stop r = one (w spelled) kinds.Word spelled [] is stop (word_part spelled same) r
+    → IsClean spelled → Stops text → Reads f text first items → Reads (w spelled ∷ f) (spelled ++ text) (Some (tok kinds.Word spelled)) items
+word spelled is same clean stop r = one (w spelled) kinds.Word spelled [] is clean stop (word_part spelled same) r
 
 local_part : (n : List ℕ) (ts : List Tok) → part a_local (tok kinds.Local (37 ∷ n) ∷ ts) ≡ Some (name n ∷ [], ts)
 unfolding part after one_at
@@ -120,24 +174,24 @@ layout_part n ts = refl
 
 pub local : {f : List Slot} {text : List ℕ} {first : Option Tok} {items : List Item} (n : List ℕ) → is_name n ≡ true → Stops text
     → Reads f text first items → Reads (a_local ∷ f) (37 ∷ (n ++ text)) (Some (tok kinds.Local (37 ∷ n))) (name n ∷ items)
-local n is stop r = one a_local kinds.Local (37 ∷ n) (name n ∷ []) is stop (local_part n) r
+local n is stop r = one a_local kinds.Local (37 ∷ n) (name n ∷ []) is (name-clean n is) stop (local_part n) r
 
 pub layout_head : {f : List Slot} {text : List ℕ} {first : Option Tok} {items : List Item} (n : List ℕ) → is_name n ≡ true → Stops text
     → Reads f text first items → Reads (a_layout_name ∷ f) (37 ∷ (n ++ text)) (Some (tok kinds.Local (37 ∷ n))) (layout_name n ∷ items)
-layout_head n is stop r = one a_layout_name kinds.Local (37 ∷ n) (layout_name n ∷ []) is stop (layout_name_part n) r
+layout_head n is stop r = one a_layout_name kinds.Local (37 ∷ n) (layout_name n ∷ []) is (name-clean n is) stop (layout_name_part n) r
 
 pub layout_step : {f : List Slot} {text : List ℕ} {first : Option Tok} {items : List Item} (n : List ℕ) → is_name n ≡ true → Stops text
     → Reads f text first items → Reads (a_layout ∷ f) (37 ∷ (n ++ text)) (Some (tok kinds.Local (37 ∷ n))) (layout n ∷ items)
-layout_step n is stop r = one a_layout kinds.Local (37 ∷ n) (layout n ∷ []) is stop (layout_part n) r
+layout_step n is stop r = one a_layout kinds.Local (37 ∷ n) (layout n ∷ []) is (name-clean n is) stop (layout_part n) r
 
 -- a space says nothing, at a blank and elsewhere
 pub spaced : {f : List Slot} {text : List ℕ} {first : Option Tok} {items : List Item} → Reads f text first items → Reads f (32 ∷ text) first items
 spaced {f} {text} r = let e : tokens (32 ∷ text) ≡ tokens text = tokens-blank 32 text refl in
-    record { whole = rw e r.whole; begins = rw e r.begins }
+    record { whole = rw e r.whole; begins = rw e r.begins; clean = r.clean }
 
 pub over_blank : {f : List Slot} {text : List ℕ} {first : Option Tok} {items : List Item} → Reads f text first items → Reads (blank ∷ f) text first items
 unfolding parse after part
-over_blank {f} {text} {first} {items} r = record { whole = whole; begins = r.begins }
+over_blank {f} {text} {first} {items} r = record { whole = whole; begins = r.begins; clean = r.clean }
   where
     whole : parse (blank ∷ f) (tokens text) ≡ Some (items, [])
     whole = rw r.whole refl
@@ -158,7 +212,7 @@ past_all-none what ts none = at_most-none (length ts) what ts none
 
 drop_by : {f : List Slot} {text : List ℕ} {first : Option Tok} {items : List Item} (what : Dropped) → past_dropped what (tokens text) ≡ None → Reads f text first items → Reads (dropped what ∷ f) text first items
 unfolding parse after part
-drop_by {f} {text} {first} {items} what none r = record { whole = whole; begins = r.begins }
+drop_by {f} {text} {first} {items} what none r = record { whole = whole; begins = r.begins; clean = r.clean }
   where
     whole : parse (dropped what ∷ f) (tokens text) ≡ Some (items, [])
     whole = rw (past_all-none what (tokens text) none) (rw r.whole refl)
