@@ -5,3 +5,5 @@ pub mod Forms
 pub mod Listed
 pub mod ListForms
 pub mod LinesRead
+pub mod Operands
+pub mod OneLine
