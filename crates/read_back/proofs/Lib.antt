@@ -7,3 +7,4 @@ pub mod ListForms
 pub mod LinesRead
 pub mod Operands
 pub mod OneLine
+pub mod Chains

@@ -117,7 +117,7 @@ says-line s t line what clean is = record {
 
 -- ---- lines of a form
 
-ends_none-clean : (bs : List ℕ) → IsClean bs → list_all ends_none bs ≡ true
+pub ends_none-clean : (bs : List ℕ) → IsClean bs → list_all ends_none bs ≡ true
 ends_none-clean [] clean = refl
 ends_none-clean (b ∷ bs) clean =
     let parts = and_parts (in_line b) (list_all in_line bs) clean in

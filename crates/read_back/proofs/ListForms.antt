@@ -14,7 +14,7 @@ use Rattle.ir_reader.specs.declared.words.Flags.TheVariants as flags
 use Rattle.ir_reader.specs.Gives.{Found, after, one_at}
 use Rattle.ir_reader.specs.Marks.{is_mark, begins}
 use Rattle.ir_reader.specs.Drops.{past_all, past_dropped, past_head_attachment}
-use Rattle.ir_reader.specs.Parts.{Val, is_value_type, is_answer_type, allowed_type_at, value_at, name_if_any}
+use Rattle.ir_reader.specs.Parts.{Val, is_value_type, is_answer_type, allowed_type_at, spelled_type_at, pointer_at, value_at, name_if_any}
 use Rattle.ir_reader.specs.Lists.{Named, Given, given, function, fields_at, listed_at, list_to, comma, argument_at, is_argument_type, is_task_start, head_at, given_behind, passed_at, called_at, entry_at, begins_entry}
 use Rattle.ir_reader.specs.Forms.{slots, form_of, named_form, word_form}
 use Rattle.ir_reader.specs.Slots.{Item, name, layout_name, ty, fields, entries, declared, defined, called, strategy, Slot, blank, m, w, dropped, a_local, some_fields, some_entries, a_declared, a_defined, a_called, a_strategy, part, parse}
@@ -312,3 +312,104 @@ layout_line {Y} n is text said ys each opens = record { form_is = form_is; whole
     all = layout_head n is refl (space (mark 61 refl refl refl (space inner)))
     form_is : form_of (tokens (37 ∷ (n ++ (32 ∷ 61 ∷ 32 ∷ (codes "type { " ++ body))))) ≡ Some forms.Layout
     form_is = rw (result_tokens n (codes "type { " ++ body) is) (named_by n (codes "type") (tokens (codes "type { " ++ body)) forms.Layout inner.begins type_form)
+
+-- ---- declarations, whose parameters have no names
+
+parameter_says : {text : List ℕ} {of_type : TypeWord} (plain : Bool) (t : SpellsType text of_type) → is_argument_type plain of_type ≡ true → (ts : List Tok) (spelled : List ℕ) → first_of ts ≡ Some (tok kinds.Punct spelled)
+    → argument_at plain (tok kinds.Word t.first ∷ (t.more ++ ts)) ≡ Some (record { ty = of_type; name = None }, ts)
+unfolding argument_at after
+parameter_says plain t allow [] spelled first = cc
+parameter_says {text} {of_type} plain t allow (u ∷ us) spelled first =
+    let same : u ≡ tok kinds.Punct spelled = cc in
+    rw same (rw (allowed text of_type t (is_argument_type plain) allow (tok kinds.Punct spelled ∷ us)) (rw (past_all-none drops.Groups (tok kinds.Punct spelled ∷ us) refl) refl))
+
+pub parameter_element : {text : List ℕ} {of_type : TypeWord} (plain : Bool) → SpellsType text of_type → is_argument_type plain of_type ≡ true
+    → SpellsElement (argument_at plain) comma EndsAtMark text (record { ty = of_type; name = None })
+parameter_element {text} plain t allow = record {
+  clean = t.clean;
+  says = λ rest ends. rw (t.spelled rest ends.stop) (parameter_says plain t allow (tokens rest) ends.spelled ends.begins_so);
+  shorter = λ rest ends. rw (t.spelled rest ends.stop) (omega (arith, length-append t.more (tokens rest)));
+  goes = λ rest ends. goes_by_comma (text ++ rest);
+}
+
+pub type_opens : {text : List ℕ} {of_type : TypeWord} (t : SpellsType text of_type) (closing : List ℕ) (rest : List ℕ) → EndsAtMark rest → begins (is_mark closing) (tokens (text ++ rest)) ≡ false
+type_opens t closing rest ends = rw (t.spelled rest ends.stop) refl
+
+plain_spelled : (rest : List ℕ) → Stops rest → tokens (codes "ptr" ++ rest) ≡ tok kinds.Word (codes "ptr") ∷ tokens rest
+plain_spelled rest stop = tokens-spelled kinds.Word (codes "ptr") rest refl (stops-kind kinds.Word rest stop)
+
+plain_says : (ts : List Tok) (spelled : List ℕ) → first_of ts ≡ Some (tok kinds.Punct spelled)
+    → argument_at true (tok kinds.Word (codes "ptr") ∷ ts) ≡ Some (record { ty = types.Plain; name = None }, ts)
+unfolding argument_at after allowed_type_at spelled_type_at pointer_at
+plain_says [] spelled first = cc
+plain_says (u ∷ us) spelled first =
+    let same : u ≡ tok kinds.Punct spelled = cc in
+    rw same (rw (past_all-none drops.Groups (tok kinds.Punct spelled ∷ us) refl) refl)
+
+pub plain_element : SpellsElement (argument_at true) comma EndsAtMark (codes "ptr") (record { ty = types.Plain; name = None })
+plain_element = record {
+  clean = refl;
+  says = λ rest ends. rw (plain_spelled rest ends.stop) (plain_says (tokens rest) ends.spelled ends.begins_so);
+  shorter = λ rest ends. rw (plain_spelled rest ends.stop) (omega arith);
+  goes = λ rest ends. goes_by_comma (codes "ptr" ++ rest);
+}
+
+pub plain_opens : (rest : List ℕ) → EndsAtMark rest → begins (is_mark (codes ")")) (tokens (codes "ptr" ++ rest)) ≡ false
+plain_opens rest ends = rw (plain_spelled rest ends.stop) refl
+
+declared_part : (n : List ℕ) (named : List Named) (ts us : List Tok) → list_to (argument_at (is_task_start n)) (codes ")") ts ≡ Some (named, tok kinds.Punct (codes ")") ∷ us)
+    → part a_declared (tok kinds.Global (64 ∷ n) ∷ tok kinds.Punct (codes "(") ∷ ts) ≡ Some (declared n named ∷ [], us)
+unfolding part after head_at one_at
+declared_part n named ts us e = rw e refl
+
+pub declared_step : {f : List Slot} {rest : List ℕ} {first : Option Tok} {items : List Item} {Y : Type 0} (n : List ℕ) → is_name n ≡ true → (text : Y → List ℕ) (said : Y → Named) (ys : List Y)
+    → All (λ y. SpellsElement (argument_at (is_task_start n)) comma EndsAtMark (text y) (said y)) ys
+    → All (λ y. (rest : List ℕ) → EndsAtMark rest → begins (is_mark (codes ")")) (tokens (text y ++ rest)) ≡ false) ys
+    → Reads f rest first items → Reads (a_declared ∷ f) (64 ∷ (n ++ (40 ∷ (joined (codes ", ") (map text ys) ++ (41 ∷ rest))))) (Some (tok kinds.Global (64 ∷ n))) (declared n (map said ys) ∷ items)
+declared_step {rest = rest} n is text said ys each opens r =
+    let found : list_to (argument_at (is_task_start n)) (codes ")") (tokens (joined (codes ", ") (map text ys) ++ (41 ∷ rest))) ≡ Some (map said ys, tok kinds.Punct (codes ")") ∷ tokens rest) =
+        list_read (argument_at (is_task_start n)) (codes ")") EndsAtMark text said at_comma ys (41 ∷ rest) each opens (at_closing rest) (rw (closing_tokens rest) refl) (rw (closing_tokens rest) refl)
+        ∙ ap (λ ts. Some (map said ys, ts)) (closing_tokens rest) in
+    step_to a_declared _ (tok kinds.Global (64 ∷ n)) _ (declared n (map said ys) ∷ [])
+        (head_clean n (joined (codes ", ") (map text ys)) rest is (list_clean (argument_at (is_task_start n)) comma EndsAtMark text said at_comma ys each) r.clean) (head_tokens n is (joined (codes ", ") (map text ys) ++ (41 ∷ rest)))
+        (declared_part n (map said ys) _ (tokens rest) found) r
+
+declare_form : (more : List Tok) → word_form (codes "declare") more ≡ Some forms.Declare
+unfolding word_form
+declare_form more = refl
+
+word_none : (spelled : List ℕ) (more : List Tok) → past_dropped drops.HeadAttachments (tok kinds.Word spelled ∷ more) ≡ None
+word_none spelled [] = refl
+word_none spelled (t ∷ ts) = refl
+
+-- `declare R @name(T, ..)`
+pub declare_line : {spelled : List ℕ} {answer : TypeWord} → SpellsType spelled answer → is_answer_type answer ≡ true → {Y : Type 0} (n : List ℕ) → is_name n ≡ true → (text : Y → List ℕ) (said : Y → Named) (ys : List Y)
+    → All (λ y. SpellsElement (argument_at (is_task_start n)) comma EndsAtMark (text y) (said y)) ys
+    → All (λ y. (rest : List ℕ) → EndsAtMark rest → begins (is_mark (codes ")")) (tokens (text y ++ rest)) ≡ false) ys
+    → ReadsAs (codes "declare " ++ (spelled ++ (32 ∷ 64 ∷ (n ++ (40 ∷ (joined (codes ", ") (map text ys) ++ codes ")")))))) forms.Declare (ty answer ∷ declared n (map said ys) ∷ [])
+declare_line t allow n is text said ys each opens =
+    word_line (codes "declare") forms.Declare declare_form
+    (word (codes "declare") refl refl refl refl (spaced (drop_at drops.HeadAttachments (word_none t.first) (drop_at drops.Groups t.group (over_blank (answer_step t allow refl
+    (space (declared_step n is text said ys each opens (drop_end drops.Groups end)))))))))
+
+-- ---- the function that `task_start` takes
+
+function_spelled : (f : List ℕ) → is_name f ≡ true → (rest : List ℕ) → Stops rest → tokens ((codes "ptr @" ++ f) ++ rest) ≡ tok kinds.Word (codes "ptr") ∷ tok kinds.Global (64 ∷ f) ∷ tokens rest
+function_spelled f is rest stop =
+    tokens-spelled kinds.Word (codes "ptr") (32 ∷ 64 ∷ (f ++ rest)) refl refl
+    ∙ ap (λ ts. tok kinds.Word (codes "ptr") ∷ ts) (tokens-blank 32 (64 ∷ (f ++ rest)) refl ∙ tokens-spelled kinds.Global (64 ∷ f) rest is stop)
+
+function_says : (f : List ℕ) (ts : List Tok) → passed_at true (tok kinds.Word (codes "ptr") ∷ tok kinds.Global (64 ∷ f) ∷ ts) ≡ Some (function f, ts)
+unfolding passed_at after allowed_type_at spelled_type_at pointer_at one_at
+function_says f ts = rw (past_all-none drops.Groups (tok kinds.Global (64 ∷ f) ∷ ts) refl) refl
+
+pub function_element : (f : List ℕ) → is_name f ≡ true → SpellsElement (passed_at true) comma EndsAtMark (codes "ptr @" ++ f) (function f)
+function_element f is = record {
+  clean = clean-both (codes "ptr @") f refl (name-clean f is);
+  says = λ rest ends. rw (function_spelled f is rest ends.stop) (function_says f (tokens rest));
+  shorter = λ rest ends. rw (function_spelled f is rest ends.stop) (omega arith);
+  goes = λ rest ends. goes_by_comma ((codes "ptr @" ++ f) ++ rest);
+}
+
+pub function_opens : (f : List ℕ) → is_name f ≡ true → (rest : List ℕ) → EndsAtMark rest → begins (is_mark (codes ")")) (tokens ((codes "ptr @" ++ f) ++ rest)) ≡ false
+function_opens f is rest ends = rw (function_spelled f is rest ends.stop) refl

@@ -7,6 +7,8 @@ use Rattle.sp_text.specs.Tokens.{is_name}
 use Rattle.ir_ast.specs.declared.types.Ty.{Ty}
 use Rattle.ir_ast.specs.declared.types.Ty.TheVariants as tys
 use Rattle.ir_ast.specs.declared.ops.Pred.{Pred}
+use Rattle.ir_ast.specs.declared.ops.Pred.TheVariants as preds
+use Rattle.ir_reader.specs.Parts.{pred_word}
 use Rattle.ir_ast.specs.declared.ops.Operand.{Operand}
 use Rattle.ir_ast.specs.declared.ops.Op.{Op}
 use Rattle.ir_ast.specs.declared.ops.Op.TheVariants as ast
@@ -17,7 +19,7 @@ use Rattle.ir_ast.specs.Values.{value_types}
 use Rattle.ir_ast.specs.Faults.TypeClash.{Fits}
 use Rattle.ir_ast.specs.Ops.{is_terminator}
 use Rattle.ir_printer.specs.Names.{Names, block_name}
-use Rattle.ir_printer.specs.Words.{type_text}
+use Rattle.ir_printer.specs.Words.{type_text, predicate_word}
 use Rattle.ir_printer.specs.Operands.{value_text}
 use Rattle.ir_printer.specs.Lines.{result_front, operator_text, arithmetic_text}
 use Rattle.ir_reader.specs.declared.forms.Form.{Form}
@@ -36,8 +38,8 @@ use Rattle.ir_types.specs.Statements.{stated}
 use Rattle.read_back.specs.Said.{word_of, value_says, instruction_says, operator_says, binary_says}
 use Rattle.read_back.proofs.Steps.{IsClean}
 use Rattle.read_back.proofs.Spellings.{SpellsType, SpellsValue}
-use Rattle.read_back.proofs.Forms.{ReadsAs, binary_line, compare_line, load_line, store_line, unreachable_line, return_void_line}
-use Rattle.read_back.proofs.Operands.{HaveNames, IsNarrow, type_spelled, type_allowed, type_fits_in, value_spelled, value_in_limit}
+use Rattle.read_back.proofs.Forms.{ReadsAs, binary_line, compare_line, load_line, store_line, jump_line, unreachable_line, return_void_line}
+use Rattle.read_back.proofs.Operands.{HaveNames, block-named, IsNarrow, type_spelled, type_allowed, type_fits_in, value_spelled, value_in_limit}
 
 -- where a block stands behind an instruction
 abbrev pub place_after : Op → Place
@@ -85,3 +87,102 @@ binary_reads names have op o n bits a b is narrow a_is b_is a_fits b_fits text s
   counts = refl;
   kept = refl;
 }
+
+-- ---- comparisons and conversions
+
+pred_same : (p : Pred) → predicate_word p ≡ pred_word p
+pred_same preds.Eq = refl
+pred_same preds.Ne = refl
+pred_same preds.Ugt = refl
+pred_same preds.Uge = refl
+pred_same preds.Ult = refl
+pred_same preds.Ule = refl
+pred_same preds.Sgt = refl
+pred_same preds.Sge = refl
+pred_same preds.Slt = refl
+pred_same preds.Sle = refl
+
+compare_shape : (names : Names) (p : Pred) (n : List ℕ) (ty : Ty) (a b : Operand)
+    → result_front (Some n) ++ operator_text names (ast.Icmp p) (made (Some n) (ast.Icmp p) ty (a ∷ b ∷ []) [])
+    ≡ 37 ∷ (n ++ (32 ∷ 61 ∷ 32 ∷ (codes "icmp " ++ (pred_word p ++ (32 ∷ (type_text ty ++ (32 ∷ (value_text names ty a ++ (44 ∷ 32 ∷ value_text names ty b)))))))))
+compare_shape names p n ty a b = rw (← pred_same p) (simp append_assoc)
+
+-- `%x = icmp PRED T V, V`
+pub compare_reads : (names : Names) → HaveNames names → (p : Pred) (n : List ℕ) (ty : Ty) (a b : Operand) → is_name n ≡ true → is_first_class ty ≡ true → IsNarrow ty
+    → is_value a ≡ true → is_value b ≡ true → Fits (value_types names.func) a ty → Fits (value_types names.func) b ty
+    → OneLine names (made (Some n) (ast.Icmp p) ty (a ∷ b ∷ []) [])
+compare_reads names have p n of_type a b is first narrow a_is b_is a_fits b_fits = record {
+  form = forms.Compare;
+  items = name n ∷ pred p ∷ ty (word_of of_type) ∷ value (value_says names of_type a) ∷ value (value_says names of_type b) ∷ [];
+  reads = rw (compare_shape names p n of_type a b) (compare_line p n is (type_spelled of_type first narrow) (type_allowed of_type first)
+      (value_spelled names have of_type narrow a a_is a_fits) (value_spelled names have of_type narrow b b_is b_fits));
+  says = refl;
+  fits = rw (type_fits_in of_type first narrow, value_in_limit names of_type narrow a a_fits, value_in_limit names of_type narrow b b_fits) refl;
+  stands = refl;
+  counts = refl;
+  kept = refl;
+}
+
+-- ---- memory
+
+load_shape : (names : Names) (n : List ℕ) (ty : Ty) (a : Operand)
+    → result_front (Some n) ++ operator_text names ast.Load (made (Some n) ast.Load ty (a ∷ []) [])
+    ≡ 37 ∷ (n ++ (32 ∷ 61 ∷ 32 ∷ (codes "load " ++ (type_text ty ++ (codes ", ptr addrspace(1) " ++ value_text names tys.Ptr a)))))
+load_shape names n ty a = simp append_assoc
+
+-- `%x = load T, P V`
+pub load_reads : (names : Names) → HaveNames names → (n : List ℕ) (ty : Ty) (a : Operand) → is_name n ≡ true → is_first_class ty ≡ true → IsNarrow ty
+    → is_value a ≡ true → Fits (value_types names.func) a tys.Ptr → OneLine names (made (Some n) ast.Load ty (a ∷ []) [])
+load_reads names have n of_type a is first narrow a_is a_fits = record {
+  form = forms.Load;
+  items = name n ∷ ty (word_of of_type) ∷ value (value_says names tys.Ptr a) ∷ [];
+  reads = rw (load_shape names n of_type a) (load_line n is (type_spelled of_type first narrow) (type_allowed of_type first) (value_spelled names have tys.Ptr tt a a_is a_fits));
+  says = refl;
+  fits = rw (type_fits_in of_type first narrow, value_in_limit names tys.Ptr tt a a_fits) refl;
+  stands = refl;
+  counts = refl;
+  kept = refl;
+}
+
+store_shape : (names : Names) (ty : Ty) (a b : Operand)
+    → result_front None ++ operator_text names ast.Store (made None ast.Store ty (a ∷ b ∷ []) [])
+    ≡ codes "store " ++ (type_text ty ++ (32 ∷ (value_text names ty a ++ (codes ", ptr addrspace(1) " ++ value_text names tys.Ptr b))))
+store_shape names ty a b = simp append_assoc
+
+-- `store T V, P V`
+pub store_reads : (names : Names) → HaveNames names → (ty : Ty) (a b : Operand) → is_first_class ty ≡ true → IsNarrow ty
+    → is_value a ≡ true → is_value b ≡ true → Fits (value_types names.func) a ty → Fits (value_types names.func) b tys.Ptr → OneLine names (made None ast.Store ty (a ∷ b ∷ []) [])
+store_reads names have of_type a b first narrow a_is b_is a_fits b_fits = record {
+  form = forms.Store;
+  items = ty (word_of of_type) ∷ value (value_says names of_type a) ∷ value (value_says names tys.Ptr b) ∷ [];
+  reads = rw (store_shape names of_type a b) (store_line (type_spelled of_type first narrow) (type_allowed of_type first)
+      (value_spelled names have of_type narrow a a_is a_fits) (value_spelled names have tys.Ptr tt b b_is b_fits));
+  says = refl;
+  fits = rw (type_fits_in of_type first narrow, value_in_limit names of_type narrow a a_fits, value_in_limit names tys.Ptr tt b b_fits) refl;
+  stands = refl;
+  counts = refl;
+  kept = refl;
+}
+
+-- ---- terminators
+
+-- `br label %l`
+pub jump_reads : (names : Names) → HaveNames names → (l : BlockId) → l.0 < length names.func.blocks → OneLine names (made None ast.Br tys.Void [] (l ∷ []))
+jump_reads names have l low = record {
+  form = forms.Jump;
+  items = name (block_name names.func l.0) ∷ [];
+  reads = jump_line (block_name names.func l.0) (block-named names have l.0 low);
+  says = refl;
+  fits = refl;
+  stands = refl;
+  counts = refl;
+  kept = refl;
+}
+
+-- `ret void`
+pub return_void_reads : (names : Names) → OneLine names (made None ast.Ret tys.Void [] [])
+return_void_reads names = record { form = forms.ReturnVoid; items = []; reads = return_void_line; says = refl; fits = refl; stands = refl; counts = refl; kept = refl }
+
+-- `unreachable`
+pub unreachable_reads : (names : Names) → OneLine names (made None ast.Unreachable tys.Void [] [])
+unreachable_reads names = record { form = forms.Unreachable; items = []; reads = unreachable_line; says = refl; fits = refl; stands = refl; counts = refl; kept = refl }
