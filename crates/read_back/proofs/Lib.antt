@@ -8,3 +8,4 @@ pub mod LinesRead
 pub mod Operands
 pub mod OneLine
 pub mod Chains
+pub mod Blocks

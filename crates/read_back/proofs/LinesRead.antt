@@ -142,11 +142,15 @@ clean-drop (suc count) (b ∷ bs) clean = clean-drop count bs (and_parts (in_lin
 label-none : (bs : List ℕ) → IsClean bs → label_of bs ≡ None
 label-none bs clean = rw (no_colon (drop (prefix_len is_blank bs) bs) (clean-drop (prefix_len is_blank bs) bs clean)) refl
 
+no_form : form_of [] ≡ None
+unfolding form_of
+no_form = refl
+
 tokens_said : (s : State) (ts : List Tok) (form : Form) (place : Place) (items : List Item) → form_of ts ≡ Some form → parse (slots form) ts ≡ Some (items, [])
     → behind s.place form ≡ Some place → is_dropped_form form ≡ false → said_fits (of_form form items) ≡ true → counts_fit (next_state s place (of_form form items)).counts ≡ true
     → tokens_outcome s ts ≡ said (of_form form items) (next_state s place (of_form form items))
-unfolding tokens_outcome form_of line_at after
-tokens_said s [] form place items is whole stands kept fits counts = cc
+unfolding tokens_outcome line_at after
+tokens_said s [] form place items is whole stands kept fits counts = let none = no_form in cc
 tokens_said s (t ∷ ts) form place items is whole stands kept fits counts = rw is (rw stands (rw whole (rw kept (rw (fits, counts) refl))))
 
 -- a line of a form, where it may stand and passes no limit

@@ -1,5 +1,5 @@
 -- Instructions that are printed on one line: the line's form, and what it says.
-use Rattle.std.proofs.Common.{◌≡◌, refl, ap, sym, ◌∙◌, ℕ, zero, suc, ◌<◌, ◌≤◌, ◌^◌, Bool, true, false, ◌&&◌, List, [], ◌∷◌, ◌++◌, length, map, Option, Some, None, arith, codes, decimal, append_assoc}
+use Rattle.std.proofs.Common.{◌≡◌, refl, ap, sym, ◌∙◌, ℕ, zero, suc, ◌<◌, ◌≤◌, ◌^◌, Bool, true, false, cond, ◌&&◌, List, [], ◌∷◌, ◌++◌, length, map, Option, Some, None, arith, codes, decimal, append_assoc}
 use Rattle.std.specs.List.{list_all, AllZip}
 use Rattle.std.proofs.lemmas.Bool.{le-leb, and_parts}
 use Rattle.sp_ids.specs.declared.ids.BlockId.{BlockId}
@@ -43,11 +43,7 @@ use Rattle.read_back.proofs.Operands.{HaveNames, block-named, IsNarrow, type_spe
 
 -- where a block stands behind an instruction
 abbrev pub place_after : Op → Place
-place_after op = by (is_terminator op)
-  where
-    by : Bool → Place
-    by true = places.Closed
-    by false = places.Block
+place_after op = cond (is_terminator op) places.Closed places.Block
 
 -- The instruction is printed as a line of a form, which says what the instruction says and passes no limit of a line.
 pub record OneLine (names : Names) (inst : Instruction) : Type 0 where
@@ -105,7 +101,7 @@ pred_same preds.Sle = refl
 compare_shape : (names : Names) (p : Pred) (n : List ℕ) (ty : Ty) (a b : Operand)
     → result_front (Some n) ++ operator_text names (ast.Icmp p) (made (Some n) (ast.Icmp p) ty (a ∷ b ∷ []) [])
     ≡ 37 ∷ (n ++ (32 ∷ 61 ∷ 32 ∷ (codes "icmp " ++ (pred_word p ++ (32 ∷ (type_text ty ++ (32 ∷ (value_text names ty a ++ (44 ∷ 32 ∷ value_text names ty b)))))))))
-compare_shape names p n ty a b = rw (← pred_same p) (simp append_assoc)
+compare_shape names p n of_type a b = rw (← pred_same p) (simp append_assoc)
 
 -- `%x = icmp PRED T V, V`
 pub compare_reads : (names : Names) → HaveNames names → (p : Pred) (n : List ℕ) (ty : Ty) (a b : Operand) → is_name n ≡ true → is_first_class ty ≡ true → IsNarrow ty
@@ -128,7 +124,7 @@ compare_reads names have p n of_type a b is first narrow a_is b_is a_fits b_fits
 load_shape : (names : Names) (n : List ℕ) (ty : Ty) (a : Operand)
     → result_front (Some n) ++ operator_text names ast.Load (made (Some n) ast.Load ty (a ∷ []) [])
     ≡ 37 ∷ (n ++ (32 ∷ 61 ∷ 32 ∷ (codes "load " ++ (type_text ty ++ (codes ", ptr addrspace(1) " ++ value_text names tys.Ptr a)))))
-load_shape names n ty a = simp append_assoc
+load_shape names n of_type a = simp append_assoc
 
 -- `%x = load T, P V`
 pub load_reads : (names : Names) → HaveNames names → (n : List ℕ) (ty : Ty) (a : Operand) → is_name n ≡ true → is_first_class ty ≡ true → IsNarrow ty
@@ -147,7 +143,7 @@ load_reads names have n of_type a is first narrow a_is a_fits = record {
 store_shape : (names : Names) (ty : Ty) (a b : Operand)
     → result_front None ++ operator_text names ast.Store (made None ast.Store ty (a ∷ b ∷ []) [])
     ≡ codes "store " ++ (type_text ty ++ (32 ∷ (value_text names ty a ++ (codes ", ptr addrspace(1) " ++ value_text names tys.Ptr b))))
-store_shape names ty a b = simp append_assoc
+store_shape names of_type a b = simp append_assoc
 
 -- `store T V, P V`
 pub store_reads : (names : Names) → HaveNames names → (ty : Ty) (a b : Operand) → is_first_class ty ≡ true → IsNarrow ty

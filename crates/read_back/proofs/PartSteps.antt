@@ -33,7 +33,7 @@ answer_part {text} {word} t allow ts = rw (allowed text word t is_answer_type al
 pub answer_step : {f : List Slot} {text rest : List ℕ} {word : TypeWord} {first : Option Tok} {items : List Item} (t : SpellsType text word) → is_answer_type word ≡ true → Stops rest
     → Reads f rest first items → Reads (an_answer ∷ f) (text ++ rest) (Some (tok kinds.Word t.first)) (ty word ∷ items)
 answer_step {text = text} {rest = rest} {word = word} t allow stop r =
-    step an_answer text (tok kinds.Word t.first) (t.more ++ tokens rest) (ty word ∷ []) (t.spelled rest stop) (answer_part t allow (tokens rest)) r
+    step an_answer text (tok kinds.Word t.first) (t.more ++ tokens rest) (ty word ∷ []) t.clean (t.spelled rest stop) (answer_part t allow (tokens rest)) r
 
 managed_part : {text : List ℕ} (t : SpellsType text types.Managed) → (ts : List Tok) → part a_managed (tok kinds.Word t.first ∷ (t.more ++ ts)) ≡ Some ([], ts)
 unfolding part after
