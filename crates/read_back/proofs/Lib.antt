@@ -7,5 +7,7 @@ pub mod ListForms
 pub mod LinesRead
 pub mod Operands
 pub mod OneLine
+pub mod MoreLines
 pub mod Chains
 pub mod Blocks
+pub mod Functions

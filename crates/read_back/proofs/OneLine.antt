@@ -58,7 +58,7 @@ pub record OneLine (names : Names) (inst : Instruction) : Type 0 where
 
 -- an instruction without a bundle
 abbrev pub made : Option (List ℕ) → Op → Ty → List Operand → List BlockId → Instruction
-made result op ty operands labels = record { result = result; op = op; ty = ty; operands = operands; labels = labels; bundle = [] }
+made result op of_type operands labels = record { result = result; op = op; ty = of_type; operands = operands; labels = labels; bundle = [] }
 
 binary_shape : (names : Names) (op : Binary) (o : Op) (n : List ℕ) (bits : ℕ) (a b : Operand)
     → result_front (Some n) ++ arithmetic_text names (binary_word op) (made (Some n) o (tys.Int bits) (a ∷ b ∷ []) [])

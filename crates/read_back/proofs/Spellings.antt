@@ -24,8 +24,9 @@ use Rattle.ir_reader.specs.declared.words.Flags.{Flags}
 use Rattle.ir_reader.specs.declared.words.Flags.TheVariants as flags
 use Rattle.ir_reader.specs.Numbers.{decimal_from, width_of, literal_spelled, positive_literal, negative_literal}
 use Rattle.ir_reader.specs.Gives.{Found, after, one_at}
+use Rattle.ir_reader.specs.Marks.{is_word}
 use Rattle.ir_reader.specs.Drops.{past_group, past_one_of, flag_words, is_attribute_word, is_one_of, reserved}
-use Rattle.ir_reader.specs.Parts.{Val, value_of, spelled_type_at, allowed_type_at, pointer_at, addrspace_at, type_behind, other_type_at}
+use Rattle.ir_reader.specs.Parts.{Val, value_of, is_value_type, spelled_type_at, allowed_type_at, pointer_at, addrspace_at, type_behind, other_type_at}
 use Rattle.ir_reader.specs.Parts as values
 use Rattle.ir_printer.specs.Words.{integer_text}
 use Rattle.read_back.specs.Said.{literal_of, integer_value}
@@ -93,6 +94,7 @@ pub record SpellsType (text : List ℕ) (word : TypeWord) : Type 0 where
   pub says : (ts : List Tok) → spelled_type_at (tok kinds.Word first ∷ (more ++ ts)) ≡ Some (word, ts)
   pub group : (ts : List Tok) → past_group (tok kinds.Word first ∷ ts) ≡ None
   pub flag : (which : Flags) (ts : List Tok) → past_one_of (flag_words which) (tok kinds.Word first ∷ ts) ≡ None
+  pub other : is_value_type word ≡ true → is_word (codes "void") (tok kinds.Word first) ≡ false
 
 -- `iN` is no word with a letter behind its `i`
 no_letter : (ds : List ℕ) (c : ℕ) (cs : List ℕ) → are_digits ds ≡ true → 58 ≤ c → bytes_eq (105 ∷ ds) (105 ∷ c ∷ cs) ≡ false
@@ -140,6 +142,7 @@ integer_type n most = record {
   says = says;
   group = integer_group (decimal n) digits;
   flag = integer_flag (decimal n) digits;
+  other = λ allow. refl;
 }
   where
     small : n < 2 ^ 64
@@ -187,6 +190,7 @@ pointer_type = record {
   says = pointer_says;
   group = λ ts. refl;
   flag = pointer_flag;
+  other = λ allow. refl;
 }
 
 void_flag : (which : Flags) (ts : List Tok) → past_one_of (flag_words which) (tok kinds.Word (codes "void") ∷ ts) ≡ None
@@ -212,6 +216,7 @@ void_type = record {
   says = void_says;
   group = λ ts. refl;
   flag = void_flag;
+  other = λ allow. cc;
 }
 
 pub allowed : (text : List ℕ) (word : TypeWord) (t : SpellsType text word) (allows : TypeWord → Bool) → allows word ≡ true → (ts : List Tok) → allowed_type_at allows (tok kinds.Word t.first ∷ (t.more ++ ts)) ≡ Some (word, ts)

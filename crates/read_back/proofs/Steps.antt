@@ -42,7 +42,7 @@ clean-each p (b ∷ bs) each all =
     and_from (in_line b) (list_all in_line bs) (each b parts.0) (clean-each p bs each parts.1)
 
 in_name-clean : (b : ℕ) → in_name b ≡ true → in_line b ≡ true
-in_name-clean b name = grind (arith, nat_tests)
+in_name-clean b inside = grind (arith, nat_tests)
 
 digit-clean : (b : ℕ) → is_ascii_digit b ≡ true → in_line b ≡ true
 digit-clean b digit = grind (arith, nat_tests)
@@ -51,9 +51,9 @@ pub digits-clean : (bs : List ℕ) → list_all is_ascii_digit bs ≡ true → I
 digits-clean bs digits = clean-each is_ascii_digit bs digit-clean digits
 
 plain_bytes : (bs : List ℕ) → is_plain_name bs ≡ true → list_all in_name bs ≡ true
-plain_bytes [] name = cc
-plain_bytes (b ∷ bs) name =
-    let parts = and_parts (begins_name b) (list_all in_name bs) name in
+plain_bytes [] plain = cc
+plain_bytes (b ∷ bs) plain =
+    let parts = and_parts (begins_name b) (list_all in_name bs) plain in
     and_from (in_name b) (list_all in_name bs) (or_left (begins_name b) (is_ascii_digit b) parts.0) parts.1
 
 numeral_digits : (bs : List ℕ) → is_numeral bs ≡ true → list_all is_ascii_digit bs ≡ true
@@ -66,7 +66,7 @@ numeral_digits (b ∷ bs) numeral = by (b == 48) refl bs numeral
     by false is bs digits = digits
 
 pub name-clean : (n : List ℕ) → is_name n ≡ true → IsClean n
-name-clean n name = elim (or_cases (is_plain_name n) (is_numeral n) name) [
+name-clean n is = elim (or_cases (is_plain_name n) (is_numeral n) is) [
   | inl plain ↦ clean-each in_name n in_name-clean (plain_bytes n plain)
   | inr numeral ↦ digits-clean n (numeral_digits n numeral)
 ]
