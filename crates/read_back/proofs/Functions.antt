@@ -40,6 +40,12 @@ answer_allowed (tys.Int width) answers = refl
 answer_allowed tys.Ptr answers = refl
 answer_allowed tys.Token answers = cc
 
+pub answer_fits : (ty : Ty) → is_answer ty ≡ true → IsNarrow ty → type_fits (word_of ty) ≡ true
+answer_fits tys.Void answers narrow = refl
+answer_fits (tys.Int width) answers narrow = rw (le-leb 1 width narrow.0, le-leb width 64 narrow.1) refl
+answer_fits tys.Ptr answers narrow = refl
+answer_fits tys.Token answers narrow = refl
+
 -- an argument of a type that it may have, with a name
 pub record ArgumentSays (arg : Arg) : Type 0 where
   pub first_class : is_first_class arg.ty ≡ true
