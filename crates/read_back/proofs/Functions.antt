@@ -80,6 +80,6 @@ strategy_shape = refl
 -- a function's text: the line of its head, its blocks and the closing line
 pub function_shape : (layouts : List ObjectLayout) (funcs : List Function) (func : Function)
     → function_text layouts funcs func
-    ≡ ((codes "define " ++ (type_text func.answer ++ (32 ∷ 64 ∷ (func.name ++ (40 ∷ (joined (codes ", ") (map argument_of func.args) ++ (41 ∷ 32 ∷ (codes "gc " ++ (strategy_word ++ codes " {")))))))) ++ (10 ∷ []))
+    ≡ ((codes "define " ++ (type_text func.answer ++ (32 ∷ 64 ∷ (func.name ++ (40 ∷ (joined (codes ", ") (map argument_of func.args) ++ (41 ∷ 32 ∷ (codes "gc " ++ (strategy_word ++ codes " {"))))))))) ++ (10 ∷ []))
     ++ (joined [] (map (block_text (record { layouts = layouts; funcs = funcs; func = func })) func.blocks) ++ (codes "}" ++ (10 ∷ [])))
 function_shape layouts funcs func = rw strategy_shape (simp append_assoc)

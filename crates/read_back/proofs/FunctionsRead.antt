@@ -70,7 +70,7 @@ head_outcome : (layouts : List ObjectLayout) (funcs : List Function) (func : Fun
     → outcome s (head_text func) ≡ said (of_form forms.Define (head_items func)) (behind_head func s)
 head_outcome layouts funcs func s is top fit =
     let line = head_line layouts funcs func is in
-    let same : length (map argument_says func.args) ≡ length func.args = length-map argument_says func.args in
+    let same : length (map argument_says func.args) ≡ length func.args = length-map func.args argument_says in
     let fits : list_all item_fits (head_items func) ≡ true =
         rw (answer_fits func.answer is.answers is.narrow, le-leb (length func.name) 4096 is.short, same, le-leb (length func.args) 64 is.few, arguments_fit func.args is.args) refl in
     rw same at (formed_outcome s (head_text func) forms.Define places.Entry (head_items func) line.clean (rw top refl) line.form_is line.whole (rw top refl) refl fits (rw same fit))

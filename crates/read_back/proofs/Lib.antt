@@ -8,6 +8,8 @@ pub mod LinesRead
 pub mod Operands
 pub mod OneLine
 pub mod MoreLines
+pub mod StepLines
 pub mod Chains
 pub mod Blocks
 pub mod Functions
+pub mod FunctionsRead

@@ -98,10 +98,17 @@ pred_same preds.Sge = refl
 pred_same preds.Slt = refl
 pred_same preds.Sle = refl
 
+compare_printed : (names : Names) (p : Pred) (n : List ℕ) (ty : Ty) (a b : Operand)
+    → result_front (Some n) ++ operator_text names (ast.Icmp p) (made (Some n) (ast.Icmp p) ty (a ∷ b ∷ []) [])
+    ≡ 37 ∷ (n ++ (32 ∷ 61 ∷ 32 ∷ (codes "icmp " ++ (predicate_word p ++ (32 ∷ (type_text ty ++ (32 ∷ (value_text names ty a ++ (44 ∷ 32 ∷ value_text names ty b)))))))))
+compare_printed names p n of_type a b = simp append_assoc
+
 compare_shape : (names : Names) (p : Pred) (n : List ℕ) (ty : Ty) (a b : Operand)
     → result_front (Some n) ++ operator_text names (ast.Icmp p) (made (Some n) (ast.Icmp p) ty (a ∷ b ∷ []) [])
     ≡ 37 ∷ (n ++ (32 ∷ 61 ∷ 32 ∷ (codes "icmp " ++ (pred_word p ++ (32 ∷ (type_text ty ++ (32 ∷ (value_text names ty a ++ (44 ∷ 32 ∷ value_text names ty b)))))))))
-compare_shape names p n of_type a b = rw (← pred_same p) (simp append_assoc)
+compare_shape names p n of_type a b =
+    compare_printed names p n of_type a b
+    ∙ ap (λ spelled. 37 ∷ (n ++ (32 ∷ 61 ∷ 32 ∷ (codes "icmp " ++ (spelled ++ (32 ∷ (type_text of_type ++ (32 ∷ (value_text names of_type a ++ (44 ∷ 32 ∷ value_text names of_type b)))))))))) (pred_same p)
 
 -- `%x = icmp PRED T V, V`
 pub compare_reads : (names : Names) → HaveNames names → (p : Pred) (n : List ℕ) (ty : Ty) (a b : Operand) → is_name n ≡ true → is_first_class ty ≡ true → IsNarrow ty
