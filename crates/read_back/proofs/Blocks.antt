@@ -126,6 +126,10 @@ pub blocks_close : (names : Names) (block : BasicBlock) (blocks : List BasicBloc
 blocks_close names block [] s say = block_closes names block s say.0
 blocks_close names block (next ∷ blocks) s say = blocks_close names next blocks (behind_block block s) say.1
 
+pub blocks_closed : (names : Names) (blocks : List BasicBlock) (s : State) → 0 < length blocks → AllBlocksSay names blocks → (behind_all behind_block blocks s).place ≡ places.Closed
+blocks_closed names [] s some say = absurd (omega arith)
+blocks_closed names (block ∷ blocks) s some say = blocks_close names block blocks s say
+
 pub blocks_room : (blocks : List BasicBlock) (s : State) (l f v i : ℕ) → Room l f (length (instructions_of blocks) + v) (length (instructions_of blocks) + i) s.counts → Room l f v i (behind_all behind_block blocks s).counts
 blocks_room [] s l f v i room = record { layouts = room.layouts; functions = room.functions; values = omega arith; instructions = omega arith }
 blocks_room (block ∷ blocks) s l f v i room =

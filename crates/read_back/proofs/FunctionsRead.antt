@@ -6,7 +6,6 @@ use Rattle.std.proofs.lemmas.List.{length-map}
 use Rattle.sp_text.specs.Tokens.{is_name}
 use Rattle.sp_text.specs.Labels.{is_metadata}
 use Rattle.ir_ast.specs.Layouts.{ObjectLayout}
-use Rattle.ir_ast.specs.Blocks.{BasicBlock}
 use Rattle.ir_ast.specs.Funcs.{Function, instructions_of}
 use Rattle.ir_ast.specs.Types.{is_answer}
 use Rattle.ir_printer.specs.Lists.{joined}
@@ -29,7 +28,7 @@ use Rattle.read_back.proofs.ListForms.{define_line}
 use Rattle.read_back.proofs.LinesRead.{Says, says-both, says-line, formed_outcome, ends_none-clean}
 use Rattle.read_back.proofs.Operands.{IsNarrow}
 use Rattle.read_back.proofs.Chains.{behind_all, behind_block}
-use Rattle.read_back.proofs.Blocks.{Room, room-fits, AllBlocksSay, blocks_read, blocks_close, blocks_room}
+use Rattle.read_back.proofs.Blocks.{Room, room-fits, AllBlocksSay, blocks_read, blocks_closed, blocks_room}
 use Rattle.read_back.proofs.Functions.{ArgumentSays, answer_spelled, answer_allowed, answer_fits, arguments_each, arguments_open, arguments_fit, function_shape}
 
 abbrev pub names_in : List ObjectLayout → List Function → Function → Names
@@ -43,9 +42,7 @@ pub record FunctionReads (layouts : List ObjectLayout) (funcs : List Function) (
   pub narrow : IsNarrow func.answer
   pub args : All ArgumentSays func.args
   pub few : length func.args ≤ 64
-  pub first : BasicBlock
-  pub others : List BasicBlock
-  pub whole : func.blocks ≡ first ∷ others
+  pub has_block : 0 < length func.blocks
   pub blocks : AllBlocksSay (names_in layouts funcs func) func.blocks
 
 -- the state behind the head
@@ -85,7 +82,7 @@ function_read layouts funcs func s l f i is top values room =
     let head_room : Room l f (length (instructions_of func.blocks) + 0) (length (instructions_of func.blocks) + i) (behind_head func s).counts =
         record { layouts = room.layouts; functions = omega arith; values = omega arith; instructions = room.instructions } in
     let last : State = behind_all behind_block func.blocks (behind_head func s) in
-    let closed : last.place ≡ places.Closed = rw is.whole (blocks_close (names_in layouts funcs func) is.first is.others (behind_head func s) (rw is.whole at is.blocks)) in
+    let closed : last.place ≡ places.Closed = blocks_closed (names_in layouts funcs func) func.blocks (behind_head func s) is.has_block is.blocks in
     let end_room : Room l f 0 i last.counts = blocks_room func.blocks (behind_head func s) l f 0 i head_room in
     rw (function_shape layouts funcs func)
     (says-both (says-line s (behind_head func s) (head_text func) (of_form forms.Define (head_items func)) (ends_none-clean (head_text func) (head_line layouts funcs func is).clean) (head_outcome layouts funcs func s is top (room-fits head_room)))
