@@ -15,7 +15,7 @@ use tool_io::{Failed, Sink};
 
 /// An external, or a family of intrinsics, that a module may have to declare.
 #[derive(Clone, Copy)]
-pub(crate) enum External {
+pub enum External {
     /// `gc_new` of the layout with this place.
     New(u32),
     Print,

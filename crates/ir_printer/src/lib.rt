@@ -11,6 +11,7 @@ mod rows;
 mod texts;
 mod words;
 
+pub use declarations::External;
 pub use texts::print;
 
 #[cfg(test)]

@@ -1,0 +1,15 @@
+pub mod Steps
+pub mod Spellings
+pub mod PartSteps
+pub mod Forms
+pub mod Listed
+pub mod ListForms
+pub mod LinesRead
+pub mod Operands
+pub mod OneLine
+pub mod MoreLines
+pub mod StepLines
+pub mod Chains
+pub mod Blocks
+pub mod Functions
+pub mod FunctionsRead

@@ -1,0 +1,119 @@
+-- The names, types and operands of a module's lines are printed as the reader reads them.
+use Rattle.std.proofs.Common.{◌≡◌, refl, ap, sym, ◌∙◌, ℕ, ℤ, pos, negsuc, zero, suc, ◌<◌, ◌≤◌, ◌^◌, Bool, true, false, cond, not, List, [], ◌∷◌, ◌++◌, length, map, Option, Some, None, arith, codes, decimal}
+use Rattle.std.proofs.lemmas.List.{length-map}
+use Rattle.std.specs.Prelude.{slice_get, ◌==◌, nat_le, nat_lt, ◌-ℤ◌, ◌*◌, ◌%◌}
+use Rattle.std.specs.Option.{option_map_or}
+use Rattle.std.specs.List.{All}
+use Rattle.std.proofs.lemmas.List.Elements.{All-head, All-tail}
+use Rattle.std.proofs.lemmas.Option.{slice_get_within}
+use Rattle.std.proofs.lemmas.Bool.{le-leb}
+use Rattle.sp_ids.specs.Numbers.{wrapped, signed}
+use Rattle.sp_text.specs.Tokens.{is_name}
+use Rattle.ir_ast.specs.declared.types.Ty.{Ty}
+use Rattle.ir_ast.specs.declared.types.Ty.TheVariants as tys
+use Rattle.ir_ast.specs.declared.ops.Operand.{Operand}
+use Rattle.ir_ast.specs.declared.ops.Operand.TheVariants as operands
+use Rattle.ir_ast.specs.Operands.{is_value}
+use Rattle.ir_ast.specs.Types.{is_first_class}
+use Rattle.ir_ast.specs.Values.{definitions_of, definition_name, definition_type, value_types}
+use Rattle.ir_ast.specs.Faults.TypeClash.{Fits}
+use Rattle.ir_printer.specs.Names.{Names, layout_name, function_name, block_name, value_name}
+use Rattle.ir_printer.specs.Words.{type_text, integer_text}
+use Rattle.ir_printer.specs.Operands.{value_text}
+use Rattle.ir_reader.specs.declared.readings.TypeWord.{TypeWord}
+use Rattle.ir_reader.specs.Limits.{value_fits, literal_fits, type_fits}
+use Rattle.ir_reader.specs.Parts.{is_value_type}
+use Rattle.ir_reader.specs.Parts as values
+use Rattle.read_back.specs.Said.{word_of, value_says, integer_value, literal_of}
+use Rattle.read_back.proofs.Spellings.{SpellsType, SpellsValue, Spellable, signed-spellable, integer_type, pointer_type, integer_spelled, local_value, null_value}
+
+named_at : {X : Type 0} (g : X → List ℕ) (xs : List X) → All (λ x. is_name (g x) ≡ true) xs → (k : ℕ) → k < length xs → is_name (option_map_or g (slice_get xs k) []) ≡ true
+named_at g [] all k low = absurd (omega arith)
+named_at g (x ∷ xs) all zero low = All-head (λ x. is_name (g x) ≡ true) x xs all
+named_at g (x ∷ xs) all (suc k) low = named_at g xs (All-tail (λ x. is_name (g x) ≡ true) x xs all) k (omega arith)
+
+-- what a function's lines name has names of texts
+pub record HaveNames (names : Names) : Type 0 where
+  pub values : All (λ given. is_name (definition_name given) ≡ true) (definitions_of names.func)
+  pub blocks : All (λ block. is_name block.name ≡ true) names.func.blocks
+  pub layouts : All (λ layout. is_name layout.name ≡ true) names.layouts
+  pub functions : All (λ func. is_name func.name ≡ true) names.funcs
+
+pub value-named : (names : Names) → HaveNames names → (v : ℕ) → v < length (definitions_of names.func) → is_name (value_name names.func v) ≡ true
+unfolding value_name
+value-named names have v low = named_at definition_name (definitions_of names.func) have.values v low
+
+pub block-named : (names : Names) → HaveNames names → (b : ℕ) → b < length names.func.blocks → is_name (block_name names.func b) ≡ true
+block-named names have b low = named_at (λ block. block.name) names.func.blocks have.blocks b low
+
+pub layout-named : (names : Names) → HaveNames names → (l : ℕ) → l < length names.layouts → is_name (layout_name names.layouts l) ≡ true
+layout-named names have l low = named_at (λ layout. layout.name) names.layouts have.layouts l low
+
+pub function-named : (names : Names) → HaveNames names → (f : ℕ) → f < length names.funcs → is_name (function_name names.funcs f) ≡ true
+function-named names have f low = named_at (λ func. func.name) names.funcs have.functions f low
+
+-- ---- types
+
+-- from 1 to 64 bits
+abbrev pub IsNarrow : Ty → Type 0
+IsNarrow (tys.Int width) = (1 ≤ width) × (width ≤ 64)
+IsNarrow _ = Unit {0}
+
+pub type_spelled : (ty : Ty) → is_first_class ty ≡ true → IsNarrow ty → SpellsType (type_text ty) (word_of ty)
+type_spelled tys.Void first narrow = absurd cc
+type_spelled (tys.Int width) first narrow = integer_type width narrow.1
+type_spelled tys.Ptr first narrow = pointer_type
+type_spelled tys.Token first narrow = absurd cc
+
+pub type_allowed : (ty : Ty) → is_first_class ty ≡ true → is_value_type (word_of ty) ≡ true
+type_allowed tys.Void first = cc
+type_allowed (tys.Int width) first = refl
+type_allowed tys.Ptr first = refl
+type_allowed tys.Token first = cc
+
+pub type_fits_in : (ty : Ty) → is_first_class ty ≡ true → IsNarrow ty → type_fits (word_of ty) ≡ true
+type_fits_in tys.Void first narrow = cc
+type_fits_in (tys.Int width) first narrow = rw (le-leb 1 width narrow.0, le-leb width 64 narrow.1) refl
+type_fits_in tys.Ptr first narrow = refl
+type_fits_in tys.Token first narrow = cc
+
+-- ---- values
+
+spellable_fits : (z : ℤ) → Spellable z → literal_fits (literal_of z) ≡ true
+spellable_fits (pos n) small = refl
+spellable_fits (negsuc n) small = rw (le-leb (suc n) (2 ^ 63) small) refl
+
+integer_fits : (width number : ℕ) → width ≤ 64 → value_fits (integer_value width number) ≡ true
+integer_fits width number most = by (width == 1)
+  where
+    by : (bit : Bool) → value_fits (cond bit (values.truth (not (wrapped 1 number == 0))) (values.number (literal_of (signed width number)))) ≡ true
+    by true = refl
+    by false = spellable_fits (signed width number) (signed-spellable width number most)
+
+in_types : (names : Names) (v : ℕ) (ty : Ty) → slice_get (value_types names.func) v ≡ Some ty → v < length (definitions_of names.func)
+in_types names v ty is = rw (length-map (definitions_of names.func) definition_type) at (slice_get_within (value_types names.func) v ty is)
+
+pub value_spelled : (names : Names) → HaveNames names → (ty : Ty) → IsNarrow ty → (operand : Operand) → is_value operand ≡ true → Fits (value_types names.func) operand ty
+    → SpellsValue (value_text names ty operand) (value_says names ty operand)
+value_spelled names have ty narrow (operands.Value v) is fits = local_value (value_name names.func v.0) (value-named names have v.0 (in_types names v.0 ty fits))
+value_spelled names have ty narrow (operands.Int number) is fits = by ty fits.1 narrow
+  where
+    by : (ty : Ty) → ty ≡ tys.Int fits.0 → IsNarrow ty → SpellsValue (value_text names ty (operands.Int number)) (value_says names ty (operands.Int number))
+    by (tys.Int width) same narrow = integer_spelled width number narrow.1
+    by tys.Void same narrow = absurd cc
+    by tys.Ptr same narrow = absurd cc
+    by tys.Token same narrow = absurd cc
+value_spelled names have ty narrow operands.Null is fits = null_value
+value_spelled names have ty narrow (operands.Fun f) is fits = absurd cc
+
+pub value_in_limit : (names : Names) (ty : Ty) → IsNarrow ty → (operand : Operand) → Fits (value_types names.func) operand ty → value_fits (value_says names ty operand) ≡ true
+value_in_limit names ty narrow (operands.Value v) fits = refl
+value_in_limit names ty narrow (operands.Int number) fits = by ty fits.1 narrow
+  where
+    by : (ty : Ty) → ty ≡ tys.Int fits.0 → IsNarrow ty → value_fits (value_says names ty (operands.Int number)) ≡ true
+    by (tys.Int width) same narrow = integer_fits width number narrow.1
+    by tys.Void same narrow = cc
+    by tys.Ptr same narrow = cc
+    by tys.Token same narrow = cc
+value_in_limit names ty narrow operands.Null fits = refl
+value_in_limit names ty narrow (operands.Fun f) fits = refl
