@@ -1,0 +1,20 @@
+-- Printing and reading back: the printed text of a source module reads and types to that module again.
+use Rattle.std.specs.Prelude.{◌≡◌, ◌≤◌, length, List, Ok}
+use Rattle.ir_ast.specs.Modules.{ModuleContent}
+use Rattle.ir_cfg.specs.SourceModules.{IsSourceModule}
+use Rattle.ir_printer.specs.Texts.{text_of}
+use Rattle.ir_reader.specs.Text.{Numbered, text_readings}
+use Rattle.ir_types.specs.Statements.{lines_of}
+use Rattle.ir_types.specs.Modules.{module_of}
+use Rattle.ir_types.specs.FaultSet.{HasNoFault}
+
+-- the text has readings, they have no fault, and they stand for the module
+pub record ReadsBack (content : ModuleContent) : Type 0 where
+  pub readings : List Numbered
+  pub reads : text_readings (text_of content) ≡ Ok readings
+  pub no_fault : HasNoFault (lines_of readings)
+  pub same : (module_of (lines_of readings)).content ≡ content
+
+-- that each source module whose printed text is within the file limit reads back
+abbrev pub EachReadsBack : Type 0
+EachReadsBack = (content : ModuleContent) → IsSourceModule content → length (text_of content) ≤ 16777216 → ReadsBack content
