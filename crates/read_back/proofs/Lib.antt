@@ -1,0 +1,2 @@
+pub mod BackLiterals
+pub mod BackNames
