@@ -1,2 +1,4 @@
 pub mod BackLiterals
 pub mod BackNames
+pub mod BackLines
+pub mod BackLists
