@@ -175,7 +175,7 @@ callee-back names known s free callees.Poll below plain = absurd (let bad : true
 callee-back names known s free callees.Check below plain = absurd (let bad : true ≡ false = plain in cc)
 callee-back names known s free callees.Same below plain = absurd (let bad : true ≡ false = plain in cc)
 
-answer-type : (ty : Ty) → is_answer ty ≡ true → type_of (word_of ty) ≡ ty
+pub answer-type : (ty : Ty) → is_answer ty ≡ true → type_of (word_of ty) ≡ ty
 answer-type tys.Void e = refl
 answer-type (tys.Int w) e = refl
 answer-type tys.Ptr e = refl
