@@ -225,9 +225,9 @@ step_case names known s elem width place inst p rest =
     below elements.Ptr h layout e = absurd cc
 
     small : (elem : Elem) (place : Option ℕ) → is_element elem place ≡ true
-        → ((layout width n : ℕ) → ops.Gep elem width place ≡ ops.Gep (elements.Layout layout) width (Some n) → n < 2 ^ 32)
+        → ((layout other n : ℕ) → ops.Gep elem width place ≡ ops.Gep (elements.Layout layout) other (Some n) → n < 2 ^ 32)
         → (n : ℕ) → place ≡ Some n → n < 2 ^ 32
-    small (elements.Layout l) place e h n is = h l 0 n (ap (ops.Gep (elements.Layout l) 0) is)
+    small (elements.Layout l) place e h n is = h l width n (ap (ops.Gep (elements.Layout l) width) is)
     small elements.Ptr place e h n is = absurd (let bad : false ≡ true = ap is_none (sym is) ∙ e in cc)
     small (elements.Int w) place e h n is = absurd (let bad : false ≡ true = ap is_none (sym is) ∙ and-right (w == 8 || w == 16 || w == 32 || w == 64) (is_none place) e in cc)
 

@@ -222,7 +222,7 @@ cases_more names known s ty int o l os labels n here rest good below more = reco
   behind = insts-cons known (record { number = n; says = case_says names ty (o, l) }) (here ++ rest) ∙ more.behind;
 }
 
-cases-back : (names : Names) (known : Known) → Setting names known → (ty : Ty) → is_integer ty ≡ true → (os : List Operand) (labels : List BlockId) (here rest : List Line)
+pub cases-back : (names : Names) (known : Known) → Setting names known → (ty : Ty) → is_integer ty ≡ true → (os : List Operand) (labels : List BlockId) (here rest : List Line)
     → length labels ≡ length os → AllByRecursion (λ o. Good names o ty) os → AllByRecursion (Below names) labels
     → said here ≡ map (case_says names ty) (zip os labels) ++ switch_end ∷ []
     → Cases names known ty os labels here rest

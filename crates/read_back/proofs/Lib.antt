@@ -3,3 +3,7 @@ pub mod BackNames
 pub mod BackLines
 pub mod BackLists
 pub mod BackInsts
+pub mod BackBlocks
+pub mod BackSections
+pub mod BackModules
+pub mod BackFaults
