@@ -62,7 +62,7 @@ long-enough lines i l at = let b : i < length lines = slice_get_within lines i l
 pub case-at : (lines : List Line) (i : ℕ) (l : Line) → slice_get lines i ≡ Some l → is_case l.says ≡ true → AreCases lines i → IsCaseAt lines i l
 case-at lines i l at e run =
     let w : IsWholeAt (cases_of lines) (take i lines) l (cases_of (drop (i + 1) lines))
-        = whole-at (cases_of lines) (take i lines) l (cases_of (drop (i + 1) lines)) (cases-at lines i l at e run) in
+    = whole-at (cases_of lines) (take i lines) l (cases_of (drop (i + 1) lines)) (cases-at lines i l at e run) in
     let n = long-enough lines i l at in
     record {
       at = subst (λ (k : ℕ). slice_get (cases_of lines) k ≡ Some l) n w.at;
@@ -78,8 +78,8 @@ pub cases-stop : (lines : List Line) (i : ℕ) (l : Line) → slice_get lines i 
     → i ≡ length (cases_of lines)
 cases-stop lines i l at e run =
     let all : cases_of lines ≡ take i lines
-        = run ∙ ap (λ ls. take i lines ++ cases_of ls) (cut-at lines i l at)
-        ∙ ap (λ b. take i lines ++ cond b (l ∷ cases_of (drop (i + 1) lines)) []) e ∙ append-nil (take i lines) in
+    = run ∙ ap (λ ls. take i lines ++ cases_of ls) (cut-at lines i l at)
+    ∙ ap (λ b. take i lines ++ cond b (l ∷ cases_of (drop (i + 1) lines)) []) e ∙ append-nil (take i lines) in
     sym (ap length all ∙ long-enough lines i l at)
 
 cases-all : (lines : List Line) → AreCases lines (length lines) → cases_of lines ≡ lines
@@ -100,7 +100,7 @@ eq-itself x = elim (eqb_tells x x) [ inl t ↦ t.0 | inr t ↦ absurd (t.1 refl)
 
 eq-flip : (x y : ℕ) → nat_eq x y ≡ nat_eq y x
 eq-flip x y = elim (eqb_tells x y) [
-  inl t ↦ t.0 ∙ sym (subst (λ (z : ℕ). nat_eq z x ≡ true) t.1 (eq-itself x))
+  | inl t ↦ t.0 ∙ sym (subst (λ (z : ℕ). nat_eq z x ≡ true) t.1 (eq-itself x))
   | inr t ↦ elim (eqb_tells y x) [ inl u ↦ absurd (t.1 (sym u.1)) | inr u ↦ t.0 ∙ sym u.0 ]
 ]
 

@@ -1,6 +1,6 @@
 -- The passes over a function, one after another.
 use Rattle.std.proofs.Common.{◌≡◌, ◌∙◌, ℕ, List, refl, ap, sym, subst}
-use Rattle.std.specs.Prelude.{Option, map, length}
+use Rattle.std.specs.Prelude.{Option, Result, Ok, Err, OnOk, map, length}
 use Rattle.ir_types.specs.declared.faults.Fault.{Fault}
 use Rattle.ir_types.specs.declared.lines.Scope.{Scope as ScopeTable}
 use Rattle.ir_types.specs.Statements.{Line}
@@ -48,3 +48,7 @@ notes-within lines func scope old a b c new t l m n p q =
 pub notes-function : (lines : List Line) (func : Definition) (old a new : Option Fault) → Notes old a (FoundByNames func)
     → Notes a new (FoundWithin (scope_of lines func) func) → Notes old new (FoundInFunction (scope_of lines func) func)
 notes-function lines func old a new m n = notes-then old a new (FoundByNames func) (FoundWithin (scope_of lines func) func) m n
+
+pub on-ok : {A E : Type 0} (r : Result A E) (P Q : Type 0) → (P → Q) → OnOk r P → OnOk r Q
+on-ok (Ok value) P Q f p = f p
+on-ok (Err error) P Q f p = tt

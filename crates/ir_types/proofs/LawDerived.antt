@@ -150,6 +150,17 @@ get_front [] ys k x is = absurd (cc)
 get_front (y ∷ xs) ys zero x is = is
 get_front (y ∷ xs) ys (suc k) x is = get_front xs ys k x is
 
+-- the names of the values before a line, and the others
+names_split : (func : Definition) (before : List Line) (line : Line) (after : List Line) → func.body ≡ before ++ line ∷ after
+    → names_given func ≡ map (λ (one : Naming). one.name) (arguments_named func.line [] func.arguments ++ given_by before)
+    ++ map (λ (one : Naming). one.name) (given_by (line ∷ after))
+names_split func before line after whole =
+    let args = arguments_named func.line [] func.arguments in
+    ap (λ (body : List Line). map (λ (one : Naming). one.name) (args ++ given_by body)) whole
+    ∙ ap (λ (xs : List Naming). map (λ (one : Naming). one.name) (args ++ xs)) (flat_map-append (λ (l : Line). result_named l.number (gives l.says)) before (line ∷ after))
+    ∙ ap (map (λ (one : Naming). one.name)) (sym (append_assoc args (given_by before) (given_by (line ∷ after))))
+    ∙ map-append (λ (one : Naming). one.name) (args ++ given_by before) (given_by (line ∷ after))
+
 -- the value's line, and what the line's name stands for
 pub record GivenBy (lines : List Line) (func : Definition) (value : ℕ) (inst : Instruction) : Type 0 where
   pub line : Line
@@ -174,11 +185,7 @@ given_by_line lines func law value inst e =
     ∙ slice_get-map defs.definition_name (defs.definitions_of (made lines func)) value ∙ ap (option_map defs.definition_name) e in
     let front = map (λ (one : Naming). one.name) (args ++ given_by at.before) in
     let rest = map (λ (one : Naming). one.name) (given_by (at.line ∷ at.after)) in
-    let split : names_given func ≡ front ++ rest =
-    ap (λ (body : List Line). map (λ (one : Naming). one.name) (args ++ given_by body)) at.whole
-    ∙ ap (λ (xs : List Naming). map (λ (one : Naming). one.name) (args ++ xs)) (flat_map-append (λ (l : Line). result_named l.number (gives l.says)) at.before (at.line ∷ at.after))
-    ∙ ap (map (λ (one : Naming). one.name)) (sym (append_assoc args (given_by at.before) (given_by (at.line ∷ at.after))))
-    ∙ map-append (λ (one : Naming). one.name) (args ++ given_by at.before) (given_by (at.line ∷ at.after)) in
+    let split : names_given func ≡ front ++ rest = names_split func at.before at.line at.after at.whole in
     let count : length front ≡ value =
     (let v = cut.1 in let c = at.count in
     omega (arith, length-map (args ++ given_by at.before) (λ (one : Naming). one.name), length-append args (given_by at.before))) in
@@ -200,7 +207,8 @@ given_by_line lines func law value inst e =
             let g = get_contained front name c in
             let j_below = slice_get_within front g.0 name g.1 in
             let v_below = slice_get_within (names_given func) value name named in
-            let there : slice_get (names_given func) g.0 ≡ Some name = ap (λ (ns : List (List ℕ)). slice_get ns g.0) split ∙ get_front front rest g.0 name g.1 in
+            let there : slice_get (names_given func) g.0 ≡ Some name =
+            subst (λ (ns : List (List ℕ)). slice_get ns g.0 ≡ Some name) (sym split) (get_front front rest g.0 name g.1) in
             values-distinct lines law.none func law.defined g.0 value (omega arith) v_below (there ∙ sym named);
       };
     }

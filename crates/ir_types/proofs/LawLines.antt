@@ -59,12 +59,12 @@ pub record LineFacts (scope : Scope) (s : Statement) : Type 0 where
   pub functions : list_any (λ name. is_none (head_named scope name)) (functions_named s) ≡ false
   pub layouts : list_any (λ name. is_none (layout_named scope name)) (layouts_named s) ≡ false
   pub entry : names_entry scope s ≡ false
-  pub pointers : orders_pointers scope s ≡ false
+  pub pointers : orders_pointers s ≡ false
   pub no_cast : is_cast_line s ≡ false
 
-cast-same : (scope : Scope) (s : Statement) → is_cast_line s ≡ is_cast scope s
-cast-same scope (cast result op from value to) = refl
-cast-same scope _ = refl
+cast-same : (s : Statement) → is_cast_line s ≡ is_cast s
+cast-same (cast result op from value to) = refl
+cast-same _ = refl
 
 pub line_facts : (lines : List Line) (func : Definition) → InLaw lines func → (l : Line) → Contains func.body l
     → LineFacts (scope_of lines func) l.says
@@ -87,8 +87,8 @@ line_facts lines func law l inside =
       functions = or-right (vs || bs) fs u3;
       layouts = or-right (vs || bs || fs) ls unknown;
       entry = body_clear lines names_entry (λ line f. law.none line 6 (entry_has_pred f)) func law.defined l inside;
-      pointers = body_clear lines orders_pointers (λ line f. law.none line 15 (pointer_order f)) func law.defined l inside;
-      no_cast = cast-same scope s ∙ body_clear lines is_cast (λ line f. law.none line 16 (pointer_cast f)) func law.defined l inside;
+      pointers = body_clear lines (λ scope. orders_pointers) (λ line f. law.none line 15 (pointer_order f)) func law.defined l inside;
+      no_cast = cast-same s ∙ body_clear lines (λ scope. is_cast) (λ line f. law.none line 16 (pointer_cast f)) func law.defined l inside;
     }
 
 pub all_lines : (P : Line → Type 0) (ls : List Line) → ((l : Line) → Contains ls l → P l) → All P ls

@@ -1,5 +1,5 @@
 -- The lines of a text that was read are as a reader gives them, so that the law of the typer is one of texts.
-use Rattle.std.proofs.Common.{◌≡◌, refl, true, List, [], ◌∷◌, map, arith}
+use Rattle.std.proofs.Common.{◌≡◌, refl, true, List, [], ◌∷◌, map, arith, sym, subst}
 use Rattle.std.specs.List.{All, AllByRecursion}
 use Rattle.std.proofs.lemmas.List.{length-map}
 use Rattle.std.proofs.lemmas.List.Elements.{All-from_recursion, recursion_from_All}
@@ -8,6 +8,7 @@ use Rattle.ir_reader.specs.declared.raw.NumberedReading.{NumberedReading}
 use Rattle.ir_reader.specs.Raws.{Readings, IsRead, seen_numbered}
 use Rattle.ir_reader.specs.Text.{opening, text_readings}
 use Rattle.sp_text.specs.Lines.{lines_of as text_lines}
+use Rattle.ir_ast.specs.Modules.{LinedModule}
 use Rattle.ir_types.specs.Statements.{Line}
 use Rattle.ir_types.specs.Sections.{definitions_of, blocks_of}
 use Rattle.ir_types.specs.Modules.{known_of, block_of, module_of}
@@ -63,3 +64,8 @@ read_law r read =
 -- the law of the typer: a text that was read, without a fault, stands for a typed module
 pub typed_text : (r : Readings) → IsRead r → HasNoFault (seen_lines r.lines) → IsTypedModule (module_of (seen_lines r.lines)).content
 typed_text r read none = typed_module (seen_lines r.lines) (read_law r read) none
+
+-- and so does what typing answers
+pub typed_whole : (r : Readings) → IsRead r → (whole : LinedModule) → whole ≡ module_of (seen_lines r.lines) → HasNoFault (seen_lines r.lines)
+    → IsTypedModule whole.content
+typed_whole r read whole is none = subst (λ (one : LinedModule). IsTypedModule one.content) (sym is) (typed_text r read none)

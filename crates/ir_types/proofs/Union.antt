@@ -495,3 +495,16 @@ notes-text lines old a b c new m n p q =
     (notes-then old c new (FoundByTop lines) (InFunctions lines (definitions_of lines))
     (notes-then old a c (TopAgain lines) (Either (OuterFaults (map (λ one. one.name) (definitions_of lines)) (map (λ one. one.name) (layouts_of lines)) lines) (LacksMain (definitions_of lines))) m
     (notes-then a b c _ _ n p)) q)
+
+-- the same, of what tables hold
+pub notes-whole : (lines : List Line) (functions layouts : List (List ℕ)) (mains funcs : List Definition) (old a b c new : Option Fault)
+    → functions ≡ map (λ one. one.name) (definitions_of lines) → layouts ≡ map (λ one. one.name) (layouts_of lines)
+    → mains ≡ definitions_of lines → funcs ≡ definitions_of lines
+    → Notes old a (TopAgain lines) → Notes a b (OuterFaults functions layouts lines) → Notes b c (LacksMain mains)
+    → Notes c new (InFunctions lines funcs) → Notes old new (λ line code. HasFault lines line code)
+notes-whole lines functions layouts mains funcs old a b c new e f g h m n p q =
+    notes-text lines old a b c new m
+    (subst (λ (ls : List (List ℕ)). Notes a b (OuterFaults (map (λ one. one.name) (definitions_of lines)) ls lines)) f
+    (subst (λ (fs : List (List ℕ)). Notes a b (OuterFaults fs layouts lines)) e n))
+    (subst (λ (fs : List Definition). Notes b c (LacksMain fs)) g p)
+    (subst (λ (fs : List Definition). Notes c new (InFunctions lines fs)) h q)

@@ -192,7 +192,9 @@ fn is_task(head: Option<&Head>) -> bool
 {
     match head {
         Some(head) => {
-            head.defined && same_type(head.answer, TypeWord::Void) && has_types(head.parameters, &[TypeWord::Managed])
+            head.defined
+                && same_type(head.answer, TypeWord::Void)
+                && has_types(head.parameters, &[TypeWord::Managed])
         }
         None => false,
     }

@@ -3,6 +3,7 @@
 ghost use Rattle.std.specs.Prelude.{IfOk};
 ghost use Rattle.ir_ast.specs.Formed.{IsFormedModule};
 ghost use Rattle.ir_types.specs.Answers.{Answers};
+ghost use Rattle.ir_types.specs.FaultSet.{HasNoFault};
 ghost use Rattle.ir_types.specs.TypedModules.{IsTypedModule};
 ghost use Rattle.ir_types.specs.Views.{seen_lines};
 
@@ -21,9 +22,20 @@ pub fn typed(alloc: Global, raw: Raw) -> Result<Module, TypeFault>
     ensures typed { IfOk result (λ whole. IsTypedModule whole.content) }
     ensures formed { IfOk result (λ whole. IsFormedModule whole.content) }
 {
-    let lines = raw.lines();
-    match first_fault(alloc, lines)? {
+    match first_fault(alloc, raw.lines())? {
         Some(fault) => Err(TypeFault::Fault(fault)),
-        None => Ok(module_of(alloc, lines)?),
+        None => faultless(alloc, &raw),
     }
+}
+
+// The module of readings without a fault.
+fn faultless(alloc: Global, raw: &Raw) -> Result<Module, TypeFault>
+    requires { HasNoFault (seen_lines raw.now.lines) }
+    ensures answers { Answers (seen_lines raw.now.lines) result }
+    ensures typed { IfOk result (λ whole. IsTypedModule whole.content) }
+    ensures formed { IfOk result (λ whole. IsFormedModule whole.content) }
+{
+    let lines = raw.lines();
+    let whole = module_of(alloc, lines)?;
+    Ok(whole)
 }

@@ -14,4 +14,4 @@ returns-clause-noted c =
     (c.in_ok-again.ensures.again ∙ ap (is_among c.args.seen.now.keys) c.case_number.ensures)
     (differs-to c.args.case_width c.args.width) (differs-by c.args.case_width c.args.width)
     (subst (λ (b : Bool). Notes c.args.first.now.found c.note_if.new.self.found (λ l code. IsTrue b × Is c.args.line 5 l code)) c.is_wrong.ensures
-        c.note_if.ensures)
+    c.note_if.ensures)

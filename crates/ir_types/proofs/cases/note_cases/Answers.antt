@@ -14,7 +14,7 @@ loop-i-preserved c =
     (seen-at seen_line c.args.body.now c.loop-i.i c.index-body-i.result c.loop-i-test.true c.index-body-i.is)
     c.loop-i.invariant
     (subst (λ (behind : List Line). Notes c.loop-i.first.found c.note_switch.new.first.found (CasesBehind (said c.index-body-i.result.reading) behind))
-        (ap seen_lines (rest-range c.args.body.now (c.loop-i.i + 1)) ∙ sym (drop-map seen_line (c.loop-i.i + 1) c.args.body.now)) c.in_ok-note_switch.ensures)
+    (ap seen_lines (rest-range c.args.body.now (c.loop-i.i + 1)) ∙ sym (drop-map seen_line (c.loop-i.i + 1) c.args.body.now)) c.in_ok-note_switch.ensures)
 
 pub returns : goal.returns
 returns c =

@@ -39,7 +39,7 @@ loop-line-preserved c =
     let is : is_case l.says ≡ true = ap (λ r. is_case (said r)) c.in-Case.is in
     let here : IsCaseAt lines i l = case-at lines i l at is c.loop-line.invariant.cases in
     let number : case_number c.args.width l.says ≡ number_said c.args.width (seen_value c.in-Case.value)
-        = ap (λ r. case_number c.args.width (said r)) c.in-Case.is in
+    = ap (λ r. case_number c.args.width (said r)) c.in-Case.is in
     record {
       cases = cases-more lines i l at is c.loop-line.invariant.cases;
       numbers = λ one.
@@ -50,7 +50,7 @@ loop-line-preserved c =
       noted = notes-turn (CaseAt c.args.width) (cases_of lines) i l c.args.first.now.found c.loop-line.first.found c.note_case.new.first.found
           here.at c.loop-line.invariant.noted
           (notes-at-case c.args.width c.in-Case.case_width c.in-Case.value c.in-Case.label c.loop-line.seen.keys (take i (cases_of lines)) c.line-item.result
-              (drop (i + 1) (cases_of lines)) c.loop-line.first.found c.note_case.new.first.found c.in-Case.is
-              (λ one. c.loop-line.invariant.numbers one ∙ ap (λ ls. list_any (nat_eq one) (case_numbers c.args.width ls)) (sym here.front))
-              c.in_ok-note_case.ensures.noted);
+          (drop (i + 1) (cases_of lines)) c.loop-line.first.found c.note_case.new.first.found c.in-Case.is
+          (λ one. c.loop-line.invariant.numbers one ∙ ap (λ ls. list_any (nat_eq one) (case_numbers c.args.width ls)) (sym here.front))
+          c.in_ok-note_case.ensures.noted);
     }
