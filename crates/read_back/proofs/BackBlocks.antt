@@ -35,14 +35,14 @@ use Rattle.read_back.proofs.BackInsts.{IsPrinted, inst-back}
 
 -- ---- lines cut where what they say is
 
-pub record Cut (lines : List Line) (xs ys : List Statement) : Type 0 where
+pub record Halves (lines : List Line) (xs ys : List Statement) : Type 0 where
   pub front : List Line
   pub back : List Line
   pub whole : lines ≡ front ++ back
   pub front_says : said front ≡ xs
   pub back_says : said back ≡ ys
 
-pub cut : (lines : List Line) (xs ys : List Statement) → said lines ≡ xs ++ ys → Cut lines xs ys
+pub cut : (lines : List Line) (xs ys : List Statement) → said lines ≡ xs ++ ys → Halves lines xs ys
 cut lines [] ys e = record { front = []; back = lines; whole = refl; front_says = refl; back_says = e }
 cut [] (x ∷ xs) ys e = absurd (let bad : [] ≡ x ∷ (xs ++ ys) = e in cc)
 cut (l ∷ ls) (x ∷ xs) ys e =
@@ -351,7 +351,7 @@ pub value-names : (names : Names) (func : Definition) (of : Function) → func.a
 value-names names func of args body p =
     map-append (λ (one : Naming). one.name) (arguments_named func.line [] func.arguments) (flat_map (λ (l : Line). result_named l.number (gives l.says)) func.body)
     ∙ ap (λ (ns : List (List ℕ)). ns ++ map (λ (one : Naming). one.name) (flat_map (λ (l : Line). result_named l.number (gives l.says)) func.body))
-        (ap (λ (named : List Named). map (λ (one : Naming). one.name) (arguments_named func.line [] as)) args ∙ argument_names func.line [] of.args ∙ argument_definitions of.args)
+        (ap (λ (named : List Named). map (λ (one : Naming). one.name) (arguments_named func.line [] named)) args ∙ argument_names func.line [] of.args ∙ argument_definitions of.args)
     ∙ ap (λ (ns : List (List ℕ)). map definition_name (map argument of.args) ++ ns)
         (given_names func.body ∙ ap names_given body ∙ blocks_names names of.blocks p ∙ outcome_names (instructions_of of.blocks))
     ∙ sym (map-append definition_name (map argument of.args) (map outcome (filter (λ inst. is_some inst.result) (instructions_of of.blocks))))

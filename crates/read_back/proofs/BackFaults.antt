@@ -1,8 +1,8 @@
 -- The lines that a source module is printed as have no fault: the faults of single lines.
-use Rattle.std.proofs.Common.{◌≡◌, ◌∙◌, ℕ, zero, suc, ◌<◌, Bool, true, false, not, ◌&&◌, ◌==◌, if◌then◌else◌, List, [], ◌∷◌, ◌++◌, map, length, drop, refl, ap, sym, subst, arith, codes}
+use Rattle.std.proofs.Common.{◌≡◌, ◌∙◌, ℕ, zero, suc, ◌+◌, ◌<◌, ◌≤◌, Bool, true, false, not, ◌&&◌, ◌==◌, ◌≢◌, ◌⊎◌, inl, inr, get_or, if◌then◌else◌, List, [], ◌∷◌, ◌++◌, map, length, drop, refl, ap, sym, subst, arith, codes}
 use Rattle.std.specs.Prelude.{Option, Some, None, ⊤, flat_map, slice_get}
-use Rattle.std.specs.List.{All, AllByRecursion, AllZip, Contains, list_all, zip}
-use Rattle.std.proofs.lemmas.List.Elements.{recursion_from_All, All-from_recursion, All-contains, All-contains_itself, All-weaker}
+use Rattle.std.specs.List.{All, AllByRecursion, AllZip, Contains, list_all, zip, range_with_len}
+use Rattle.std.proofs.lemmas.List.Elements.{recursion_from_All, All-from_recursion, All-contains, All-contains_itself, All-weaker, Contains-append_left, Contains-append_right}
 use Rattle.sp_ids.specs.declared.ids.BlockId.{BlockId}
 use Rattle.ir_ast.specs.declared.types.Ty.{Ty}
 use Rattle.ir_ast.specs.declared.types.Ty.TheVariants as tys
@@ -24,13 +24,19 @@ use Rattle.ir_ast.specs.Faultless.{FunctionHasNoFault}
 use Rattle.ir_ast.specs.Faults.PointerOrder as module_order
 use Rattle.ir_cfg.specs.SourceModules.{IsSourceFunction, IsSourceModule}
 use Rattle.ir_printer.specs.Names.{Names}
-use Rattle.ir_printer.specs.Declarations.{calls, externals}
+use Rattle.ir_printer.specs.Declarations.{calls, externals, fixed_externals, integer_widths}
 use Rattle.ir_printer.specs.declared.declarations.External.{External}
 use Rattle.ir_printer.specs.declared.declarations.External.TheVariants as externs
 use Rattle.ir_reader.specs.declared.readings.TypeWord.{TypeWord}
 use Rattle.ir_reader.specs.declared.readings.TypeWord.TheVariants as types
 use Rattle.ir_types.specs.Statements.{Line, Statement, layout, declare, define, close, label, switch_end}
-use Rattle.ir_types.specs.Sections.{Definition, definitions_of}
+use Rattle.ir_types.specs.Sections.{Definition, definitions_of, types_of}
+use Rattle.ir_types.specs.Externals.{external, gc_new, makers_of, externals_of, own_externals, helpers}
+use Rattle.ir_types.specs.Faults.UnknownExtern.{UnknownExtern}
+use Rattle.ir_reader.specs.Lists.{Named}
+use Rattle.ir_ast.specs.Lists.{HasFront}
+use Rattle.ir_printer.specs.Names.{layout_name}
+use Rattle.std.specs.Option.{option_map_or}
 use Rattle.ir_types.specs.Scope.{Scope, scope_of}
 use Rattle.ir_types.specs.Types.{is_cell}
 use Rattle.ir_types.specs.InBody.{InBody, InText}
@@ -38,12 +44,12 @@ use Rattle.ir_types.specs.Faults.BadLayout.{are_cells, is_bad_layout, BadLayout}
 use Rattle.ir_types.specs.Faults.NoStrategy.{lacks_strategy, NoStrategy}
 use Rattle.ir_types.specs.Faults.PointerCast.{is_cast, PointerCast}
 use Rattle.ir_types.specs.Faults.PointerOrder.{is_order, orders, orders_pointers, PointerOrder}
-use Rattle.ir_types.proofs.LawNames.{get_contained, contains_get, contains_first, contains_later, contains_cons}
-use Rattle.read_back.specs.Said.{word_of, cell_word, operator_says, instruction_says, block_says, function_says, layout_says, argument_says, declaration_says, declaration_if_called, said_by, step_says, return_says, case_says}
+use Rattle.ir_types.proofs.LawNames.{get_contained, contains_get, contains_cons, contains_map, get_some}
+use Rattle.read_back.specs.Said.{word_of, cell_word, operator_says, instruction_says, block_says, function_says, layout_says, argument_says, declaration_says, declaration_if_called, said_by, unnamed, step_says, return_says, case_says}
 use Rattle.read_back.proofs.BackLines.{said}
 use Rattle.read_back.proofs.BackInsts.{split_all}
 use Rattle.read_back.proofs.BackBlocks.{all_append, all_flat, lines_all}
-use Rattle.read_back.proofs.BackSections.{SaysDefinition, definitions-are, InBody as IsOfBody, in_body, blocks_inner}
+use Rattle.read_back.proofs.BackSections.{SaysDefinition, definitions-are, layout-names, InBody as IsOfBody, in_body, blocks_inner}
 use Rattle.read_back.proofs.BackModules.{names_in}
 
 -- ---- lines of the whole text
@@ -58,45 +64,82 @@ no_text_fault test lines ss e all line f =
     All-contains (λ (l : Line). test l.says ≡ false) lines f.found (All-from_recursion (λ (l : Line). test l.says ≡ false) lines (lines_all (Passes test) lines ss e all)) f.inside in
     let bad : true ≡ false = sym f.faulty ∙ clear in cc
 
--- what a test finds in none of the parts of a module
-record Clear (test : Statement → Bool) (content : ModuleContent) : Type 0 where
-  layouts : AllByRecursion (Passes test) (map layout_says content.layouts)
-  declarations : (external : External) → AllByRecursion (Passes test) (declaration_says content.layouts external)
-  heads : (func : Function) → Contains content.funcs func → test (define (word_of func.answer) func.name (map argument_says func.args) (Some (codes "statepoint-example"))) ≡ false
-  bodies : (s : Statement) → in_body s ≡ true → test s ≡ false
-  ends : test close ≡ false
+-- the layout of a `gc_new` is one of so many
+abbrev pub IsBelow : ℕ → External → Type 0
+IsBelow count (externs.New layout) = layout < count
+IsBelow count _ = ⊤
 
-clear_all : (test : Statement → Bool) (content : ModuleContent) → Clear test content → AllByRecursion (Passes test) (said_by content)
+made_below : (count first more : ℕ) → first + more ≤ count → AllByRecursion (IsBelow count) (map externs.New (range_with_len first more))
+made_below count first zero few = tt
+made_below count first (suc more) few = (omega arith, made_below count (first + 1) more (omega arith))
+
+fixed_below : (count : ℕ) → AllByRecursion (IsBelow count) fixed_externals
+unfolding fixed_externals
+fixed_below count = (tt, (tt, (tt, (tt, (tt, (tt, (tt, (tt, tt))))))))
+
+results_below : (count : ℕ) (widths : List ℕ) → AllByRecursion (IsBelow count) (map externs.ResultOf widths)
+results_below count [] = tt
+results_below count (w ∷ ws) = (tt, results_below count ws)
+
+pub externals_below : (layouts : List ObjectLayout) → AllByRecursion (IsBelow (length layouts)) (externals layouts)
+externals_below layouts =
+    let count = length layouts in
+    all_append (IsBelow count) (map externs.New (range_with_len 0 count)) (fixed_externals ++ (map externs.ResultOf integer_widths ++ externs.ResultPointer ∷ []))
+    (made_below count 0 count (omega arith))
+    (all_append (IsBelow count) fixed_externals (map externs.ResultOf integer_widths ++ externs.ResultPointer ∷ []) (fixed_below count)
+        (all_append (IsBelow count) (map externs.ResultOf integer_widths) (externs.ResultPointer ∷ []) (results_below count integer_widths) (tt, tt)))
+
+-- what holds of all parts of a module
+pub record Each (P : Statement → Type 0) (content : ModuleContent) : Type 0 where
+  pub layouts : AllByRecursion P (map layout_says content.layouts)
+  pub declarations : (external : External) → IsBelow (length content.layouts) external → AllByRecursion P (declaration_says content.layouts external)
+  pub heads : (func : Function) → Contains content.funcs func → P (define (word_of func.answer) func.name (map argument_says func.args) (Some (codes "statepoint-example")))
+  pub bodies : (s : Statement) → in_body s ≡ true → P s
+  pub ends : P close
+
+pub each_said : (P : Statement → Type 0) (content : ModuleContent) → Each P content → AllByRecursion P (said_by content)
 unfolding said_by
-clear_all test content clear =
-    all_append (Passes test) (map layout_says content.layouts) (flat_map (declaration_if_called content.layouts content.funcs) (externals content.layouts) ++ flat_map (function_says content.layouts content.funcs) content.funcs)
-    clear.layouts
-    (all_append (Passes test) (flat_map (declaration_if_called content.layouts content.funcs) (externals content.layouts)) (flat_map (function_says content.layouts content.funcs) content.funcs)
-        (all_flat (declaration_if_called content.layouts content.funcs) (Passes test) (λ external. by external (calls content.funcs external)) (externals content.layouts))
+each_said P content each =
+    all_append P (map layout_says content.layouts) (flat_map (declaration_if_called content.layouts content.funcs) (externals content.layouts) ++ flat_map (function_says content.layouts content.funcs) content.funcs)
+    each.layouts
+    (all_append P (flat_map (declaration_if_called content.layouts content.funcs) (externals content.layouts)) (flat_map (function_says content.layouts content.funcs) content.funcs)
+        (declared (externals content.layouts) (externals_below content.layouts))
         (functions content.funcs (recursion_from_All (Contains content.funcs) content.funcs (All-contains_itself content.funcs))))
   where
-    by : (external : External) (b : Bool) → AllByRecursion (Passes test) (if b then declaration_says content.layouts external else [])
-    by external true = clear.declarations external
-    by external false = tt
+    by : (external : External) (b : Bool) → IsBelow (length content.layouts) external → AllByRecursion P (if b then declaration_says content.layouts external else [])
+    by external true below = each.declarations external below
+    by external false below = tt
 
-    body : (ss : List Statement) → AllByRecursion IsOfBody ss → AllByRecursion (Passes test) ss
+    declared : (es : List External) → AllByRecursion (IsBelow (length content.layouts)) es → AllByRecursion P (flat_map (declaration_if_called content.layouts content.funcs) es)
+    declared [] below = tt
+    declared (e ∷ es) below =
+        all_append P (declaration_if_called content.layouts content.funcs e) (flat_map (declaration_if_called content.layouts content.funcs) es)
+        (by e (calls content.funcs e) below.0) (declared es below.1)
+
+    body : (ss : List Statement) → AllByRecursion IsOfBody ss → AllByRecursion P ss
     body [] h = tt
-    body (s ∷ ss) h = (clear.bodies s h.0, body ss h.1)
+    body (s ∷ ss) h = (each.bodies s h.0, body ss h.1)
 
-    functions : (fs : List Function) → AllByRecursion (Contains content.funcs) fs → AllByRecursion (Passes test) (flat_map (function_says content.layouts content.funcs) fs)
+    functions : (fs : List Function) → AllByRecursion (Contains content.funcs) fs → AllByRecursion P (flat_map (function_says content.layouts content.funcs) fs)
     functions [] c = tt
     functions (f ∷ fs) c =
         let inside = flat_map (block_says (names_in content f)) f.blocks in
-        all_append (Passes test) (function_says content.layouts content.funcs f) (flat_map (function_says content.layouts content.funcs) fs)
-        (clear.heads f c.0, all_append (Passes test) inside (close ∷ []) (body inside (blocks_inner (names_in content f) f.blocks)) (clear.ends, tt))
+        all_append P (function_says content.layouts content.funcs f) (flat_map (function_says content.layouts content.funcs) fs)
+        (each.heads f c.0, all_append P inside (close ∷ []) (body inside (blocks_inner (names_in content f) f.blocks)) (each.ends, tt))
         (functions fs c.1)
+
+pub line_said : (P : Statement → Type 0) (content : ModuleContent) (lines : List Line) → said lines ≡ said_by content → Each P content
+    → (l : Line) → Contains lines l → P l.says
+line_said P content lines e each l c =
+    All-contains (λ (k : Line). P k.says) lines l
+    (All-from_recursion (λ (k : Line). P k.says) lines (lines_all P lines (said_by content) e (each_said P content each))) c
 
 -- ---- code 10
 
 pub no_strategy-clear : (content : ModuleContent) (lines : List Line) → said lines ≡ said_by content → (line : ℕ) → ¬ (NoStrategy lines line)
 no_strategy-clear content lines e line f =
     no_text_fault lacks_strategy lines (said_by content) e
-    (clear_all lacks_strategy content (record { layouts = layouts content.layouts; declarations = declarations; heads = λ func c. refl; bodies = bodies; ends = refl })) line f
+    (each_said (Passes lacks_strategy) content (record { layouts = layouts content.layouts; declarations = λ external below. declarations external; heads = λ func c. refl; bodies = bodies; ends = refl })) line f
   where
     layouts : (ls : List ObjectLayout) → AllByRecursion (Passes lacks_strategy) (map layout_says ls)
     layouts [] = tt
@@ -127,9 +170,9 @@ layout_right (c ∷ cs) some = ap not (cells_are (c ∷ cs))
 pub bad_layout-clear : (content : ModuleContent) → IsSourceModule content → (lines : List Line) → said lines ≡ said_by content → (line : ℕ) → ¬ (BadLayout lines line)
 bad_layout-clear content source lines e line f =
     no_text_fault is_bad_layout lines (said_by content) e
-    (clear_all is_bad_layout content (record {
+    (each_said (Passes is_bad_layout) content (record {
       layouts = layouts content.layouts (recursion_from_All (λ (l : ObjectLayout). 0 < length l.fields) content.layouts source.no_fault.fields);
-      declarations = declarations;
+      declarations = λ external below. declarations external;
       heads = λ func c. refl;
       bodies = bodies;
       ends = refl;
@@ -165,8 +208,8 @@ from_zip content [] (f ∷ fs) h c = absurd h
 from_zip content (d ∷ ds) [] h c = absurd h
 from_zip content (d ∷ ds) (f ∷ fs) h c = (record { func = f; stands = c.0; says = h.0 }, from_zip content ds fs h.1 c.1)
 
-pub from : (content : ModuleContent) (lines : List Line) → said lines ≡ said_by content → (one : Definition) → Contains (definitions_of lines) one → From content one
-from content lines e one c =
+pub printed_from : (content : ModuleContent) (lines : List Line) → said lines ≡ said_by content → (one : Definition) → Contains (definitions_of lines) one → From content one
+printed_from content lines e one c =
     All-contains (From content) (definitions_of lines) one
     (All-from_recursion (From content) (definitions_of lines)
         (from_zip content (definitions_of lines) content.funcs (definitions-are content lines e) (recursion_from_All (Contains content.funcs) content.funcs (All-contains_itself content.funcs)))) c
@@ -190,7 +233,7 @@ pub no_body_fault : (content : ModuleContent) (lines : List Line) → said lines
     → ((scope : Scope) (name : List ℕ) → test scope (label name) ≡ false)
     → (line : ℕ) → ¬ (InBody lines line test)
 no_body_fault content lines e test clear labels line f =
-    let o = from content lines e f.func f.defined in
+    let o = printed_from content lines e f.func f.defined in
     let insts = instructions_of o.func.blocks in
     let P : Statement → Type 0 = λ s. test (scope_of lines f.func) s ≡ false in
     let each : AllByRecursion (λ inst. AllByRecursion P (instruction_says (names_in content o.func) inst)) insts =
@@ -282,3 +325,116 @@ pointer_order-clear content source lines e line f =
         (All-contains (λ (i : Instruction). module_order.orders_pointers i.op i.ty ≡ false) (instructions_of func.blocks) inst
             (All-contains (FunctionHasNoFault content) content.funcs func source.no_fault.functions c).pointers d))
     (λ scope name. refl) line f
+
+-- ---- declarations
+
+-- the name of a declaration begins with no letter of the names of helpers, or it is that of a `gc_new`
+not_reserved : (name : List ℕ) → get_or name 0 0 ≢ 103 → get_or name 0 0 ≢ 108 → ¬ (Contains helpers name ⊎ HasFront (codes "llvm.") name)
+not_reserved name g l (inl c) = by (contains_cons (codes "gc.safepoint_poll") name (codes "gc_check" ∷ codes "gc_same" ∷ []) c)
+  where
+    last : (codes "gc_same" ≡ name) ⊎ Contains [] name → ⊥
+    last (inl e) = g (ap (λ (n : List ℕ). get_or n 0 0) (sym e))
+    last (inr d) = absurd (omega (arith, d.1))
+
+    next : (codes "gc_check" ≡ name) ⊎ Contains (codes "gc_same" ∷ []) name → ⊥
+    next (inl e) = g (ap (λ (n : List ℕ). get_or n 0 0) (sym e))
+    next (inr d) = last (contains_cons (codes "gc_same") name [] d)
+
+    by : (codes "gc.safepoint_poll" ≡ name) ⊎ Contains (codes "gc_check" ∷ codes "gc_same" ∷ []) name → ⊥
+    by (inl e) = g (ap (λ (n : List ℕ). get_or n 0 0) (sym e))
+    by (inr d) = next (contains_cons (codes "gc_check") name (codes "gc_same" ∷ []) d)
+not_reserved name g l (inr f) = l (ap (λ (n : List ℕ). get_or n 0 0) f.1)
+
+made_not_reserved : (name : List ℕ) → ¬ (Contains helpers (codes "gc_new." ++ name) ⊎ HasFront (codes "llvm.") (codes "gc_new." ++ name))
+made_not_reserved name (inl c) = by (contains_cons (codes "gc.safepoint_poll") (codes "gc_new." ++ name) (codes "gc_check" ∷ codes "gc_same" ∷ []) c)
+  where
+    last : (codes "gc_same" ≡ codes "gc_new." ++ name) ⊎ Contains [] (codes "gc_new." ++ name) → ⊥
+    last (inl e) = let bad : 115 ≡ 110 = ap (λ (n : List ℕ). get_or n 3 0) e in omega arith
+    last (inr d) = absurd (omega (arith, d.1))
+
+    next : (codes "gc_check" ≡ codes "gc_new." ++ name) ⊎ Contains (codes "gc_same" ∷ []) (codes "gc_new." ++ name) → ⊥
+    next (inl e) = let bad : 99 ≡ 110 = ap (λ (n : List ℕ). get_or n 3 0) e in omega arith
+    next (inr d) = last (contains_cons (codes "gc_same") (codes "gc_new." ++ name) [] d)
+
+    by : (codes "gc.safepoint_poll" ≡ codes "gc_new." ++ name) ⊎ Contains (codes "gc_check" ∷ codes "gc_same" ∷ []) (codes "gc_new." ++ name) → ⊥
+    by (inl e) = let bad : 46 ≡ 95 = ap (λ (n : List ℕ). get_or n 2 0) e in omega arith
+    by (inr d) = next (contains_cons (codes "gc_check") (codes "gc_new." ++ name) (codes "gc_same" ∷ []) d)
+made_not_reserved name (inr f) = let bad : 103 ≡ 108 = ap (λ (n : List ℕ). get_or n 0 0) f.1 in omega arith
+
+-- what a line tells if it is a declaration
+abbrev pub IfDeclares : (TypeWord → List ℕ → List Named → Type 0) → Statement → Type 0
+IfDeclares R (declare answer name parameters) = R answer name parameters
+IfDeclares R _ = ⊤
+
+-- what holds of each declaration
+pub each_declaration : (R : TypeWord → List ℕ → List Named → Type 0) (content : ModuleContent)
+    → ((layout : ℕ) → layout < length content.layouts → R types.Managed (codes "gc_new." ++ layout_name content.layouts layout) (unnamed (types.Int 64 ∷ [])))
+    → R types.Void (codes "print_i64") (unnamed (types.Int 64 ∷ [])) → R (types.Int 64) (codes "read_i64") []
+    → R types.Void (codes "task_start") (unnamed (types.Plain ∷ types.Managed ∷ []))
+    → Each (IfDeclares R) content
+each_declaration R content made print read start = record {
+  layouts = layouts content.layouts;
+  declarations = declarations;
+  heads = λ func c. tt;
+  bodies = bodies;
+  ends = tt;
+}
+  where
+    layouts : (ls : List ObjectLayout) → AllByRecursion (IfDeclares R) (map layout_says ls)
+    layouts [] = tt
+    layouts (l ∷ ls) = (tt, layouts ls)
+
+    declarations : (external : External) → IsBelow (length content.layouts) external → AllByRecursion (IfDeclares R) (declaration_says content.layouts external)
+    declarations (externs.New layout) below = (made layout below, tt)
+    declarations externs.Print below = (print, tt)
+    declarations externs.Read below = (read, tt)
+    declarations externs.TaskStart below = (start, tt)
+    declarations _ below = tt
+
+    bodies : (s : Statement) → in_body s ≡ true → IfDeclares R s
+    bodies (declare answer name parameters) h = absurd (let bad : false ≡ true = h in cc)
+    bodies _ h = tt
+
+pub declares_free : (content : ModuleContent) (lines : List Line) → said lines ≡ said_by content → (line : ℕ) (answer : TypeWord) (name : List ℕ) (parameters : List Named)
+    → Contains lines (record { number = line; says = declare answer name parameters })
+    → ¬ (Contains helpers name ⊎ HasFront (codes "llvm.") name)
+declares_free content lines e line answer name parameters c =
+    line_said (IfDeclares (λ a n ps. ¬ (Contains helpers n ⊎ HasFront (codes "llvm.") n))) content lines e
+    (each_declaration (λ a n ps. ¬ (Contains helpers n ⊎ HasFront (codes "llvm.") n)) content
+        (λ layout below. made_not_reserved (layout_name content.layouts layout))
+        (not_reserved (codes "print_i64") (λ e. omega (arith, e)) (λ e. omega (arith, e)))
+        (not_reserved (codes "read_i64") (λ e. omega (arith, e)) (λ e. omega (arith, e)))
+        (not_reserved (codes "task_start") (λ e. omega (arith, e)) (λ e. omega (arith, e))))
+    (record { number = line; says = declare answer name parameters }) c
+
+-- ---- code 12
+
+abbrev IsExtern : List (List ℕ) → TypeWord → List ℕ → List Named → Type 0
+IsExtern layouts answer name parameters = Contains (externals_of layouts) (external name answer (types_of parameters))
+
+pub unknown_extern-clear : (content : ModuleContent) (lines : List Line) → said lines ≡ said_by content → (line : ℕ) → ¬ (UnknownExtern lines line)
+unknown_extern-clear content lines e line f =
+    let names = map (λ (l : ObjectLayout). l.name) content.layouts in
+    let there : IsExtern names f.answer f.name f.parameters =
+    line_said (IfDeclares (IsExtern names)) content lines e
+    (each_declaration (IsExtern names) content (made names content.layouts refl)
+        (own names 0 (external (codes "print_i64") types.Void (types.Int 64 ∷ [])) refl)
+        (own names 1 (external (codes "read_i64") (types.Int 64) []) refl)
+        (own names 2 (external (codes "task_start") types.Void (types.Plain ∷ types.Managed ∷ [])) refl))
+    (record { number = line; says = declare f.answer f.name f.parameters }) f.stands in
+    f.unknown (subst (λ (ns : List (List ℕ)). IsExtern ns f.answer f.name f.parameters) (sym (layout-names content lines e)) there)
+  where
+    own : (names : List (List ℕ)) (k : ℕ) (x : Rattle.ir_types.specs.Externals.External) → slice_get own_externals k ≡ Some x → Contains (externals_of names) x
+    own names k x at = Contains-append_right (makers_of names) own_externals x (contains_get own_externals k x at)
+
+    made : (names : List (List ℕ)) (layouts : List ObjectLayout) → names ≡ map (λ (l : ObjectLayout). l.name) layouts → (layout : ℕ) → layout < length layouts
+        → Contains (externals_of names) (external (codes "gc_new." ++ layout_name layouts layout) types.Managed (types.Int 64 ∷ []))
+    made names layouts is layout below =
+        let g = get_some layouts layout below in
+        let named : Contains names g.0.name =
+        subst (λ (ns : List (List ℕ)). Contains ns g.0.name) (sym is) (contains_map (λ (l : ObjectLayout). l.name) layouts g.0 (contains_get layouts layout g.0 g.1)) in
+        let maker : Contains (makers_of names) (external (gc_new g.0.name) types.Managed (types.Int 64 ∷ [])) =
+        contains_map (λ (n : List ℕ). external (gc_new n) types.Managed (types.Int 64 ∷ [])) names g.0.name named in
+        subst (λ (n : List ℕ). Contains (externals_of names) (external (codes "gc_new." ++ n) types.Managed (types.Int 64 ∷ [])))
+        (sym (ap (λ (o : Option ObjectLayout). option_map_or (λ (l : ObjectLayout). l.name) o []) g.1))
+        (Contains-append_left (makers_of names) own_externals (external (gc_new g.0.name) types.Managed (types.Int 64 ∷ [])) maker)

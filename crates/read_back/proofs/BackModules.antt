@@ -56,7 +56,7 @@ split_flat : {X Y : Type 0} (f : X → List Y) (P : Y → Type 0) (xs : List X) 
 split_flat f P [] h = tt
 split_flat f P (x ∷ xs) h = let parts = split_all P (f x) (flat_map f xs) h in (parts.0, split_flat f P xs parts.1)
 
-form_of : (form : Form) (func : Function) → form ≡ Source → OfForm form func → IsSource func
+pub form_of : (form : Form) (func : Function) → form ≡ Source → OfForm form func → IsSource func
 form_of form func e h = (subst (λ (f : Form). OfForm f func) e h).0
 
 -- a place that a line names is below the few fields of its layout
@@ -76,12 +76,10 @@ small_place content func inst few typed layout width n e named =
     at (l ∷ ls) zero few below rule = let f = few.0 in omega arith
     at (l ∷ ls) (suc k) few below rule = at ls k few.1 (omega arith) rule
 
-pub printed : (content : ModuleContent) → IsSourceModule content → (func : Function) → Contains content.funcs func
-    → AllByRecursion (λ block. AllByRecursion (λ inst. IsPrinted (names_in content func) inst.op inst) block.insts) func.blocks
-printed content source func c =
-    split_flat (λ (block : BasicBlock). block.insts) (λ inst. IsPrinted (names_in content func) inst.op inst) func.blocks
-    (recursion_from_All (λ inst. IsPrinted (names_in content func) inst.op inst) insts
-        (All-weaker (Contains insts) (λ inst. IsPrinted (names_in content func) inst.op inst) one insts (All-contains_itself insts)))
+-- each instruction of a source function
+pub printed_inst : (content : ModuleContent) → IsSourceModule content → (func : Function) → Contains content.funcs func
+    → (inst : Instruction) → Contains (instructions_of func.blocks) inst → IsPrinted (names_in content func) inst.op inst
+printed_inst content source func c inst d = one
   where
     insts : List Instruction
     insts = instructions_of func.blocks
@@ -103,8 +101,8 @@ printed content source func c =
         (split_all IsWidth (type_widths func.answer ++ flat_map (λ (arg : Arg). type_widths arg.ty) func.args) (flat_map line_widths insts)
             (recursion_from_All IsWidth (widths_of func) own.widths)).1
 
-    one : (inst : Instruction) → Contains insts inst → IsPrinted (names_in content func) inst.op inst
-    one inst d =
+    one : IsPrinted (names_in content func) inst.op inst
+    one =
         let local = All-contains (NamesOfFunction func) insts inst clean.local d in
         let global = All-contains (NamesOfModule content) insts inst clean.global d in
         let fit = All-contains (IsTyped (scope_of content func)) insts inst typed.lines d in
@@ -127,6 +125,14 @@ printed content source func c =
               fit layout width n e named;
           bundle = All-contains (λ (i : Instruction). i.bundle ≡ []) insts inst own.no_bundle d;
         }
+
+pub printed : (content : ModuleContent) → IsSourceModule content → (func : Function) → Contains content.funcs func
+    → AllByRecursion (λ block. AllByRecursion (λ inst. IsPrinted (names_in content func) inst.op inst) block.insts) func.blocks
+printed content source func c =
+    let insts = instructions_of func.blocks in
+    split_flat (λ (block : BasicBlock). block.insts) (λ inst. IsPrinted (names_in content func) inst.op inst) func.blocks
+    (recursion_from_All (λ (inst : Instruction). IsPrinted (names_in content func) inst.op inst) insts
+        (All-weaker (Contains insts) (λ (inst : Instruction). IsPrinted (names_in content func) inst.op inst) (printed_inst content source func c) insts (All-contains_itself insts)))
 
 -- ---- what the typer knows of it
 
@@ -164,7 +170,7 @@ setting content source lines e one func says c few names =
       few_layouts = omega arith;
     }
 
-function-names : (layouts : List ObjectLayout) (funcs : List Function) (ones : List Definition) (fs : List Function) → AllZip (SaysDefinition layouts funcs) ones fs
+pub function-names : (layouts : List ObjectLayout) (funcs : List Function) (ones : List Definition) (fs : List Function) → AllZip (SaysDefinition layouts funcs) ones fs
     → map (λ d. d.name) ones ≡ map (λ f. f.name) fs
 function-names layouts funcs [] [] h = refl
 function-names layouts funcs [] (f ∷ fs) h = absurd h
@@ -207,7 +213,7 @@ blocks_few (b ∷ bs) ends =
     let one : 1 ≤ length b.insts = (let l = ap length ends.0.whole ∙ length-append ends.0.before (ends.0.last ∷ []) in omega arith) in
     omega (arith, length-append b.insts (instructions_of bs))
 
-few_in : (content : ModuleContent) → IsSourceModule content → BlocksEnd content → (func : Function) → Contains content.funcs func → length func.blocks < 2 ^ 32
+pub few_in : (content : ModuleContent) → IsSourceModule content → BlocksEnd content → (func : Function) → Contains content.funcs func → length func.blocks < 2 ^ 32
 few_in content source ends func c =
     let own = (All-contains IsSourceFunction content.funcs func source.functions c).values in
     let end = All-contains (λ (f : Function). All (λ (block : BasicBlock). EndsAtTerminator block.insts) f.blocks) content.funcs func ends c in

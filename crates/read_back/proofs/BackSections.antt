@@ -21,7 +21,7 @@ use Rattle.ir_types.specs.Sections.{LayoutLine, Definition, layout_said, layouts
 use Rattle.ir_types.specs.Modules.{cell_of, layout_of}
 use Rattle.read_back.specs.Said.{word_of, argument_says, instruction_says, block_says, function_says, layout_says, cell_word, declaration_says, declaration_if_called, said_by}
 use Rattle.read_back.proofs.BackLines.{said, cons_parts}
-use Rattle.read_back.proofs.BackBlocks.{Cut, cut, nothing_said, all_append, all_flat, in_block, InBlock, insts_inner, lines_all, flat-append}
+use Rattle.read_back.proofs.BackBlocks.{cut, nothing_said, all_append, all_flat, in_block, InBlock, insts_inner, lines_all, flat-append}
 
 -- ---- bodies
 

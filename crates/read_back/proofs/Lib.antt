@@ -7,3 +7,5 @@ pub mod BackBlocks
 pub mod BackSections
 pub mod BackModules
 pub mod BackFaults
+pub mod BackTops
+pub mod BackEntry
