@@ -329,14 +329,15 @@ blocks_names names (b ∷ bs) p =
 
 outcome_names : (insts : List Instruction) → names_of insts ≡ map definition_name (map outcome (filter (λ inst. is_some inst.result) insts))
 outcome_names [] = refl
-outcome_names (i ∷ is) = by i.result refl
+outcome_names (i ∷ is) = by i.result refl (outcome_names is)
   where
-    by : (o : Option (List ℕ)) → i.result ≡ o → names_of (i ∷ is) ≡ map definition_name (map outcome (filter (λ inst. is_some inst.result) (i ∷ is)))
-    by None e =
-        ap (λ (x : Option (List ℕ)). one_name x ++ names_of is) e ∙ outcome_names is
+    by : (o : Option (List ℕ)) → i.result ≡ o → names_of is ≡ map definition_name (map outcome (filter (λ inst. is_some inst.result) is))
+        → names_of (i ∷ is) ≡ map definition_name (map outcome (filter (λ inst. is_some inst.result) (i ∷ is)))
+    by None e ih =
+        ap (λ (x : Option (List ℕ)). one_name x ++ names_of is) e ∙ ih
         ∙ sym (ap (λ (x : Option (List ℕ)). map definition_name (map outcome (cond (is_some x) (i ∷ filter (λ inst. is_some inst.result) is) (filter (λ inst. is_some inst.result) is)))) e)
-    by (Some name) e =
-        ap (λ (x : Option (List ℕ)). one_name x ++ names_of is) e ∙ ap (λ (ns : List (List ℕ)). name ∷ ns) (outcome_names is)
+    by (Some name) e ih =
+        ap (λ (x : Option (List ℕ)). one_name x ++ names_of is) e ∙ ap (λ (ns : List (List ℕ)). name ∷ ns) ih
         ∙ ap (λ (x : Option (List ℕ)). unwrap_or x [] ∷ map definition_name (map outcome (filter (λ inst. is_some inst.result) is))) (sym e)
         ∙ sym (ap (λ (x : Option (List ℕ)). map definition_name (map outcome (cond (is_some x) (i ∷ filter (λ inst. is_some inst.result) is) (filter (λ inst. is_some inst.result) is)))) e)
 

@@ -1,11 +1,8 @@
 -- The lines that a source module is printed as have none of the faults that are proved absent.
-use Rattle.std.proofs.Common.{◌≡◌, ◌⊎◌, inl, inr, ℕ, List, map}
-use Rattle.std.specs.List.{Contains}
+use Rattle.std.proofs.Common.{◌≡◌, ℕ, List}
 use Rattle.ir_ast.specs.Modules.{ModuleContent}
 use Rattle.ir_cfg.specs.SourceModules.{IsSourceModule}
 use Rattle.ir_types.specs.Statements.{Line}
-use Rattle.ir_types.specs.Sections.{heads_of}
-use Rattle.ir_types.specs.InBody.{Repeats}
 use Rattle.ir_types.specs.Faults.NameTwice.{NameTwice, layout_again, head_again, declares_defined, label_again, value_again}
 use Rattle.ir_types.specs.Faults.UnknownName.{UnknownName}
 use Rattle.ir_types.specs.Faults.TypeClash.{TypeClash}
@@ -20,22 +17,21 @@ use Rattle.read_back.proofs.BackFaults.{no_strategy-clear, bad_layout-clear, poi
 use Rattle.read_back.proofs.BackTops.{layouts_once, labels_once, values_once, definitions_free, values_free, labels_free, no_main-clear}
 use Rattle.read_back.proofs.BackEntry.{entry_has_pred-clear}
 use Rattle.read_back.proofs.BackHeads.{declares_defined-clear}
+use Rattle.read_back.proofs.BackOnce.{heads_once}
 
 -- the faults whose absence is not derived from the module's
 pub record HasNoOther (lines : List Line) : Type 0 where
-  pub heads : (line : ℕ) → ¬ (Repeats (map (λ one. (one.line, one.name)) (heads_of lines)) line)
   pub names : (line : ℕ) → ¬ (UnknownName lines line)
   pub types : (line : ℕ) → ¬ (TypeClash lines line)
   pub phis : (line : ℕ) → ¬ (PhiEdges lines line)
   pub derived : (line : ℕ) → ¬ (DerivedEscapes lines line)
 
-names_clear : (content : ModuleContent) → IsSourceModule content → (lines : List Line) → said lines ≡ said_by content → HasNoOther lines
-    → (line : ℕ) → NameTwice lines line → ⊥
-names_clear content source lines e other line (layout_again r) = layouts_once content source lines e line r
-names_clear content source lines e other line (head_again r) = other.heads line r
-names_clear content source lines e other line (declares_defined d) = declares_defined-clear content source lines e line d
-names_clear content source lines e other line (label_again func c r) = labels_once content source lines e func c line r
-names_clear content source lines e other line (value_again func c r) = values_once content source lines e func c line r
+names_clear : (content : ModuleContent) → IsSourceModule content → (lines : List Line) → said lines ≡ said_by content → (line : ℕ) → NameTwice lines line → ⊥
+names_clear content source lines e line (layout_again r) = layouts_once content source lines e line r
+names_clear content source lines e line (head_again r) = heads_once content source lines e line r
+names_clear content source lines e line (declares_defined d) = declares_defined-clear content source lines e line d
+names_clear content source lines e line (label_again func c r) = labels_once content source lines e func c line r
+names_clear content source lines e line (value_again func c r) = values_once content source lines e func c line r
 
 reserved_clear : (content : ModuleContent) → IsSourceModule content → (lines : List Line) → said lines ≡ said_by content
     → (line : ℕ) → Reserved lines line → ⊥
@@ -49,7 +45,7 @@ pub no_fault-from : (content : ModuleContent) → IsSourceModule content → Blo
 no_fault-from content source ends lines e other line code f = go code f
   where
     go : (code : ℕ) → HasFault lines line code → ⊥
-    go code (name_twice t) = names_clear content source lines e other line t
+    go code (name_twice t) = names_clear content source lines e line t
     go code (unknown_name t) = other.names line t
     go code (type_clash t) = other.types line t
     go code (entry_has_pred t) = entry_has_pred-clear content source ends lines e line t

@@ -1,6 +1,7 @@
 -- The lines that a source module is printed as have no fault: the faults of single lines.
 use Rattle.std.proofs.Common.{◌≡◌, ◌∙◌, ℕ, zero, suc, ◌+◌, ◌<◌, ◌≤◌, Bool, true, false, not, ◌&&◌, ◌==◌, ◌≢◌, ◌⊎◌, inl, inr, get_or, if◌then◌else◌, List, [], ◌∷◌, ◌++◌, map, length, drop, refl, ap, sym, subst, arith, codes}
 use Rattle.std.specs.Prelude.{Option, Some, None, ⊤, flat_map, slice_get}
+use Rattle.std.proofs.lemmas.Bool.{ne_eqb}
 use Rattle.std.specs.List.{All, AllByRecursion, AllZip, Contains, list_all, zip, range_with_len}
 use Rattle.std.proofs.lemmas.List.Elements.{recursion_from_All, All-from_recursion, All-contains, All-contains_itself, All-weaker, Contains-append_left, Contains-append_right}
 use Rattle.sp_ids.specs.declared.ids.BlockId.{BlockId}
@@ -66,7 +67,7 @@ no_text_fault test lines ss e all line f =
 
 -- the layout of a `gc_new` is one of so many
 abbrev pub IsBelow : ℕ → External → Type 0
-IsBelow count (externs.New layout) = layout < count
+IsBelow count (externs.New number) = number < count
 IsBelow count _ = ⊤
 
 made_below : (count first more : ℕ) → first + more ≤ count → AllByRecursion (IsBelow count) (map externs.New (range_with_len first more))
@@ -146,7 +147,7 @@ no_strategy-clear content lines e line f =
     layouts (l ∷ ls) = (refl, layouts ls)
 
     declarations : (external : External) → AllByRecursion (Passes lacks_strategy) (declaration_says content.layouts external)
-    declarations (externs.New layout) = (refl, tt)
+    declarations (externs.New number) = (refl, tt)
     declarations externs.Print = (refl, tt)
     declarations externs.Read = (refl, tt)
     declarations externs.TaskStart = (refl, tt)
@@ -165,7 +166,9 @@ cells_are (cells.Ptr ∷ cs) = cells_are cs
 
 layout_right : (cs : List Cell) → 0 < length cs → not (are_cells (map cell_word cs)) ≡ false
 layout_right [] some = absurd (omega arith)
-layout_right (c ∷ cs) some = ap not (cells_are (c ∷ cs))
+layout_right (c ∷ cs) some =
+    ap (λ (b : Bool). not (not b && list_all is_cell (map cell_word (c ∷ cs)))) (ne_eqb (length (map cell_word (c ∷ cs))) 0 (omega arith))
+    ∙ ap not (cells_are (c ∷ cs))
 
 pub bad_layout-clear : (content : ModuleContent) → IsSourceModule content → (lines : List Line) → said lines ≡ said_by content → (line : ℕ) → ¬ (BadLayout lines line)
 bad_layout-clear content source lines e line f =
@@ -183,7 +186,7 @@ bad_layout-clear content source lines e line f =
     layouts (l ∷ ls) h = (layout_right l.fields h.0, layouts ls h.1)
 
     declarations : (external : External) → AllByRecursion (Passes is_bad_layout) (declaration_says content.layouts external)
-    declarations (externs.New layout) = (refl, tt)
+    declarations (externs.New number) = (refl, tt)
     declarations externs.Print = (refl, tt)
     declarations externs.Read = (refl, tt)
     declarations externs.TaskStart = (refl, tt)
@@ -349,17 +352,17 @@ made_not_reserved : (name : List ℕ) → ¬ (Contains helpers (codes "gc_new." 
 made_not_reserved name (inl c) = by (contains_cons (codes "gc.safepoint_poll") (codes "gc_new." ++ name) (codes "gc_check" ∷ codes "gc_same" ∷ []) c)
   where
     last : (codes "gc_same" ≡ codes "gc_new." ++ name) ⊎ Contains [] (codes "gc_new." ++ name) → ⊥
-    last (inl e) = let bad : 115 ≡ 110 = ap (λ (n : List ℕ). get_or n 3 0) e in omega arith
+    last (inl e) = let bad : ◌≡◌ {A = ℕ} 115 110 = ap (λ (n : List ℕ). get_or n 3 0) e in omega arith
     last (inr d) = absurd (omega (arith, d.1))
 
     next : (codes "gc_check" ≡ codes "gc_new." ++ name) ⊎ Contains (codes "gc_same" ∷ []) (codes "gc_new." ++ name) → ⊥
-    next (inl e) = let bad : 99 ≡ 110 = ap (λ (n : List ℕ). get_or n 3 0) e in omega arith
+    next (inl e) = let bad : ◌≡◌ {A = ℕ} 99 110 = ap (λ (n : List ℕ). get_or n 3 0) e in omega arith
     next (inr d) = last (contains_cons (codes "gc_same") (codes "gc_new." ++ name) [] d)
 
     by : (codes "gc.safepoint_poll" ≡ codes "gc_new." ++ name) ⊎ Contains (codes "gc_check" ∷ codes "gc_same" ∷ []) (codes "gc_new." ++ name) → ⊥
-    by (inl e) = let bad : 46 ≡ 95 = ap (λ (n : List ℕ). get_or n 2 0) e in omega arith
+    by (inl e) = let bad : ◌≡◌ {A = ℕ} 46 95 = ap (λ (n : List ℕ). get_or n 2 0) e in omega arith
     by (inr d) = next (contains_cons (codes "gc_check") (codes "gc_new." ++ name) (codes "gc_same" ∷ []) d)
-made_not_reserved name (inr f) = let bad : 103 ≡ 108 = ap (λ (n : List ℕ). get_or n 0 0) f.1 in omega arith
+made_not_reserved name (inr f) = let bad : ◌≡◌ {A = ℕ} 103 108 = ap (λ (n : List ℕ). get_or n 0 0) f.1 in omega arith
 
 -- what a line tells if it is a declaration
 abbrev pub IfDeclares : (TypeWord → List ℕ → List Named → Type 0) → Statement → Type 0
@@ -368,7 +371,7 @@ IfDeclares R _ = ⊤
 
 -- what holds of each declaration
 pub each_declaration : (R : TypeWord → List ℕ → List Named → Type 0) (content : ModuleContent)
-    → ((layout : ℕ) → layout < length content.layouts → R types.Managed (codes "gc_new." ++ layout_name content.layouts layout) (unnamed (types.Int 64 ∷ [])))
+    → ((number : ℕ) → number < length content.layouts → R types.Managed (codes "gc_new." ++ layout_name content.layouts number) (unnamed (types.Int 64 ∷ [])))
     → R types.Void (codes "print_i64") (unnamed (types.Int 64 ∷ [])) → R (types.Int 64) (codes "read_i64") []
     → R types.Void (codes "task_start") (unnamed (types.Plain ∷ types.Managed ∷ []))
     → Each (IfDeclares R) content
@@ -385,7 +388,7 @@ each_declaration R content made print read start = record {
     layouts (l ∷ ls) = (tt, layouts ls)
 
     declarations : (external : External) → IsBelow (length content.layouts) external → AllByRecursion (IfDeclares R) (declaration_says content.layouts external)
-    declarations (externs.New layout) below = (made layout below, tt)
+    declarations (externs.New number) below = (made number below, tt)
     declarations externs.Print below = (print, tt)
     declarations externs.Read below = (read, tt)
     declarations externs.TaskStart below = (start, tt)
@@ -401,7 +404,7 @@ pub declares_free : (content : ModuleContent) (lines : List Line) → said lines
 declares_free content lines e line answer name parameters c =
     line_said (IfDeclares (λ a n ps. ¬ (Contains helpers n ⊎ HasFront (codes "llvm.") n))) content lines e
     (each_declaration (λ a n ps. ¬ (Contains helpers n ⊎ HasFront (codes "llvm.") n)) content
-        (λ layout below. made_not_reserved (layout_name content.layouts layout))
+        (λ number below. made_not_reserved (layout_name content.layouts number))
         (not_reserved (codes "print_i64") (λ e. omega (arith, e)) (λ e. omega (arith, e)))
         (not_reserved (codes "read_i64") (λ e. omega (arith, e)) (λ e. omega (arith, e)))
         (not_reserved (codes "task_start") (λ e. omega (arith, e)) (λ e. omega (arith, e))))
@@ -427,12 +430,12 @@ unknown_extern-clear content lines e line f =
     own : (names : List (List ℕ)) (k : ℕ) (x : Rattle.ir_types.specs.Externals.External) → slice_get own_externals k ≡ Some x → Contains (externals_of names) x
     own names k x at = Contains-append_right (makers_of names) own_externals x (contains_get own_externals k x at)
 
-    made : (names : List (List ℕ)) (layouts : List ObjectLayout) → names ≡ map (λ (l : ObjectLayout). l.name) layouts → (layout : ℕ) → layout < length layouts
-        → Contains (externals_of names) (external (codes "gc_new." ++ layout_name layouts layout) types.Managed (types.Int 64 ∷ []))
-    made names layouts is layout below =
-        let g = get_some layouts layout below in
+    made : (names : List (List ℕ)) (layouts : List ObjectLayout) → names ≡ map (λ (l : ObjectLayout). l.name) layouts → (number : ℕ) → number < length layouts
+        → Contains (externals_of names) (external (codes "gc_new." ++ layout_name layouts number) types.Managed (types.Int 64 ∷ []))
+    made names layouts is number below =
+        let g = get_some layouts number below in
         let named : Contains names g.0.name =
-        subst (λ (ns : List (List ℕ)). Contains ns g.0.name) (sym is) (contains_map (λ (l : ObjectLayout). l.name) layouts g.0 (contains_get layouts layout g.0 g.1)) in
+        subst (λ (ns : List (List ℕ)). Contains ns g.0.name) (sym is) (contains_map (λ (l : ObjectLayout). l.name) layouts g.0 (contains_get layouts number g.0 g.1)) in
         let maker : Contains (makers_of names) (external (gc_new g.0.name) types.Managed (types.Int 64 ∷ [])) =
         contains_map (λ (n : List ℕ). external (gc_new n) types.Managed (types.Int 64 ∷ [])) names g.0.name named in
         subst (λ (n : List ℕ). Contains (externals_of names) (external (codes "gc_new." ++ n) types.Managed (types.Int 64 ∷ [])))

@@ -116,14 +116,15 @@ definitions-said layouts funcs (f ∷ fs) (l ∷ ls) e =
     let more = flat_map (function_says layouts funcs) fs in
     let parts = cons_parts l.says (said ls) (head_says f) ((body ++ close ∷ []) ++ more) e in
     let c = cut ls body (close ∷ more) (parts.1 ∙ append_assoc body (close ∷ []) more) in
-    behind c.front c.back c.whole c.front_says c.back_says parts.0
+    behind c.front c.back c.whole c.front_says c.back_says parts.0 (definitions-said layouts funcs fs)
   where
     behind : (front back : List Line) → ls ≡ front ++ back → said front ≡ flat_map (block_says (record { layouts = layouts; funcs = funcs; func = f })) f.blocks
         → said back ≡ close ∷ flat_map (function_says layouts funcs) fs → l.says ≡ head_says f
+        → ((ms : List Line) → said ms ≡ flat_map (function_says layouts funcs) fs → AllZip (SaysDefinition layouts funcs) (definitions_of ms) fs)
         → AllZip (SaysDefinition layouts funcs) (definitions_of (l ∷ ls)) (f ∷ fs)
-    behind front [] whole front_says back_says head =
+    behind front [] whole front_says back_says head others =
         absurd (let bad : [] ≡ close ∷ flat_map (function_says layouts funcs) fs = back_says in cc)
-    behind front (k ∷ ks) whole front_says back_says head =
+    behind front (k ∷ ks) whole front_says back_says head others =
         let end = cons_parts k.says (said ks) close (flat_map (function_says layouts funcs) fs) back_says in
         let inside = lines_all InBody front (flat_map (block_says (record { layouts = layouts; funcs = funcs; func = f })) f.blocks) front_says
         (blocks_inner (record { layouts = layouts; funcs = funcs; func = f }) f.blocks) in
@@ -143,7 +144,7 @@ definitions-said layouts funcs (f ∷ fs) (l ∷ ls) e =
           line = l.number; answer = word_of f.answer; name = f.name; arguments = map argument_says f.args; strategy = Some (codes "statepoint-example"); body = front;
         } ∷ ds) rest in
         subst (λ (ds : List Definition). AllZip (SaysDefinition layouts funcs) ds (f ∷ fs)) (sym is)
-        (record { answer = refl; name = refl; arguments = refl; strategy = refl; body = front_says }, definitions-said layouts funcs fs ks end.1)
+        (record { answer = refl; name = refl; arguments = refl; strategy = refl; body = front_says }, others ks end.1)
 
 -- ---- above the functions
 
@@ -152,7 +153,7 @@ layouts_no_define [] = tt
 layouts_no_define (l ∷ ls) = (refl, layouts_no_define ls)
 
 declared_no_define : (layouts : List ObjectLayout) (external : External) → AllByRecursion NoDefine (declaration_says layouts external)
-declared_no_define layouts (externs.New layout) = (refl, tt)
+declared_no_define layouts (externs.New number) = (refl, tt)
 declared_no_define layouts externs.Print = (refl, tt)
 declared_no_define layouts externs.Read = (refl, tt)
 declared_no_define layouts externs.TaskStart = (refl, tt)
@@ -231,7 +232,7 @@ function_no_layout layouts funcs f =
         (bodies_no_layout (flat_map (block_says (record { layouts = layouts; funcs = funcs; func = f })) f.blocks) (blocks_inner (record { layouts = layouts; funcs = funcs; func = f }) f.blocks)) (refl, tt))
 
 declared_no_layout : (layouts : List ObjectLayout) (external : External) → AllByRecursion NoLayout (declaration_says layouts external)
-declared_no_layout layouts (externs.New layout) = (refl, tt)
+declared_no_layout layouts (externs.New number) = (refl, tt)
 declared_no_layout layouts externs.Print = (refl, tt)
 declared_no_layout layouts externs.Read = (refl, tt)
 declared_no_layout layouts externs.TaskStart = (refl, tt)

@@ -39,11 +39,11 @@ use Rattle.read_back.proofs.BackFaults.{From, printed_from}
 
 none_twice : (before : List (List ℕ)) (what : List ℕ) (after : List (List ℕ)) → Apart (before ++ what ∷ after) → ¬ (Contains before what)
 none_twice [] what after apart c = absurd (omega (arith, c.1))
-none_twice (x ∷ xs) what after apart c = by (contains_cons x what xs c)
+none_twice (x ∷ xs) what after apart c = by (contains_cons x what xs c) (none_twice xs what after apart.1)
   where
-    by : (x ≡ what) ⊎ Contains xs what → ⊥
-    by (inl e) = apart.0 (subst (λ (n : List ℕ). Contains (xs ++ what ∷ after) n) (sym e) (contains_middle xs what after))
-    by (inr d) = none_twice xs what after apart.1 d
+    by : (x ≡ what) ⊎ Contains xs what → ¬ (Contains xs what) → ⊥
+    by (inl e) later = apart.0 (subst (λ (n : List ℕ). Contains (xs ++ what ∷ after) n) (sym e) (contains_middle xs what after))
+    by (inr d) later = later d
 
 seconds : {X : Type 0} (line : X → ℕ) (name : X → List ℕ) (xs : List X)
     → map (λ (one : ℕ × List ℕ). one.1) (map (λ x. (line x, name x)) xs) ≡ map name xs

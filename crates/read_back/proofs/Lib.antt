@@ -9,3 +9,6 @@ pub mod BackModules
 pub mod BackFaults
 pub mod BackTops
 pub mod BackEntry
+pub mod BackHeads
+pub mod BackOnce
+pub mod BackFaultless
