@@ -352,7 +352,7 @@ pub value-names : (names : Names) (func : Definition) (of : Function) → func.a
 value-names names func of args body p =
     map-append (λ (one : Naming). one.name) (arguments_named func.line [] func.arguments) (flat_map (λ (l : Line). result_named l.number (gives l.says)) func.body)
     ∙ ap (λ (ns : List (List ℕ)). ns ++ map (λ (one : Naming). one.name) (flat_map (λ (l : Line). result_named l.number (gives l.says)) func.body))
-        (ap (λ (named : List Named). map (λ (one : Naming). one.name) (arguments_named func.line [] named)) args ∙ argument_names func.line [] of.args ∙ argument_definitions of.args)
+    (ap (λ (named : List Named). map (λ (one : Naming). one.name) (arguments_named func.line [] named)) args ∙ argument_names func.line [] of.args ∙ argument_definitions of.args)
     ∙ ap (λ (ns : List (List ℕ)). map definition_name (map argument of.args) ++ ns)
-        (given_names func.body ∙ ap names_given body ∙ blocks_names names of.blocks p ∙ outcome_names (instructions_of of.blocks))
+    (given_names func.body ∙ ap names_given body ∙ blocks_names names of.blocks p ∙ outcome_names (instructions_of of.blocks))
     ∙ sym (map-append definition_name (map argument of.args) (map outcome (filter (λ inst. is_some inst.result) (instructions_of of.blocks))))

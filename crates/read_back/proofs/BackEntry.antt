@@ -85,7 +85,7 @@ return_leaves scope names tys.Token inst = refl
 switch_leaves : (scope : Scope) (names : Names) (ty : Ty) (os : List Operand) (labels : List BlockId) → length labels ≡ length os → 0 < length os
     → AllByRecursion (Leaves scope names) labels
     → ((block_number scope (label_says names (lab labels 0)) == 0) ≡ false)
-        × AllByRecursion (Keeps scope) (map (case_says names ty) (zip (drop 1 os) (drop 1 labels)) ++ switch_end ∷ [])
+    × AllByRecursion (Keeps scope) (map (case_says names ty) (zip (drop 1 os) (drop 1 labels)) ++ switch_end ∷ [])
 switch_leaves scope names ty [] labels n some h = absurd (omega arith)
 switch_leaves scope names ty (o ∷ os) [] n some h = absurd (omega arith)
 switch_leaves scope names ty (o ∷ os) (l ∷ labels) n some h = (h.0, cases_leave scope names ty os labels h.1)
@@ -99,10 +99,12 @@ inst_leaves scope names ops.Br inst p h =
     let one = one_label inst.labels (Leaves scope names) p.line.label_count (h refl) in
     (or_false (block_number scope (label_says names (lab inst.labels 0)) == 0) false one.0 refl, tt)
 inst_leaves scope names ops.CondBr inst p h =
-    let two = two_labels inst.labels (Leaves scope names) p.line.label_count (h refl) in
-    (or_false (block_number scope (label_says names (lab inst.labels 0)) == 0)
-        ((block_number scope (label_says names (lab inst.labels 1)) == 0) || false) two.0
-        (or_false (block_number scope (label_says names (lab inst.labels 1)) == 0) false two.1 refl), tt)
+    let two = two_labels inst.labels (Leaves scope names) p.line.label_count (h refl) in (
+      or_false (block_number scope (label_says names (lab inst.labels 0)) == 0)
+          ((block_number scope (label_says names (lab inst.labels 1)) == 0) || false) two.0
+          (or_false (block_number scope (label_says names (lab inst.labels 1)) == 0) false two.1 refl),
+      tt,
+    )
 inst_leaves scope names ops.Switch inst p h =
     let parts = switch_leaves scope names inst.ty inst.operands inst.labels p.line.0.label_count p.line.1 (h refl) in
     (or_false (block_number scope (label_says names (lab inst.labels 0)) == 0) false parts.0 refl, parts.1)
@@ -116,10 +118,10 @@ pub entry_has_pred-clear : (content : ModuleContent) → IsSourceModule content 
 entry_has_pred-clear content source ends lines e line f =
     no_body_fault content lines e names_entry
     (λ one func says c inst d.
-        let p = printed_inst content source func c inst d in
-        let s = setting_of content source ends lines e one func says c in
-        let clean = All-contains (FunctionHasNoFault content) content.funcs func source.no_fault.functions c in
-        let entry = All-contains module_entry.LeavesEntry (instructions_of func.blocks) inst clean.entry d in
-        inst_leaves (scope_of lines one) (names_in content func) inst.op inst p
-        (λ t. all_leave lines one (names_in content func) s inst.labels p.labels (recursion_from_All (λ (label : BlockId). label.0 ≢ 0) inst.labels (entry t))))
+    let p = printed_inst content source func c inst d in
+    let s = setting_of content source ends lines e one func says c in
+    let clean = All-contains (FunctionHasNoFault content) content.funcs func source.no_fault.functions c in
+    let entry = All-contains module_entry.LeavesEntry (instructions_of func.blocks) inst clean.entry d in
+    inst_leaves (scope_of lines one) (names_in content func) inst.op inst p
+    (λ t. all_leave lines one (names_in content func) s inst.labels p.labels (recursion_from_All (λ (label : BlockId). label.0 ≢ 0) inst.labels (entry t))))
     (λ scope name. refl) line f

@@ -88,7 +88,7 @@ externals_below layouts =
     all_append (IsBelow count) (map externs.New (range_with_len 0 count)) (fixed_externals ++ (map externs.ResultOf integer_widths ++ externs.ResultPointer ∷ []))
     (made_below count 0 count (omega arith))
     (all_append (IsBelow count) fixed_externals (map externs.ResultOf integer_widths ++ externs.ResultPointer ∷ []) (fixed_below count)
-        (all_append (IsBelow count) (map externs.ResultOf integer_widths) (externs.ResultPointer ∷ []) (results_below count integer_widths) (tt, tt)))
+    (all_append (IsBelow count) (map externs.ResultOf integer_widths) (externs.ResultPointer ∷ []) (results_below count integer_widths) (tt, tt)))
 
 -- what holds of all parts of a module
 pub record Each (P : Statement → Type 0) (content : ModuleContent) : Type 0 where
@@ -104,8 +104,8 @@ each_said P content each =
     all_append P (map layout_says content.layouts) (flat_map (declaration_if_called content.layouts content.funcs) (externals content.layouts) ++ flat_map (function_says content.layouts content.funcs) content.funcs)
     each.layouts
     (all_append P (flat_map (declaration_if_called content.layouts content.funcs) (externals content.layouts)) (flat_map (function_says content.layouts content.funcs) content.funcs)
-        (declared (externals content.layouts) (externals_below content.layouts))
-        (functions content.funcs (recursion_from_All (Contains content.funcs) content.funcs (All-contains_itself content.funcs))))
+    (declared (externals content.layouts) (externals_below content.layouts))
+    (functions content.funcs (recursion_from_All (Contains content.funcs) content.funcs (All-contains_itself content.funcs))))
   where
     by : (external : External) (b : Bool) → IsBelow (length content.layouts) external → AllByRecursion P (if b then declaration_says content.layouts external else [])
     by external true below = each.declarations external below
@@ -215,7 +215,7 @@ pub printed_from : (content : ModuleContent) (lines : List Line) → said lines 
 printed_from content lines e one c =
     All-contains (From content) (definitions_of lines) one
     (All-from_recursion (From content) (definitions_of lines)
-        (from_zip content (definitions_of lines) content.funcs (definitions-are content lines e) (recursion_from_All (Contains content.funcs) content.funcs (All-contains_itself content.funcs)))) c
+    (from_zip content (definitions_of lines) content.funcs (definitions-are content lines e) (recursion_from_All (Contains content.funcs) content.funcs (All-contains_itself content.funcs)))) c
 
 blocks_pass : (names : Names) (P : Statement → Type 0) (blocks : List BasicBlock) → ((name : List ℕ) → P (label name))
     → AllByRecursion (λ inst. AllByRecursion P (instruction_says names inst)) (instructions_of blocks) → AllByRecursion P (flat_map (block_says names) blocks)
@@ -231,8 +231,8 @@ blocks_pass names P (b ∷ bs) labels h =
 -- a test that finds no line of an instruction of a function finds no line of a body
 pub no_body_fault : (content : ModuleContent) (lines : List Line) → said lines ≡ said_by content → (test : Scope → Statement → Bool)
     → ((one : Definition) (func : Function) → SaysDefinition content.layouts content.funcs one func → Contains content.funcs func
-        → (inst : Instruction) → Contains (instructions_of func.blocks) inst
-        → AllByRecursion (λ s. test (scope_of lines one) s ≡ false) (instruction_says (names_in content func) inst))
+    → (inst : Instruction) → Contains (instructions_of func.blocks) inst
+    → AllByRecursion (λ s. test (scope_of lines one) s ≡ false) (instruction_says (names_in content func) inst))
     → ((scope : Scope) (name : List ℕ) → test scope (label name) ≡ false)
     → (line : ℕ) → ¬ (InBody lines line test)
 no_body_fault content lines e test clear labels line f =
@@ -242,7 +242,7 @@ no_body_fault content lines e test clear labels line f =
     let each : AllByRecursion (λ inst. AllByRecursion P (instruction_says (names_in content o.func) inst)) insts =
     recursion_from_All (λ (inst : Instruction). AllByRecursion P (instruction_says (names_in content o.func) inst)) insts
     (All-weaker (Contains insts) (λ (inst : Instruction). AllByRecursion P (instruction_says (names_in content o.func) inst))
-        (clear f.func o.func o.says o.stands) insts (All-contains_itself insts)) in
+    (clear f.func o.func o.says o.stands) insts (All-contains_itself insts)) in
     let all = lines_all P f.func.body (flat_map (block_says (names_in content o.func)) o.func.blocks) o.says.body
     (blocks_pass (names_in content o.func) P o.func.blocks (labels (scope_of lines f.func)) each) in
     let no : test (scope_of lines f.func) f.found.says ≡ false =
@@ -325,8 +325,8 @@ pub pointer_order-clear : (content : ModuleContent) → IsSourceModule content �
 pointer_order-clear content source lines e line f =
     no_body_fault content lines e (λ scope. orders_pointers)
     (λ one func says c inst d. no_order_inst (names_in content func) inst.op inst
-        (All-contains (λ (i : Instruction). module_order.orders_pointers i.op i.ty ≡ false) (instructions_of func.blocks) inst
-            (All-contains (FunctionHasNoFault content) content.funcs func source.no_fault.functions c).pointers d))
+    (All-contains (λ (i : Instruction). module_order.orders_pointers i.op i.ty ≡ false) (instructions_of func.blocks) inst
+    (All-contains (FunctionHasNoFault content) content.funcs func source.no_fault.functions c).pointers d))
     (λ scope name. refl) line f
 
 -- ---- declarations
@@ -404,10 +404,10 @@ pub declares_free : (content : ModuleContent) (lines : List Line) → said lines
 declares_free content lines e line answer name parameters c =
     line_said (IfDeclares (λ a n ps. ¬ (Contains helpers n ⊎ HasFront (codes "llvm.") n))) content lines e
     (each_declaration (λ a n ps. ¬ (Contains helpers n ⊎ HasFront (codes "llvm.") n)) content
-        (λ number below. made_not_reserved (layout_name content.layouts number))
-        (not_reserved (codes "print_i64") (λ e. omega (arith, e)) (λ e. omega (arith, e)))
-        (not_reserved (codes "read_i64") (λ e. omega (arith, e)) (λ e. omega (arith, e)))
-        (not_reserved (codes "task_start") (λ e. omega (arith, e)) (λ e. omega (arith, e))))
+    (λ number below. made_not_reserved (layout_name content.layouts number))
+    (not_reserved (codes "print_i64") (λ e. omega (arith, e)) (λ e. omega (arith, e)))
+    (not_reserved (codes "read_i64") (λ e. omega (arith, e)) (λ e. omega (arith, e)))
+    (not_reserved (codes "task_start") (λ e. omega (arith, e)) (λ e. omega (arith, e))))
     (record { number = line; says = declare answer name parameters }) c
 
 -- ---- code 12
@@ -421,9 +421,9 @@ unknown_extern-clear content lines e line f =
     let there : IsExtern names f.answer f.name f.parameters =
     line_said (IfDeclares (IsExtern names)) content lines e
     (each_declaration (IsExtern names) content (made names content.layouts refl)
-        (own names 0 (external (codes "print_i64") types.Void (types.Int 64 ∷ [])) refl)
-        (own names 1 (external (codes "read_i64") (types.Int 64) []) refl)
-        (own names 2 (external (codes "task_start") types.Void (types.Plain ∷ types.Managed ∷ [])) refl))
+    (own names 0 (external (codes "print_i64") types.Void (types.Int 64 ∷ [])) refl)
+    (own names 1 (external (codes "read_i64") (types.Int 64) []) refl)
+    (own names 2 (external (codes "task_start") types.Void (types.Plain ∷ types.Managed ∷ [])) refl))
     (record { number = line; says = declare f.answer f.name f.parameters }) f.stands in
     f.unknown (subst (λ (ns : List (List ℕ)). IsExtern ns f.answer f.name f.parameters) (sym (layout-names content lines e)) there)
   where

@@ -22,9 +22,9 @@ declares_external : (content : ModuleContent) (lines : List Line) → said lines
 declares_external content lines e l c answer name parameters says =
     subst (IfDeclares (λ a n ps. IsExternalName n)) says
     (line_said (IfDeclares (λ a n ps. IsExternalName n)) content lines e
-        (each_declaration (λ a n ps. IsExternalName n) content
-            (λ layout below. inr (inl (layout_name content.layouts layout, refl)))
-            (inl (0, omega arith, refl)) (inl (1, omega arith, refl)) (inl (2, omega arith, refl))) l c)
+    (each_declaration (λ a n ps. IsExternalName n) content
+    (λ layout below. inr (inl (layout_name content.layouts layout, refl)))
+    (inl (0, omega arith, refl)) (inl (1, omega arith, refl)) (inl (2, omega arith, refl))) l c)
 
 pub declares_defined-clear : (content : ModuleContent) → IsSourceModule content → (lines : List Line) → said lines ≡ said_by content → (line : ℕ) → ¬ (DeclaresDefined lines line)
 declares_defined-clear content source lines e line d =

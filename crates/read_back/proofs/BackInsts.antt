@@ -143,7 +143,7 @@ call_case names known s free callee ts inst p rest =
     let parts = callee_parts names callee ts inst p.layouts p.functions in
     let passed : FunctionsOf (λ named. named < length names.funcs) inst.operands =
     subst (λ (b : List (Ty × Operand)). AllByRecursion (λ named. named < length names.funcs)
-        (functions_named (record { result = inst.result; op = ops.Load; ty = inst.ty; operands = inst.operands; labels = inst.labels; bundle = b }))) p.bundle parts.1 in
+    (functions_named (record { result = inst.result; op = ops.Load; ty = inst.ty; operands = inst.operands; labels = inst.labels; bundle = b }))) p.bundle parts.1 in
     call-back names known s free callee ts rest inst p.is p.line p.bundle parts.0 p.plain
     (passes_zip names callee inst.operands ts p.fits p.line.arguments passed (recursion_from_All IsWidth (flat_map type_widths ts) p.own_widths))
 
@@ -171,7 +171,7 @@ switch-back : (names : Names) (known : Known) → Setting names known → (inst 
     → (here rest : List Line) → said here ≡ switch_says names inst → insts_of known (here ++ rest) ≡ inst ∷ insts_of known rest
 switch-back names known s inst o has some good below [] rest e =
     absurd (let bad : [] ≡ switch (width_in inst.ty) (value_at names inst.ty inst 0) (target_at names inst 0)
-        ∷ (map (case_says names inst.ty) (zip (drop 1 inst.operands) (drop 1 inst.labels)) ++ switch_end ∷ []) = e in cc)
+    ∷ (map (case_says names inst.ty) (zip (drop 1 inst.operands) (drop 1 inst.labels)) ++ switch_end ∷ []) = e in cc)
 switch-back names known s inst o has some good below (k ∷ ks) rest e =
     let head = switch (width_in inst.ty) (value_at names inst.ty inst 0) (target_at names inst 0) in
     let parts = cons_parts k.says (said ks) head (map (case_says names inst.ty) (zip (drop 1 inst.operands) (drop 1 inst.labels)) ++ switch_end ∷ []) e in
@@ -186,8 +186,8 @@ switch-back names known s inst o has some good below (k ∷ ks) rest e =
     (label_of known (target_at names inst 0) ∷ case_labels known.blocks (ks ++ rest))
     (no_result inst.result has.result) o (integer-is inst.ty has.type)
     (os.2 (operand_of known (types.Int (width_in inst.ty)) (value_at names inst.ty inst 0)) (case_values known.values (width_in inst.ty) (ks ++ rest))
-        (ap (λ (w : TypeWord). operand_of known w (value_at names inst.ty inst 0)) (integer-word inst.ty has.type) ∙ operand-back names known s inst.ty (operand_at inst 0) os.0)
-        cases.values)
+    (ap (λ (w : TypeWord). operand_of known w (value_at names inst.ty inst 0)) (integer-word inst.ty has.type) ∙ operand-back names known s inst.ty (operand_at inst 0) os.0)
+    cases.values)
     (ls.2 (label_of known (target_at names inst 0)) (case_labels known.blocks (ks ++ rest)) (label-back names known s (label_at inst 0) ls.0) cases.targets)
     has.no_bundle in
     insts-cons known k (ks ++ rest)
@@ -287,8 +287,8 @@ inst-back names known s free ops.Switch inst p here rest e =
 inst-back names known s free ops.Ret inst p here rest e =
     single known here rest (return_says names inst.ty inst) inst e
     (return-back names known s rest inst p.is p.line.result p.line.type p.line.operand_count (nil_from_length inst.labels p.line.label_count) p.bundle
-        (same_good names inst (length inst.operands) refl p.line.values p.widths p.fits))
+    (same_good names inst (length inst.operands) refl p.line.values p.widths p.fits))
 inst-back names known s free ops.Unreachable inst p here rest e =
     single known here rest unreachable inst e
     (same-inst inst None ops.Unreachable tys.Void [] [] (no_result inst.result p.line.result) p.is (void-is inst.ty p.line.type)
-        (sym (nil_from_length inst.operands p.line.operand_count)) (sym (nil_from_length inst.labels p.line.label_count)) p.bundle)
+    (sym (nil_from_length inst.operands p.line.operand_count)) (sym (nil_from_length inst.labels p.line.label_count)) p.bundle)

@@ -178,8 +178,8 @@ binary-back names known s op rest inst o has good =
     (operand_of known (types.Int (width_in inst.ty)) (value_at names inst.ty inst 0) ∷ operand_of known (types.Int (width_in inst.ty)) (value_at names inst.ty inst 1) ∷ []) []
     (result-is inst.result has.result) o (integer-is inst.ty has.type)
     (two.is (operand_of known (types.Int (width_in inst.ty)) (value_at names inst.ty inst 0)) (operand_of known (types.Int (width_in inst.ty)) (value_at names inst.ty inst 1))
-        (ap (λ (w : TypeWord). operand_of known w (value_at names inst.ty inst 0)) word ∙ operand-back names known s inst.ty (operand_at inst 0) two.first)
-        (ap (λ (w : TypeWord). operand_of known w (value_at names inst.ty inst 1)) word ∙ operand-back names known s inst.ty (operand_at inst 1) two.second))
+    (ap (λ (w : TypeWord). operand_of known w (value_at names inst.ty inst 0)) word ∙ operand-back names known s inst.ty (operand_at inst 0) two.first)
+    (ap (λ (w : TypeWord). operand_of known w (value_at names inst.ty inst 1)) word ∙ operand-back names known s inst.ty (operand_at inst 1) two.second))
     (sym (nil_from_length inst.labels has.label_count)) has.no_bundle
 
 pub compare-back : (names : Names) (known : Known) → Setting names known → (pred : Pred) (rest : List Line) (inst : Instruction)
@@ -191,8 +191,8 @@ compare-back names known s pred rest inst o has good =
     (operand_of known (word_of inst.ty) (value_at names inst.ty inst 0) ∷ operand_of known (word_of inst.ty) (value_at names inst.ty inst 1) ∷ []) []
     (result-is inst.result has.result) o (word-type inst.ty has.type)
     (two.is (operand_of known (word_of inst.ty) (value_at names inst.ty inst 0)) (operand_of known (word_of inst.ty) (value_at names inst.ty inst 1))
-        (operand-back names known s inst.ty (operand_at inst 0) two.first)
-        (operand-back names known s inst.ty (operand_at inst 1) two.second))
+    (operand-back names known s inst.ty (operand_at inst 0) two.first)
+    (operand-back names known s inst.ty (operand_at inst 1) two.second))
     (sym (nil_from_length inst.labels has.label_count)) has.no_bundle
 
 pub convert-back : (names : Names) (known : Known) → Setting names known → (op : Conversion) (width : ℕ) (rest : List Line) (inst : Instruction)
@@ -204,8 +204,8 @@ convert-back names known s op width rest inst o has good =
     (operand_of known (types.Int (width_in inst.ty)) (value_at names inst.ty inst 0) ∷ []) []
     (result-is inst.result has.result) o (integer-is inst.ty has.type)
     (one.is (operand_of known (types.Int (width_in inst.ty)) (value_at names inst.ty inst 0))
-        (ap (λ (w : TypeWord). operand_of known w (value_at names inst.ty inst 0)) (integer-word inst.ty has.type)
-        ∙ operand-back names known s inst.ty (operand_at inst 0) one.first))
+    (ap (λ (w : TypeWord). operand_of known w (value_at names inst.ty inst 0)) (integer-word inst.ty has.type)
+    ∙ operand-back names known s inst.ty (operand_at inst 0) one.first))
     (sym (nil_from_length inst.labels has.label_count)) has.no_bundle
 
 pub select-back : (names : Names) (known : Known) → Setting names known → (rest : List Line) (inst : Instruction)
@@ -215,13 +215,13 @@ select-back names known s rest inst o has good =
     let three = three_given (Good names) inst.operands (tys.Int 1) inst.ty inst.ty good in
     same-inst inst (Some (result_of inst)) ops.Select (type_of (word_of inst.ty))
     (operand_of known (types.Int 1) (value_at names (tys.Int 1) inst 0) ∷ operand_of known (word_of inst.ty) (value_at names inst.ty inst 1)
-        ∷ operand_of known (word_of inst.ty) (value_at names inst.ty inst 2) ∷ []) []
+    ∷ operand_of known (word_of inst.ty) (value_at names inst.ty inst 2) ∷ []) []
     (result-is inst.result has.result) o (word-type inst.ty has.type)
     (three.is (operand_of known (types.Int 1) (value_at names (tys.Int 1) inst 0)) (operand_of known (word_of inst.ty) (value_at names inst.ty inst 1))
-        (operand_of known (word_of inst.ty) (value_at names inst.ty inst 2))
-        (operand-back names known s (tys.Int 1) (operand_at inst 0) three.first)
-        (operand-back names known s inst.ty (operand_at inst 1) three.second)
-        (operand-back names known s inst.ty (operand_at inst 2) three.third))
+    (operand_of known (word_of inst.ty) (value_at names inst.ty inst 2))
+    (operand-back names known s (tys.Int 1) (operand_at inst 0) three.first)
+    (operand-back names known s inst.ty (operand_at inst 1) three.second)
+    (operand-back names known s inst.ty (operand_at inst 2) three.third))
     (sym (nil_from_length inst.labels has.label_count)) has.no_bundle
 
 pub load-back : (names : Names) (known : Known) → Setting names known → (rest : List Line) (inst : Instruction)
@@ -243,8 +243,8 @@ store-back names known s rest inst o has good =
     (operand_of known (word_of inst.ty) (value_at names inst.ty inst 0) ∷ operand_of known types.Managed (value_at names tys.Ptr inst 1) ∷ []) []
     (no_result inst.result has.result) o (word-type inst.ty has.type)
     (two.is (operand_of known (word_of inst.ty) (value_at names inst.ty inst 0)) (operand_of known types.Managed (value_at names tys.Ptr inst 1))
-        (operand-back names known s inst.ty (operand_at inst 0) two.first)
-        (operand-back names known s tys.Ptr (operand_at inst 1) two.second))
+    (operand-back names known s inst.ty (operand_at inst 0) two.first)
+    (operand-back names known s tys.Ptr (operand_at inst 1) two.second))
     (sym (nil_from_length inst.labels has.label_count)) has.no_bundle
 
 -- ---- steps
@@ -262,13 +262,13 @@ step-back names known s elem width place rest inst o has element below small goo
 
     made : (op : Op) → op ≡ inst.op
         → Some (instruction (Some (result_of inst)) op tys.Ptr
-            (operand_of known types.Managed (value_at names tys.Ptr inst 0) ∷ operand_of known (types.Int width) (value_at names (tys.Int width) inst 1) ∷ []) []) ≡ Some inst
+        (operand_of known types.Managed (value_at names tys.Ptr inst 0) ∷ operand_of known (types.Int width) (value_at names (tys.Int width) inst 1) ∷ []) []) ≡ Some inst
     made op e = same-inst inst (Some (result_of inst)) op tys.Ptr
         (operand_of known types.Managed (value_at names tys.Ptr inst 0) ∷ operand_of known (types.Int width) (value_at names (tys.Int width) inst 1) ∷ []) []
         (result-is inst.result has.result) e (pointer-is inst.ty has.type)
         (two.is (operand_of known types.Managed (value_at names tys.Ptr inst 0)) (operand_of known (types.Int width) (value_at names (tys.Int width) inst 1))
-            (operand-back names known s tys.Ptr (operand_at inst 0) two.first)
-            (operand-back names known s (tys.Int width) (operand_at inst 1) two.second))
+        (operand-back names known s tys.Ptr (operand_at inst 0) two.first)
+        (operand-back names known s (tys.Int width) (operand_at inst 1) two.second))
         (sym (nil_from_length inst.labels has.label_count)) has.no_bundle
 
     no_place : (p : Option ℕ) → is_none p ≡ true → None ≡ p
@@ -290,10 +290,10 @@ step-back names known s elem width place rest inst o has element below small goo
     by elements.Ptr (Some n) o e below small = absurd (let bad : false ≡ true = e in cc)
     by (elements.Layout layout) place o e below small =
         ap (λ (n : ℕ). Some (instruction (Some (result_of inst)) (ops.Gep (elements.Layout n) width (option_map place_of (option_map place_says place))) tys.Ptr
-            (operand_of known types.Managed (value_at names tys.Ptr inst 0) ∷ operand_of known (types.Int width) (value_at names (tys.Int width) inst 1) ∷ []) []))
+        (operand_of known types.Managed (value_at names tys.Ptr inst 0) ∷ operand_of known (types.Int width) (value_at names (tys.Int width) inst 1) ∷ []) []))
         (layout-number names known s layout (below layout refl))
         ∙ made (ops.Gep (elements.Layout layout) width (option_map place_of (option_map place_says place)))
-            (ap (λ (p : Option ℕ). ops.Gep (elements.Layout layout) width p) (place-is place small) ∙ o)
+        (ap (λ (p : Option ℕ). ops.Gep (elements.Layout layout) width p) (place-is place small) ∙ o)
 
 -- ---- terminators
 
@@ -318,9 +318,9 @@ branch-back names known s rest inst o has good below =
     (label_of known (target_at names inst 0) ∷ label_of known (target_at names inst 1) ∷ [])
     (no_result inst.result has.result) o (condition-is inst.ty has.type)
     (one.is (operand_of known (types.Int 1) (value_at names (tys.Int 1) inst 0))
-        (operand-back names known s (tys.Int 1) (operand_at inst 0) (subst (λ (t : Ty). Good names (operand_at inst 0) t) (sym (condition-is inst.ty has.type)) one.first)))
+    (operand-back names known s (tys.Int 1) (operand_at inst 0) (subst (λ (t : Ty). Good names (operand_at inst 0) t) (sym (condition-is inst.ty has.type)) one.first)))
     (two.2 (label_of known (target_at names inst 0)) (label_of known (target_at names inst 1))
-        (label-back names known s (label_at inst 0) two.0) (label-back names known s (label_at inst 1) two.1))
+    (label-back names known s (label_at inst 0) two.0) (label-back names known s (label_at inst 1) two.1))
     has.no_bundle
 
 pub return-back : (names : Names) (known : Known) → Setting names known → (rest : List Line) (inst : Instruction)

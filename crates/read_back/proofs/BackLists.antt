@@ -120,7 +120,7 @@ argument-back names known s ty operand p = by p.argument
 
 passed_is : (names : Names) (known : Known) → Setting names known → (os : List Operand) (ts : List Ty) → AllZip (Passes names) os ts
     → (map (passed_operand known) (map (λ (argument : Ty × Operand). passed_says names argument.0 argument.1) (zip ts os)) ≡ os)
-        × (map given_type (map (λ (argument : Ty × Operand). passed_says names argument.0 argument.1) (zip ts os)) ≡ ts)
+    × (map given_type (map (λ (argument : Ty × Operand). passed_says names argument.0 argument.1) (zip ts os)) ≡ ts)
 passed_is names known s [] [] p = (refl, refl)
 passed_is names known s [] (t ∷ ts) p = absurd p
 passed_is names known s (o ∷ os) [] p = absurd p
@@ -246,4 +246,4 @@ cases-back names known s ty int (o ∷ os) (l ∷ labels) (k ∷ ks) rest n good
     let parts = cons_parts k.says (said ks) (case_says names ty (o, l)) (map (case_says names ty) (zip os labels) ++ switch_end ∷ []) e in
     subst (λ (t : Statement). Cases names known ty (o ∷ os) (l ∷ labels) (record { number = k.number; says = t } ∷ ks) rest) (sym parts.0)
     (cases_more names known s ty int o l os labels k.number ks rest good.0 below.0
-        (cases-back names known s ty int os labels ks rest (omega arith) good.1 below.1 parts.1))
+    (cases-back names known s ty int os labels ks rest (omega arith) good.1 below.1 parts.1))

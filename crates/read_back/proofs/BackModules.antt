@@ -99,7 +99,7 @@ printed_inst content source func c inst d = one
     widths : AllByRecursion (λ inst. AllByRecursion IsWidth (line_widths inst)) insts
     widths = split_flat line_widths IsWidth insts
         (split_all IsWidth (type_widths func.answer ++ flat_map (λ (arg : Arg). type_widths arg.ty) func.args) (flat_map line_widths insts)
-            (recursion_from_All IsWidth (widths_of func) own.widths)).1
+        (recursion_from_All IsWidth (widths_of func) own.widths)).1
 
     one : IsPrinted (names_in content func) inst.op inst
     one =
@@ -132,7 +132,7 @@ printed content source func c =
     let insts = instructions_of func.blocks in
     split_flat (λ (block : BasicBlock). block.insts) (λ inst. IsPrinted (names_in content func) inst.op inst) func.blocks
     (recursion_from_All (λ (inst : Instruction). IsPrinted (names_in content func) inst.op inst) insts
-        (All-weaker (Contains insts) (λ (inst : Instruction). IsPrinted (names_in content func) inst.op inst) (printed_inst content source func c) insts (All-contains_itself insts)))
+    (All-weaker (Contains insts) (λ (inst : Instruction). IsPrinted (names_in content func) inst.op inst) (printed_inst content source func c) insts (All-contains_itself insts)))
 
 -- ---- what the typer knows of it
 
@@ -140,9 +140,13 @@ results_few : (func : Function) → length (defs.definitions_of func) ≤ length
 results_few func =
     let insts = instructions_of func.blocks in
     let count = count_by-le-length (λ (inst : Instruction). is_some inst.result) insts in
-    omega (arith, length-append (map argument func.args) (map outcome (filter (λ (inst : Instruction). is_some inst.result) insts)),
-        length-map func.args argument, length-map (filter (λ (inst : Instruction). is_some inst.result) insts) outcome,
-        length-filter (λ (inst : Instruction). is_some inst.result) insts)
+    omega (
+      arith,
+      length-append (map argument func.args) (map outcome (filter (λ (inst : Instruction). is_some inst.result) insts)),
+      length-map func.args argument,
+      length-map (filter (λ (inst : Instruction). is_some inst.result) insts) outcome,
+      length-filter (λ (inst : Instruction). is_some inst.result) insts,
+    )
 
 pub setting : (content : ModuleContent) → IsSourceModule content → (lines : List Line) → said lines ≡ said_by content
     → (one : Definition) (func : Function) → SaysDefinition content.layouts content.funcs one func → Contains content.funcs func
@@ -191,10 +195,10 @@ function-back content source known one func says c s =
     ap (λ (n : List ℕ). record { name = n; answer = type_of one.answer; args = args; blocks = blocks }) says.name
     ∙ ap (λ (t : Ty). record { name = func.name; answer = t; args = args; blocks = blocks }) (ap type_of says.answer ∙ answer-type func.answer typed.answer)
     ∙ ap (λ (xs : List Arg). record { name = func.name; answer = func.answer; args = xs; blocks = blocks })
-        (ap (λ (xs : List Named). map argument_of (arguments_named one.line [] xs)) says.arguments
-        ∙ arguments-back one.line [] func.args (recursion_from_All (λ (arg : Arg). is_first_class arg.ty ≡ true) func.args typed.args))
+    (ap (λ (xs : List Named). map argument_of (arguments_named one.line [] xs)) says.arguments
+    ∙ arguments-back one.line [] func.args (recursion_from_All (λ (arg : Arg). is_first_class arg.ty ≡ true) func.args typed.args))
     ∙ ap (λ (bs : List BasicBlock). record { name = func.name; answer = func.answer; args = func.args; blocks = bs })
-        (blocks-back (names_in content func) known s free (blocks_of one) func.blocks (blocks-are (names_in content func) one func.blocks says.body) (printed content source func c))
+    (blocks-back (names_in content func) known s free (blocks_of one) func.blocks (blocks-are (names_in content func) one func.blocks says.body) (printed content source func c))
 
 made_back : (content : ModuleContent) (F : Definition → Function)
     → ((one : Definition) (func : Function) → SaysDefinition content.layouts content.funcs one func → Contains content.funcs func → F one ≡ func)
@@ -228,7 +232,7 @@ module-back content source ends lines e =
     let funcs : map (λ (d : Definition). function_of (known_of lines d) d) (definitions_of lines) ≡ content.funcs =
     made_back content (λ d. function_of (known_of lines d) d)
     (λ one func says c. function-back content source (known_of lines one) one func says c
-        (setting content source lines e one func says c (few_in content source ends func c) names))
+    (setting content source lines e one func says c (few_in content source ends func c) names))
     (definitions_of lines) content.funcs zip (recursion_from_All (Contains content.funcs) content.funcs (All-contains_itself content.funcs)) in
     ap (λ (ls : List ObjectLayout). record { layouts = ls; funcs = map (λ (d : Definition). function_of (known_of lines d) d) (definitions_of lines); form = Source }) (layouts-back content lines e)
     ∙ ap (λ (fs : List Function). record { layouts = content.layouts; funcs = fs; form = Source }) funcs

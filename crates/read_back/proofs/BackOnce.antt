@@ -61,7 +61,7 @@ functions_named layouts funcs (f ∷ fs) =
     let body = flat_map (block_says names) f.blocks in
     flat-append head_names (function_says layouts funcs f) (flat_map (function_says layouts funcs) fs)
     ∙ ap (λ (ns : List (List ℕ)). (f.name ∷ ns) ++ flat_map head_names (flat_map (function_says layouts funcs) fs))
-        (flat-append head_names body (close ∷ []) ∙ ap (λ (ns : List (List ℕ)). ns ++ []) (body_names body (blocks_inner names f.blocks)))
+    (flat-append head_names body (close ∷ []) ∙ ap (λ (ns : List (List ℕ)). ns ++ []) (body_names body (blocks_inner names f.blocks)))
     ∙ ap (λ (ns : List (List ℕ)). f.name ∷ ns) (functions_named layouts funcs fs)
 
 layouts_unnamed : (layouts : List ObjectLayout) → flat_map head_names (map layout_says layouts) ≡ []
@@ -184,10 +184,11 @@ made_others layouts once j first (suc more) less few =
 each_made : (layouts : List ObjectLayout) → Distinct (map (λ layout. layout.name) layouts) → (first more : ℕ) → first + more ≤ length layouts
     → (fs : List External) → AllByRecursion IsFixed fs → Others layouts fs → Others layouts (map externs.New (range_with_len first more) ++ fs)
 each_made layouts once first zero few fs fixed others = others
-each_made layouts once first (suc more) few fs fixed others =
-    (all_append (Other layouts (externs.New first)) (map externs.New (range_with_len (first + 1) more)) fs
-        (made_others layouts once first (first + 1) more (omega arith) (omega arith)) (all_fixed layouts first fs fixed),
-      each_made layouts once (first + 1) more (omega arith) fs fixed others)
+each_made layouts once first (suc more) few fs fixed others = (
+  all_append (Other layouts (externs.New first)) (map externs.New (range_with_len (first + 1) more)) fs
+      (made_others layouts once first (first + 1) more (omega arith) (omega arith)) (all_fixed layouts first fs fixed),
+  each_made layouts once (first + 1) more (omega arith) fs fixed others,
+)
 
 abbrev IsSilent : External → Type 0
 IsSilent (externs.New k) = ⊥
@@ -238,10 +239,14 @@ tail_silent = (tt, (tt, (tt, (tt, (tt, silent_results integer_widths)))))
 
 fixed_others : (layouts : List ObjectLayout) → Others layouts (externs.Print ∷ externs.Read ∷ externs.TaskStart ∷ silent_tail)
 fixed_others layouts = (
-  (((first_other (codes "read_i64") (codes "print_i64") (λ e. omega (arith, e)), tt), tt),
-    (((first_other (codes "task_start") (codes "print_i64") (λ e. omega (arith, e)), tt), tt), after_silent layouts externs.Print silent_tail tail_silent)),
-  ((((first_other (codes "task_start") (codes "read_i64") (λ e. omega (arith, e)), tt), tt), after_silent layouts externs.Read silent_tail tail_silent),
-    (after_silent layouts externs.TaskStart silent_tail tail_silent, silent_others layouts silent_tail tail_silent)),
+  (
+    ((first_other (codes "read_i64") (codes "print_i64") (λ e. omega (arith, e)), tt), tt),
+    (((first_other (codes "task_start") (codes "print_i64") (λ e. omega (arith, e)), tt), tt), after_silent layouts externs.Print silent_tail tail_silent),
+  ),
+  (
+    (((first_other (codes "task_start") (codes "read_i64") (λ e. omega (arith, e)), tt), tt), after_silent layouts externs.Read silent_tail tail_silent),
+    (after_silent layouts externs.TaskStart silent_tail tail_silent, silent_others layouts silent_tail tail_silent),
+  ),
 )
 
 externals_others : (layouts : List ObjectLayout) → Distinct (map (λ layout. layout.name) layouts) → Others layouts (externals layouts)

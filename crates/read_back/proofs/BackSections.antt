@@ -134,14 +134,29 @@ definitions-said layouts funcs (f ∷ fs) (l ∷ ls) e =
         ap definitions_of whole ∙ definitions_skip front (k ∷ ks) (body_lines front inside)
         ∙ ap (λ (s : Statement). definition_said k.number s ks ++ definitions_of ks) end.0 in
         let is : definitions_of (l ∷ ls) ≡ record {
-          line = l.number; answer = word_of f.answer; name = f.name; arguments = map argument_says f.args; strategy = Some (codes "statepoint-example"); body = front;
+          line = l.number;
+          answer = word_of f.answer;
+          name = f.name;
+          arguments = map argument_says f.args;
+          strategy = Some (codes "statepoint-example");
+          body = front;
         } ∷ definitions_of ks =
         ap (λ (s : Statement). definition_said l.number s ls ++ definitions_of ls) head
         ∙ ap (λ (b : List Line). record {
-          line = l.number; answer = word_of f.answer; name = f.name; arguments = map argument_says f.args; strategy = Some (codes "statepoint-example"); body = b;
+          line = l.number;
+          answer = word_of f.answer;
+          name = f.name;
+          arguments = map argument_says f.args;
+          strategy = Some (codes "statepoint-example");
+          body = b;
         } ∷ definitions_of ls) taken
         ∙ ap (λ (ds : List Definition). record {
-          line = l.number; answer = word_of f.answer; name = f.name; arguments = map argument_says f.args; strategy = Some (codes "statepoint-example"); body = front;
+          line = l.number;
+          answer = word_of f.answer;
+          name = f.name;
+          arguments = map argument_says f.args;
+          strategy = Some (codes "statepoint-example");
+          body = front;
         } ∷ ds) rest in
         subst (λ (ds : List Definition). AllZip (SaysDefinition layouts funcs) ds (f ∷ fs)) (sym is)
         (record { answer = refl; name = refl; arguments = refl; strategy = refl; body = front_says }, others ks end.1)
@@ -227,9 +242,11 @@ bodies_no_layout [] h = tt
 bodies_no_layout (s ∷ ss) h = (body_no_layout s h.0, bodies_no_layout ss h.1)
 
 function_no_layout : (layouts : List ObjectLayout) (funcs : List Function) (f : Function) → AllByRecursion NoLayout (function_says layouts funcs f)
-function_no_layout layouts funcs f =
-    (refl, all_append NoLayout (flat_map (block_says (record { layouts = layouts; funcs = funcs; func = f })) f.blocks) (close ∷ [])
-        (bodies_no_layout (flat_map (block_says (record { layouts = layouts; funcs = funcs; func = f })) f.blocks) (blocks_inner (record { layouts = layouts; funcs = funcs; func = f }) f.blocks)) (refl, tt))
+function_no_layout layouts funcs f = (
+  refl,
+  all_append NoLayout (flat_map (block_says (record { layouts = layouts; funcs = funcs; func = f })) f.blocks) (close ∷ [])
+      (bodies_no_layout (flat_map (block_says (record { layouts = layouts; funcs = funcs; func = f })) f.blocks) (blocks_inner (record { layouts = layouts; funcs = funcs; func = f }) f.blocks)) (refl, tt),
+)
 
 declared_no_layout : (layouts : List ObjectLayout) (external : External) → AllByRecursion NoLayout (declaration_says layouts external)
 declared_no_layout layouts (externs.New number) = (refl, tt)
@@ -253,9 +270,9 @@ layouts-back content lines e =
     layouts_seen lines ∙ ap (flat_map layout_seen) e ∙ flat-append layout_seen (map layout_says content.layouts) (declared ++ defined)
     ∙ ap (λ (xs : List ObjectLayout). xs ++ flat_map layout_seen (declared ++ defined)) (said_layouts content.layouts)
     ∙ ap (λ (xs : List ObjectLayout). content.layouts ++ xs)
-        (none_seen (declared ++ defined) (all_append NoLayout declared defined
-            (all_flat (declaration_if_called content.layouts content.funcs) NoLayout (if_called_no_layout content.layouts content.funcs) (externals content.layouts))
-            (all_flat (function_says content.layouts content.funcs) NoLayout (function_no_layout content.layouts content.funcs) content.funcs)))
+    (none_seen (declared ++ defined) (all_append NoLayout declared defined
+    (all_flat (declaration_if_called content.layouts content.funcs) NoLayout (if_called_no_layout content.layouts content.funcs) (externals content.layouts))
+    (all_flat (function_says content.layouts content.funcs) NoLayout (function_no_layout content.layouts content.funcs) content.funcs)))
     ∙ append-nil content.layouts
 
 layout_names_same : (xs : List LayoutLine) → map (λ one. one.name) xs ≡ map (λ layout. layout.name) (map layout_of xs)

@@ -80,7 +80,7 @@ labels_once content source lines e one c line r =
     let o = printed_from content lines e one c in
     no_repeat (λ (b : BlockLines). b.line) (λ (b : BlockLines). b.name) (blocks_of one)
     (subst Distinct (sym (names_of_blocks content one o))
-        (All-contains (λ (f : Function). Distinct (map (λ (b : BasicBlock). b.name) f.blocks)) content.funcs o.func source.no_fault.names.labels o.stands)) line r
+    (All-contains (λ (f : Function). Distinct (map (λ (b : BasicBlock). b.name) f.blocks)) content.funcs o.func source.no_fault.names.labels o.stands)) line r
 
 pub values_once : (content : ModuleContent) → IsSourceModule content → (lines : List Line) → said lines ≡ said_by content
     → (one : Definition) → Contains (definitions_of lines) one → (line : ℕ) → ¬ (Repeats (map (λ v. (v.line, v.name)) (values_of one)) line)
@@ -88,7 +88,7 @@ values_once content source lines e one c line r =
     let o = printed_from content lines e one c in
     no_repeat (λ (v : Naming). v.line) (λ (v : Naming). v.name) (values_of one)
     (subst Distinct (sym (names_of_values content source one o))
-        (All-contains (λ (f : Function). Distinct (map definition_name (defs.definitions_of f))) content.funcs o.func source.no_fault.names.values o.stands)) line r
+    (All-contains (λ (f : Function). Distinct (map definition_name (defs.definitions_of f))) content.funcs o.func source.no_fault.names.values o.stands)) line r
 
 -- ---- reserved names
 
