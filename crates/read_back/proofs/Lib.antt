@@ -13,3 +13,17 @@ pub mod Chains
 pub mod Blocks
 pub mod Functions
 pub mod FunctionsRead
+pub mod BackLiterals
+pub mod BackNames
+pub mod BackLines
+pub mod BackLists
+pub mod BackInsts
+pub mod BackBlocks
+pub mod BackSections
+pub mod BackModules
+pub mod BackFaults
+pub mod BackTops
+pub mod BackEntry
+pub mod BackHeads
+pub mod BackOnce
+pub mod BackFaultless

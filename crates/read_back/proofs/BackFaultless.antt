@@ -1,0 +1,60 @@
+-- The lines that a source module is printed as have none of the faults that are proved absent.
+use Rattle.std.proofs.Common.{◌≡◌, ℕ, List}
+use Rattle.ir_ast.specs.Modules.{ModuleContent}
+use Rattle.ir_cfg.specs.SourceModules.{IsSourceModule}
+use Rattle.ir_types.specs.Statements.{Line}
+use Rattle.ir_types.specs.Faults.NameTwice.{NameTwice, layout_again, head_again, declares_defined, label_again, value_again}
+use Rattle.ir_types.specs.Faults.UnknownName.{UnknownName}
+use Rattle.ir_types.specs.Faults.TypeClash.{TypeClash}
+use Rattle.ir_types.specs.Faults.PhiEdges.{PhiEdges}
+use Rattle.ir_types.specs.Faults.DerivedEscapes.{DerivedEscapes}
+use Rattle.ir_types.specs.Faults.Reserved.{Reserved, defines_external, declares_helper, names_value, names_label}
+use Rattle.ir_types.specs.FaultSet.{HasFault, HasNoFault, name_twice, unknown_name, type_clash, entry_has_pred, phi_edges, derived_escapes, no_strategy, no_main, unknown_extern, bad_layout, reserved, pointer_order, pointer_cast}
+use Rattle.read_back.specs.BlocksEnd.{BlocksEnd}
+use Rattle.read_back.specs.Said.{said_by}
+use Rattle.read_back.proofs.BackLines.{said}
+use Rattle.read_back.proofs.BackFaults.{no_strategy-clear, bad_layout-clear, pointer_cast-clear, pointer_order-clear, unknown_extern-clear, declares_free}
+use Rattle.read_back.proofs.BackTops.{layouts_once, labels_once, values_once, definitions_free, values_free, labels_free, no_main-clear}
+use Rattle.read_back.proofs.BackEntry.{entry_has_pred-clear}
+use Rattle.read_back.proofs.BackHeads.{declares_defined-clear}
+use Rattle.read_back.proofs.BackOnce.{heads_once}
+
+-- the faults whose absence is not derived from the module's
+pub record HasNoOther (lines : List Line) : Type 0 where
+  pub names : (line : ℕ) → ¬ (UnknownName lines line)
+  pub types : (line : ℕ) → ¬ (TypeClash lines line)
+  pub phis : (line : ℕ) → ¬ (PhiEdges lines line)
+  pub derived : (line : ℕ) → ¬ (DerivedEscapes lines line)
+
+names_clear : (content : ModuleContent) → IsSourceModule content → (lines : List Line) → said lines ≡ said_by content → (line : ℕ) → NameTwice lines line → ⊥
+names_clear content source lines e line (layout_again r) = layouts_once content source lines e line r
+names_clear content source lines e line (head_again r) = heads_once content source lines e line r
+names_clear content source lines e line (declares_defined d) = declares_defined-clear content source lines e line d
+names_clear content source lines e line (label_again func c r) = labels_once content source lines e func c line r
+names_clear content source lines e line (value_again func c r) = values_once content source lines e func c line r
+
+reserved_clear : (content : ModuleContent) → IsSourceModule content → (lines : List Line) → said lines ≡ said_by content
+    → (line : ℕ) → Reserved lines line → ⊥
+reserved_clear content source lines e line (defines_external func c at external) = definitions_free content source lines e func c external
+reserved_clear content source lines e line (declares_helper answer name parameters c h) = declares_free content lines e line answer name parameters c h
+reserved_clear content source lines e line (names_value func one c d at inserted) = values_free content source lines e func c one d inserted
+reserved_clear content source lines e line (names_label func one c d at inserted) = labels_free content source lines e func c one d inserted
+
+pub no_fault-from : (content : ModuleContent) → IsSourceModule content → BlocksEnd content → (lines : List Line) → said lines ≡ said_by content
+    → HasNoOther lines → HasNoFault lines
+no_fault-from content source ends lines e other line code f = go code f
+  where
+    go : (code : ℕ) → HasFault lines line code → ⊥
+    go code (name_twice t) = names_clear content source lines e line t
+    go code (unknown_name t) = other.names line t
+    go code (type_clash t) = other.types line t
+    go code (entry_has_pred t) = entry_has_pred-clear content source ends lines e line t
+    go code (phi_edges t) = other.phis line t
+    go code (derived_escapes t) = other.derived line t
+    go code (no_strategy t) = no_strategy-clear content lines e line t
+    go code (no_main t) = no_main-clear content source lines e line t
+    go code (unknown_extern t) = unknown_extern-clear content lines e line t
+    go code (bad_layout t) = bad_layout-clear content source lines e line t
+    go code (reserved t) = reserved_clear content source lines e line t
+    go code (pointer_order t) = pointer_order-clear content source lines e line t
+    go code (pointer_cast t) = pointer_cast-clear content lines e line t

@@ -1,0 +1,249 @@
+-- Instructions with lists: phis, calls, and switches with their cases.
+use Rattle.std.proofs.Common.{◌≡◌, ◌∙◌, ℕ, zero, suc, ◌^◌, ◌<◌, Bool, true, false, not, ◌&&◌, inl, inr, if◌then◌else◌, List, [], ◌∷◌, ◌++◌, map, length, drop, replicate, refl, ap, sym, subst, arith, codes}
+use Rattle.std.specs.Prelude.{Option, Some, None, is_some, slice_get, unwrap_or, filter_map, ⊤, ◌⊎◌}
+use Rattle.std.specs.List.{All, AllByRecursion, AllZip, list_all, zip, Contains}
+use Rattle.std.specs.Str.{bytes_eq}
+use Rattle.std.proofs.lemmas.List.{nil_from_length}
+use Rattle.sp_ids.specs.declared.ids.BlockId.{BlockId}
+use Rattle.sp_ids.specs.declared.ids.FuncId.{FuncId}
+use Rattle.ir_ast.specs.declared.types.Ty.{Ty}
+use Rattle.ir_ast.specs.declared.types.Ty.TheVariants as tys
+use Rattle.ir_ast.specs.declared.ops.Op.{Op}
+use Rattle.ir_ast.specs.declared.ops.Op.TheVariants as ops
+use Rattle.ir_ast.specs.declared.ops.Operand.{Operand}
+use Rattle.ir_ast.specs.declared.ops.Operand.TheVariants as operands
+use Rattle.ir_ast.specs.declared.ops.Callee.{Callee}
+use Rattle.ir_ast.specs.declared.ops.Callee.TheVariants as callees
+use Rattle.ir_ast.specs.Insts.{Instruction}
+use Rattle.ir_ast.specs.Values.{value_types}
+use Rattle.ir_ast.specs.Types.{is_void, is_integer, is_first_class, is_answer}
+use Rattle.ir_ast.specs.Callees.{is_helper}
+use Rattle.ir_ast.specs.Operands.{is_value}
+use Rattle.ir_ast.specs.Lines.{Has, IsCall, is_argument}
+use Rattle.ir_ast.specs.Widths.{IsWidth, type_widths}
+use Rattle.ir_ast.specs.Faults.TypeClash.{Fits}
+use Rattle.ir_ast.specs.Faults.Reserved.{IsExternalName}
+use Rattle.ir_printer.specs.Names.{Names, function_name, layout_name}
+use Rattle.ir_printer.specs.Operands.{operand_at, label_at}
+use Rattle.ir_printer.specs.Calls.{callee_name}
+use Rattle.ir_reader.specs.declared.readings.TypeWord.{TypeWord}
+use Rattle.ir_reader.specs.declared.readings.TypeWord.TheVariants as types
+use Rattle.ir_reader.specs.Parts.{Val}
+use Rattle.ir_reader.specs.Lists.{Given}
+use Rattle.ir_types.specs.Statements.{Line, Statement, switch_end}
+use Rattle.ir_types.specs.Sections.{is_case, cases_of}
+use Rattle.ir_types.specs.Places.{place_in, number_of}
+use Rattle.ir_types.specs.Modules.{Known, type_of, operand_in, operand_of, label_of, instruction_said, insts_of, instruction, entry_operand, entry_label, passed_operand, given_type, callee_of, callee_at, external_callee, case_value, case_label}
+use Rattle.ir_types.proofs.LawBodies.{insts_said, insts-cons}
+use Rattle.ir_types.proofs.LawFacts.{and-left, and-right}
+use Rattle.read_back.specs.Said.{word_of, width_in, result_of, value_says, value_at, label_says, target_at, entry_says, phi_says, passed_says, call_says, case_says, switch_says}
+use Rattle.read_back.proofs.BackNames.{Setting, Good, operand-back, label-back, layout-number, function-placed, function-number, unplaced-by}
+use Rattle.read_back.proofs.BackLines.{said, cons_parts, same-inst, result-is, no_result, integer-is, integer-word, word-type}
+
+-- ---- phis
+
+abbrev pub Below : Names → BlockId → Type 0
+Below names label = label.0 < length names.func.blocks
+
+entry_operands : (names : Names) (known : Known) → Setting names known → (ty : Ty) (os : List Operand) (labels : List BlockId) → length labels ≡ length os
+    → AllByRecursion (λ o. Good names o ty) os
+    → map (entry_operand known.values (word_of ty)) (map (entry_says names ty) (zip os labels)) ≡ os
+entry_operands names known s ty [] labels n good = refl
+entry_operands names known s ty (o ∷ os) [] n good = absurd (omega arith)
+entry_operands names known s ty (o ∷ os) (l ∷ labels) n good =
+    ap (λ (x : Operand). x ∷ map (entry_operand known.values (word_of ty)) (map (entry_says names ty) (zip os labels))) (operand-back names known s ty o good.0)
+    ∙ ap (λ (xs : List Operand). o ∷ xs) (entry_operands names known s ty os labels (omega arith) good.1)
+
+entry_labels : (names : Names) (known : Known) → Setting names known → (ty : Ty) (os : List Operand) (labels : List BlockId) → length labels ≡ length os
+    → AllByRecursion (Below names) labels
+    → map (entry_label known.blocks) (map (entry_says names ty) (zip os labels)) ≡ labels
+entry_labels names known s ty [] [] n below = refl
+entry_labels names known s ty [] (l ∷ labels) n below = absurd (omega arith)
+entry_labels names known s ty (o ∷ os) [] n below = absurd (omega arith)
+entry_labels names known s ty (o ∷ os) (l ∷ labels) n below =
+    ap (λ (x : BlockId). x ∷ map (entry_label known.blocks) (map (entry_says names ty) (zip os labels))) (label-back names known s l below.0)
+    ∙ ap (λ (xs : List BlockId). l ∷ xs) (entry_labels names known s ty os labels (omega arith) below.1)
+
+-- operands that all are asked for one type
+pub each_given : (R : Operand → Ty → Type 0) (ty : Ty) (os : List Operand) → AllZip R os (replicate (length os) ty) → AllByRecursion (λ o. R o ty) os
+each_given R ty [] h = tt
+each_given R ty (o ∷ os) h = (h.0, each_given R ty os h.1)
+
+pub phi-back : (names : Names) (known : Known) → Setting names known → (rest : List Line) (inst : Instruction)
+    → ops.Phi ≡ inst.op → Has true is_first_class (length inst.operands) (length inst.operands) inst
+    → AllZip (Good names) inst.operands (replicate (length inst.operands) inst.ty) → AllByRecursion (Below names) inst.labels
+    → instruction_said known rest (phi_says names inst) ≡ Some inst
+phi-back names known s rest inst o has good below =
+    let entries = map (entry_says names inst.ty) (zip inst.operands inst.labels) in
+    same-inst inst (Some (result_of inst)) ops.Phi (type_of (word_of inst.ty))
+    (map (entry_operand known.values (word_of inst.ty)) entries) (map (entry_label known.blocks) entries)
+    (result-is inst.result has.result) o (word-type inst.ty has.type)
+    (entry_operands names known s inst.ty inst.operands inst.labels has.label_count (each_given (Good names) inst.ty inst.operands good))
+    (entry_labels names known s inst.ty inst.operands inst.labels has.label_count below)
+    has.no_bundle
+
+-- ---- calls
+
+-- an argument of a call: a value that fits, or a function
+pub record Passes (names : Names) (operand : Operand) (ty : Ty) : Type 0 where
+  pub fits : Fits (value_types names.func) operand ty
+  pub argument : (is_value operand && is_first_class ty) ≡ true ⊎ ((func : FuncId) × (operand ≡ operands.Fun func))
+  pub function : (func : FuncId) → operand ≡ operands.Fun func → func.0 < length names.funcs
+  pub widths : All IsWidth (type_widths ty)
+
+value_passed : (names : Names) (known : Known) → Setting names known → (ty : Ty) (operand : Operand) → is_value operand ≡ true → Good names operand ty
+    → is_first_class ty ≡ true
+    → (passed_operand known (passed_says names ty operand) ≡ operand) × (given_type (passed_says names ty operand) ≡ ty)
+value_passed names known s ty (operands.Value v) is good first = (operand-back names known s ty (operands.Value v) good, word-type ty first)
+value_passed names known s ty (operands.Int n) is good first = (operand-back names known s ty (operands.Int n) good, word-type ty first)
+value_passed names known s ty operands.Null is good first = (refl, word-type ty first)
+value_passed names known s ty (operands.Fun func) is good first = absurd (let bad : false ≡ true = is in cc)
+
+function_passed : (names : Names) (known : Known) → Setting names known → (ty : Ty) (func : FuncId) → func.0 < length names.funcs → ty ≡ tys.Void
+    → (passed_operand known (passed_says names ty (operands.Fun func)) ≡ operands.Fun func) × (given_type (passed_says names ty (operands.Fun func)) ≡ ty)
+function_passed names known s ty func below void =
+    (ap (λ (n : ℕ). operands.Fun (record { 0 = n })) (function-number names known s func.0 below), sym void)
+
+argument-back : (names : Names) (known : Known) → Setting names known → (ty : Ty) (operand : Operand) → Passes names operand ty
+    → (passed_operand known (passed_says names ty operand) ≡ operand) × (given_type (passed_says names ty operand) ≡ ty)
+argument-back names known s ty operand p = by p.argument
+  where
+    by : (is_value operand && is_first_class ty) ≡ true ⊎ ((func : FuncId) × (operand ≡ operands.Fun func))
+        → (passed_operand known (passed_says names ty operand) ≡ operand) × (given_type (passed_says names ty operand) ≡ ty)
+    by (inl e) =
+        let value = and-left (is_value operand) (is_first_class ty) e in
+        value_passed names known s ty operand value (record { fits = p.fits; value = value; widths = p.widths }) (and-right (is_value operand) (is_first_class ty) e)
+    by (inr f) =
+        let void : ty ≡ tys.Void = subst (λ (o : Operand). Fits (value_types names.func) o ty) f.1 p.fits in
+        subst (λ (o : Operand). (passed_operand known (passed_says names ty o) ≡ o) × (given_type (passed_says names ty o) ≡ ty)) (sym f.1)
+        (function_passed names known s ty f.0 (p.function f.0 f.1) void)
+
+passed_is : (names : Names) (known : Known) → Setting names known → (os : List Operand) (ts : List Ty) → AllZip (Passes names) os ts
+    → (map (passed_operand known) (map (λ (argument : Ty × Operand). passed_says names argument.0 argument.1) (zip ts os)) ≡ os)
+    × (map given_type (map (λ (argument : Ty × Operand). passed_says names argument.0 argument.1) (zip ts os)) ≡ ts)
+passed_is names known s [] [] p = (refl, refl)
+passed_is names known s [] (t ∷ ts) p = absurd p
+passed_is names known s (o ∷ os) [] p = absurd p
+passed_is names known s (o ∷ os) (t ∷ ts) p =
+    let here = argument-back names known s t o p.0 in
+    let more = passed_is names known s os ts p.1 in
+    let givens = map (λ (argument : Ty × Operand). passed_says names argument.0 argument.1) (zip ts os) in (
+      ap (λ (x : Operand). x ∷ map (passed_operand known) givens) here.0 ∙ ap (λ (xs : List Operand). o ∷ xs) more.0,
+      ap (λ (x : Ty). x ∷ map given_type givens) here.1 ∙ ap (λ (xs : List Ty). t ∷ xs) more.1,
+    )
+
+-- no function has the name of an external
+abbrev pub NamesAreFree : Names → Type 0
+NamesAreFree names = AllByRecursion (λ func. ¬ (IsExternalName func.name)) names.funcs
+
+not_function : (names : Names) (known : Known) → Setting names known → NamesAreFree names → (name : List ℕ) → IsExternalName name
+    → place_in known.functions name ≡ None
+not_function names known s free name external =
+    ap (λ (ns : List (List ℕ)). place_in ns name) s.functions ∙ unplaced-by (map (λ func. func.name) names.funcs) name (each names.funcs free)
+  where
+    each : (fs : List Rattle.ir_ast.specs.Funcs.Function) → AllByRecursion (λ func. ¬ (IsExternalName func.name)) fs
+        → AllByRecursion (λ one. ¬ (one ≡ name)) (map (λ func. func.name) fs)
+    each [] free = tt
+    each (f ∷ fs) free = (λ e. free.0 (subst IsExternalName (sym e) external), each fs free.1)
+
+-- the callee exists
+abbrev pub CalleeBelow : Names → Callee → Type 0
+CalleeBelow names (callees.Fun func) = func.0 < length names.funcs
+CalleeBelow names (callees.New layout) = layout < length names.layouts
+CalleeBelow names _ = ⊤
+
+fixed_name : (name : List ℕ) → Contains Rattle.ir_ast.specs.Faults.Reserved.externals name → IsExternalName name
+fixed_name name c = inl c
+
+pub callee-back : (names : Names) (known : Known) → Setting names known → NamesAreFree names → (callee : Callee) → CalleeBelow names callee → is_helper callee ≡ false
+    → callee_of known (callee_name names callee) ≡ callee
+callee-back names known s free (callees.Fun func) below plain =
+    let few = s.few_functions in
+    ap (callee_at known (function_name names.funcs func.0)) (function-placed names known s func.0 below)
+    ∙ ap (λ (n : ℕ). callees.Fun (record { 0 = n })) (let e : number_of (Some func.0) ≡ func.0 = omega arith in e)
+callee-back names known s free (callees.New layout) below plain =
+    let name = codes "gc_new." ++ layout_name names.layouts layout in
+    ap (callee_at known name) (not_function names known s free name (inr (inl (layout_name names.layouts layout, refl))))
+    ∙ ap callees.New (layout-number names known s layout below)
+callee-back names known s free callees.Print below plain =
+    ap (callee_at known (codes "print_i64")) (not_function names known s free (codes "print_i64") (inl (0, (omega arith), refl)))
+callee-back names known s free callees.Read below plain =
+    ap (callee_at known (codes "read_i64")) (not_function names known s free (codes "read_i64") (inl (1, (omega arith), refl)))
+callee-back names known s free callees.TaskStart below plain =
+    ap (callee_at known (codes "task_start")) (not_function names known s free (codes "task_start") (inl (2, (omega arith), refl)))
+callee-back names known s free callees.Poll below plain = absurd (let bad : true ≡ false = plain in cc)
+callee-back names known s free callees.Check below plain = absurd (let bad : true ≡ false = plain in cc)
+callee-back names known s free callees.Same below plain = absurd (let bad : true ≡ false = plain in cc)
+
+pub answer-type : (ty : Ty) → is_answer ty ≡ true → type_of (word_of ty) ≡ ty
+answer-type tys.Void e = refl
+answer-type (tys.Int w) e = refl
+answer-type tys.Ptr e = refl
+answer-type tys.Token e = absurd (let bad : false ≡ true = e in cc)
+
+pub call-back : (names : Names) (known : Known) → Setting names known → NamesAreFree names → (callee : Callee) (ts : List Ty) (rest : List Line) (inst : Instruction)
+    → ops.Call callee ts ≡ inst.op → IsCall callee ts inst → inst.bundle ≡ [] → CalleeBelow names callee → is_helper callee ≡ false
+    → AllZip (Passes names) inst.operands ts
+    → instruction_said known rest (call_says names callee ts inst) ≡ Some inst
+call-back names known s free callee ts rest inst o call bundle below plain passes =
+    let givens = map (λ (argument : Ty × Operand). passed_says names argument.0 argument.1) (zip ts inst.operands) in
+    let p = passed_is names known s inst.operands ts passes in
+    same-inst inst inst.result (ops.Call (callee_of known (callee_name names callee)) (map given_type givens)) (type_of (word_of inst.ty))
+    (map (passed_operand known) givens) []
+    refl
+    (ap (λ (c : Callee). ops.Call c (map given_type givens)) (callee-back names known s free callee below plain) ∙ ap (ops.Call callee) p.1 ∙ o)
+    (answer-type inst.ty call.type) p.0 (sym call.no_labels) bundle
+
+-- ---- switches
+
+pub record Cases (names : Names) (known : Known) (ty : Ty) (os : List Operand) (labels : List BlockId) (here rest : List Line) : Type 0 where
+  pub values : filter_map (λ (l : Line). case_value known.values (width_in ty) l.says) (cases_of (here ++ rest)) ≡ os
+  pub targets : filter_map (λ (l : Line). case_label known.blocks l.says) (cases_of (here ++ rest)) ≡ labels
+  pub behind : insts_of known (here ++ rest) ≡ insts_of known rest
+
+cases_end : (names : Names) (known : Known) (ty : Ty) (n : ℕ) (rest : List Line) → Cases names known ty [] [] (record { number = n; says = switch_end } ∷ []) rest
+cases_end names known ty n rest = record {
+  values = refl;
+  targets = refl;
+  behind = insts-cons known (record { number = n; says = switch_end }) rest;
+}
+
+cases_more : (names : Names) (known : Known) → Setting names known → (ty : Ty) → is_integer ty ≡ true → (o : Operand) (l : BlockId) (os : List Operand) (labels : List BlockId) (n : ℕ) (here rest : List Line)
+    → Good names o ty → Below names l → Cases names known ty os labels here rest
+    → Cases names known ty (o ∷ os) (l ∷ labels) (record { number = n; says = case_says names ty (o, l) } ∷ here) rest
+cases_more names known s ty int o l os labels n here rest good below more = record {
+  values =
+      ap (λ (w : TypeWord). operand_in known.values w (value_says names ty o) ∷ filter_map (λ (k : Line). case_value known.values (width_in ty) k.says) (cases_of (here ++ rest))) (integer-word ty int)
+      ∙ ap (λ (x : Operand). x ∷ filter_map (λ (k : Line). case_value known.values (width_in ty) k.says) (cases_of (here ++ rest))) (operand-back names known s ty o good)
+      ∙ ap (λ (xs : List Operand). o ∷ xs) more.values;
+  targets =
+      ap (λ (x : BlockId). x ∷ filter_map (λ (k : Line). case_label known.blocks k.says) (cases_of (here ++ rest))) (label-back names known s l below)
+      ∙ ap (λ (xs : List BlockId). l ∷ xs) more.targets;
+  behind = insts-cons known (record { number = n; says = case_says names ty (o, l) }) (here ++ rest) ∙ more.behind;
+}
+
+pub cases-back : (names : Names) (known : Known) → Setting names known → (ty : Ty) → is_integer ty ≡ true → (os : List Operand) (labels : List BlockId) (here rest : List Line)
+    → length labels ≡ length os → AllByRecursion (λ o. Good names o ty) os → AllByRecursion (Below names) labels
+    → said here ≡ map (case_says names ty) (zip os labels) ++ switch_end ∷ []
+    → Cases names known ty os labels here rest
+cases-back names known s ty int os labels [] rest n good below e = absurd (none os labels e)
+  where
+    none : (os : List Operand) (labels : List BlockId) → [] ≡ map (case_says names ty) (zip os labels) ++ switch_end ∷ [] → ⊥
+    none [] labels e = let bad : [] ≡ switch_end ∷ [] = e in cc
+    none (o ∷ os) [] e = let bad : [] ≡ switch_end ∷ [] = e in cc
+    none (o ∷ os) (l ∷ labels) e = let bad : [] ≡ case_says names ty (o, l) ∷ (map (case_says names ty) (zip os labels) ++ switch_end ∷ []) = e in cc
+cases-back names known s ty int [] [] (k ∷ ks) rest n good below e =
+    let parts = cons_parts k.says (said ks) switch_end [] e in
+    last ks parts.1 parts.0
+  where
+    last : (ks : List Line) → said ks ≡ [] → k.says ≡ switch_end → Cases names known ty [] [] (k ∷ ks) rest
+    last [] none is = subst (λ (t : Statement). Cases names known ty [] [] (record { number = k.number; says = t } ∷ []) rest)
+        (sym is) (cases_end names known ty k.number rest)
+    last (j ∷ js) none is = absurd (let bad : j.says ∷ said js ≡ [] = none in cc)
+cases-back names known s ty int [] (l ∷ labels) (k ∷ ks) rest n good below e = absurd (omega arith)
+cases-back names known s ty int (o ∷ os) [] (k ∷ ks) rest n good below e = absurd (omega arith)
+cases-back names known s ty int (o ∷ os) (l ∷ labels) (k ∷ ks) rest n good below e =
+    let parts = cons_parts k.says (said ks) (case_says names ty (o, l)) (map (case_says names ty) (zip os labels) ++ switch_end ∷ []) e in
+    subst (λ (t : Statement). Cases names known ty (o ∷ os) (l ∷ labels) (record { number = k.number; says = t } ∷ ks) rest) (sym parts.0)
+    (cases_more names known s ty int o l os labels k.number ks rest good.0 below.0
+    (cases-back names known s ty int os labels ks rest (omega arith) good.1 below.1 parts.1))

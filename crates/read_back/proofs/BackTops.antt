@@ -1,0 +1,158 @@
+-- The lines that a source module is printed as have no fault: names that stand twice or are reserved, and `@main`.
+use Rattle.std.proofs.Common.{◌≡◌, ◌≢◌, ◌∙◌, ◌⊎◌, inl, inr, ℕ, zero, suc, ◌<◌, Bool, true, false, not, cond, ◌&&◌, ◌==◌, List, [], ◌∷◌, ◌++◌, map, refl, ap, sym, subst, arith, codes}
+use Rattle.std.specs.Prelude.{Option, Some, None, ⊤, find}
+use Rattle.std.specs.List.{All, AllByRecursion, AllZip, Contains}
+use Rattle.std.specs.Str.{bytes_eq}
+use Rattle.std.proofs.lemmas.List.{map-append}
+use Rattle.std.proofs.lemmas.List.Elements.{recursion_from_All, All-contains}
+use Rattle.std.proofs.lemmas.Slice.Eq.{bytes_eq-Decides}
+use Rattle.ir_ast.specs.declared.types.Ty.{Ty}
+use Rattle.ir_ast.specs.declared.types.Ty.TheVariants as tys
+use Rattle.ir_ast.specs.declared.funcs.Arg.{Arg}
+use Rattle.ir_ast.specs.Blocks.{BasicBlock}
+use Rattle.ir_ast.specs.Layouts.{ObjectLayout}
+use Rattle.ir_ast.specs.Funcs.{Function}
+use Rattle.ir_ast.specs.Modules.{ModuleContent}
+use Rattle.ir_ast.specs.Lists.{Distinct}
+use Rattle.ir_ast.specs.Values.{definition_name}
+use Rattle.ir_ast.specs.Values as defs
+use Rattle.ir_ast.specs.Faultless.{FunctionHasNoFault}
+use Rattle.ir_ast.specs.Faults.NoMain.{HasMain}
+use Rattle.ir_ast.specs.Faults.Reserved.{IsExternalName, IsInsertedName, IsSource}
+use Rattle.ir_cfg.specs.SourceModules.{IsSourceModule}
+use Rattle.ir_reader.specs.Lists.{Named}
+use Rattle.ir_reader.specs.declared.readings.TypeWord.{TypeWord}
+use Rattle.ir_types.specs.Statements.{Line}
+use Rattle.ir_types.specs.Sections.{LayoutLine, Definition, Naming, BlockLines, layouts_of, definitions_of, values_of, blocks_of}
+use Rattle.ir_types.specs.InBody.{Repeats}
+use Rattle.ir_types.specs.Faults.NoMain.{takes_nothing, is_status, is_main, NoMain}
+use Rattle.ir_types.proofs.LawNames.{Apart, apart-distinct, contains_cons, contains_middle, contains_map}
+use Rattle.ir_types.proofs.LawCalls.{contains_mapped}
+use Rattle.read_back.specs.Said.{word_of, argument_says, said_by}
+use Rattle.read_back.proofs.BackLines.{said}
+use Rattle.read_back.proofs.BackBlocks.{blocks-are, block-names, value-names}
+use Rattle.read_back.proofs.BackSections.{SaysDefinition, definitions-are, layout-names}
+use Rattle.read_back.proofs.BackModules.{names_in, printed, form_of}
+use Rattle.read_back.proofs.BackFaults.{From, printed_from}
+
+-- ---- names that stand once do not repeat
+
+none_twice : (before : List (List ℕ)) (what : List ℕ) (after : List (List ℕ)) → Apart (before ++ what ∷ after) → ¬ (Contains before what)
+none_twice [] what after apart c = absurd (omega (arith, c.1))
+none_twice (x ∷ xs) what after apart c = by (contains_cons x what xs c) (none_twice xs what after apart.1)
+  where
+    by : (x ≡ what) ⊎ Contains xs what → ¬ (Contains xs what) → ⊥
+    by (inl e) later = apart.0 (subst (λ (n : List ℕ). Contains (xs ++ what ∷ after) n) (sym e) (contains_middle xs what after))
+    by (inr d) later = later d
+
+seconds : {X : Type 0} (line : X → ℕ) (name : X → List ℕ) (xs : List X)
+    → map (λ (one : ℕ × List ℕ). one.1) (map (λ x. (line x, name x)) xs) ≡ map name xs
+seconds line name [] = refl
+seconds line name (x ∷ xs) = ap (λ (ns : List (List ℕ)). name x ∷ ns) (seconds line name xs)
+
+pub no_repeat : {X : Type 0} (line : X → ℕ) (name : X → List ℕ) (xs : List X) → Distinct (map name xs) → (n : ℕ)
+    → ¬ (Repeats (map (λ x. (line x, name x)) xs) n)
+no_repeat line name xs once n r =
+    let names : map name xs ≡ map (λ (one : ℕ × List ℕ). one.1) r.before ++ r.what ∷ map (λ (one : ℕ × List ℕ). one.1) r.after =
+    sym (seconds line name xs) ∙ ap (map (λ (one : ℕ × List ℕ). one.1)) r.whole
+    ∙ map-append (λ (one : ℕ × List ℕ). one.1) r.before ((n, r.what) ∷ r.after) in
+    none_twice (map (λ (one : ℕ × List ℕ). one.1) r.before) r.what (map (λ (one : ℕ × List ℕ). one.1) r.after)
+    (subst Apart names (apart-distinct (map name xs) once)) r.again
+
+pub layouts_once : (content : ModuleContent) → IsSourceModule content → (lines : List Line) → said lines ≡ said_by content → (line : ℕ)
+    → ¬ (Repeats (map (λ one. (one.line, one.name)) (layouts_of lines)) line)
+layouts_once content source lines e line r =
+    no_repeat (λ (one : LayoutLine). one.line) (λ (one : LayoutLine). one.name) (layouts_of lines)
+    (subst Distinct (sym (layout-names content lines e)) source.no_fault.names.layouts) line r
+
+names_of_blocks : (content : ModuleContent) (one : Definition) (o : From content one) → map (λ b. b.name) (blocks_of one) ≡ map (λ b. b.name) o.func.blocks
+names_of_blocks content one o =
+    block-names (names_in content o.func) (blocks_of one) o.func.blocks (blocks-are (names_in content o.func) one o.func.blocks o.says.body)
+
+names_of_values : (content : ModuleContent) → IsSourceModule content → (one : Definition) (o : From content one)
+    → map (λ v. v.name) (values_of one) ≡ map definition_name (defs.definitions_of o.func)
+names_of_values content source one o =
+    value-names (names_in content o.func) one o.func o.says.arguments o.says.body (printed content source o.func o.stands)
+
+pub labels_once : (content : ModuleContent) → IsSourceModule content → (lines : List Line) → said lines ≡ said_by content
+    → (one : Definition) → Contains (definitions_of lines) one → (line : ℕ) → ¬ (Repeats (map (λ b. (b.line, b.name)) (blocks_of one)) line)
+labels_once content source lines e one c line r =
+    let o = printed_from content lines e one c in
+    no_repeat (λ (b : BlockLines). b.line) (λ (b : BlockLines). b.name) (blocks_of one)
+    (subst Distinct (sym (names_of_blocks content one o))
+    (All-contains (λ (f : Function). Distinct (map (λ (b : BasicBlock). b.name) f.blocks)) content.funcs o.func source.no_fault.names.labels o.stands)) line r
+
+pub values_once : (content : ModuleContent) → IsSourceModule content → (lines : List Line) → said lines ≡ said_by content
+    → (one : Definition) → Contains (definitions_of lines) one → (line : ℕ) → ¬ (Repeats (map (λ v. (v.line, v.name)) (values_of one)) line)
+values_once content source lines e one c line r =
+    let o = printed_from content lines e one c in
+    no_repeat (λ (v : Naming). v.line) (λ (v : Naming). v.name) (values_of one)
+    (subst Distinct (sym (names_of_values content source one o))
+    (All-contains (λ (f : Function). Distinct (map definition_name (defs.definitions_of f))) content.funcs o.func source.no_fault.names.values o.stands)) line r
+
+-- ---- reserved names
+
+pub definitions_free : (content : ModuleContent) → IsSourceModule content → (lines : List Line) → said lines ≡ said_by content
+    → (one : Definition) → Contains (definitions_of lines) one → ¬ (IsExternalName one.name)
+definitions_free content source lines e one c external =
+    let o = printed_from content lines e one c in
+    All-contains (λ (f : Function). ¬ (IsExternalName f.name)) content.funcs o.func source.no_fault.free o.stands (subst IsExternalName o.says.name external)
+
+pub values_free : (content : ModuleContent) → IsSourceModule content → (lines : List Line) → said lines ≡ said_by content
+    → (one : Definition) → Contains (definitions_of lines) one → (value : Naming) → Contains (values_of one) value → ¬ (IsInsertedName value.name)
+values_free content source lines e one c value d inserted =
+    let o = printed_from content lines e one c in
+    let plain = form_of content.form o.func source.form (All-contains (FunctionHasNoFault content) content.funcs o.func source.no_fault.functions o.stands).form in
+    let named : Contains (map definition_name (defs.definitions_of o.func)) value.name =
+    subst (λ (ns : List (List ℕ)). Contains ns value.name) (names_of_values content source one o) (contains_map (λ (v : Naming). v.name) (values_of one) value d) in
+    let given = contains_mapped definition_name (defs.definitions_of o.func) value.name named in
+    All-contains (λ (g : defs.Definition). ¬ (IsInsertedName (definition_name g))) (defs.definitions_of o.func) given.0 plain.values given.1
+    (subst IsInsertedName (sym given.2) inserted)
+
+pub labels_free : (content : ModuleContent) → IsSourceModule content → (lines : List Line) → said lines ≡ said_by content
+    → (one : Definition) → Contains (definitions_of lines) one → (block : BlockLines) → Contains (blocks_of one) block → ¬ (IsInsertedName block.name)
+labels_free content source lines e one c block d inserted =
+    let o = printed_from content lines e one c in
+    let plain = form_of content.form o.func source.form (All-contains (FunctionHasNoFault content) content.funcs o.func source.no_fault.functions o.stands).form in
+    let named : Contains (map (λ (b : BasicBlock). b.name) o.func.blocks) block.name =
+    subst (λ (ns : List (List ℕ)). Contains ns block.name) (names_of_blocks content one o) (contains_map (λ (b : BlockLines). b.name) (blocks_of one) block d) in
+    let given = contains_mapped (λ (b : BasicBlock). b.name) o.func.blocks block.name named in
+    All-contains (λ (b : BasicBlock). ¬ (IsInsertedName b.name)) o.func.blocks given.0 plain.labels given.1 (subst IsInsertedName (sym given.2) inserted)
+
+-- ---- `@main`
+
+status_is : (ty : Ty) → (ty ≡ tys.Int 32) ⊎ (ty ≡ tys.Int 64) → is_status (word_of ty) ≡ true
+status_is ty (inl e) = ap (λ (t : Ty). is_status (word_of t)) e
+status_is ty (inr e) = ap (λ (t : Ty). is_status (word_of t)) e
+
+main_is : (layouts : List ObjectLayout) (funcs : List Function) (one : Definition) (main : Function) → SaysDefinition layouts funcs one main
+    → main.args ≡ [] → (main.answer ≡ tys.Int 32) ⊎ (main.answer ≡ tys.Int 64) → is_main (Some one) ≡ true
+main_is layouts funcs one main says args answer =
+    ap (λ (ns : List Named). takes_nothing ns && is_status one.answer) (says.arguments ∙ ap (map argument_says) args)
+    ∙ ap is_status says.answer ∙ status_is main.answer answer
+
+find_main : (layouts : List ObjectLayout) (funcs earlier later : List Function) (main : Function) (ones : List Definition)
+    → AllZip (SaysDefinition layouts funcs) ones (earlier ++ main ∷ later) → AllByRecursion (λ func. func.name ≢ codes "main") earlier
+    → main.name ≡ codes "main" → main.args ≡ [] → (main.answer ≡ tys.Int 32) ⊎ (main.answer ≡ tys.Int 64)
+    → is_main (find (λ func. bytes_eq func.name (codes "main")) ones) ≡ true
+find_main layouts funcs [] later main [] h before name args answer = absurd h
+find_main layouts funcs [] later main (d ∷ ds) h before name args answer =
+    let is : bytes_eq d.name (codes "main") ≡ true = (bytes_eq-Decides d.name (codes "main")).1 (h.0.name ∙ name) in
+    ap (λ (b : Bool). is_main (cond b (Some d) (find (λ (func : Definition). bytes_eq func.name (codes "main")) ds))) is
+    ∙ main_is layouts funcs d main h.0 args answer
+find_main layouts funcs (f ∷ fs) later main [] h before name args answer = absurd h
+find_main layouts funcs (f ∷ fs) later main (d ∷ ds) h before name args answer =
+    by (bytes_eq d.name (codes "main")) refl (find_main layouts funcs fs later main ds h.1 before.1 name args answer)
+  where
+    by : (b : Bool) → bytes_eq d.name (codes "main") ≡ b → is_main (find (λ func. bytes_eq func.name (codes "main")) ds) ≡ true
+        → is_main (find (λ func. bytes_eq func.name (codes "main")) (d ∷ ds)) ≡ true
+    by true e ih = absurd (before.0 (sym h.0.name ∙ (bytes_eq-Decides d.name (codes "main")).0 e))
+    by false e ih = ap (λ (b : Bool). is_main (cond b (Some d) (find (λ (func : Definition). bytes_eq func.name (codes "main")) ds))) e ∙ ih
+
+pub no_main-clear : (content : ModuleContent) → IsSourceModule content → (lines : List Line) → said lines ≡ said_by content → (line : ℕ) → ¬ (NoMain lines line)
+no_main-clear content source lines e line f =
+    let m = source.no_fault.main in
+    let there = find_main content.layouts content.funcs m.earlier m.later m.main (definitions_of lines)
+    (subst (AllZip (SaysDefinition content.layouts content.funcs) (definitions_of lines)) m.whole (definitions-are content lines e))
+    (recursion_from_All (λ (func : Function). func.name ≢ codes "main") m.earlier m.first) m.name m.args m.answer in
+    let bad : true ≡ false = sym there ∙ f.lacks in cc
