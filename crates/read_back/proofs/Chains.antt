@@ -32,7 +32,7 @@ use Rattle.read_back.proofs.Forms.{ReadsAs}
 use Rattle.read_back.proofs.LinesRead.{Says, says-nil, says-both, says-line, formed_outcome, label_line, ends_none-clean, ends_none}
 use Rattle.read_back.proofs.OneLine.{OneLine, place_after}
 
-joined-cons : (x : List ℕ) (xs : List (List ℕ)) → joined [] (x ∷ xs) ≡ x ++ joined [] xs
+pub joined-cons : (x : List ℕ) (xs : List (List ℕ)) → joined [] (x ∷ xs) ≡ x ++ joined [] xs
 joined-cons x [] = refl
 joined-cons x (y ∷ ys) = refl
 

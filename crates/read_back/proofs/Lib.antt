@@ -9,10 +9,15 @@ pub mod Operands
 pub mod OneLine
 pub mod MoreLines
 pub mod StepLines
+pub mod CallLines
 pub mod Chains
+pub mod SwitchLines
 pub mod Blocks
+pub mod SourceLines
 pub mod Functions
 pub mod FunctionsRead
+pub mod SourceFunctions
+pub mod ModulesRead
 pub mod BackLiterals
 pub mod BackNames
 pub mod BackLines

@@ -1,0 +1,237 @@
+-- Calls and phis on their lines.
+use Rattle.std.proofs.Common.{◌≡◌, refl, ap, sym, ◌∙◌, ℕ, zero, suc, ◌+◌, ◌<◌, ◌≤◌, Bool, true, false, cond, ◌&&◌, inl, inr, List, [], ◌∷◌, ◌++◌, length, map, Option, Some, None, arith, codes, append_assoc}
+use Rattle.std.specs.Prelude.{◌==◌}
+use Rattle.std.specs.List.{All, AllByRecursion, list_all, zip}
+use Rattle.std.proofs.lemmas.List.Elements.{All-from_recursion}
+use Rattle.std.proofs.lemmas.List.Folds.{list_all-append}
+use Rattle.std.proofs.lemmas.Bool.{and_parts, and_from, or_cases, or_left, or_right, eqb-true}
+use Rattle.sp_ids.specs.declared.ids.BlockId.{BlockId}
+use Rattle.sp_ids.specs.declared.ids.FuncId.{FuncId}
+use Rattle.sp_text.specs.Tokens.{tokens, is_name, is_plain_name, is_numeral, is_nothing, are_digits}
+use Rattle.sp_text.specs.Bytes.{in_name, begins_name}
+use Rattle.std.specs.Char.{is_ascii_digit}
+use Rattle.ir_ast.specs.declared.types.Ty.{Ty}
+use Rattle.ir_ast.specs.declared.types.Ty.TheVariants as tys
+use Rattle.ir_ast.specs.declared.ops.Callee.{Callee}
+use Rattle.ir_ast.specs.declared.ops.Callee.TheVariants as callees
+use Rattle.ir_ast.specs.declared.ops.Operand.{Operand}
+use Rattle.ir_ast.specs.declared.ops.Operand.TheVariants as operands
+use Rattle.ir_ast.specs.declared.ops.Op.TheVariants as ast
+use Rattle.ir_ast.specs.Insts.{Instruction}
+use Rattle.ir_ast.specs.Operands.{is_value}
+use Rattle.ir_ast.specs.Types.{is_void, is_first_class}
+use Rattle.ir_ast.specs.Lines.{is_argument}
+use Rattle.ir_ast.specs.Values.{value_types}
+use Rattle.ir_ast.specs.Faults.TypeClash.{Fits}
+use Rattle.ir_printer.specs.Lists.{joined}
+use Rattle.ir_printer.specs.Names.{Names, block_name, function_name, layout_name}
+use Rattle.ir_printer.specs.Words.{type_text}
+use Rattle.ir_printer.specs.Operands.{value_text, parameter_text, argument_text}
+use Rattle.ir_printer.specs.Calls.{callee_name}
+use Rattle.ir_printer.specs.Lines.{result_front, operator_text, phi_entry_text}
+use Rattle.ir_reader.specs.declared.forms.Form.TheVariants as forms
+use Rattle.ir_reader.specs.Limits.{given_fits, entry_value_fits}
+use Rattle.ir_reader.specs.Lists.{Given, given, comma, passed_at, is_task_start, entry_at, begins_entry}
+use Rattle.ir_reader.specs.Marks.{is_mark, begins}
+use Rattle.ir_reader.specs.Slots as parts
+use Rattle.read_back.specs.Said.{word_of, value_says, passed_says, entry_says}
+use Rattle.read_back.proofs.Listed.{SpellsElement}
+use Rattle.read_back.proofs.ListForms.{EndsAtMark, Anything, passed_element, passed_opens, function_element, function_opens, value_call_line, void_call_line, entry_element, phi_line}
+use Rattle.read_back.proofs.Operands.{HaveNames, IsNarrow, block-named, function-named, layout-named, type_spelled, type_allowed, type_fits_in, value_spelled, value_in_limit}
+use Rattle.read_back.proofs.OneLine.{OneLine, made}
+
+-- ---- callees
+
+digits_named : (bs : List ℕ) → list_all is_ascii_digit bs ≡ true → list_all in_name bs ≡ true
+digits_named [] digits = refl
+digits_named (b ∷ bs) digits =
+    let both = and_parts (is_ascii_digit b) (list_all is_ascii_digit bs) digits in
+    and_from (in_name b) (list_all in_name bs) (or_right (begins_name b) (is_ascii_digit b) both.0) (digits_named bs both.1)
+
+numeral_named : (bs : List ℕ) → is_numeral bs ≡ true → list_all in_name bs ≡ true
+numeral_named [] numeral = refl
+numeral_named (b ∷ bs) numeral = by (b == 48) refl bs numeral
+  where
+    by : (zero_first : Bool) → (b == 48) ≡ zero_first → (bs : List ℕ) → cond zero_first (is_nothing bs) (are_digits (b ∷ bs)) ≡ true → list_all in_name (b ∷ bs) ≡ true
+    by true is [] nothing = let same : b ≡ 48 = eqb-true b 48 is in rw same refl
+    by true is (c ∷ cs) nothing = cc
+    by false is bs digits = digits_named (b ∷ bs) digits
+
+plain_named : (bs : List ℕ) → is_plain_name bs ≡ true → list_all in_name bs ≡ true
+plain_named [] plain = cc
+plain_named (b ∷ bs) plain =
+    let both = and_parts (begins_name b) (list_all in_name bs) plain in
+    and_from (in_name b) (list_all in_name bs) (or_left (begins_name b) (is_ascii_digit b) both.0) both.1
+
+named_bytes : (n : List ℕ) → is_name n ≡ true → list_all in_name n ≡ true
+named_bytes n is = elim (or_cases (is_plain_name n) (is_numeral n) is) [
+  | inl plain ↦ plain_named n plain
+  | inr numeral ↦ numeral_named n numeral
+]
+
+pub new-named : (n : List ℕ) → is_name n ≡ true → is_name (codes "gc_new." ++ n) ≡ true
+new-named n is = rw (named_bytes n is) refl
+
+-- the callee is there
+abbrev pub CalleeThere : Names → Callee → Type 0
+CalleeThere names (callees.Fun func) = func.0 < length names.funcs
+CalleeThere names (callees.New layout) = layout < length names.layouts
+CalleeThere names _ = Unit {0}
+
+pub callee-named : (names : Names) → HaveNames names → (callee : Callee) → CalleeThere names callee → is_name (callee_name names callee) ≡ true
+callee-named names have (callees.Fun func) low = function-named names have func.0 low
+callee-named names have (callees.New layout) low = new-named (layout_name names.layouts layout) (layout-named names have layout low)
+callee-named names have callees.Print low = refl
+callee-named names have callees.Read low = refl
+callee-named names have callees.TaskStart low = refl
+callee-named names have callees.Poll low = refl
+callee-named names have callees.Check low = refl
+callee-named names have callees.Same low = refl
+
+-- ---- what a call passes
+
+abbrev pub passed_text : Names → Ty × Operand → List ℕ
+passed_text names argument = argument_text names argument.0 argument.1
+
+abbrev pub passed_given : Names → Ty × Operand → Given
+passed_given names argument = passed_says names argument.0 argument.1
+
+-- an argument of a call of what is named `task_start`, or of what is not
+pub record PassedReads (plain : Bool) (names : Names) (argument : Ty × Operand) : Type 0 where
+  pub element : SpellsElement (passed_at plain) comma EndsAtMark (passed_text names argument) (passed_given names argument)
+  pub opens : (rest : List ℕ) → EndsAtMark rest → begins (is_mark (codes ")")) (tokens (passed_text names argument ++ rest)) ≡ false
+  pub fits : given_fits (passed_given names argument) ≡ true
+
+parameter_is : (ty : Ty) → is_first_class ty ≡ true → parameter_text ty ≡ type_text ty
+parameter_is tys.Void first = cc
+parameter_is (tys.Int width) first = refl
+parameter_is tys.Ptr first = refl
+parameter_is tys.Token first = cc
+
+given_is : (names : Names) (ty : Ty) (o : Operand) → is_value o ≡ true → passed_says names ty o ≡ given (word_of ty) (value_says names ty o)
+given_is names ty (operands.Value v) is = refl
+given_is names ty (operands.Int n) is = refl
+given_is names ty operands.Null is = refl
+given_is names ty (operands.Fun f) is = cc
+
+pub value_passed : (plain : Bool) (names : Names) → HaveNames names → (ty : Ty) (o : Operand) → is_value o ≡ true → is_first_class ty ≡ true → IsNarrow ty → Fits (value_types names.func) o ty
+    → PassedReads plain names (ty, o)
+value_passed plain names have ty o is first narrow fits =
+    let spelled = type_spelled ty first narrow in
+    let value = value_spelled names have ty narrow o is fits in record {
+      element = rw (parameter_is ty first) (rw (given_is names ty o is) (passed_element plain spelled (type_allowed ty first) value));
+      opens = λ rest ends. rw (parameter_is ty first) (passed_opens spelled value rest ends);
+      fits = rw (given_is names ty o is) (rw (type_fits_in ty first narrow, value_in_limit names ty narrow o fits) refl);
+    }
+
+pub function_passed : (names : Names) → HaveNames names → (f : FuncId) → f.0 < length names.funcs → PassedReads true names (tys.Void, operands.Fun f)
+function_passed names have f low = record {
+  element = function_element (function_name names.funcs f.0) (function-named names have f.0 low);
+  opens = λ rest ends. function_opens (function_name names.funcs f.0) (function-named names have f.0 low) rest ends;
+  fits = refl;
+}
+
+each_element : (plain : Bool) (names : Names) (ys : List (Ty × Operand)) → AllByRecursion (PassedReads plain names) ys
+    → AllByRecursion (λ y. SpellsElement (passed_at plain) comma EndsAtMark (passed_text names y) (passed_given names y)) ys
+each_element plain names [] all = tt
+each_element plain names (y ∷ ys) all = (all.0.element, each_element plain names ys all.1)
+
+each_opens : (plain : Bool) (names : Names) (ys : List (Ty × Operand)) → AllByRecursion (PassedReads plain names) ys
+    → AllByRecursion (λ y. (rest : List ℕ) → EndsAtMark rest → begins (is_mark (codes ")")) (tokens (passed_text names y ++ rest)) ≡ false) ys
+each_opens plain names [] all = tt
+each_opens plain names (y ∷ ys) all = (all.0.opens, each_opens plain names ys all.1)
+
+each_fits : (plain : Bool) (names : Names) (ys : List (Ty × Operand)) → AllByRecursion (PassedReads plain names) ys → list_all given_fits (map (passed_given names) ys) ≡ true
+each_fits plain names [] all = refl
+each_fits plain names (y ∷ ys) all = rw all.0.fits (each_fits plain names ys all.1)
+
+-- ---- calls
+
+value_call_shape : (names : Names) (callee : Callee) (types : List Ty) (n : List ℕ) (ty : Ty) (os : List Operand)
+    → result_front (Some n) ++ operator_text names (ast.Call callee types) (made (Some n) (ast.Call callee types) ty os [])
+    ≡ 37 ∷ (n ++ (32 ∷ 61 ∷ 32 ∷ (codes "call " ++ (type_text ty ++ (32 ∷ 64 ∷ (callee_name names callee ++ (40 ∷ (joined (codes ", ") (map (passed_text names) (zip types os)) ++ codes ")"))))))))
+value_call_shape names callee types n ty os = simp append_assoc
+
+-- `%x = call T @f(T V, ..)`
+pub value_call_reads : (names : Names) → HaveNames names → (callee : Callee) (types : List Ty) (n : List ℕ) (ty : Ty) (os : List Operand) → is_name n ≡ true → is_first_class ty ≡ true → IsNarrow ty
+    → CalleeThere names callee → AllByRecursion (PassedReads (is_task_start (callee_name names callee)) names) (zip types os)
+    → OneLine names (made (Some n) (ast.Call callee types) ty os [])
+value_call_reads names have callee types n ty os is first narrow there all =
+    let plain : Bool = is_task_start (callee_name names callee) in record {
+      form = forms.ValueCall;
+      items = parts.name n ∷ parts.ty (word_of ty) ∷ parts.called (callee_name names callee) (map (passed_given names) (zip types os)) ∷ [];
+      reads = rw (value_call_shape names callee types n ty os) (value_call_line n is (type_spelled ty first narrow) (type_allowed ty first)
+          (callee_name names callee) (callee-named names have callee there) (passed_text names) (passed_given names) (zip types os)
+          (All-from_recursion _ (zip types os) (each_element plain names (zip types os) all)) (All-from_recursion _ (zip types os) (each_opens plain names (zip types os) all)));
+      says = refl;
+      fits = rw (type_fits_in ty first narrow, each_fits plain names (zip types os) all) refl;
+      stands = refl;
+      counts = refl;
+      kept = refl;
+    }
+
+void_call_shape : (names : Names) (callee : Callee) (types : List Ty) (os : List Operand)
+    → operator_text names (ast.Call callee types) (made None (ast.Call callee types) tys.Void os [])
+    ≡ codes "call void @" ++ (callee_name names callee ++ (40 ∷ (joined (codes ", ") (map (passed_text names) (zip types os)) ++ codes ")")))
+void_call_shape names callee types os = refl
+
+-- `call void @f(T V, ..)`
+pub void_call_reads : (names : Names) → HaveNames names → (callee : Callee) (types : List Ty) (os : List Operand)
+    → CalleeThere names callee → AllByRecursion (PassedReads (is_task_start (callee_name names callee)) names) (zip types os)
+    → OneLine names (made None (ast.Call callee types) tys.Void os [])
+void_call_reads names have callee types os there all =
+    let plain : Bool = is_task_start (callee_name names callee) in record {
+      form = forms.VoidCall;
+      items = parts.called (callee_name names callee) (map (passed_given names) (zip types os)) ∷ [];
+      reads = rw (void_call_shape names callee types os) (void_call_line
+          (callee_name names callee) (callee-named names have callee there) (passed_text names) (passed_given names) (zip types os)
+          (All-from_recursion _ (zip types os) (each_element plain names (zip types os) all)) (All-from_recursion _ (zip types os) (each_opens plain names (zip types os) all)));
+      says = refl;
+      fits = rw (each_fits plain names (zip types os) all) refl;
+      stands = refl;
+      counts = refl;
+      kept = refl;
+    }
+
+-- ---- phis
+
+abbrev pub entry_text : Names → Ty → Operand × BlockId → List ℕ
+entry_text names ty entry = phi_entry_text names ty entry.0 entry.1
+
+-- an entry of a phi, or a case of a `switch`
+pub record EntryFits (names : Names) (ty : Ty) (entry : Operand × BlockId) : Type 0 where
+  pub value : is_value entry.0 ≡ true
+  pub fits : Fits (value_types names.func) entry.0 ty
+  pub low : entry.1.0 < length names.func.blocks
+
+each_entry : (names : Names) → HaveNames names → (ty : Ty) → IsNarrow ty → (es : List (Operand × BlockId)) → AllByRecursion (EntryFits names ty) es
+    → AllByRecursion (λ e. SpellsElement entry_at begins_entry Anything (entry_text names ty e) (entry_says names ty e)) es
+each_entry names have ty narrow [] all = tt
+each_entry names have ty narrow (e ∷ es) all = (
+  entry_element (value_spelled names have ty narrow e.0 all.0.value all.0.fits) (block_name names.func e.1.0) (block-named names have e.1.0 all.0.low),
+  each_entry names have ty narrow es all.1,
+)
+
+entries_fit : (names : Names) (ty : Ty) → IsNarrow ty → (es : List (Operand × BlockId)) → AllByRecursion (EntryFits names ty) es → list_all entry_value_fits (map (entry_says names ty) es) ≡ true
+entries_fit names ty narrow [] all = refl
+entries_fit names ty narrow (e ∷ es) all = rw (value_in_limit names ty narrow e.0 all.0.fits) (entries_fit names ty narrow es all.1)
+
+phi_shape : (names : Names) (n : List ℕ) (ty : Ty) (os : List Operand) (ls : List BlockId)
+    → result_front (Some n) ++ operator_text names ast.Phi (made (Some n) ast.Phi ty os ls)
+    ≡ 37 ∷ (n ++ (32 ∷ 61 ∷ 32 ∷ (codes "phi " ++ (type_text ty ++ (32 ∷ joined (codes ", ") (map (entry_text names ty) (zip os ls)))))))
+phi_shape names n ty os ls = simp append_assoc
+
+-- `%x = phi T [ V, %l ], ..`
+pub phi_reads : (names : Names) → HaveNames names → (n : List ℕ) (ty : Ty) (o : Operand) (os : List Operand) (l : BlockId) (ls : List BlockId) → is_name n ≡ true → is_first_class ty ≡ true → IsNarrow ty
+    → AllByRecursion (EntryFits names ty) (zip (o ∷ os) (l ∷ ls)) → OneLine names (made (Some n) ast.Phi ty (o ∷ os) (l ∷ ls))
+phi_reads names have n ty o os l ls is first narrow all = record {
+  form = forms.Phi;
+  items = parts.name n ∷ parts.ty (word_of ty) ∷ parts.entries (map (entry_says names ty) (zip (o ∷ os) (l ∷ ls))) ∷ [];
+  reads = rw (phi_shape names n ty (o ∷ os) (l ∷ ls)) (phi_line n is (type_spelled ty first narrow) (type_allowed ty first) (entry_text names ty) (entry_says names ty) (o, l) (zip os ls)
+      (All-from_recursion _ (zip (o ∷ os) (l ∷ ls)) (each_entry names have ty narrow (zip (o ∷ os) (l ∷ ls)) all)));
+  says = refl;
+  fits = rw (type_fits_in ty first narrow, entries_fit names ty narrow (zip (o ∷ os) (l ∷ ls)) all) refl;
+  stands = refl;
+  counts = refl;
+  kept = refl;
+}

@@ -1,0 +1,419 @@
+-- The text of a source module is read: its layouts, its declarations and its functions.
+use Rattle.std.proofs.Common.{◌≡◌, refl, ap, sym, ◌∙◌, subst, ℕ, zero, suc, ◌+◌, ◌<◌, ◌≤◌, Bool, true, false, ◌&&◌, ◌||◌, if◌then◌else◌, List, [], ◌∷◌, ◌++◌, length, map, Option, Some, None, Result, Ok, Err, arith, codes, decimal, append_assoc, append-nil, length-append}
+use Rattle.std.specs.Prelude.{flat_map}
+use Rattle.std.specs.List.{All, AllByRecursion, Contains, list_all, list_any}
+use Rattle.std.specs.Str.Lines.{lines}
+use Rattle.std.proofs.lemmas.Bool.{le-leb}
+use Rattle.std.proofs.lemmas.Fmt.{decimal_digit, decimal_step}
+use Rattle.std.proofs.lemmas.List.{length-map}
+use Rattle.std.proofs.lemmas.List.Elements.{All-from_recursion, recursion_from_All, All-head, All-tail, All-contains, All-contains_itself}
+use Rattle.sp_text.specs.Tokens.{tokens, is_name}
+use Rattle.sp_text.specs.Labels.{is_metadata}
+use Rattle.sp_text.specs.Lines.{numbered, lines_of}
+use Rattle.ir_ast.specs.declared.types.Ty.{Ty}
+use Rattle.ir_ast.specs.declared.cells.Cell.{Cell}
+use Rattle.ir_ast.specs.declared.cells.Cell.TheVariants as cells
+use Rattle.ir_ast.specs.declared.ops.Callee.{Callee}
+use Rattle.ir_ast.specs.declared.ops.Callee.TheVariants as callees
+use Rattle.ir_ast.specs.declared.ops.Op.{Op}
+use Rattle.ir_ast.specs.declared.ops.Op.TheVariants as ops
+use Rattle.ir_ast.specs.Cells.{word_of}
+use Rattle.ir_ast.specs.Insts.{Instruction}
+use Rattle.ir_ast.specs.Blocks.{BasicBlock}
+use Rattle.ir_ast.specs.Layouts.{ObjectLayout}
+use Rattle.ir_ast.specs.Funcs.{Function, instructions_of}
+use Rattle.ir_ast.specs.Modules.{ModuleContent}
+use Rattle.ir_ast.specs.Lines.{is_rewritten}
+use Rattle.ir_ast.specs.Callees.{is_helper}
+use Rattle.ir_cfg.specs.SourceModules.{IsSourceFunction, IsSourceModule}
+use Rattle.ir_printer.specs.declared.declarations.External.{External}
+use Rattle.ir_printer.specs.declared.declarations.External.TheVariants as externs
+use Rattle.ir_printer.specs.Declarations as printed_declarations
+use Rattle.ir_printer.specs.Declarations.{is_callee, is_call_of, calls, new_words, fixed_declaration, declaration_text, externals, declarations_text, has_top}
+use Rattle.ir_printer.specs.Lists.{joined, led}
+use Rattle.ir_printer.specs.Names.{layout_name}
+use Rattle.ir_printer.specs.Texts.{layout_text, function_text, functions_text, text_of}
+use Rattle.ir_reader.specs.declared.readings.TypeWord.{TypeWord}
+use Rattle.ir_reader.specs.declared.readings.TypeWord.TheVariants as types
+use Rattle.ir_reader.specs.declared.forms.Form.{Form}
+use Rattle.ir_reader.specs.declared.forms.Form.TheVariants as forms
+use Rattle.ir_reader.specs.declared.forms.Counts.{Counts}
+use Rattle.ir_reader.specs.declared.forms.Counted.TheVariants as kinds
+use Rattle.ir_reader.specs.declared.forms.Place.TheVariants as places
+use Rattle.ir_reader.specs.declared.forms.State.{State}
+use Rattle.ir_reader.specs.Limits.{item_fits, type_fits, counts_fit, counted}
+use Rattle.ir_reader.specs.Lists.{Named, comma, argument_at, is_task_start}
+use Rattle.ir_reader.specs.Marks.{is_mark, begins}
+use Rattle.ir_reader.specs.Parts.{is_value_type, is_answer_type}
+use Rattle.ir_reader.specs.Places.{behind, is_dropped_form}
+use Rattle.ir_reader.specs.Seen.{of_form}
+use Rattle.ir_reader.specs.Slots as parts
+use Rattle.ir_reader.specs.Text.{Numbered, Fault, next_state, opening, readings, text_readings}
+use Rattle.ir_types.specs.Statements.{Line, Statement, stated}
+use Rattle.ir_types.specs.Statements as statements
+use Rattle.read_back.specs.BlocksEnd.{BlocksEnd}
+use Rattle.read_back.specs.Said.{cell_word, layout_says, unnamed, declaration_says, declaration_if_called, function_says, said_by}
+use Rattle.read_back.proofs.BackInsts.{IsPrinted}
+use Rattle.read_back.proofs.BackModules.{names_in, printed}
+use Rattle.read_back.proofs.BackFaults.{IsBelow, externals_below}
+use Rattle.read_back.proofs.Spellings.{SpellsType, integer_type, pointer_type, void_type}
+use Rattle.read_back.proofs.Forms.{ReadsAs}
+use Rattle.read_back.proofs.Listed.{SpellsElement}
+use Rattle.read_back.proofs.ListForms.{EndsAtMark, field_element, type_opens, layout_line, parameter_element, plain_element, plain_opens, declare_line}
+use Rattle.read_back.proofs.LinesRead.{Says, says-nil, says-both, says-line, says-empty, formed_outcome, ends_none-clean, before}
+use Rattle.read_back.proofs.CallLines.{new-named}
+use Rattle.read_back.proofs.Chains.{joined-cons, behind_all}
+use Rattle.read_back.proofs.Blocks.{Room, room-fits, blocks_room}
+use Rattle.read_back.proofs.FunctionsRead.{FunctionReads, behind_function, behind_head, function_read}
+use Rattle.read_back.proofs.SourceFunctions.{function_reads}
+
+-- outside functions
+abbrev at_top : Counts → State
+at_top c = record { place = places.Top; counts = c }
+
+top_line : (c : Counts) (text : List ℕ) (form : Form) (items : List parts.Item) → ReadsAs text form items → is_metadata text ≡ false → behind places.Top form ≡ Some places.Top → is_dropped_form form ≡ false
+    → list_all item_fits items ≡ true → counts_fit (next_state (at_top c) places.Top (of_form form items)).counts ≡ true
+    → Says (at_top c) (text ++ (10 ∷ [])) (next_state (at_top c) places.Top (of_form form items)) (stated (of_form form items) ∷ [])
+top_line c text form items reads plain stands kept fits room =
+    says-line (at_top c) (next_state (at_top c) places.Top (of_form form items)) text (of_form form items) (ends_none-clean text reads.clean)
+    (formed_outcome (at_top c) text form places.Top items reads.clean plain reads.form_is reads.whole stands kept fits room)
+
+-- ---- layouts
+
+sixty_four : decimal 64 ≡ codes "64"
+sixty_four = decimal_step 64 (omega arith) (omega arith) ∙ ap (λ ds. ds ++ (52 ∷ [])) (decimal_digit 6 (omega arith))
+
+wide_type : SpellsType (codes "i64") (types.Int 64)
+wide_type = subst (λ (ds : List ℕ). SpellsType (105 ∷ ds) (types.Int 64)) sixty_four (integer_type 64 (omega arith))
+
+cell_spelled : (cell : Cell) → SpellsType (word_of cell) (cell_word cell)
+cell_spelled cells.I64 = wide_type
+cell_spelled cells.Ptr = pointer_type
+
+cell_value : (cell : Cell) → is_value_type (cell_word cell) ≡ true
+cell_value cells.I64 = refl
+cell_value cells.Ptr = refl
+
+cells_fit : (cs : List Cell) → list_all type_fits (map cell_word cs) ≡ true
+cells_fit [] = refl
+cells_fit (cells.I64 ∷ cs) = cells_fit cs
+cells_fit (cells.Ptr ∷ cs) = cells_fit cs
+
+-- what is asked of a layout
+record LayoutReads (layout : ObjectLayout) : Type 0 where
+  pub named : is_name layout.name ≡ true
+  pub short : length layout.name ≤ 4096
+  pub few : length layout.fields ≤ 64
+
+layout_bytes : (n body : List ℕ) → 37 ∷ (n ++ (codes " = type { " ++ (body ++ codes " }\n"))) ≡ (37 ∷ (n ++ (codes " = type { " ++ (body ++ codes " }")))) ++ (10 ∷ [])
+layout_bytes n body = simp append_assoc
+
+abbrev behind_layout : Counts → Counts
+behind_layout c = counted kinds.Layout c
+
+layout_read : (layout : ObjectLayout) (c : Counts) → LayoutReads layout → counts_fit (behind_layout c) ≡ true
+    → Says (at_top c) (layout_text layout) (at_top (behind_layout c)) (layout_says layout ∷ [])
+layout_read layout c is room =
+    let text : List ℕ = 37 ∷ (layout.name ++ (codes " = type { " ++ (joined (codes ", ") (map word_of layout.fields) ++ codes " }"))) in
+    let items : List parts.Item = parts.layout_name layout.name ∷ parts.fields (map cell_word layout.fields) ∷ [] in
+    let reads : ReadsAs text forms.Layout items = layout_line layout.name is.named word_of cell_word layout.fields
+        (λ k d low. field_element (cell_spelled _) (cell_value _)) (λ k d low rest ends. type_opens (cell_spelled _) (codes "}") rest ends) in
+    let count : length (map cell_word layout.fields) ≡ length layout.fields = length-map layout.fields cell_word in
+    let fits : list_all item_fits items ≡ true = rw (le-leb (length layout.name) 4096 is.short, count, le-leb (length layout.fields) 64 is.few, cells_fit layout.fields) refl in
+    rw (layout_bytes layout.name (joined (codes ", ") (map word_of layout.fields))) (top_line c text forms.Layout items reads refl refl refl fits room)
+
+abbrev behind_layouts : List ObjectLayout → Counts → Counts
+behind_layouts [] c = c
+behind_layouts (layout ∷ layouts) c = behind_layouts layouts (behind_layout c)
+
+layout_room : (l f v i : ℕ) (c : Counts) → Room (suc l) f v i c → Room l f v i (behind_layout c)
+layout_room l f v i c room = record { layouts = omega (arith, room.layouts); functions = room.functions; values = room.values; instructions = room.instructions }
+
+layouts_read : (layouts : List ObjectLayout) (f v i : ℕ) (c : Counts) → AllByRecursion LayoutReads layouts → Room (length layouts) f v i c
+    → Says (at_top c) (joined [] (map layout_text layouts)) (at_top (behind_layouts layouts c)) (map layout_says layouts)
+layouts_read [] f v i c all room = says-nil (at_top c)
+layouts_read (layout ∷ layouts) f v i c all room =
+    let next : Room (length layouts) f v i (behind_layout c) = layout_room (length layouts) f v i c room in
+    rw (joined-cons (layout_text layout) (map layout_text layouts))
+    (says-both (layout_read layout c all.0 (room-fits next)) (layouts_read layouts f v i (behind_layout c) all.1 next))
+
+layouts_room : (layouts : List ObjectLayout) (f v i : ℕ) (c : Counts) → Room (length layouts) f v i c → Room 0 f v i (behind_layouts layouts c)
+layouts_room [] f v i c room = room
+layouts_room (layout ∷ layouts) f v i c room = layouts_room layouts f v i (behind_layout c) (layout_room (length layouts) f v i c room)
+
+-- ---- declarations
+
+-- the words of the parameters of externals
+abbrev parameter_word : TypeWord → List ℕ
+parameter_word types.Void = codes "void"
+parameter_word (types.Int bits) = codes "i64"
+parameter_word types.Plain = codes "ptr"
+parameter_word types.Managed = codes "ptr addrspace(1)"
+
+abbrev parameter_named : TypeWord → Named
+parameter_named ty = record { ty = ty; name = None }
+
+abbrev ParameterReads : Bool → TypeWord → Type 0
+ParameterReads plain ty = SpellsElement (argument_at plain) comma EndsAtMark (parameter_word ty) (parameter_named ty)
+    × ((rest : List ℕ) → EndsAtMark rest → begins (is_mark (codes ")")) (tokens (parameter_word ty ++ rest)) ≡ false)
+
+wide_parameter : (plain : Bool) → ParameterReads plain (types.Int 64)
+wide_parameter plain = (parameter_element plain wide_type refl, λ rest ends. type_opens wide_type (codes ")") rest ends)
+
+managed_parameter : (plain : Bool) → ParameterReads plain types.Managed
+managed_parameter plain = (parameter_element plain pointer_type refl, λ rest ends. type_opens pointer_type (codes ")") rest ends)
+
+plain_parameter : ParameterReads true types.Plain
+plain_parameter = (plain_element, λ rest ends. plain_opens rest ends)
+
+elements_read : (plain : Bool) (tys : List TypeWord) → AllByRecursion (ParameterReads plain) tys → AllByRecursion (λ ty. SpellsElement (argument_at plain) comma EndsAtMark (parameter_word ty) (parameter_named ty)) tys
+elements_read plain [] all = tt
+elements_read plain (ty ∷ tys) all = (all.0.0, elements_read plain tys all.1)
+
+opens_read : (plain : Bool) (tys : List TypeWord) → AllByRecursion (ParameterReads plain) tys
+    → AllByRecursion (λ ty. (rest : List ℕ) → EndsAtMark rest → begins (is_mark (codes ")")) (tokens (parameter_word ty ++ rest)) ≡ false) tys
+opens_read plain [] all = tt
+opens_read plain (ty ∷ tys) all = (all.0.1, opens_read plain tys all.1)
+
+declared_line : {spelled : List ℕ} {answer : TypeWord} → SpellsType spelled answer → is_answer_type answer ≡ true → (n : List ℕ) → is_name n ≡ true → (tys : List TypeWord) → AllByRecursion (ParameterReads (is_task_start n)) tys
+    → ReadsAs (codes "declare " ++ (spelled ++ (32 ∷ 64 ∷ (n ++ (40 ∷ (joined (codes ", ") (map parameter_word tys) ++ codes ")")))))) forms.Declare (parts.ty answer ∷ parts.declared n (unnamed tys) ∷ [])
+declared_line t allow n is tys all =
+    declare_line t allow n is parameter_word parameter_named tys (All-from_recursion _ tys (elements_read (is_task_start n) tys all)) (All-from_recursion _ tys (opens_read (is_task_start n) tys all))
+
+new_bytes : (n : List ℕ) → new_words ++ (n ++ codes "(i64)\n") ≡ (codes "declare ptr addrspace(1) @gc_new." ++ (n ++ codes "(i64)")) ++ (10 ∷ [])
+unfolding new_words
+new_bytes n = simp append_assoc
+
+new_shape : (n : List ℕ)
+    → codes "declare ptr addrspace(1) @gc_new." ++ (n ++ codes "(i64)") ≡ codes "declare " ++ (codes "ptr addrspace(1)" ++ (32 ∷ 64 ∷ ((codes "gc_new." ++ n) ++ (40 ∷ (joined (codes ", ") (map parameter_word (types.Int 64 ∷ [])) ++ codes ")")))))
+new_shape n = refl
+
+-- the declaration of an external of source modules
+abbrev is_of_source : External → Bool
+is_of_source (externs.New number) = true
+is_of_source externs.Print = true
+is_of_source externs.Read = true
+is_of_source externs.TaskStart = true
+is_of_source _ = false
+
+layout_at : (layouts : List ObjectLayout) → All (λ (layout : ObjectLayout). is_name layout.name ≡ true) layouts → (k : ℕ) → k < length layouts → is_name (layout_name layouts k) ≡ true
+layout_at [] named k low = absurd (omega arith)
+layout_at (layout ∷ layouts) named zero low = All-head (λ (one : ObjectLayout). is_name one.name ≡ true) layout layouts named
+layout_at (layout ∷ layouts) named (suc k) low = layout_at layouts (All-tail (λ (one : ObjectLayout). is_name one.name ≡ true) layout layouts named) k (omega arith)
+
+declaration_read : (layouts : List ObjectLayout) → All (λ (layout : ObjectLayout). is_name layout.name ≡ true) layouts → (c : Counts) → counts_fit c ≡ true → (e : External) → IsBelow (length layouts) e → is_of_source e ≡ true
+    → Says (at_top c) (declaration_text layouts e) (at_top c) (declaration_says layouts e)
+unfolding fixed_declaration
+declaration_read layouts named c room (externs.New number) low is =
+    let n : List ℕ = codes "gc_new." ++ layout_name layouts number in
+    let n_is : is_name n ≡ true = new-named (layout_name layouts number) (layout_at layouts named number low) in
+    rw (new_bytes (layout_name layouts number))
+    (top_line c (codes "declare ptr addrspace(1) @gc_new." ++ (layout_name layouts number ++ codes "(i64)")) forms.Declare (parts.ty types.Managed ∷ parts.declared n (unnamed (types.Int 64 ∷ [])) ∷ [])
+    (declared_line pointer_type refl n n_is (types.Int 64 ∷ []) (wide_parameter (is_task_start n), tt)) refl refl refl refl room)
+declaration_read layouts named c room externs.Print low is =
+    top_line c (codes "declare void @print_i64(i64)") forms.Declare (parts.ty types.Void ∷ parts.declared (codes "print_i64") (unnamed (types.Int 64 ∷ [])) ∷ [])
+    (declared_line void_type refl (codes "print_i64") refl (types.Int 64 ∷ []) (wide_parameter false, tt)) refl refl refl refl room
+declaration_read layouts named c room externs.Read low is =
+    top_line c (codes "declare i64 @read_i64()") forms.Declare (parts.ty (types.Int 64) ∷ parts.declared (codes "read_i64") (unnamed []) ∷ [])
+    (declared_line wide_type refl (codes "read_i64") refl [] tt) refl refl refl refl room
+declaration_read layouts named c room externs.TaskStart low is =
+    top_line c (codes "declare void @task_start(ptr, ptr addrspace(1))") forms.Declare (parts.ty types.Void ∷ parts.declared (codes "task_start") (unnamed (types.Plain ∷ types.Managed ∷ [])) ∷ [])
+    (declared_line void_type refl (codes "task_start") refl (types.Plain ∷ types.Managed ∷ []) (plain_parameter, (managed_parameter true, tt))) refl refl refl refl room
+declaration_read layouts named c room externs.Poll low is = absurd (let bad : false ≡ true = is in cc)
+declaration_read layouts named c room externs.Check low is = absurd (let bad : false ≡ true = is in cc)
+declaration_read layouts named c room externs.Same low is = absurd (let bad : false ≡ true = is in cc)
+declaration_read layouts named c room externs.StatepointFamily low is = absurd (let bad : false ≡ true = is in cc)
+declaration_read layouts named c room externs.RelocateFamily low is = absurd (let bad : false ≡ true = is in cc)
+declaration_read layouts named c room (externs.ResultOf width) low is = absurd (let bad : false ≡ true = is in cc)
+declaration_read layouts named c room externs.ResultPointer low is = absurd (let bad : false ≡ true = is in cc)
+
+-- what no source module calls
+
+not_helper : (e : External) (callee : Callee) → is_of_source e ≡ false → is_helper callee ≡ false → is_callee e callee ≡ false
+not_helper (externs.New number) callee other plain = cc
+not_helper externs.Print callee other plain = cc
+not_helper externs.Read callee other plain = cc
+not_helper externs.TaskStart callee other plain = cc
+not_helper externs.Poll callees.Poll other plain = cc
+not_helper externs.Poll _ other plain = refl
+not_helper externs.Check callees.Check other plain = cc
+not_helper externs.Check _ other plain = refl
+not_helper externs.Same callees.Same other plain = cc
+not_helper externs.Same _ other plain = refl
+not_helper externs.StatepointFamily _ other plain = refl
+not_helper externs.RelocateFamily _ other plain = refl
+not_helper (externs.ResultOf width) _ other plain = refl
+not_helper externs.ResultPointer _ other plain = refl
+
+not_called : (e : External) (op : Op) (ty : Ty) → is_of_source e ≡ false → is_rewritten op ≡ false → is_call_of e op ty ≡ false
+not_called e (ops.Call callee types) ty other plain = not_helper e callee other plain
+not_called e (ops.Statepoint id callee types) ty other plain = cc
+not_called e ops.GcResult ty other plain = cc
+not_called e ops.GcRelocate ty other plain = cc
+not_called e _ ty other plain = refl
+
+none_any : {X : Type 0} (P : X → Type 0) (f : X → Bool) → ((x : X) → P x → f x ≡ false) → (xs : List X) → AllByRecursion P xs → list_any f xs ≡ false
+none_any P f each [] all = refl
+none_any P f each (x ∷ xs) all = rw (each x all.0) (none_any P f each xs all.1)
+
+abbrev FunctionIsPrinted : ModuleContent → Function → Type 0
+FunctionIsPrinted content func = AllByRecursion (λ (block : BasicBlock). AllByRecursion (λ (inst : Instruction). IsPrinted (names_in content func) inst.op inst) block.insts) func.blocks
+
+not_in : (content : ModuleContent) (e : External) → is_of_source e ≡ false → (funcs : List Function) → AllByRecursion (FunctionIsPrinted content) funcs → calls funcs e ≡ false
+unfolding calls
+not_in content e other funcs all =
+    none_any (FunctionIsPrinted content) _ (λ func is.
+    none_any (λ (block : BasicBlock). AllByRecursion (λ (inst : Instruction). IsPrinted (names_in content func) inst.op inst) block.insts) _ (λ block is.
+    none_any (λ (inst : Instruction). IsPrinted (names_in content func) inst.op inst) (λ inst. is_call_of e inst.op inst.ty) (λ inst is. not_called e inst.op inst.ty other is.plain) block.insts is) func.blocks is) funcs all
+
+if_called_read : (layouts : List ObjectLayout) (funcs : List Function) → All (λ (layout : ObjectLayout). is_name layout.name ≡ true) layouts → (c : Counts) → counts_fit c ≡ true → (e : External) → IsBelow (length layouts) e
+    → (is_of_source e ≡ false → calls funcs e ≡ false)
+    → Says (at_top c) (printed_declarations.declaration_if_called layouts funcs e) (at_top c) (declaration_if_called layouts funcs e)
+if_called_read layouts funcs named c room e low not_there = by (calls funcs e) (is_of_source e) refl refl
+  where
+    by : (called of_source : Bool) → calls funcs e ≡ called → is_of_source e ≡ of_source
+        → Says (at_top c) (if called then declaration_text layouts e else []) (at_top c) (if called then declaration_says layouts e else [])
+    by false of_source is so = says-nil (at_top c)
+    by true true is so = declaration_read layouts named c room e low so
+    by true false is so = absurd (let bad : true ≡ false = sym is ∙ not_there so in cc)
+
+declarations_read : (layouts : List ObjectLayout) (funcs : List Function) → All (λ (layout : ObjectLayout). is_name layout.name ≡ true) layouts → (c : Counts) → counts_fit c ≡ true
+    → ((e : External) → is_of_source e ≡ false → calls funcs e ≡ false) → (es : List External) → AllByRecursion (IsBelow (length layouts)) es
+    → Says (at_top c) (flat_map (printed_declarations.declaration_if_called layouts funcs) es) (at_top c) (flat_map (declaration_if_called layouts funcs) es)
+declarations_read layouts funcs named c room not_there [] low = says-nil (at_top c)
+declarations_read layouts funcs named c room not_there (e ∷ es) low =
+    says-both (if_called_read layouts funcs named c room e low.0 (not_there e)) (declarations_read layouts funcs named c room not_there es low.1)
+
+-- ---- functions
+
+-- what is asked of a function of the module
+record FunctionFits (layouts : List ObjectLayout) (funcs : List Function) (func : Function) : Type 0 where
+  pub reads : FunctionReads layouts funcs func
+  pub values : length func.args + length (instructions_of func.blocks) ≤ 4096
+
+abbrev all_instructions : List Function → List Instruction
+all_instructions funcs = flat_map (λ func. instructions_of func.blocks) funcs
+
+function_room : (func : Function) (s : State) (f i : ℕ) → length func.args + length (instructions_of func.blocks) ≤ 4096
+    → Room 0 (suc f) 0 (length (instructions_of func.blocks) + i) s.counts → Room 0 f 0 i (behind_function func s).counts
+function_room func s f i values room =
+    let head_room : Room 0 f (length (instructions_of func.blocks) + 0) (length (instructions_of func.blocks) + i) (behind_head func s).counts =
+        record { layouts = room.layouts; functions = omega (arith, room.functions); values = omega (arith, values); instructions = room.instructions } in
+    blocks_room func.blocks (behind_head func s) 0 f 0 i head_room
+
+split_room : (func : Function) (funcs : List Function) (s : State) → Room 0 (suc (length funcs)) 0 (length (all_instructions (func ∷ funcs))) s.counts
+    → Room 0 (suc (length funcs)) 0 (length (instructions_of func.blocks) + length (all_instructions funcs)) s.counts
+split_room func funcs s room =
+    let split : length (all_instructions (func ∷ funcs)) ≡ length (instructions_of func.blocks) + length (all_instructions funcs) = length-append (instructions_of func.blocks) (all_instructions funcs) in
+    record { layouts = room.layouts; functions = room.functions; values = room.values; instructions = omega (arith, split, room.instructions) }
+
+led_read : (layouts : List ObjectLayout) (funcs : List Function) (fs : List Function) (s : State) → s.place ≡ places.Top → AllByRecursion (FunctionFits layouts funcs) fs
+    → Room 0 (length fs) 0 (length (all_instructions fs)) s.counts
+    → Says s (led (codes "\n") (map (function_text layouts funcs) fs)) (behind_all behind_function fs s) (flat_map (function_says layouts funcs) fs)
+led_read layouts funcs [] s top all room = says-nil s
+led_read layouts funcs (f ∷ fs) s top all room =
+    let here = split_room f fs s room in
+    says-both (says-both (says-empty s) (function_read layouts funcs f s 0 (length fs) (length (all_instructions fs)) all.0.reads top all.0.values here))
+    (led_read layouts funcs fs (behind_function f s) refl all.1 (function_room f s (length fs) (length (all_instructions fs)) all.0.values here))
+
+joined_read : (layouts : List ObjectLayout) (funcs : List Function) (fs : List Function) (s : State) → s.place ≡ places.Top → AllByRecursion (FunctionFits layouts funcs) fs
+    → Room 0 (length fs) 0 (length (all_instructions fs)) s.counts
+    → Says s (joined (codes "\n") (map (function_text layouts funcs) fs)) (behind_all behind_function fs s) (flat_map (function_says layouts funcs) fs)
+joined_read layouts funcs [] s top all room = says-nil s
+joined_read layouts funcs (f ∷ fs) s top all room =
+    let here = split_room f fs s room in
+    says-both (function_read layouts funcs f s 0 (length fs) (length (all_instructions fs)) all.0.reads top all.0.values here)
+    (led_read layouts funcs fs (behind_function f s) refl all.1 (function_room f s (length fs) (length (all_instructions fs)) all.0.values here))
+
+functions_read : (layouts : List ObjectLayout) (funcs : List Function) (s : State) → s.place ≡ places.Top → AllByRecursion (FunctionFits layouts funcs) funcs
+    → Room 0 (length funcs) 0 (length (all_instructions funcs)) s.counts
+    → Says s (functions_text layouts funcs) (behind_all behind_function funcs s) (flat_map (function_says layouts funcs) funcs)
+functions_read layouts funcs s top all room = by (has_top layouts funcs)
+  where
+    by : (above : Bool) → Says s (if above then led (codes "\n") (map (function_text layouts funcs) funcs) else joined (codes "\n") (map (function_text layouts funcs) funcs))
+        (behind_all behind_function funcs s) (flat_map (function_says layouts funcs) funcs)
+    by true = led_read layouts funcs funcs s top all room
+    by false = joined_read layouts funcs funcs s top all room
+
+functions_top : (fs : List Function) (s : State) → s.place ≡ places.Top → (behind_all behind_function fs s).place ≡ places.Top
+functions_top [] s top = top
+functions_top (f ∷ fs) s top = functions_top fs (behind_function f s) refl
+
+-- ---- the module
+
+each_of : {X : Type 0} (xs : List X) (P : X → Type 0) → ((x : X) → Contains xs x → P x) → AllByRecursion P xs
+each_of {X} xs P each = over xs (recursion_from_All (Contains xs) xs (All-contains_itself xs))
+  where
+    over : (ys : List X) → AllByRecursion (Contains xs) ys → AllByRecursion P ys
+    over [] all = tt
+    over (y ∷ ys) all = (each y all.0, over ys all.1)
+
+-- the state behind the module's text
+abbrev behind_module : ModuleContent → State
+behind_module content = behind_all behind_function content.funcs (at_top (behind_layouts content.layouts (record { layouts = 0; functions = 0; values = 0; instructions = 0 })))
+
+pub module_read : (content : ModuleContent) → IsSourceModule content → BlocksEnd content → Says opening (text_of content) (behind_module content) (said_by content)
+unfolding text_of said_by declarations_text
+module_read content source ends =
+    says-both (layouts_read content.layouts (length content.funcs) 0 (length (all_instructions content.funcs)) opening.counts layouts_fit room)
+    (says-both (declarations_read content.layouts content.funcs source.layout_names behind_counts (room-fits later) (λ e other. not_in content e other content.funcs functions_printed) (externals content.layouts) (externals_below content.layouts))
+    (functions_read content.layouts content.funcs (at_top behind_counts) refl functions_fit later))
+  where
+    layouts_fit : AllByRecursion LayoutReads content.layouts
+    layouts_fit = each_of content.layouts LayoutReads (λ layout c. record {
+      named = All-contains (λ (one : ObjectLayout). is_name one.name ≡ true) content.layouts layout source.layout_names c;
+      short = All-contains (λ (one : ObjectLayout). length one.name ≤ 4096) content.layouts layout source.limits.layout_names c;
+      few = All-contains (λ (one : ObjectLayout). length one.fields ≤ 64) content.layouts layout source.limits.fields c;
+    })
+
+    room : Room (length content.layouts) (length content.funcs) 0 (length (all_instructions content.funcs)) opening.counts
+    room =
+        let layouts = source.limits.layouts in
+        let functions = source.limits.functions in
+        let instructions = source.instructions in
+        record { layouts = omega arith; functions = omega arith; values = omega arith; instructions = omega arith }
+
+    behind_counts : Counts
+    behind_counts = behind_layouts content.layouts (record { layouts = 0; functions = 0; values = 0; instructions = 0 })
+
+    later : Room 0 (length content.funcs) 0 (length (all_instructions content.funcs)) behind_counts
+    later = layouts_room content.layouts (length content.funcs) 0 (length (all_instructions content.funcs)) (record { layouts = 0; functions = 0; values = 0; instructions = 0 }) room
+
+    functions_printed : AllByRecursion (FunctionIsPrinted content) content.funcs
+    functions_printed = each_of content.funcs (FunctionIsPrinted content) (λ func c. printed content source func c)
+
+    functions_fit : AllByRecursion (FunctionFits content.layouts content.funcs) content.funcs
+    functions_fit = each_of content.funcs (FunctionFits content.layouts content.funcs) (λ func c. record {
+      reads = function_reads content source ends func c;
+      values = (All-contains IsSourceFunction content.funcs func source.functions c).values;
+    })
+
+-- readings of a text whose lines say this
+pub record TextReads (text : List ℕ) (says : List Statement) : Type 0 where
+  pub found : List Numbered
+  pub reads : text_readings text ≡ Ok found
+  pub same : map (λ (l : Line). l.says) (statements.lines_of found) ≡ says
+
+ended_top : (s : State) (number : ℕ) → s.place ≡ places.Top → readings s number [] ≡ Ok []
+unfolding readings
+ended_top s number top = rw top refl
+
+no_lines : lines [] ≡ []
+no_lines = refl
+
+says_lines : (found : List Numbered) → map (λ (l : Line). l.says) (statements.lines_of found) ≡ map (λ (one : Numbered). stated one.said) found
+says_lines [] = refl
+says_lines (one ∷ found) = ap (λ (more : List Statement). stated one.said ∷ more) (says_lines found)
+
+text_reads : (text : List ℕ) (last : State) (says : List Statement) → last.place ≡ places.Top → Says opening text last says → TextReads text says
+unfolding text_readings lines_of
+text_reads text last says top read = record {
+  found = read.read 1;
+  reads = ap (λ (bs : List ℕ). readings opening 1 (numbered 1 (lines bs))) (sym (append-nil text)) ∙ read.reads 1 [] ∙ ap (before (read.read 1)) (ended_top last (read.next 1) top) ∙ ap Ok (append-nil (read.read 1));
+  same = says_lines (read.read 1) ∙ read.says 1;
+}
+
+-- the printed text of a source module says what the module does
+pub source_text_reads : (content : ModuleContent) → IsSourceModule content → BlocksEnd content → TextReads (text_of content) (said_by content)
+source_text_reads content source ends =
+    text_reads (text_of content) (behind_module content) (said_by content) (functions_top content.funcs (at_top (behind_layouts content.layouts (record { layouts = 0; functions = 0; values = 0; instructions = 0 }))) refl) (module_read content source ends)

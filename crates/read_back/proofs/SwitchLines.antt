@@ -1,0 +1,135 @@
+-- A `switch` on its lines: the first line, a line for each case, and the last line.
+use Rattle.std.proofs.Common.{◌≡◌, refl, ap, sym, ◌∙◌, ℕ, zero, suc, ◌+◌, ◌<◌, ◌≤◌, Bool, true, false, ◌&&◌, cond, List, [], ◌∷◌, ◌++◌, length, map, Option, Some, None, arith, codes, decimal, append_assoc}
+use Rattle.std.specs.Prelude.{◌==◌, not}
+use Rattle.std.specs.List.{AllByRecursion, list_all, zip}
+use Rattle.std.proofs.lemmas.Bool.{le-leb}
+use Rattle.sp_ids.specs.declared.ids.BlockId.{BlockId}
+use Rattle.sp_ids.specs.Numbers.{wrapped, signed}
+use Rattle.sp_text.specs.Tokens.{tokens}
+use Rattle.sp_text.proofs.Spelled.{tokens-blank}
+use Rattle.ir_ast.specs.declared.types.Ty.{Ty}
+use Rattle.ir_ast.specs.declared.types.Ty.TheVariants as tys
+use Rattle.ir_ast.specs.declared.ops.Operand.{Operand}
+use Rattle.ir_ast.specs.declared.ops.Operand.TheVariants as operands
+use Rattle.ir_ast.specs.declared.ops.Op.TheVariants as ast
+use Rattle.ir_ast.specs.Operands.{is_value, is_literal}
+use Rattle.ir_ast.specs.Values.{value_types}
+use Rattle.ir_ast.specs.Faults.TypeClash.{Fits}
+use Rattle.ir_printer.specs.Lists.{joined}
+use Rattle.ir_printer.specs.Names.{Names, block_name}
+use Rattle.ir_printer.specs.Operands.{value_text}
+use Rattle.ir_printer.specs.Lines.{line_text, case_text}
+use Rattle.ir_reader.specs.declared.forms.Form.{Form}
+use Rattle.ir_reader.specs.declared.forms.Form.TheVariants as forms
+use Rattle.ir_reader.specs.declared.forms.Counts.{Counts}
+use Rattle.ir_reader.specs.declared.forms.Counted.TheVariants as kinds
+use Rattle.ir_reader.specs.declared.forms.Place.{Place}
+use Rattle.ir_reader.specs.declared.forms.Place.TheVariants as places
+use Rattle.ir_reader.specs.declared.forms.State.{State}
+use Rattle.ir_reader.specs.Limits.{item_fits, counts_fit, counted}
+use Rattle.ir_reader.specs.Parts.{is_case_value}
+use Rattle.ir_reader.specs.Parts as values
+use Rattle.ir_reader.specs.Places.{behind, is_dropped_form}
+use Rattle.ir_reader.specs.Seen.{of_form}
+use Rattle.ir_reader.specs.Slots as parts
+use Rattle.ir_reader.specs.Text.{is_top, next_state}
+use Rattle.ir_types.specs.Statements.{stated}
+use Rattle.read_back.specs.Said.{value_says, case_says, instruction_says, literal_of}
+use Rattle.read_back.proofs.Steps.{IsClean}
+use Rattle.read_back.proofs.Forms.{ReadsAs, switch_line, case_line, switch_end_line}
+use Rattle.read_back.proofs.LinesRead.{Says, says-nil, says-both, says-line, formed_outcome, ends_none-clean}
+use Rattle.read_back.proofs.Operands.{HaveNames, IsNarrow, block-named, value_spelled, value_in_limit}
+use Rattle.read_back.proofs.OneLine.{made}
+use Rattle.read_back.proofs.CallLines.{EntryFits}
+use Rattle.read_back.proofs.Chains.{joined-cons, InstSays, behind_inst}
+
+-- a line behind blanks, inside a function
+pub inner_line : (s : State) (line text : List ℕ) (form : Form) (place : Place) (items : List parts.Item) → ReadsAs text form items → tokens line ≡ tokens text → IsClean line
+    → is_top s.place ≡ false → behind s.place form ≡ Some place → is_dropped_form form ≡ false → list_all item_fits items ≡ true → counts_fit (next_state s place (of_form form items)).counts ≡ true
+    → Says s (line ++ (10 ∷ [])) (next_state s place (of_form form items)) (stated (of_form form items) ∷ [])
+inner_line s line text form place items reads same clean inside stands kept fits counts =
+    says-line s (next_state s place (of_form form items)) line (of_form form items) (ends_none-clean line clean)
+    (formed_outcome s line form place items clean (rw inside refl) (rw same reads.form_is) (rw same reads.whole) stands kept fits counts)
+
+two_blanks : (text : List ℕ) → tokens (32 ∷ 32 ∷ text) ≡ tokens text
+two_blanks text = tokens-blank 32 (32 ∷ text) refl ∙ tokens-blank 32 text refl
+
+-- among the cases
+abbrev at_cases : Counts → State
+at_cases c = record { place = places.Cases; counts = c }
+
+case_value : (names : Names) (bits : ℕ) (o : Operand) → is_literal o ≡ true → is_case_value (value_says names (tys.Int bits) o) ≡ true
+case_value names bits (operands.Int number) is = by (bits == 1)
+  where
+    by : (bit : Bool) → is_case_value (cond bit (values.truth (not (wrapped 1 number == 0))) (values.number (literal_of (signed bits number)))) ≡ true
+    by true = refl
+    by false = refl
+case_value names bits (operands.Value v) is = cc
+case_value names bits operands.Null is = cc
+case_value names bits (operands.Fun f) is = cc
+
+-- a case of a `switch`
+pub record CaseFits (names : Names) (ty : Ty) (entry : Operand × BlockId) : Type 0 where
+  pub literal : is_literal entry.0 ≡ true
+  pub fit : EntryFits names ty entry
+
+abbrev case_line_text : Names → Ty → Operand × BlockId → List ℕ
+case_line_text names ty entry = case_text names ty entry.0 entry.1
+
+case_bytes : (ds v l : List ℕ) → (ds ++ (32 ∷ v)) ++ (codes ", label " ++ ((37 ∷ l) ++ (10 ∷ []))) ≡ (ds ++ (32 ∷ (v ++ (codes ", label %" ++ l)))) ++ (10 ∷ [])
+case_bytes ds v l = simp append_assoc
+
+case_shape : (names : Names) (bits : ℕ) (o : Operand) (l : BlockId)
+    → case_text names (tys.Int bits) o l
+    ≡ (32 ∷ 32 ∷ 32 ∷ 32 ∷ 105 ∷ (decimal bits ++ (32 ∷ (value_text names (tys.Int bits) o ++ (codes ", label %" ++ block_name names.func l.0))))) ++ (10 ∷ [])
+case_shape names bits o l = ap (λ t. 32 ∷ 32 ∷ 32 ∷ 32 ∷ 105 ∷ t) (case_bytes (decimal bits) (value_text names (tys.Int bits) o) (block_name names.func l.0))
+
+case_read : (names : Names) → HaveNames names → (bits : ℕ) → (1 ≤ bits) × (bits ≤ 64) → (c : Counts) → counts_fit c ≡ true → (e : Operand × BlockId) → CaseFits names (tys.Int bits) e
+    → Says (at_cases c) (case_line_text names (tys.Int bits) e) (at_cases c) (case_says names (tys.Int bits) e ∷ [])
+case_read names have bits narrow c room e fits =
+    let of : EntryFits names (tys.Int bits) e = fits.fit in
+    let value = value_spelled names have (tys.Int bits) narrow e.0 of.value of.fits in
+    let l : List ℕ = block_name names.func e.1.0 in
+    let text : List ℕ = 105 ∷ (decimal bits ++ (32 ∷ (value_text names (tys.Int bits) e.0 ++ (codes ", label %" ++ l)))) in
+    let reads : ReadsAs text forms.Case (parts.width bits ∷ parts.value (value_says names (tys.Int bits) e.0) ∷ parts.name l ∷ []) =
+        case_line bits narrow.1 value (case_value names bits e.0 fits.literal) l (block-named names have e.1.0 of.low) in
+    rw (case_shape names bits e.0 e.1)
+    (inner_line (at_cases c) (32 ∷ 32 ∷ 32 ∷ 32 ∷ text) text forms.Case places.Cases (parts.width bits ∷ parts.value (value_says names (tys.Int bits) e.0) ∷ parts.name l ∷ []) reads
+    (two_blanks (32 ∷ 32 ∷ text) ∙ two_blanks text) reads.clean refl refl refl
+    (rw (le-leb 1 bits narrow.0, le-leb bits 64 narrow.1, value_in_limit names (tys.Int bits) narrow e.0 of.fits) refl) room)
+
+cases_read : (names : Names) → HaveNames names → (bits : ℕ) → (1 ≤ bits) × (bits ≤ 64) → (c : Counts) → counts_fit c ≡ true → (es : List (Operand × BlockId)) → AllByRecursion (CaseFits names (tys.Int bits)) es
+    → Says (at_cases c) (joined [] (map (case_line_text names (tys.Int bits)) es)) (at_cases c) (map (case_says names (tys.Int bits)) es)
+cases_read names have bits narrow c room [] all = says-nil (at_cases c)
+cases_read names have bits narrow c room (e ∷ es) all =
+    rw (joined-cons (case_line_text names (tys.Int bits) e) (map (case_line_text names (tys.Int bits)) es))
+    (says-both (case_read names have bits narrow c room e all.0) (cases_read names have bits narrow c room es all.1))
+
+switch_bytes : (ds v l cases : List ℕ)
+    → ((ds ++ (32 ∷ v)) ++ (codes ", label " ++ ((37 ∷ l) ++ (codes " [\n" ++ (cases ++ codes "  ]"))))) ++ codes "\n"
+    ≡ ((ds ++ (32 ∷ (v ++ (codes ", label %" ++ (l ++ codes " ["))))) ++ (10 ∷ [])) ++ (cases ++ (32 ∷ 32 ∷ 93 ∷ 10 ∷ []))
+switch_bytes ds v l cases = simp append_assoc
+
+switch_shape : (names : Names) (bits : ℕ) (o : Operand) (os : List Operand) (l : BlockId) (ls : List BlockId)
+    → line_text names (made None ast.Switch (tys.Int bits) (o ∷ os) (l ∷ ls))
+    ≡ ((32 ∷ 32 ∷ (codes "switch i" ++ (decimal bits ++ (32 ∷ (value_text names (tys.Int bits) o ++ (codes ", label %" ++ (block_name names.func l.0 ++ codes " ["))))))) ++ (10 ∷ []))
+    ++ (joined [] (map (case_line_text names (tys.Int bits)) (zip os ls)) ++ ((32 ∷ 32 ∷ 93 ∷ []) ++ (10 ∷ [])))
+switch_shape names bits o os l ls =
+    ap (λ t. codes "  switch i" ++ t) (switch_bytes (decimal bits) (value_text names (tys.Int bits) o) (block_name names.func l.0) (joined [] (map (case_line_text names (tys.Int bits)) (zip os ls))))
+
+-- `switch iN V, label %l [`, `iN C, label %m` .. and `]`
+pub switch_says_so : (names : Names) → HaveNames names → (bits : ℕ) (o : Operand) (os : List Operand) (l : BlockId) (ls : List BlockId) → (1 ≤ bits) × (bits ≤ 64)
+    → EntryFits names (tys.Int bits) (o, l) → AllByRecursion (CaseFits names (tys.Int bits)) (zip os ls)
+    → InstSays names (made None ast.Switch (tys.Int bits) (o ∷ os) (l ∷ ls))
+switch_says_so names have bits o os l ls narrow first all s inside room =
+    let value = value_spelled names have (tys.Int bits) narrow o first.value first.fits in
+    let target : List ℕ = block_name names.func l.0 in
+    let text : List ℕ = codes "switch i" ++ (decimal bits ++ (32 ∷ (value_text names (tys.Int bits) o ++ (codes ", label %" ++ (target ++ codes " ["))))) in
+    let items : List parts.Item = parts.width bits ∷ parts.value (value_says names (tys.Int bits) o) ∷ parts.name target ∷ [] in
+    let reads : ReadsAs text forms.Switch items = switch_line bits narrow.1 value target (block-named names have l.0 first.low) in
+    let c : Counts = counted kinds.Instruction s.counts in
+    rw (switch_shape names bits o os l ls)
+    (says-both {t = at_cases c} (inner_line s (32 ∷ 32 ∷ text) text forms.Switch places.Cases items reads (two_blanks text) reads.clean (rw inside refl) (rw inside refl) refl
+    (rw (le-leb 1 bits narrow.0, le-leb bits 64 narrow.1, value_in_limit names (tys.Int bits) narrow o first.fits) refl) room)
+    (says-both (cases_read names have bits narrow c room (zip os ls) all)
+    (inner_line (at_cases c) (32 ∷ 32 ∷ 93 ∷ []) (codes "]") forms.SwitchEnd places.Closed [] switch_end_line (two_blanks (93 ∷ [])) refl refl refl refl refl room)))
