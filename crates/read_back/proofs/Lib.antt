@@ -32,3 +32,4 @@ pub mod BackEntry
 pub mod BackHeads
 pub mod BackOnce
 pub mod BackFaultless
+pub mod TheLaw
