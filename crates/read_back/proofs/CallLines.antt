@@ -1,13 +1,12 @@
 -- Calls and phis on their lines.
-use Rattle.std.proofs.Common.{◌≡◌, refl, ap, sym, ◌∙◌, ℕ, zero, suc, ◌+◌, ◌<◌, ◌≤◌, Bool, true, false, cond, ◌&&◌, inl, inr, List, [], ◌∷◌, ◌++◌, length, map, Option, Some, None, arith, codes, append_assoc}
+use Rattle.std.proofs.Common.{◌≡◌, refl, ℕ, ◌<◌, Bool, true, false, cond, inl, inr, List, [], ◌∷◌, ◌++◌, length, map, Some, None, codes, append_assoc}
 use Rattle.std.specs.Prelude.{◌==◌}
-use Rattle.std.specs.List.{All, AllByRecursion, list_all, zip}
+use Rattle.std.specs.List.{AllByRecursion, list_all, zip}
 use Rattle.std.proofs.lemmas.List.Elements.{All-from_recursion}
-use Rattle.std.proofs.lemmas.List.Folds.{list_all-append}
-use Rattle.std.proofs.lemmas.Bool.{and_parts, and_from, or_cases, or_left, or_right, eqb-true}
+use Rattle.std.proofs.lemmas.Bool.{and_parts, and_from, or_cases, or_right}
 use Rattle.sp_ids.specs.declared.ids.BlockId.{BlockId}
 use Rattle.sp_ids.specs.declared.ids.FuncId.{FuncId}
-use Rattle.sp_text.specs.Tokens.{tokens, is_name, is_plain_name, is_numeral, is_nothing, are_digits}
+use Rattle.sp_text.specs.Tokens.{tokens, is_name, is_plain_name, is_numeral}
 use Rattle.sp_text.specs.Bytes.{in_name, begins_name}
 use Rattle.std.specs.Char.{is_ascii_digit}
 use Rattle.ir_ast.specs.declared.types.Ty.{Ty}
@@ -17,16 +16,14 @@ use Rattle.ir_ast.specs.declared.ops.Callee.TheVariants as callees
 use Rattle.ir_ast.specs.declared.ops.Operand.{Operand}
 use Rattle.ir_ast.specs.declared.ops.Operand.TheVariants as operands
 use Rattle.ir_ast.specs.declared.ops.Op.TheVariants as ast
-use Rattle.ir_ast.specs.Insts.{Instruction}
 use Rattle.ir_ast.specs.Operands.{is_value}
-use Rattle.ir_ast.specs.Types.{is_void, is_first_class}
-use Rattle.ir_ast.specs.Lines.{is_argument}
+use Rattle.ir_ast.specs.Types.{is_first_class}
 use Rattle.ir_ast.specs.Values.{value_types}
 use Rattle.ir_ast.specs.Faults.TypeClash.{Fits}
 use Rattle.ir_printer.specs.Lists.{joined}
 use Rattle.ir_printer.specs.Names.{Names, block_name, function_name, layout_name}
 use Rattle.ir_printer.specs.Words.{type_text}
-use Rattle.ir_printer.specs.Operands.{value_text, parameter_text, argument_text}
+use Rattle.ir_printer.specs.Operands.{parameter_text, argument_text}
 use Rattle.ir_printer.specs.Calls.{callee_name}
 use Rattle.ir_printer.specs.Lines.{result_front, operator_text, phi_entry_text}
 use Rattle.ir_reader.specs.declared.forms.Form.TheVariants as forms
@@ -35,6 +32,7 @@ use Rattle.ir_reader.specs.Lists.{Given, given, comma, passed_at, is_task_start,
 use Rattle.ir_reader.specs.Marks.{is_mark, begins}
 use Rattle.ir_reader.specs.Slots as parts
 use Rattle.read_back.specs.Said.{word_of, value_says, passed_says, entry_says}
+use Rattle.read_back.proofs.Steps.{plain_bytes, numeral_digits}
 use Rattle.read_back.proofs.Listed.{SpellsElement}
 use Rattle.read_back.proofs.ListForms.{EndsAtMark, Anything, passed_element, passed_opens, function_element, function_opens, value_call_line, void_call_line, entry_element, phi_line}
 use Rattle.read_back.proofs.Operands.{HaveNames, IsNarrow, block-named, function-named, layout-named, type_spelled, type_allowed, type_fits_in, value_spelled, value_in_limit}
@@ -48,25 +46,10 @@ digits_named (b ∷ bs) digits =
     let both = and_parts (is_ascii_digit b) (list_all is_ascii_digit bs) digits in
     and_from (in_name b) (list_all in_name bs) (or_right (begins_name b) (is_ascii_digit b) both.0) (digits_named bs both.1)
 
-numeral_named : (bs : List ℕ) → is_numeral bs ≡ true → list_all in_name bs ≡ true
-numeral_named [] numeral = refl
-numeral_named (b ∷ bs) numeral = by (b == 48) refl bs numeral
-  where
-    by : (zero_first : Bool) → (b == 48) ≡ zero_first → (bs : List ℕ) → cond zero_first (is_nothing bs) (are_digits (b ∷ bs)) ≡ true → list_all in_name (b ∷ bs) ≡ true
-    by true is [] nothing = let same : b ≡ 48 = eqb-true b 48 is in rw same refl
-    by true is (c ∷ cs) nothing = cc
-    by false is bs digits = digits_named (b ∷ bs) digits
-
-plain_named : (bs : List ℕ) → is_plain_name bs ≡ true → list_all in_name bs ≡ true
-plain_named [] plain = cc
-plain_named (b ∷ bs) plain =
-    let both = and_parts (begins_name b) (list_all in_name bs) plain in
-    and_from (in_name b) (list_all in_name bs) (or_left (begins_name b) (is_ascii_digit b) both.0) both.1
-
 named_bytes : (n : List ℕ) → is_name n ≡ true → list_all in_name n ≡ true
 named_bytes n is = elim (or_cases (is_plain_name n) (is_numeral n) is) [
-  | inl plain ↦ plain_named n plain
-  | inr numeral ↦ numeral_named n numeral
+  | inl plain ↦ plain_bytes n plain
+  | inr numeral ↦ digits_named n (numeral_digits n numeral)
 ]
 
 pub new-named : (n : List ℕ) → is_name n ≡ true → is_name (codes "gc_new." ++ n) ≡ true

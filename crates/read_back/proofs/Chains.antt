@@ -1,34 +1,28 @@
 -- One text after another, each from the state behind the one before.
-use Rattle.std.proofs.Common.{◌≡◌, refl, ap, sym, ◌∙◌, ℕ, zero, suc, ◌+◌, ◌<◌, ◌≤◌, Bool, true, false, ◌&&◌, List, [], ◌∷◌, ◌++◌, length, map, Option, Some, None, arith, codes, append_assoc}
+use Rattle.std.proofs.Common.{◌≡◌, refl, ◌∙◌, ℕ, true, false, ◌&&◌, List, [], ◌∷◌, ◌++◌, map, Some, codes, append_assoc}
 use Rattle.std.specs.List.{flat_map, list_all}
 use Rattle.std.proofs.lemmas.List.Folds.{list_all-append}
-use Rattle.sp_text.specs.Tokens.{Tok, tokens, is_name}
+use Rattle.sp_text.specs.Tokens.{tokens, is_name}
 use Rattle.sp_text.specs.Labels.{is_metadata}
 use Rattle.sp_text.proofs.Spelled.{tokens-blank}
 use Rattle.ir_ast.specs.Insts.{Instruction}
 use Rattle.ir_ast.specs.Blocks.{BasicBlock}
-use Rattle.ir_printer.specs.Lists.{joined, led}
+use Rattle.ir_printer.specs.Lists.{joined}
 use Rattle.ir_printer.specs.Names.{Names}
 use Rattle.ir_printer.specs.Lines.{line_text, result_front, operator_text}
 use Rattle.ir_printer.specs.Texts.{block_text}
-use Rattle.ir_reader.specs.declared.forms.Form.{Form}
-use Rattle.ir_reader.specs.declared.forms.Counts.{Counts}
-use Rattle.ir_reader.specs.declared.forms.Counted.{Counted}
 use Rattle.ir_reader.specs.declared.forms.Counted.TheVariants as kinds
-use Rattle.ir_reader.specs.declared.forms.Place.{Place}
 use Rattle.ir_reader.specs.declared.forms.Place.TheVariants as places
 use Rattle.ir_reader.specs.declared.forms.State.{State}
 use Rattle.ir_reader.specs.Forms.{slots, form_of}
-use Rattle.ir_reader.specs.Limits.{said_fits, counts_fit, counted, counts_as}
-use Rattle.ir_reader.specs.Places.{behind, behind_label, behind_instruction, is_dropped_form}
-use Rattle.ir_reader.specs.Seen.{Said, label, of_form}
-use Rattle.ir_reader.specs.Slots.{Item, parse}
+use Rattle.ir_reader.specs.Limits.{counts_fit, counted}
+use Rattle.ir_reader.specs.Places.{behind, behind_label}
+use Rattle.ir_reader.specs.Seen.{label, of_form}
+use Rattle.ir_reader.specs.Slots.{parse}
 use Rattle.ir_reader.specs.Text.{said, outcome, is_top, next_state}
-use Rattle.ir_types.specs.Statements.{Statement, stated}
-use Rattle.ir_types.specs.Statements as says
+use Rattle.ir_types.specs.Statements.{Statement}
 use Rattle.read_back.specs.Said.{instruction_says, block_says}
 use Rattle.read_back.proofs.Steps.{IsClean, name-clean}
-use Rattle.read_back.proofs.Forms.{ReadsAs}
 use Rattle.read_back.proofs.LinesRead.{Says, says-nil, says-both, says-line, formed_outcome, label_line, ends_none-clean, ends_none}
 use Rattle.read_back.proofs.OneLine.{OneLine, place_after}
 
@@ -63,7 +57,7 @@ abbrev pub InstSays : Names → Instruction → Type 0
 InstSays names inst = (s : State) → s.place ≡ places.Block → counts_fit (counted kinds.Instruction s.counts) ≡ true
     → Says s (line_text names inst) (behind_inst inst s) (instruction_says names inst)
 
-indented : (text : List ℕ) → tokens (32 ∷ 32 ∷ text) ≡ tokens text
+pub indented : (text : List ℕ) → tokens (32 ∷ 32 ∷ text) ≡ tokens text
 indented text = tokens-blank 32 (32 ∷ text) refl ∙ tokens-blank 32 text refl
 
 line_shape : (front op : List ℕ) → codes "  " ++ (front ++ (op ++ codes "\n")) ≡ (32 ∷ 32 ∷ (front ++ op)) ++ (10 ∷ [])

@@ -1,13 +1,12 @@
 -- The line of each form but those with lists: its form, and what it says at the form's slots.
-use Rattle.std.proofs.Common.{◌≡◌, refl, ap, sym, ◌∙◌, ℕ, ◌<◌, ◌≤◌, ◌^◌, Bool, true, false, List, [], ◌∷◌, ◌++◌, Option, Some, None, arith, codes, decimal, append-nil}
+use Rattle.std.proofs.Common.{◌≡◌, refl, ap, ◌∙◌, ℕ, ◌<◌, ◌≤◌, ◌^◌, true, false, List, [], ◌∷◌, ◌++◌, Some, None, arith, codes, decimal, append-nil}
 use Rattle.sp_text.specs.Tokens.{Tok, tok, tokens, is_token, is_name}
 use Rattle.sp_text.specs.declared.tokens.Kind.TheVariants as kinds
 use Rattle.sp_text.proofs.TokenLemmas.{tokens-nil}
-use Rattle.sp_text.proofs.Spelled.{stops, continues, tokens-spelled, tokens-blank}
+use Rattle.sp_text.proofs.Spelled.{tokens-spelled, tokens-blank}
 use Rattle.ir_ast.specs.declared.ops.Pred.{Pred}
 use Rattle.ir_ast.specs.declared.ops.Pred.TheVariants as preds
 use Rattle.ir_reader.specs.declared.readings.TypeWord.{TypeWord}
-use Rattle.ir_reader.specs.declared.readings.TypeWord.TheVariants as types
 use Rattle.ir_reader.specs.declared.forms.Form.{Form}
 use Rattle.ir_reader.specs.declared.forms.Form.TheVariants as forms
 use Rattle.ir_reader.specs.declared.words.Binary.{Binary}
@@ -17,13 +16,13 @@ use Rattle.ir_reader.specs.declared.words.Conversion.TheVariants as convs
 use Rattle.ir_reader.specs.declared.words.Dropped.TheVariants as drops
 use Rattle.ir_reader.specs.declared.words.Flags.{Flags}
 use Rattle.ir_reader.specs.declared.words.Flags.TheVariants as flags
-use Rattle.ir_reader.specs.Marks.{is_word, is_mark, is_local, begins}
-use Rattle.ir_reader.specs.Drops.{past_all, past_at_most, past_dropped}
+use Rattle.ir_reader.specs.Marks.{is_word}
+use Rattle.ir_reader.specs.Drops.{past_dropped}
 use Rattle.ir_reader.specs.Parts.{Val, pred_word, is_value_type, is_scalar_type, is_case_value}
 use Rattle.ir_reader.specs.Forms.{slots, form_of, named_form, word_form, binary_word, binary_flags, conversion_word, conversion_flags}
-use Rattle.ir_reader.specs.Slots.{Item, name, width, ty, value, pred, scalar, layout, place, Slot, blank, m, w, dropped, a_local, a_place, parse}
-use Rattle.read_back.proofs.Steps.{Reads, Stops, IsClean, clean-both, name-clean, past_all-none, end, step, one, mark, word, local, layout_step, spaced, space, over_blank, drop_at, drop_end, first_of}
-use Rattle.read_back.proofs.Spellings.{SpellsType, SpellsValue, integer_type, integer_says, pointer_type, integer_flag, decimal-digits}
+use Rattle.ir_reader.specs.Slots.{Item, name, width, ty, value, pred, scalar, layout, place, Slot, blank, m, w, dropped, a_local, parse}
+use Rattle.read_back.proofs.Steps.{Reads, IsClean, past_all-none, end, mark, word, local, layout_step, spaced, space, over_blank, drop_at, drop_end, first_of}
+use Rattle.read_back.proofs.Spellings.{SpellsType, SpellsValue, integer_says, pointer_type, integer_flag, decimal-digits}
 use Rattle.read_back.proofs.PartSteps.{type_step, managed_step, scalar_step, width_step, value_step, case_step, pred_step, no_place, place_step}
 
 -- the text is a line of this form, and says this at the form's slots

@@ -1,32 +1,28 @@
 -- The lines of a function.
-use Rattle.std.proofs.Common.{◌≡◌, refl, ap, sym, ◌∙◌, ℕ, zero, suc, ◌+◌, ◌<◌, ◌≤◌, Bool, true, false, not, ◌&&◌, List, [], ◌∷◌, ◌++◌, length, map, Option, Some, None, arith, codes, append_assoc}
-use Rattle.std.specs.List.{All, flat_map, list_all}
+use Rattle.std.proofs.Common.{◌≡◌, refl, ℕ, true, false, List, [], ◌∷◌, ◌++◌, map, Some, codes, append_assoc}
+use Rattle.std.specs.List.{All, list_all}
 use Rattle.std.proofs.lemmas.Bool.{le-leb}
 use Rattle.std.proofs.lemmas.List.Elements.{All-head, All-tail}
 use Rattle.sp_text.specs.Tokens.{tokens, is_name}
-use Rattle.sp_text.specs.Labels.{is_metadata}
 use Rattle.ir_ast.specs.declared.types.Ty.{Ty}
 use Rattle.ir_ast.specs.declared.types.Ty.TheVariants as tys
 use Rattle.ir_ast.specs.declared.funcs.Arg.{Arg}
 use Rattle.ir_ast.specs.Layouts.{ObjectLayout}
-use Rattle.ir_ast.specs.Blocks.{BasicBlock}
-use Rattle.ir_ast.specs.Funcs.{Function, instructions_of}
+use Rattle.ir_ast.specs.Funcs.{Function}
 use Rattle.ir_ast.specs.Types.{is_answer, is_first_class}
 use Rattle.ir_printer.specs.Lists.{joined}
 use Rattle.ir_printer.specs.Words.{type_text, strategy_text}
-use Rattle.ir_printer.specs.Names.{Names}
 use Rattle.ir_printer.specs.Texts.{argument_of, block_text, function_text}
-use Rattle.ir_reader.specs.declared.readings.TypeWord.TheVariants as types
-use Rattle.ir_reader.specs.Parts.{is_answer_type, is_value_type}
+use Rattle.ir_reader.specs.Parts.{is_answer_type}
 use Rattle.ir_reader.specs.Limits.{type_fits, argument_fits}
-use Rattle.ir_reader.specs.Lists.{Named, argument_at, comma}
+use Rattle.ir_reader.specs.Lists.{argument_at, comma}
 use Rattle.ir_reader.specs.Marks.{is_mark, begins}
 use Rattle.read_back.specs.Said.{word_of, argument_says}
 use Rattle.read_back.proofs.Spellings.{SpellsType, integer_type, pointer_type, void_type}
 use Rattle.read_back.proofs.PartSteps.{strategy_word}
 use Rattle.read_back.proofs.Listed.{SpellsElement}
 use Rattle.read_back.proofs.ListForms.{EndsAtMark, argument_element, argument_opens}
-use Rattle.read_back.proofs.Operands.{IsNarrow, type_spelled, type_allowed, type_fits_in}
+use Rattle.read_back.proofs.Operands.{IsNarrow, type_spelled, type_fits_in}
 
 pub answer_spelled : (ty : Ty) → is_answer ty ≡ true → IsNarrow ty → SpellsType (type_text ty) (word_of ty)
 answer_spelled tys.Void answers narrow = void_type

@@ -1,27 +1,25 @@
 -- A function's text is read: its head, its blocks and its end.
-use Rattle.std.proofs.Common.{◌≡◌, refl, ap, sym, ◌∙◌, ℕ, zero, suc, ◌+◌, ◌<◌, ◌≤◌, Bool, true, false, ◌&&◌, List, [], ◌∷◌, ◌++◌, length, map, Option, Some, None, arith, codes}
-use Rattle.std.specs.List.{All, flat_map, list_all}
+use Rattle.std.proofs.Common.{◌≡◌, refl, ℕ, suc, ◌+◌, ◌<◌, ◌≤◌, true, List, [], ◌∷◌, ◌++◌, length, map, Some, arith, codes}
+use Rattle.std.specs.List.{All, list_all}
 use Rattle.std.proofs.lemmas.Bool.{le-leb}
 use Rattle.std.proofs.lemmas.List.{length-map}
 use Rattle.sp_text.specs.Tokens.{is_name}
-use Rattle.sp_text.specs.Labels.{is_metadata}
 use Rattle.ir_ast.specs.Layouts.{ObjectLayout}
 use Rattle.ir_ast.specs.Funcs.{Function, instructions_of}
 use Rattle.ir_ast.specs.Types.{is_answer}
 use Rattle.ir_printer.specs.Lists.{joined}
 use Rattle.ir_printer.specs.Words.{type_text}
 use Rattle.ir_printer.specs.Names.{Names}
-use Rattle.ir_printer.specs.Texts.{argument_of, block_text, function_text}
+use Rattle.ir_printer.specs.Texts.{argument_of, function_text}
 use Rattle.ir_reader.specs.declared.forms.Form.TheVariants as forms
-use Rattle.ir_reader.specs.declared.forms.Counts.{Counts}
 use Rattle.ir_reader.specs.declared.forms.Counted.TheVariants as kinds
 use Rattle.ir_reader.specs.declared.forms.Place.TheVariants as places
 use Rattle.ir_reader.specs.declared.forms.State.{State}
 use Rattle.ir_reader.specs.Limits.{counted, counts_fit, item_fits}
 use Rattle.ir_reader.specs.Seen.{of_form}
 use Rattle.ir_reader.specs.Slots as parts
-use Rattle.ir_reader.specs.Text.{said, outcome, is_top}
-use Rattle.read_back.specs.Said.{word_of, argument_says, block_says, function_says}
+use Rattle.ir_reader.specs.Text.{said, outcome}
+use Rattle.read_back.specs.Said.{word_of, argument_says, function_says}
 use Rattle.read_back.proofs.PartSteps.{strategy_word}
 use Rattle.read_back.proofs.Forms.{ReadsAs, close_line}
 use Rattle.read_back.proofs.ListForms.{define_line}

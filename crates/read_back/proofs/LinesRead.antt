@@ -1,9 +1,9 @@
 -- A text is read line by line: what its lines say, and what is known behind them.
-use Rattle.std.proofs.Common.{◌≡◌, refl, ap, sym, ◌∙◌, ℕ, zero, suc, ◌+◌, ◌-◌, ◌<◌, ◌≤◌, Bool, true, false, not, ◌&&◌, cond, List, [], ◌∷◌, ◌++◌, length, map, Option, Some, None, Result, Ok, Err, arith, codes, append_assoc, append-nil, get_or}
+use Rattle.std.proofs.Common.{◌≡◌, refl, ap, sym, ◌∙◌, ℕ, zero, suc, ◌+◌, ◌-◌, Bool, true, false, not, ◌&&◌, cond, List, [], ◌∷◌, ◌++◌, length, map, Some, None, Result, Ok, Err, arith, append_assoc}
 use Rattle.std.specs.Prelude.{◌==◌, slice_index, drop}
-use Rattle.std.specs.List.{All, slice_split, onto_first, list_all, list_any, prefix_len}
-use Rattle.std.specs.Str.Lines.{lines, lines_of_parts, strip_carriage_return}
-use Rattle.std.proofs.lemmas.Bool.{and_parts, not-true, ne_eqb, or_parts}
+use Rattle.std.specs.List.{slice_split, onto_first, list_all, list_any, prefix_len}
+use Rattle.std.specs.Str.Lines.{lines, strip_carriage_return}
+use Rattle.std.proofs.lemmas.Bool.{and_parts, not-true}
 use Rattle.sp_text.specs.Tokens.{Tok, tokens, is_name}
 use Rattle.sp_text.specs.Bytes.{is_blank}
 use Rattle.sp_text.proofs.Spelled.{label-spelled}
@@ -14,14 +14,13 @@ use Rattle.ir_reader.specs.Places.{behind, behind_label, is_dropped_form}
 use Rattle.ir_reader.specs.Limits.{said_fits, counts_fit}
 use Rattle.read_back.proofs.Steps.{IsClean, in_line}
 use Rattle.sp_text.proofs.TokenLemmas.{tokens-nil}
-use Rattle.sp_text.specs.Lines.{NumberedLine, numbered, lines_of}
+use Rattle.sp_text.specs.Lines.{numbered}
 use Rattle.sp_text.specs.Labels.{label_of, is_metadata, is_colon}
 use Rattle.ir_reader.specs.declared.forms.Form.{Form}
 use Rattle.ir_reader.specs.declared.forms.Place.{Place}
-use Rattle.ir_reader.specs.declared.forms.Place.TheVariants as places
 use Rattle.ir_reader.specs.declared.forms.State.{State}
 use Rattle.ir_reader.specs.Seen.{Said, label, of_form, line_at}
-use Rattle.ir_reader.specs.Text.{Outcome, nothing, said, outcome, Fault, Numbered, with_first, readings_by, readings, is_top, next_state, labelled, tokens_outcome}
+use Rattle.ir_reader.specs.Text.{nothing, said, outcome, Fault, Numbered, with_first, readings, is_top, next_state, labelled, tokens_outcome}
 use Rattle.ir_types.specs.Statements.{Statement, stated}
 
 abbrev pub newline : ℕ

@@ -1,13 +1,12 @@
 -- Lists in a line, with commas between the elements: they are read as they are printed.
-use Rattle.std.proofs.Common.{◌≡◌, refl, ap, sym, ◌∙◌, ℕ, zero, suc, ◌+◌, ◌<◌, ◌≤◌, Bool, true, false, cond, List, [], ◌∷◌, ◌++◌, length, map, Option, Some, None, arith, codes, append_assoc, append-nil}
-use Rattle.std.specs.List.{All, flat_map}
+use Rattle.std.proofs.Common.{◌≡◌, refl, ap, ◌∙◌, ℕ, zero, suc, ◌+◌, ◌<◌, ◌≤◌, Bool, true, false, List, [], ◌∷◌, ◌++◌, length, map, Some, arith, codes, append_assoc, append-nil}
+use Rattle.std.specs.List.{All}
 use Rattle.std.proofs.lemmas.List.Elements.{All-head, All-tail}
 use Rattle.sp_text.specs.Tokens.{Tok, tok, tokens}
 use Rattle.sp_text.specs.declared.tokens.Kind.TheVariants as kinds
 use Rattle.sp_text.proofs.Spelled.{tokens-spelled, tokens-blank}
 use Rattle.ir_reader.specs.Gives.{Found, after}
 use Rattle.ir_reader.specs.Marks.{is_mark, begins}
-use Rattle.ir_reader.specs.Drops.{past}
 use Rattle.ir_reader.specs.Lists.{at_most_at, listed_at, list_to, comma}
 use Rattle.ir_printer.specs.Lists.{led, joined}
 use Rattle.read_back.proofs.Steps.{IsClean, clean-both}

@@ -1,5 +1,5 @@
 -- The text of a source module is read: its layouts, its declarations and its functions.
-use Rattle.std.proofs.Common.{◌≡◌, refl, ap, sym, ◌∙◌, subst, ℕ, zero, suc, ◌+◌, ◌<◌, ◌≤◌, Bool, true, false, ◌&&◌, ◌||◌, if◌then◌else◌, List, [], ◌∷◌, ◌++◌, length, map, Option, Some, None, Result, Ok, Err, arith, codes, decimal, append_assoc, append-nil, length-append}
+use Rattle.std.proofs.Common.{◌≡◌, refl, ap, sym, ◌∙◌, subst, ℕ, zero, suc, ◌+◌, ◌<◌, ◌≤◌, Bool, true, false, if◌then◌else◌, List, [], ◌∷◌, ◌++◌, length, map, Some, None, Ok, arith, codes, decimal, append_assoc, append-nil, length-append}
 use Rattle.std.specs.Prelude.{flat_map}
 use Rattle.std.specs.List.{All, AllByRecursion, Contains, list_all, list_any}
 use Rattle.std.specs.Str.Lines.{lines}
@@ -48,7 +48,7 @@ use Rattle.ir_reader.specs.Parts.{is_value_type, is_answer_type}
 use Rattle.ir_reader.specs.Places.{behind, is_dropped_form}
 use Rattle.ir_reader.specs.Seen.{of_form}
 use Rattle.ir_reader.specs.Slots as parts
-use Rattle.ir_reader.specs.Text.{Numbered, Fault, next_state, opening, readings, text_readings}
+use Rattle.ir_reader.specs.Text.{Numbered, next_state, opening, readings, text_readings}
 use Rattle.ir_types.specs.Statements.{Line, Statement, stated}
 use Rattle.ir_types.specs.Statements as statements
 use Rattle.read_back.specs.BlocksEnd.{BlocksEnd}
@@ -62,6 +62,7 @@ use Rattle.read_back.proofs.Listed.{SpellsElement}
 use Rattle.read_back.proofs.ListForms.{EndsAtMark, field_element, type_opens, layout_line, parameter_element, plain_element, plain_opens, declare_line}
 use Rattle.read_back.proofs.LinesRead.{Says, says-nil, says-both, says-line, says-empty, formed_outcome, ends_none-clean, before}
 use Rattle.read_back.proofs.CallLines.{new-named}
+use Rattle.read_back.proofs.Operands.{named_at}
 use Rattle.read_back.proofs.Chains.{joined-cons, behind_all}
 use Rattle.read_back.proofs.Blocks.{Room, room-fits, blocks_room}
 use Rattle.read_back.proofs.FunctionsRead.{FunctionReads, behind_function, behind_head, function_read}
@@ -184,10 +185,6 @@ new_bytes : (n : List ℕ) → new_words ++ (n ++ codes "(i64)\n") ≡ (codes "d
 unfolding new_words
 new_bytes n = simp append_assoc
 
-new_shape : (n : List ℕ)
-    → codes "declare ptr addrspace(1) @gc_new." ++ (n ++ codes "(i64)") ≡ codes "declare " ++ (codes "ptr addrspace(1)" ++ (32 ∷ 64 ∷ ((codes "gc_new." ++ n) ++ (40 ∷ (joined (codes ", ") (map parameter_word (types.Int 64 ∷ [])) ++ codes ")")))))
-new_shape n = refl
-
 -- the declaration of an external of source modules
 abbrev is_of_source : External → Bool
 is_of_source (externs.New number) = true
@@ -196,17 +193,12 @@ is_of_source externs.Read = true
 is_of_source externs.TaskStart = true
 is_of_source _ = false
 
-layout_at : (layouts : List ObjectLayout) → All (λ (layout : ObjectLayout). is_name layout.name ≡ true) layouts → (k : ℕ) → k < length layouts → is_name (layout_name layouts k) ≡ true
-layout_at [] named k low = absurd (omega arith)
-layout_at (layout ∷ layouts) named zero low = All-head (λ (one : ObjectLayout). is_name one.name ≡ true) layout layouts named
-layout_at (layout ∷ layouts) named (suc k) low = layout_at layouts (All-tail (λ (one : ObjectLayout). is_name one.name ≡ true) layout layouts named) k (omega arith)
-
 declaration_read : (layouts : List ObjectLayout) → All (λ (layout : ObjectLayout). is_name layout.name ≡ true) layouts → (c : Counts) → counts_fit c ≡ true → (e : External) → IsBelow (length layouts) e → is_of_source e ≡ true
     → Says (at_top c) (declaration_text layouts e) (at_top c) (declaration_says layouts e)
 unfolding fixed_declaration
 declaration_read layouts named c room (externs.New number) low is =
     let n : List ℕ = codes "gc_new." ++ layout_name layouts number in
-    let n_is : is_name n ≡ true = new-named (layout_name layouts number) (layout_at layouts named number low) in
+    let n_is : is_name n ≡ true = new-named (layout_name layouts number) (named_at (λ (layout : ObjectLayout). layout.name) layouts named number low) in
     rw (new_bytes (layout_name layouts number))
     (top_line c (codes "declare ptr addrspace(1) @gc_new." ++ (layout_name layouts number ++ codes "(i64)")) forms.Declare (parts.ty types.Managed ∷ parts.declared n (unnamed (types.Int 64 ∷ [])) ∷ [])
     (declared_line pointer_type refl n n_is (types.Int 64 ∷ []) (wide_parameter (is_task_start n), tt)) refl refl refl refl room)
@@ -350,7 +342,7 @@ each_of {X} xs P each = over xs (recursion_from_All (Contains xs) xs (All-contai
 
 -- the state behind the module's text
 abbrev behind_module : ModuleContent → State
-behind_module content = behind_all behind_function content.funcs (at_top (behind_layouts content.layouts (record { layouts = 0; functions = 0; values = 0; instructions = 0 })))
+behind_module content = behind_all behind_function content.funcs (at_top (behind_layouts content.layouts opening.counts))
 
 pub module_read : (content : ModuleContent) → IsSourceModule content → BlocksEnd content → Says opening (text_of content) (behind_module content) (said_by content)
 unfolding text_of said_by declarations_text
@@ -374,10 +366,10 @@ module_read content source ends =
         record { layouts = omega arith; functions = omega arith; values = omega arith; instructions = omega arith }
 
     behind_counts : Counts
-    behind_counts = behind_layouts content.layouts (record { layouts = 0; functions = 0; values = 0; instructions = 0 })
+    behind_counts = behind_layouts content.layouts opening.counts
 
     later : Room 0 (length content.funcs) 0 (length (all_instructions content.funcs)) behind_counts
-    later = layouts_room content.layouts (length content.funcs) 0 (length (all_instructions content.funcs)) (record { layouts = 0; functions = 0; values = 0; instructions = 0 }) room
+    later = layouts_room content.layouts (length content.funcs) 0 (length (all_instructions content.funcs)) opening.counts room
 
     functions_printed : AllByRecursion (FunctionIsPrinted content) content.funcs
     functions_printed = each_of content.funcs (FunctionIsPrinted content) (λ func c. printed content source func c)
@@ -398,9 +390,6 @@ ended_top : (s : State) (number : ℕ) → s.place ≡ places.Top → readings s
 unfolding readings
 ended_top s number top = rw top refl
 
-no_lines : lines [] ≡ []
-no_lines = refl
-
 says_lines : (found : List Numbered) → map (λ (l : Line). l.says) (statements.lines_of found) ≡ map (λ (one : Numbered). stated one.said) found
 says_lines [] = refl
 says_lines (one ∷ found) = ap (λ (more : List Statement). stated one.said ∷ more) (says_lines found)
@@ -416,4 +405,4 @@ text_reads text last says top read = record {
 -- the printed text of a source module says what the module does
 pub source_text_reads : (content : ModuleContent) → IsSourceModule content → BlocksEnd content → TextReads (text_of content) (said_by content)
 source_text_reads content source ends =
-    text_reads (text_of content) (behind_module content) (said_by content) (functions_top content.funcs (at_top (behind_layouts content.layouts (record { layouts = 0; functions = 0; values = 0; instructions = 0 }))) refl) (module_read content source ends)
+    text_reads (text_of content) (behind_module content) (said_by content) (functions_top content.funcs (at_top (behind_layouts content.layouts opening.counts)) refl) (module_read content source ends)

@@ -1,7 +1,7 @@
 -- Instructions that are printed on one line: the line's form, and what it says.
-use Rattle.std.proofs.Common.{◌≡◌, refl, ap, sym, ◌∙◌, ℕ, zero, suc, ◌<◌, ◌≤◌, ◌^◌, Bool, true, false, cond, ◌&&◌, List, [], ◌∷◌, ◌++◌, length, map, Option, Some, None, arith, codes, decimal, append_assoc}
-use Rattle.std.specs.List.{list_all, AllZip}
-use Rattle.std.proofs.lemmas.Bool.{le-leb, and_parts}
+use Rattle.std.proofs.Common.{◌≡◌, refl, ap, ◌∙◌, ℕ, ◌<◌, ◌≤◌, true, false, cond, List, [], ◌∷◌, ◌++◌, length, Option, Some, None, codes, decimal, append_assoc}
+use Rattle.std.specs.List.{list_all}
+use Rattle.std.proofs.lemmas.Bool.{le-leb}
 use Rattle.sp_ids.specs.declared.ids.BlockId.{BlockId}
 use Rattle.sp_text.specs.Tokens.{is_name}
 use Rattle.ir_ast.specs.declared.types.Ty.{Ty}
@@ -14,7 +14,7 @@ use Rattle.ir_ast.specs.declared.ops.Op.{Op}
 use Rattle.ir_ast.specs.declared.ops.Op.TheVariants as ast
 use Rattle.ir_ast.specs.Insts.{Instruction}
 use Rattle.ir_ast.specs.Operands.{is_value}
-use Rattle.ir_ast.specs.Types.{is_first_class, is_integer}
+use Rattle.ir_ast.specs.Types.{is_first_class}
 use Rattle.ir_ast.specs.Values.{value_types}
 use Rattle.ir_ast.specs.Faults.TypeClash.{Fits}
 use Rattle.ir_ast.specs.Ops.{is_terminator}
@@ -28,16 +28,13 @@ use Rattle.ir_reader.specs.declared.forms.Counted.TheVariants as kinds
 use Rattle.ir_reader.specs.declared.forms.Place.{Place}
 use Rattle.ir_reader.specs.declared.forms.Place.TheVariants as places
 use Rattle.ir_reader.specs.declared.words.Binary.{Binary}
-use Rattle.ir_reader.specs.declared.words.Binary.TheVariants as binaries
 use Rattle.ir_reader.specs.Forms.{binary_word}
-use Rattle.ir_reader.specs.Limits.{item_fits, width_fits, counts_as}
+use Rattle.ir_reader.specs.Limits.{item_fits, counts_as}
 use Rattle.ir_reader.specs.Places.{behind_instruction, is_dropped_form}
 use Rattle.ir_reader.specs.Seen.{of_form}
 use Rattle.ir_reader.specs.Slots.{Item, name, width, ty, value, pred}
 use Rattle.ir_types.specs.Statements.{stated}
 use Rattle.read_back.specs.Said.{word_of, value_says, instruction_says, operator_says, binary_says}
-use Rattle.read_back.proofs.Steps.{IsClean}
-use Rattle.read_back.proofs.Spellings.{SpellsType, SpellsValue}
 use Rattle.read_back.proofs.Forms.{ReadsAs, binary_line, compare_line, load_line, store_line, jump_line, unreachable_line, return_void_line}
 use Rattle.read_back.proofs.Operands.{HaveNames, block-named, IsNarrow, type_spelled, type_allowed, type_fits_in, value_spelled, value_in_limit}
 

@@ -1,7 +1,7 @@
 -- The names, types and operands of a module's lines are printed as the reader reads them.
-use Rattle.std.proofs.Common.{◌≡◌, refl, ap, sym, ◌∙◌, ℕ, ℤ, pos, negsuc, zero, suc, ◌<◌, ◌≤◌, ◌^◌, Bool, true, false, cond, not, List, [], ◌∷◌, ◌++◌, length, map, Option, Some, None, arith, codes, decimal}
+use Rattle.std.proofs.Common.{◌≡◌, refl, ℕ, ℤ, pos, negsuc, zero, suc, ◌<◌, ◌≤◌, ◌^◌, Bool, true, false, cond, not, List, [], ◌∷◌, length, Some, arith}
 use Rattle.std.proofs.lemmas.List.{length-map}
-use Rattle.std.specs.Prelude.{slice_get, ◌==◌, nat_le, nat_lt, ◌-ℤ◌, ◌*◌, ◌%◌}
+use Rattle.std.specs.Prelude.{slice_get, ◌==◌}
 use Rattle.std.specs.Option.{option_map_or}
 use Rattle.std.specs.List.{All}
 use Rattle.std.proofs.lemmas.List.Elements.{All-head, All-tail}
@@ -18,16 +18,15 @@ use Rattle.ir_ast.specs.Types.{is_first_class}
 use Rattle.ir_ast.specs.Values.{definitions_of, definition_name, definition_type, value_types}
 use Rattle.ir_ast.specs.Faults.TypeClash.{Fits}
 use Rattle.ir_printer.specs.Names.{Names, layout_name, function_name, block_name, value_name}
-use Rattle.ir_printer.specs.Words.{type_text, integer_text}
+use Rattle.ir_printer.specs.Words.{type_text}
 use Rattle.ir_printer.specs.Operands.{value_text}
-use Rattle.ir_reader.specs.declared.readings.TypeWord.{TypeWord}
 use Rattle.ir_reader.specs.Limits.{value_fits, literal_fits, type_fits}
 use Rattle.ir_reader.specs.Parts.{is_value_type}
 use Rattle.ir_reader.specs.Parts as values
 use Rattle.read_back.specs.Said.{word_of, value_says, integer_value, literal_of}
 use Rattle.read_back.proofs.Spellings.{SpellsType, SpellsValue, Spellable, signed-spellable, integer_type, pointer_type, integer_spelled, local_value, null_value}
 
-named_at : {X : Type 0} (g : X → List ℕ) (xs : List X) → All (λ x. is_name (g x) ≡ true) xs → (k : ℕ) → k < length xs → is_name (option_map_or g (slice_get xs k) []) ≡ true
+pub named_at : {X : Type 0} (g : X → List ℕ) (xs : List X) → All (λ x. is_name (g x) ≡ true) xs → (k : ℕ) → k < length xs → is_name (option_map_or g (slice_get xs k) []) ≡ true
 named_at g [] all k low = absurd (omega arith)
 named_at g (x ∷ xs) all zero low = All-head (λ x. is_name (g x) ≡ true) x xs all
 named_at g (x ∷ xs) all (suc k) low = named_at g xs (All-tail (λ x. is_name (g x) ≡ true) x xs all) k (omega arith)

@@ -1,8 +1,8 @@
 -- Each instruction of a source module is printed on lines that are read.
-use Rattle.std.proofs.Common.{◌≡◌, refl, ap, sym, ◌∙◌, subst, ℕ, zero, suc, ◌+◌, ◌<◌, ◌≤◌, ◌^◌, Bool, true, false, not, ◌&&◌, ◌||◌, ◌==◌, if◌then◌else◌, List, [], ◌∷◌, ◌++◌, length, map, drop, replicate, Option, Some, None, arith, codes}
-use Rattle.std.specs.Prelude.{is_some, is_none, unwrap_or, flat_map}
+use Rattle.std.proofs.Common.{◌≡◌, refl, ap, sym, ◌∙◌, subst, ℕ, ◌<◌, ◌≤◌, ◌^◌, Bool, true, false, not, ◌||◌, ◌==◌, if◌then◌else◌, List, [], ◌∷◌, length, drop, replicate, Option, Some, None, arith}
+use Rattle.std.specs.Prelude.{is_some, flat_map}
 use Rattle.std.specs.List.{All, AllByRecursion, AllZip, list_all, zip}
-use Rattle.std.proofs.lemmas.Bool.{and_parts, or_cases}
+use Rattle.std.proofs.lemmas.Bool.{and_parts}
 use Rattle.std.proofs.lemmas.List.{nil_from_length}
 use Rattle.std.proofs.lemmas.List.Elements.{All-head, All-from_recursion, recursion_from_All}
 use Rattle.sp_ids.specs.declared.ids.BlockId.{BlockId}
@@ -25,8 +25,8 @@ use Rattle.ir_ast.specs.Operands.{is_value, is_literal, functions_named, layouts
 use Rattle.ir_ast.specs.Ops.{is_terminator}
 use Rattle.ir_ast.specs.Types.{is_void, is_integer, is_first_class, is_answer}
 use Rattle.ir_ast.specs.Values.{value_types}
-use Rattle.ir_ast.specs.Widths.{IsWidth, type_widths, operator_widths}
-use Rattle.ir_ast.specs.Faults.TypeClash.{Fits, asked}
+use Rattle.ir_ast.specs.Widths.{IsWidth, type_widths}
+use Rattle.ir_ast.specs.Faults.TypeClash.{Fits}
 use Rattle.ir_printer.specs.Names.{Names}
 use Rattle.ir_printer.specs.Calls.{callee_name}
 use Rattle.ir_printer.specs.Lines.{operator_text, arithmetic_text, conversion_text}

@@ -1,29 +1,28 @@
 -- Printed numbers, types and values as tokens, and what the reader takes them for.
-use Rattle.std.proofs.Common.{◌≡◌, ◌≢◌, refl, ap, sym, ◌∙◌, ℕ, ℤ, pos, negsuc, zero, suc, ◌+◌, ◌-◌, ◌*◌, ◌%◌, ◌/◌, ◌^◌, ◌<◌, ◌≤◌, Bool, true, false, not, cond, ◌&&◌, ◌||◌, List, [], ◌∷◌, ◌++◌, length, get_or, Option, Some, None, arith, codes, decimal, inl, inr}
-use Rattle.std.specs.Prelude.{◌==◌, ◌-ℤ◌, min, nat_eq, nat_lt, nat_le}
+use Rattle.std.proofs.Common.{◌≡◌, refl, ap, ◌∙◌, ℕ, ℤ, pos, negsuc, zero, suc, ◌+◌, ◌-◌, ◌*◌, ◌%◌, ◌/◌, ◌^◌, ◌<◌, ◌≤◌, Bool, true, false, not, cond, ◌||◌, List, [], ◌∷◌, ◌++◌, length, get_or, Some, None, arith, codes, decimal, inl, inr}
+use Rattle.std.specs.Prelude.{◌==◌, ◌-ℤ◌, min, nat_eq, nat_lt}
 use Rattle.std.specs.Fmt.{signed_decimal}
 use Rattle.std.specs.List.{list_all}
 use Rattle.std.specs.Char.{is_ascii_digit}
 use Rattle.std.specs.Str.{bytes_eq}
 use Rattle.std.proofs.Math.Nat.{mod-lt, pow-le-pow_right}
 use Rattle.std.proofs.lemmas.Nat.{pow_pos}
-use Rattle.std.proofs.lemmas.Bool.{and_parts, and_from, or_left, or_right, lt-ltb, le-leb, le-ltb, ne_eqb, cases_lt, cases_eq, or_from}
+use Rattle.std.proofs.lemmas.Bool.{and_parts, and_from, or_left, or_right, lt-ltb, le-leb, le-ltb, ne_eqb, cases_lt}
 use Rattle.std.proofs.lemmas.Bool.Decides.{nat_tests}
 use Rattle.std.proofs.lemmas.Fmt.{decimal_by_steps, first_decimal, decimal_nonempty, decimal_digit}
 use Rattle.std.proofs.lemmas.List.Folds.{list_all-append}
 use Rattle.sp_ids.specs.Numbers.{wrapped, signed}
-use Rattle.sp_text.specs.Bytes.{in_name, in_word, begins_word}
+use Rattle.sp_text.specs.Bytes.{in_word, begins_word}
 use Rattle.sp_text.specs.Tokens.{Tok, tok, tokens, is_token, is_name, are_digits, is_numeral, first_then}
 use Rattle.sp_text.specs.declared.tokens.Kind.{Kind}
 use Rattle.sp_text.specs.declared.tokens.Kind.TheVariants as kinds
 use Rattle.sp_text.proofs.Spelled.{stops, continues, tokens-spelled, tokens-blank}
 use Rattle.ir_reader.specs.declared.readings.TypeWord.{TypeWord}
 use Rattle.ir_reader.specs.declared.readings.TypeWord.TheVariants as types
-use Rattle.ir_reader.specs.declared.readings.Literal.{Literal}
 use Rattle.ir_reader.specs.declared.words.Flags.{Flags}
 use Rattle.ir_reader.specs.declared.words.Flags.TheVariants as flags
 use Rattle.ir_reader.specs.Numbers.{decimal_from, width_of, literal_spelled, positive_literal, negative_literal}
-use Rattle.ir_reader.specs.Gives.{Found, after, one_at}
+use Rattle.ir_reader.specs.Gives.{after, one_at}
 use Rattle.ir_reader.specs.Marks.{is_word}
 use Rattle.ir_reader.specs.Drops.{past_group, past_one_of, flag_words, is_attribute_word, is_one_of, reserved}
 use Rattle.ir_reader.specs.Parts.{Val, value_of, is_value_type, spelled_type_at, allowed_type_at, pointer_at, addrspace_at, type_behind, other_type_at}

@@ -1,7 +1,5 @@
 -- A printed line is read by the slots of its form, slot by slot, from its end to its front.
-use Rattle.std.proofs.Common.{◌≡◌, refl, ap, sym, ◌∙◌, ℕ, zero, suc, Bool, true, false, not, ◌&&◌, List, [], ◌∷◌, ◌++◌, length, Option, Some, None, cond, inl, inr, arith}
-use Rattle.std.specs.Prelude.{codes}
-use Rattle.std.specs.Str.{bytes_eq}
+use Rattle.std.proofs.Common.{◌≡◌, refl, ℕ, zero, suc, Bool, true, false, not, ◌&&◌, List, [], ◌∷◌, ◌++◌, length, Option, Some, None, cond, inl, inr, arith}
 use Rattle.std.specs.Prelude.{◌==◌, ◌||◌}
 use Rattle.std.specs.Char.{is_ascii_digit, is_ascii_alphabetic}
 use Rattle.std.proofs.lemmas.Bool.{or_parts, or_from, or_left, or_cases, eqb-true, and_parts, and_from, not_from_false, not-true}
@@ -16,8 +14,8 @@ use Rattle.sp_text.proofs.Spelled.{stops, continues, tokens-spelled, tokens-blan
 use Rattle.sp_text.proofs.TokenLemmas.{tokens-nil}
 use Rattle.ir_reader.specs.declared.words.Dropped.{Dropped}
 use Rattle.ir_reader.specs.declared.words.Dropped.TheVariants as drops
-use Rattle.ir_reader.specs.Gives.{Found, after, one_at, with_rest}
-use Rattle.ir_reader.specs.Marks.{is_word, is_mark, stands}
+use Rattle.ir_reader.specs.Gives.{after, one_at}
+use Rattle.ir_reader.specs.Marks.{is_word, is_mark}
 use Rattle.ir_reader.specs.Drops.{past_dropped, past_at_most, past_all}
 use Rattle.ir_reader.specs.Slots.{Item, name, layout, layout_name, Slot, blank, m, w, dropped, a_local, a_layout, a_layout_name, part, parse}
 
@@ -50,13 +48,13 @@ digit-clean b digit = grind (arith, nat_tests)
 pub digits-clean : (bs : List ℕ) → list_all is_ascii_digit bs ≡ true → IsClean bs
 digits-clean bs digits = clean-each is_ascii_digit bs digit-clean digits
 
-plain_bytes : (bs : List ℕ) → is_plain_name bs ≡ true → list_all in_name bs ≡ true
+pub plain_bytes : (bs : List ℕ) → is_plain_name bs ≡ true → list_all in_name bs ≡ true
 plain_bytes [] plain = cc
 plain_bytes (b ∷ bs) plain =
     let parts = and_parts (begins_name b) (list_all in_name bs) plain in
     and_from (in_name b) (list_all in_name bs) (or_left (begins_name b) (is_ascii_digit b) parts.0) parts.1
 
-numeral_digits : (bs : List ℕ) → is_numeral bs ≡ true → list_all is_ascii_digit bs ≡ true
+pub numeral_digits : (bs : List ℕ) → is_numeral bs ≡ true → list_all is_ascii_digit bs ≡ true
 numeral_digits [] numeral = refl
 numeral_digits (b ∷ bs) numeral = by (b == 48) refl bs numeral
   where

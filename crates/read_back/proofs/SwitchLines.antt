@@ -1,20 +1,17 @@
 -- A `switch` on its lines: the first line, a line for each case, and the last line.
-use Rattle.std.proofs.Common.{◌≡◌, refl, ap, sym, ◌∙◌, ℕ, zero, suc, ◌+◌, ◌<◌, ◌≤◌, Bool, true, false, ◌&&◌, cond, List, [], ◌∷◌, ◌++◌, length, map, Option, Some, None, arith, codes, decimal, append_assoc}
+use Rattle.std.proofs.Common.{◌≡◌, refl, ap, ◌∙◌, ℕ, ◌≤◌, Bool, true, false, cond, List, [], ◌∷◌, ◌++◌, map, Some, None, codes, decimal, append_assoc}
 use Rattle.std.specs.Prelude.{◌==◌, not}
 use Rattle.std.specs.List.{AllByRecursion, list_all, zip}
 use Rattle.std.proofs.lemmas.Bool.{le-leb}
 use Rattle.sp_ids.specs.declared.ids.BlockId.{BlockId}
 use Rattle.sp_ids.specs.Numbers.{wrapped, signed}
 use Rattle.sp_text.specs.Tokens.{tokens}
-use Rattle.sp_text.proofs.Spelled.{tokens-blank}
 use Rattle.ir_ast.specs.declared.types.Ty.{Ty}
 use Rattle.ir_ast.specs.declared.types.Ty.TheVariants as tys
 use Rattle.ir_ast.specs.declared.ops.Operand.{Operand}
 use Rattle.ir_ast.specs.declared.ops.Operand.TheVariants as operands
 use Rattle.ir_ast.specs.declared.ops.Op.TheVariants as ast
-use Rattle.ir_ast.specs.Operands.{is_value, is_literal}
-use Rattle.ir_ast.specs.Values.{value_types}
-use Rattle.ir_ast.specs.Faults.TypeClash.{Fits}
+use Rattle.ir_ast.specs.Operands.{is_literal}
 use Rattle.ir_printer.specs.Lists.{joined}
 use Rattle.ir_printer.specs.Names.{Names, block_name}
 use Rattle.ir_printer.specs.Operands.{value_text}
@@ -34,14 +31,14 @@ use Rattle.ir_reader.specs.Seen.{of_form}
 use Rattle.ir_reader.specs.Slots as parts
 use Rattle.ir_reader.specs.Text.{is_top, next_state}
 use Rattle.ir_types.specs.Statements.{stated}
-use Rattle.read_back.specs.Said.{value_says, case_says, instruction_says, literal_of}
+use Rattle.read_back.specs.Said.{value_says, case_says, literal_of}
 use Rattle.read_back.proofs.Steps.{IsClean}
 use Rattle.read_back.proofs.Forms.{ReadsAs, switch_line, case_line, switch_end_line}
 use Rattle.read_back.proofs.LinesRead.{Says, says-nil, says-both, says-line, formed_outcome, ends_none-clean}
-use Rattle.read_back.proofs.Operands.{HaveNames, IsNarrow, block-named, value_spelled, value_in_limit}
+use Rattle.read_back.proofs.Operands.{HaveNames, block-named, value_spelled, value_in_limit}
 use Rattle.read_back.proofs.OneLine.{made}
 use Rattle.read_back.proofs.CallLines.{EntryFits}
-use Rattle.read_back.proofs.Chains.{joined-cons, InstSays, behind_inst}
+use Rattle.read_back.proofs.Chains.{joined-cons, indented, InstSays}
 
 -- a line behind blanks, inside a function
 pub inner_line : (s : State) (line text : List ℕ) (form : Form) (place : Place) (items : List parts.Item) → ReadsAs text form items → tokens line ≡ tokens text → IsClean line
@@ -50,9 +47,6 @@ pub inner_line : (s : State) (line text : List ℕ) (form : Form) (place : Place
 inner_line s line text form place items reads same clean inside stands kept fits counts =
     says-line s (next_state s place (of_form form items)) line (of_form form items) (ends_none-clean line clean)
     (formed_outcome s line form place items clean (rw inside refl) (rw same reads.form_is) (rw same reads.whole) stands kept fits counts)
-
-two_blanks : (text : List ℕ) → tokens (32 ∷ 32 ∷ text) ≡ tokens text
-two_blanks text = tokens-blank 32 (32 ∷ text) refl ∙ tokens-blank 32 text refl
 
 -- among the cases
 abbrev at_cases : Counts → State
@@ -95,7 +89,7 @@ case_read names have bits narrow c room e fits =
         case_line bits narrow.1 value (case_value names bits e.0 fits.literal) l (block-named names have e.1.0 of.low) in
     rw (case_shape names bits e.0 e.1)
     (inner_line (at_cases c) (32 ∷ 32 ∷ 32 ∷ 32 ∷ text) text forms.Case places.Cases (parts.width bits ∷ parts.value (value_says names (tys.Int bits) e.0) ∷ parts.name l ∷ []) reads
-    (two_blanks (32 ∷ 32 ∷ text) ∙ two_blanks text) reads.clean refl refl refl
+    (indented (32 ∷ 32 ∷ text) ∙ indented text) reads.clean refl refl refl
     (rw (le-leb 1 bits narrow.0, le-leb bits 64 narrow.1, value_in_limit names (tys.Int bits) narrow e.0 of.fits) refl) room)
 
 cases_read : (names : Names) → HaveNames names → (bits : ℕ) → (1 ≤ bits) × (bits ≤ 64) → (c : Counts) → counts_fit c ≡ true → (es : List (Operand × BlockId)) → AllByRecursion (CaseFits names (tys.Int bits)) es
@@ -129,7 +123,7 @@ switch_says_so names have bits o os l ls narrow first all s inside room =
     let reads : ReadsAs text forms.Switch items = switch_line bits narrow.1 value target (block-named names have l.0 first.low) in
     let c : Counts = counted kinds.Instruction s.counts in
     rw (switch_shape names bits o os l ls)
-    (says-both {t = at_cases c} (inner_line s (32 ∷ 32 ∷ text) text forms.Switch places.Cases items reads (two_blanks text) reads.clean (rw inside refl) (rw inside refl) refl
+    (says-both {t = at_cases c} (inner_line s (32 ∷ 32 ∷ text) text forms.Switch places.Cases items reads (indented text) reads.clean (rw inside refl) (rw inside refl) refl
     (rw (le-leb 1 bits narrow.0, le-leb bits 64 narrow.1, value_in_limit names (tys.Int bits) narrow o first.fits) refl) room)
     (says-both (cases_read names have bits narrow c room (zip os ls) all)
-    (inner_line (at_cases c) (32 ∷ 32 ∷ 93 ∷ []) (codes "]") forms.SwitchEnd places.Closed [] switch_end_line (two_blanks (93 ∷ [])) refl refl refl refl refl room)))
+    (inner_line (at_cases c) (32 ∷ 32 ∷ 93 ∷ []) (codes "]") forms.SwitchEnd places.Closed [] switch_end_line (indented (93 ∷ [])) refl refl refl refl refl room)))

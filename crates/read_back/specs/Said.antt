@@ -1,5 +1,5 @@
 -- What the lines of a printed module say, line by line; empty lines say nothing.
-use Rattle.std.specs.Prelude.{ℕ, ℤ, pos, negsuc, suc, ◌==◌, Bool, true, false, not, List, [], ◌∷◌, ◌++◌, map, drop, Option, Some, None, codes, unwrap_or, option_map, if◌then◌else◌}
+use Rattle.std.specs.Prelude.{ℕ, ℤ, pos, negsuc, suc, ◌==◌, true, false, not, List, [], ◌∷◌, ◌++◌, map, drop, Option, Some, None, codes, unwrap_or, option_map, if◌then◌else◌}
 use Rattle.std.specs.List.{zip, flat_map}
 use Rattle.sp_ids.specs.declared.ids.BlockId.{BlockId}
 use Rattle.sp_ids.specs.Numbers.{wrapped, signed}
