@@ -55,7 +55,7 @@ insts_ok names [] last s l f v i say inside at room =
 insts_ok names (inst ∷ before) last s l f v i say inside at room =
     let parts = and_parts (not (is_terminator inst.op)) (list_all (λ inst. not (is_terminator inst.op)) before) inside in
     let more : Room l f (length (before ++ last ∷ []) + v) (length (before ++ last ∷ []) + i) (counted kinds.Instruction s.counts) =
-        record { layouts = room.layouts; functions = room.functions; values = omega arith; instructions = omega arith } in
+    record { layouts = room.layouts; functions = room.functions; values = omega arith; instructions = omega arith } in
     ((at, room-fits more, say.0), insts_ok names before last (behind_inst inst s) l f v i say.1 parts.1 (place-inside inst (not-true (is_terminator inst.op) parts.0)) more)
 
 -- behind the instructions of a block
@@ -110,10 +110,11 @@ blocks_ok names [] s l f v i say takes room = tt
 blocks_ok names (block ∷ blocks) s l f v i say takes room =
     let split : length (instructions_of (block ∷ blocks)) ≡ length block.insts + length (instructions_of blocks) = length-append block.insts (instructions_of blocks) in
     let here : Room l f (length block.insts + (length (instructions_of blocks) + v)) (length block.insts + (length (instructions_of blocks) + i)) s.counts =
-        record { layouts = room.layouts; functions = room.functions; values = omega (arith, split, room.values); instructions = omega (arith, split, room.instructions) } in
-    (block_ok names block s l f (length (instructions_of blocks) + v) (length (instructions_of blocks) + i) say.0 takes here,
-    blocks_ok names blocks (behind_block block s) l f v i say.1 (takes-closed (behind_block block s) (block_closes names block s say.0))
-        (block_room block s l f (length (instructions_of blocks) + v) (length (instructions_of blocks) + i) here))
+    record { layouts = room.layouts; functions = room.functions; values = omega (arith, split, room.values); instructions = omega (arith, split, room.instructions) } in (
+      block_ok names block s l f (length (instructions_of blocks) + v) (length (instructions_of blocks) + i) say.0 takes here,
+      blocks_ok names blocks (behind_block block s) l f v i say.1 (takes-closed (behind_block block s) (block_closes names block s say.0))
+          (block_room block s l f (length (instructions_of blocks) + v) (length (instructions_of blocks) + i) here),
+    )
 
 pub blocks_read : (names : Names) (blocks : List BasicBlock) (s : State) (l f v i : ℕ) → AllBlocksSay names blocks → TakesLabel s
     → Room l f (length (instructions_of blocks) + v) (length (instructions_of blocks) + i) s.counts
@@ -135,4 +136,4 @@ blocks_room [] s l f v i room = record { layouts = room.layouts; functions = roo
 blocks_room (block ∷ blocks) s l f v i room =
     let split : length (instructions_of (block ∷ blocks)) ≡ length block.insts + length (instructions_of blocks) = length-append block.insts (instructions_of blocks) in
     blocks_room blocks (behind_block block s) l f v i (block_room block s l f (length (instructions_of blocks) + v) (length (instructions_of blocks) + i)
-        (record { layouts = room.layouts; functions = room.functions; values = omega (arith, split, room.values); instructions = omega (arith, split, room.instructions) }))
+    (record { layouts = room.layouts; functions = room.functions; values = omega (arith, split, room.values); instructions = omega (arith, split, room.instructions) }))

@@ -52,6 +52,7 @@ second_line rest spelled t form is second says r = record { form_is = rw e (by (
   where
     e : tokens (spelled ++ (32 ∷ rest)) ≡ tok kinds.Word spelled ∷ tokens rest
     e = tokens-spelled kinds.Word spelled (32 ∷ rest) is refl ∙ ap (λ ts. tok kinds.Word spelled ∷ ts) (tokens-blank 32 rest refl)
+
     by : (ts : List Tok) → first_of ts ≡ Some t → form_of (tok kinds.Word spelled ∷ ts) ≡ Some form
     by [] first = cc
     by (u ∷ us) first = let same : u ≡ t = cc in rw same (says us)
@@ -93,6 +94,7 @@ named_second rest n spelled t form is token second says shape r = record {
   where
     e : tokens (spelled ++ (32 ∷ rest)) ≡ tok kinds.Word spelled ∷ tokens rest
     e = tokens-spelled kinds.Word spelled (32 ∷ rest) token refl ∙ ap (λ ts. tok kinds.Word spelled ∷ ts) (tokens-blank 32 rest refl)
+
     by : (ts : List Tok) → first_of ts ≡ Some t → form_of (tok kinds.Local (37 ∷ n) ∷ tok kinds.Punct (codes "=") ∷ tok kinds.Word spelled ∷ ts) ≡ Some form
     by [] first = cc
     by (u ∷ us) first = let same : u ≡ t = cc in rw same (says us)

@@ -67,7 +67,7 @@ head_outcome layouts funcs func s is top fit =
     let line = head_line layouts funcs func is in
     let same : length (map argument_says func.args) ≡ length func.args = length-map func.args argument_says in
     let fits : list_all item_fits (head_items func) ≡ true =
-        rw (answer_fits func.answer is.answers is.narrow, le-leb (length func.name) 4096 is.short, same, le-leb (length func.args) 64 is.few, arguments_fit func.args is.args) refl in
+    rw (answer_fits func.answer is.answers is.narrow, le-leb (length func.name) 4096 is.short, same, le-leb (length func.args) 64 is.few, arguments_fit func.args is.args) refl in
     rw same at (formed_outcome s (head_text func) forms.Define places.Entry (head_items func) line.clean (rw top refl) line.form_is line.whole (rw top refl) refl fits (rw same fit))
 
 end_outcome : (s : State) → s.place ≡ places.Closed → counts_fit s.counts ≡ true → outcome s (codes "}") ≡ said (of_form forms.Close []) (record { place = places.Top; counts = s.counts })
@@ -78,7 +78,7 @@ pub function_read : (layouts : List ObjectLayout) (funcs : List Function) (func 
     → Says s (function_text layouts funcs func) (behind_function func s) (function_says layouts funcs func)
 function_read layouts funcs func s l f i is top values room =
     let head_room : Room l f (length (instructions_of func.blocks) + 0) (length (instructions_of func.blocks) + i) (behind_head func s).counts =
-        record { layouts = room.layouts; functions = omega arith; values = omega arith; instructions = room.instructions } in
+    record { layouts = room.layouts; functions = omega arith; values = omega arith; instructions = room.instructions } in
     let last : State = behind_all behind_block func.blocks (behind_head func s) in
     let closed : last.place ≡ places.Closed = blocks_closed (names_in layouts funcs func) func.blocks (behind_head func s) is.has_block is.blocks in
     let end_room : Room l f 0 i last.counts = blocks_room func.blocks (behind_head func s) l f 0 i head_room in

@@ -115,11 +115,11 @@ pub defined_step : {f : List Slot} {rest : List ℕ} {first : Option Tok} {items
     → Reads f rest first items → Reads (a_defined ∷ f) (64 ∷ (n ++ (40 ∷ (joined (codes ", ") (map text ys) ++ (41 ∷ rest))))) (Some (tok kinds.Global (64 ∷ n))) (defined n (map said ys) ∷ items)
 defined_step {rest = rest} n is text said ys each opens r =
     let found : list_to (argument_at false) (codes ")") (tokens (joined (codes ", ") (map text ys) ++ (41 ∷ rest))) ≡ Some (map said ys, tok kinds.Punct (codes ")") ∷ tokens rest) =
-        list_read (argument_at false) (codes ")") EndsAtMark text said at_comma ys (41 ∷ rest) each opens (at_closing rest) (rw (closing_tokens rest) refl) (rw (closing_tokens rest) refl)
-        ∙ ap (λ ts. Some (map said ys, ts)) (closing_tokens rest) in
+    list_read (argument_at false) (codes ")") EndsAtMark text said at_comma ys (41 ∷ rest) each opens (at_closing rest) (rw (closing_tokens rest) refl) (rw (closing_tokens rest) refl)
+    ∙ ap (λ ts. Some (map said ys, ts)) (closing_tokens rest) in
     step_to a_defined _ (tok kinds.Global (64 ∷ n)) _ (defined n (map said ys) ∷ [])
-        (head_clean n (joined (codes ", ") (map text ys)) rest is (list_clean (argument_at false) comma EndsAtMark text said at_comma ys each) r.clean) (head_tokens n is (joined (codes ", ") (map text ys) ++ (41 ∷ rest)))
-        (defined_part n (map said ys) _ (tokens rest) found) r
+    (head_clean n (joined (codes ", ") (map text ys)) rest is (list_clean (argument_at false) comma EndsAtMark text said at_comma ys each) r.clean) (head_tokens n is (joined (codes ", ") (map text ys) ++ (41 ∷ rest)))
+    (defined_part n (map said ys) _ (tokens rest) found) r
 
 define_form : (more : List Tok) → word_form (codes "define") more ≡ Some forms.Define
 unfolding word_form
@@ -193,11 +193,11 @@ pub called_step : {f : List Slot} {rest : List ℕ} {first : Option Tok} {items 
     → Reads f rest first items → Reads (a_called ∷ f) (64 ∷ (n ++ (40 ∷ (joined (codes ", ") (map text ys) ++ (41 ∷ rest))))) (Some (tok kinds.Global (64 ∷ n))) (called n (map said ys) ∷ items)
 called_step {rest = rest} n is text said ys each opens r =
     let found : list_to (passed_at (is_task_start n)) (codes ")") (tokens (joined (codes ", ") (map text ys) ++ (41 ∷ rest))) ≡ Some (map said ys, tok kinds.Punct (codes ")") ∷ tokens rest) =
-        list_read (passed_at (is_task_start n)) (codes ")") EndsAtMark text said at_comma ys (41 ∷ rest) each opens (at_closing rest) (rw (closing_tokens rest) refl) (rw (closing_tokens rest) refl)
-        ∙ ap (λ ts. Some (map said ys, ts)) (closing_tokens rest) in
+    list_read (passed_at (is_task_start n)) (codes ")") EndsAtMark text said at_comma ys (41 ∷ rest) each opens (at_closing rest) (rw (closing_tokens rest) refl) (rw (closing_tokens rest) refl)
+    ∙ ap (λ ts. Some (map said ys, ts)) (closing_tokens rest) in
     step_to a_called _ (tok kinds.Global (64 ∷ n)) _ (called n (map said ys) ∷ [])
-        (head_clean n (joined (codes ", ") (map text ys)) rest is (list_clean (passed_at (is_task_start n)) comma EndsAtMark text said at_comma ys each) r.clean) (head_tokens n is (joined (codes ", ") (map text ys) ++ (41 ∷ rest)))
-        (called_part n (map said ys) _ (tokens rest) found) r
+    (head_clean n (joined (codes ", ") (map text ys)) rest is (list_clean (passed_at (is_task_start n)) comma EndsAtMark text said at_comma ys each) r.clean) (head_tokens n is (joined (codes ", ") (map text ys) ++ (41 ∷ rest)))
+    (called_part n (map said ys) _ (tokens rest) found) r
 
 value_call_form : (more : List Tok) → named_form (codes "call") more ≡ Some forms.ValueCall
 unfolding named_form
@@ -301,14 +301,18 @@ layout_line {Y} n is text said ys each opens = record { form_is = form_is; whole
   where
     body : List ℕ
     body = joined (codes ", ") (map text ys) ++ codes " }"
+
     found : list_to (allowed_type_at is_value_type) (codes "}") (tokens body) ≡ Some (map said ys, tokens (codes " }"))
     found = list_read (allowed_type_at is_value_type) (codes "}") EndsAtMark text said at_comma ys (codes " }") each opens (at_brace []) (rw (brace_tokens []) refl) (rw (brace_tokens []) refl)
+
     inner : Reads (w (codes "type") ∷ blank ∷ m (codes "{") ∷ blank ∷ some_fields ∷ blank ∷ m (codes "}") ∷ []) (codes "type { " ++ body) (Some (tok kinds.Word (codes "type"))) (fields (map said ys) ∷ [])
     inner = word (codes "type") refl refl refl refl (space (mark 123 refl refl refl (space (step_any some_fields body (fields (map said ys) ∷ [])
         (clean-both (joined (codes ", ") (map text ys)) (codes " }") (list_clean (allowed_type_at is_value_type) comma EndsAtMark text said at_comma ys each) refl)
         (fields_part (map said ys) (tokens body) (tokens (codes " }")) found) (space (mark 125 refl refl refl end))))))
+
     all : Reads (slots forms.Layout) (37 ∷ (n ++ (32 ∷ 61 ∷ 32 ∷ (codes "type { " ++ body)))) (Some (tok kinds.Local (37 ∷ n))) (layout_name n ∷ fields (map said ys) ∷ [])
     all = layout_head n is refl (space (mark 61 refl refl refl (space inner)))
+
     form_is : form_of (tokens (37 ∷ (n ++ (32 ∷ 61 ∷ 32 ∷ (codes "type { " ++ body))))) ≡ Some forms.Layout
     form_is = rw (result_tokens n (codes "type { " ++ body) is) (named_by n (codes "type") (tokens (codes "type { " ++ body)) forms.Layout inner.begins type_form)
 
@@ -367,11 +371,11 @@ pub declared_step : {f : List Slot} {rest : List ℕ} {first : Option Tok} {item
     → Reads f rest first items → Reads (a_declared ∷ f) (64 ∷ (n ++ (40 ∷ (joined (codes ", ") (map text ys) ++ (41 ∷ rest))))) (Some (tok kinds.Global (64 ∷ n))) (declared n (map said ys) ∷ items)
 declared_step {rest = rest} n is text said ys each opens r =
     let found : list_to (argument_at (is_task_start n)) (codes ")") (tokens (joined (codes ", ") (map text ys) ++ (41 ∷ rest))) ≡ Some (map said ys, tok kinds.Punct (codes ")") ∷ tokens rest) =
-        list_read (argument_at (is_task_start n)) (codes ")") EndsAtMark text said at_comma ys (41 ∷ rest) each opens (at_closing rest) (rw (closing_tokens rest) refl) (rw (closing_tokens rest) refl)
-        ∙ ap (λ ts. Some (map said ys, ts)) (closing_tokens rest) in
+    list_read (argument_at (is_task_start n)) (codes ")") EndsAtMark text said at_comma ys (41 ∷ rest) each opens (at_closing rest) (rw (closing_tokens rest) refl) (rw (closing_tokens rest) refl)
+    ∙ ap (λ ts. Some (map said ys, ts)) (closing_tokens rest) in
     step_to a_declared _ (tok kinds.Global (64 ∷ n)) _ (declared n (map said ys) ∷ [])
-        (head_clean n (joined (codes ", ") (map text ys)) rest is (list_clean (argument_at (is_task_start n)) comma EndsAtMark text said at_comma ys each) r.clean) (head_tokens n is (joined (codes ", ") (map text ys) ++ (41 ∷ rest)))
-        (declared_part n (map said ys) _ (tokens rest) found) r
+    (head_clean n (joined (codes ", ") (map text ys)) rest is (list_clean (argument_at (is_task_start n)) comma EndsAtMark text said at_comma ys each) r.clean) (head_tokens n is (joined (codes ", ") (map text ys) ++ (41 ∷ rest)))
+    (declared_part n (map said ys) _ (tokens rest) found) r
 
 declare_form : (more : List Tok) → word_form (codes "declare") more ≡ Some forms.Declare
 unfolding word_form

@@ -58,7 +58,7 @@ module _ {A Y : Type 0} (element : List Tok → Found A) (goes_on : List Tok →
   at_most y (z ∷ zs) rest (suc count) each ends last most =
       let behind : List ℕ = text z ++ (others text zs ++ rest) in
       let later : at_most_at element goes_on (suc count) (tokens behind) ≡ Some (map said (z ∷ zs), tokens rest) =
-          rw append_assoc at (at_most z zs rest count (tail y (z ∷ zs) each) ends last (omega arith)) in
+      rw append_assoc at (at_most z zs rest count (tail y (z ∷ zs) each) ends last (omega arith)) in
       rw (shape y z zs rest) (rw ((head y (z ∷ zs) each).says (44 ∷ 32 ∷ behind) (commas behind)) (rw ((head z zs (tail y (z ∷ zs) each)).goes (others text zs ++ rest) (ends_others zs rest ends))
       (rw (comma_spelled behind) (rw later refl))))
 
@@ -90,5 +90,5 @@ unfolding list_to
 list_read element closing Ends text said commas [] rest each opens ends closed last = rw closed refl
 list_read element closing Ends text said commas (y ∷ ys) rest each opens ends closed last =
     let first : begins (is_mark closing) (tokens ((text y ++ others text ys) ++ rest)) ≡ false =
-        rw append_assoc (All-head (λ y. (rest : List ℕ) → Ends rest → begins (is_mark closing) (tokens (text y ++ rest)) ≡ false) y ys opens (others text ys ++ rest) (ends_others element comma Ends text said commas ys rest ends)) in
+    rw append_assoc (All-head (λ y. (rest : List ℕ) → Ends rest → begins (is_mark closing) (tokens (text y ++ rest)) ≡ false) y ys opens (others text ys ++ rest) (ends_others element comma Ends text said commas ys rest ends)) in
     rw first (listed element comma Ends text said commas y ys rest each ends last)

@@ -118,7 +118,7 @@ layout_read layout c is room =
     let text : List ℕ = 37 ∷ (layout.name ++ (codes " = type { " ++ (joined (codes ", ") (map word_of layout.fields) ++ codes " }"))) in
     let items : List parts.Item = parts.layout_name layout.name ∷ parts.fields (map cell_word layout.fields) ∷ [] in
     let reads : ReadsAs text forms.Layout items = layout_line layout.name is.named word_of cell_word layout.fields
-        (λ k d low. field_element (cell_spelled _) (cell_value _)) (λ k d low rest ends. type_opens (cell_spelled _) (codes "}") rest ends) in
+    (λ k d low. field_element (cell_spelled _) (cell_value _)) (λ k d low rest ends. type_opens (cell_spelled _) (codes "}") rest ends) in
     let count : length (map cell_word layout.fields) ≡ length layout.fields = length-map layout.fields cell_word in
     let fits : list_all item_fits items ≡ true = rw (le-leb (length layout.name) 4096 is.short, count, le-leb (length layout.fields) 64 is.few, cells_fit layout.fields) refl in
     rw (layout_bytes layout.name (joined (codes ", ") (map word_of layout.fields))) (top_line c text forms.Layout items reads refl refl refl fits room)
@@ -290,7 +290,7 @@ function_room : (func : Function) (s : State) (f i : ℕ) → length func.args +
     → Room 0 (suc f) 0 (length (instructions_of func.blocks) + i) s.counts → Room 0 f 0 i (behind_function func s).counts
 function_room func s f i values room =
     let head_room : Room 0 f (length (instructions_of func.blocks) + 0) (length (instructions_of func.blocks) + i) (behind_head func s).counts =
-        record { layouts = room.layouts; functions = omega (arith, room.functions); values = omega (arith, values); instructions = room.instructions } in
+    record { layouts = room.layouts; functions = omega (arith, room.functions); values = omega (arith, values); instructions = room.instructions } in
     blocks_room func.blocks (behind_head func s) 0 f 0 i head_room
 
 split_room : (func : Function) (funcs : List Function) (s : State) → Room 0 (suc (length funcs)) 0 (length (all_instructions (func ∷ funcs))) s.counts

@@ -325,10 +325,10 @@ phi_case names have inst p =
     let os = opened inst.operands p.printed.line.1 in
     let ls = opened inst.labels (let some = p.printed.line.1 in omega arith) in
     let all : AllByRecursion (EntryFits names inst.ty) (zip inst.operands inst.labels) =
-        entries_of names inst.ty inst.operands inst.labels (same_fit names inst (length inst.operands) refl has.values p.printed.fits) p.printed.labels in
+    entries_of names inst.ty inst.operands inst.labels (same_fit names inst (length inst.operands) refl has.values p.printed.fits) p.printed.labels in
     let here : AllByRecursion (EntryFits names inst.ty) (zip (os.0 ∷ os.1) (ls.0 ∷ ls.1)) =
-        subst (λ (xs : List Operand). AllByRecursion (EntryFits names inst.ty) (zip xs (ls.0 ∷ ls.1))) (sym os.2)
-        (subst (λ (xs : List BlockId). AllByRecursion (EntryFits names inst.ty) (zip inst.operands xs)) (sym ls.2) all) in
+    subst (λ (xs : List Operand). AllByRecursion (EntryFits names inst.ty) (zip xs (ls.0 ∷ ls.1))) (sym os.2)
+    (subst (λ (xs : List BlockId). AllByRecursion (EntryFits names inst.ty) (zip inst.operands xs)) (sym ls.2) all) in
     subst (Reads names) (made_is inst (Some (result_of inst)) ops.Phi inst.ty (os.0 ∷ os.1) (ls.0 ∷ ls.1) (result-is inst.result has.result) p.printed.is refl os.2 ls.2 has.no_bundle)
     (phi_reads names have (result_of inst) inst.ty os.0 os.1 ls.0 ls.1 (p.named has.result) has.type (narrow_of inst.ty p.printed.widths) here)
 
@@ -341,12 +341,12 @@ switch_case names have inst p =
     let os = opened inst.operands p.printed.line.1 in
     let ls = opened inst.labels (let some = p.printed.line.1 in omega arith) in
     let all : AllByRecursion (EntryFits names inst.ty) (zip inst.operands inst.labels) =
-        entries_of names inst.ty inst.operands inst.labels (same_fit names inst (length inst.operands) refl has.values p.printed.fits) p.printed.labels in
+    entries_of names inst.ty inst.operands inst.labels (same_fit names inst (length inst.operands) refl has.values p.printed.fits) p.printed.labels in
     let here : AllByRecursion (EntryFits names inst.ty) (zip (os.0 ∷ os.1) (ls.0 ∷ ls.1)) =
-        subst (λ (xs : List Operand). AllByRecursion (EntryFits names inst.ty) (zip xs (ls.0 ∷ ls.1))) (sym os.2)
-        (subst (λ (xs : List BlockId). AllByRecursion (EntryFits names inst.ty) (zip inst.operands xs)) (sym ls.2) all) in
+    subst (λ (xs : List Operand). AllByRecursion (EntryFits names inst.ty) (zip xs (ls.0 ∷ ls.1))) (sym os.2)
+    (subst (λ (xs : List BlockId). AllByRecursion (EntryFits names inst.ty) (zip inst.operands xs)) (sym ls.2) all) in
     let sized : AllByRecursion (EntryFits names (tys.Int bits)) (zip (os.0 ∷ os.1) (ls.0 ∷ ls.1)) =
-        subst (λ (t : Ty). AllByRecursion (EntryFits names t) (zip (os.0 ∷ os.1) (ls.0 ∷ ls.1))) (sym same) here in
+    subst (λ (t : Ty). AllByRecursion (EntryFits names t) (zip (os.0 ∷ os.1) (ls.0 ∷ ls.1))) (sym same) here in
     let literal : list_all is_literal os.1 ≡ true = subst (λ (xs : List Operand). list_all is_literal (drop 1 xs) ≡ true) (sym os.2) p.printed.line.2 in
     subst (InstSays names) (made_is inst None ops.Switch (tys.Int bits) (os.0 ∷ os.1) (ls.0 ∷ ls.1) (no_result inst.result has.result) p.printed.is same os.2 ls.2 has.no_bundle)
     (switch_says_so names have bits os.0 os.1 ls.0 ls.1 (integer_narrow inst.ty has.type p.printed.widths) sized.0 (cases_of names (tys.Int bits) os.1 ls.1 literal sized.1))

@@ -146,10 +146,13 @@ integer_type n most = record {
   where
     small : n < 2 ^ 64
     small = omega arith
+
     all : list_all is_ascii_digit (decimal n) ≡ true
     all = (decimal-is n small).digits
+
     digits : are_digits (decimal n) ≡ true
     digits = decimal-digits n small
+
     says : (ts : List Tok) → spelled_type_at (tok kinds.Word (105 ∷ decimal n) ∷ ts) ≡ Some (types.Int n, ts)
     says ts = rw (integer_says n most) refl
 

@@ -86,7 +86,7 @@ case_read names have bits narrow c room e fits =
     let l : List ℕ = block_name names.func e.1.0 in
     let text : List ℕ = 105 ∷ (decimal bits ++ (32 ∷ (value_text names (tys.Int bits) e.0 ++ (codes ", label %" ++ l)))) in
     let reads : ReadsAs text forms.Case (parts.width bits ∷ parts.value (value_says names (tys.Int bits) e.0) ∷ parts.name l ∷ []) =
-        case_line bits narrow.1 value (case_value names bits e.0 fits.literal) l (block-named names have e.1.0 of.low) in
+    case_line bits narrow.1 value (case_value names bits e.0 fits.literal) l (block-named names have e.1.0 of.low) in
     rw (case_shape names bits e.0 e.1)
     (inner_line (at_cases c) (32 ∷ 32 ∷ 32 ∷ 32 ∷ text) text forms.Case places.Cases (parts.width bits ∷ parts.value (value_says names (tys.Int bits) e.0) ∷ parts.name l ∷ []) reads
     (indented (32 ∷ 32 ∷ text) ∙ indented text) reads.clean refl refl refl

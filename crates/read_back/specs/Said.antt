@@ -114,7 +114,7 @@ convert_says names op width inst =
 abbrev pub select_says : Names → Instruction → Statement
 select_says names inst =
     says.select (result_of inst) (value_at names (tys.Int 1) inst 0)
-        (word_of inst.ty) (value_at names inst.ty inst 1) (word_of inst.ty) (value_at names inst.ty inst 2)
+    (word_of inst.ty) (value_at names inst.ty inst 1) (word_of inst.ty) (value_at names inst.ty inst 2)
 
 abbrev pub entry_says : Names → Ty → Operand × BlockId → Val × List ℕ
 entry_says names ty entry = (value_says names ty entry.0, label_says names entry.1)
@@ -133,7 +133,7 @@ step_says names elements.Ptr index_width place inst =
     says.scalar_step (result_of inst) types.Managed (value_at names tys.Ptr inst 0) index_width (value_at names (tys.Int index_width) inst 1)
 step_says names (elements.Layout layout) index_width place inst =
     says.layout_step (result_of inst) (layout_name names.layouts layout) (value_at names tys.Ptr inst 0)
-        index_width (value_at names (tys.Int index_width) inst 1) (option_map place_says place)
+    index_width (value_at names (tys.Int index_width) inst 1) (option_map place_says place)
 
 abbrev pub load_says : Names → Instruction → Statement
 load_says names inst = says.load (result_of inst) (word_of inst.ty) (value_at names tys.Ptr inst 0)
@@ -144,7 +144,7 @@ store_says names inst = says.store (word_of inst.ty) (value_at names inst.ty ins
 abbrev pub call_says : Names → Callee → List Ty → Instruction → Statement
 call_says names callee tys inst =
     says.call inst.result (word_of inst.ty) (callee_name names callee)
-        (map (λ argument. passed_says names argument.0 argument.1) (zip tys inst.operands))
+    (map (λ argument. passed_says names argument.0 argument.1) (zip tys inst.operands))
 
 abbrev pub jump_says : Names → Instruction → Statement
 jump_says names inst = says.jump (target_at names inst 0)
