@@ -110,7 +110,7 @@ argument_cases callee (operands.Value v) ty e = inl (sym (argument-value callee 
 argument_cases callee (operands.Int n) ty e = inl (sym (argument-value callee (operands.Int n) ty refl) ∙ e)
 argument_cases callee operands.Null ty e = inl (sym (argument-value callee operands.Null ty refl) ∙ e)
 
-passes_zip : (names : Names) (callee : Callee) (os : List Operand) (ts : List Ty) → AllZip (Fits (value_types names.func)) os ts → Arguments callee os ts
+pub passes_zip : (names : Names) (callee : Callee) (os : List Operand) (ts : List Ty) → AllZip (Fits (value_types names.func)) os ts → Arguments callee os ts
     → FunctionsOf (λ named. named < length names.funcs) os → AllByRecursion IsWidth (flat_map type_widths ts)
     → AllZip (Passes names) os ts
 passes_zip names callee [] [] fit arguments functions widths = tt
@@ -124,7 +124,7 @@ passes_zip names callee (o ∷ os) (t ∷ ts) fit arguments functions widths =
     )
 
 -- the callee, and the functions that are passed
-callee_parts : (names : Names) (callee : Callee) (ts : List Ty) (inst : Instruction)
+pub callee_parts : (names : Names) (callee : Callee) (ts : List Ty) (inst : Instruction)
     → AllByRecursion (λ layout. layout < length names.layouts) (layouts_named (record inst { op = ops.Call callee ts }))
     → AllByRecursion (λ named. named < length names.funcs) (functions_named (record inst { op = ops.Call callee ts }))
     → CalleeBelow names callee × AllByRecursion (λ named. named < length names.funcs) (functions_named (record inst { op = ops.Load }))

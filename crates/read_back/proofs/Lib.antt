@@ -26,4 +26,6 @@ pub mod BackTops
 pub mod BackEntry
 pub mod BackHeads
 pub mod BackOnce
+pub mod BackUnknown
+pub mod BackDerived
 pub mod BackFaultless
