@@ -28,4 +28,5 @@ pub mod BackHeads
 pub mod BackOnce
 pub mod BackUnknown
 pub mod BackDerived
+pub mod BackPhis
 pub mod BackFaultless
