@@ -246,7 +246,7 @@ all_at P [] k x e h = absurd (let bad : None ≡ Some x = e in cc)
 all_at P (y ∷ ys) zero x e h = subst P (same_Some y x e) h.0
 all_at P (y ∷ ys) (suc k) x e h = all_at P ys k x e h.1
 
-middle : {X : Type 0} (P : X → Type 0) (front : List X) (x : X) (back : List X) → AllByRecursion P (front ++ x ∷ back) → P x
+pub middle : {X : Type 0} (P : X → Type 0) (front : List X) (x : X) (back : List X) → AllByRecursion P (front ++ x ∷ back) → P x
 middle P [] x back h = h.0
 middle P (y ∷ front) x back h = middle P front x back h.1
 

@@ -29,4 +29,5 @@ pub mod BackOnce
 pub mod BackUnknown
 pub mod BackDerived
 pub mod BackPhis
+pub mod BackCases
 pub mod BackFaultless
