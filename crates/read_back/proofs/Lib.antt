@@ -30,4 +30,5 @@ pub mod BackUnknown
 pub mod BackDerived
 pub mod BackPhis
 pub mod BackCases
+pub mod BackRules
 pub mod BackFaultless
