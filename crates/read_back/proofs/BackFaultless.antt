@@ -18,14 +18,15 @@ use Rattle.read_back.proofs.BackHeads.{declares_defined-clear}
 use Rattle.read_back.proofs.BackOnce.{heads_once}
 use Rattle.read_back.proofs.BackUnknown.{unknown_name-clear}
 use Rattle.read_back.proofs.BackCases.{case_clash-clear}
-use Rattle.read_back.proofs.BackRules.{breaks_by_name, clashes-clear}
+use Rattle.read_back.proofs.BackRules.{clashes-clear}
+use Rattle.read_back.proofs.BackFields.{breaks_call, named-clear}
 use Rattle.read_back.proofs.BackPhis.{phi_edges-clear}
 use Rattle.read_back.proofs.BackDerived.{derived_escapes-clear}
 
 -- the faults whose absence is not derived from the module's
 pub record HasNoOther (lines : List Line) : Type 0 where
   pub fits : (line : ℕ) → ¬ (InBody lines line misfits)
-  pub named : (line : ℕ) → ¬ (InBody lines line breaks_by_name)
+  pub calls : (line : ℕ) → ¬ (InBody lines line breaks_call)
 
 names_clear : (content : ModuleContent) → IsSourceModule content → (lines : List Line) → said lines ≡ said_by content → (line : ℕ) → NameTwice lines line → ⊥
 names_clear content source lines e line (layout_again r) = layouts_once content source lines e line r
@@ -48,7 +49,7 @@ no_fault-from content source ends lines e other line code f = go code f
     go : (code : ℕ) → HasFault lines line code → ⊥
     go code (name_twice t) = names_clear content source lines e line t
     go code (unknown_name t) = unknown_name-clear content source lines e line t
-    go code (type_clash (by_line t)) = clashes-clear content source lines e line (other.fits line) (other.named line) t
+    go code (type_clash (by_line t)) = clashes-clear content source lines e line (other.fits line) (named-clear content source lines e line (other.calls line)) t
     go code (type_clash (by_case t)) = case_clash-clear content source ends lines e line t
     go code (entry_has_pred t) = entry_has_pred-clear content source ends lines e line t
     go code (phi_edges t) = phi_edges-clear content source ends lines e line t

@@ -52,7 +52,7 @@ same_type-refl (Int width) = (Decides-eqb width width).1 refl
 same_type-refl Managed = refl
 same_type-refl Plain = refl
 
-less : (a b : ℕ) → a < b → nat_lt a b ≡ true
+pub less : (a b : ℕ) → a < b → nat_lt a b ≡ true
 less a b h = grind (arith, nat_tests, h)
 
 narrower : (to : ℕ) (ty : Ty) → IsNarrower to ty → nat_lt to (width_in ty) ≡ true

@@ -31,4 +31,5 @@ pub mod BackDerived
 pub mod BackPhis
 pub mod BackCases
 pub mod BackRules
+pub mod BackFields
 pub mod BackFaultless
