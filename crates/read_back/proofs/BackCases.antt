@@ -1,7 +1,7 @@
 -- The cases that a source module is printed with fit their `switch`.
-use Rattle.std.proofs.Common.{◌≡◌, ◌≢◌, ◌∙◌, ◌⊎◌, inl, inr, ℕ, zero, suc, ◌+◌, ◌<◌, Bool, true, false, if◌then◌else◌, List, [], ◌∷◌, ◌++◌, map, length, drop, refl, ap, sym, subst, arith, append_assoc, length-append}
+use Rattle.std.proofs.Common.{◌≡◌, ◌≢◌, ◌∙◌, ◌⊎◌, inl, inr, ℕ, zero, suc, if◌then◌else◌, List, [], ◌∷◌, ◌++◌, map, length, drop, refl, ap, sym, subst, arith, append_assoc}
 use Rattle.std.specs.Prelude.{Option, Some, None, flat_map, filter_map, slice_get, ⊤}
-use Rattle.std.specs.List.{All, AllByRecursion, Contains, cons_option, zip}
+use Rattle.std.specs.List.{AllByRecursion, Contains, cons_option, zip}
 use Rattle.std.proofs.lemmas.List.Elements.{All-contains}
 use Rattle.std.proofs.lemmas.Option.{slice_get_within, same_Some}
 use Rattle.sp_ids.specs.declared.ids.BlockId.{BlockId}
@@ -15,7 +15,7 @@ use Rattle.ir_ast.specs.declared.ops.Operand.{Operand}
 use Rattle.ir_ast.specs.declared.ops.Operand.TheVariants as operands
 use Rattle.ir_ast.specs.Insts.{Instruction}
 use Rattle.ir_ast.specs.Blocks.{BasicBlock}
-use Rattle.ir_ast.specs.Funcs.{Function, instructions_of}
+use Rattle.ir_ast.specs.Funcs.{instructions_of}
 use Rattle.ir_ast.specs.Modules.{ModuleContent}
 use Rattle.ir_ast.specs.Lists.{Distinct}
 use Rattle.ir_ast.specs.Scope.{scope_of}
@@ -26,15 +26,15 @@ use Rattle.ir_reader.specs.declared.readings.TypeWord.TheVariants as types
 use Rattle.ir_reader.specs.Parts.{Val}
 use Rattle.ir_reader.specs.Parts as values
 use Rattle.ir_types.specs.Statements.{Line, Statement, switch, switch_case, switch_end}
-use Rattle.ir_types.specs.Sections.{Definition, is_case, cases_of, definitions_of}
-use Rattle.ir_types.specs.Modules.{Known, known_of, operand_of, label_of, instruction, case_value, case_values, case_labels, wrapped}
+use Rattle.ir_types.specs.Sections.{cases_of}
+use Rattle.ir_types.specs.Modules.{known_of, operand_of, label_of, instruction, case_value, case_values, case_labels, wrapped}
 use Rattle.ir_types.specs.Faults.TypeClash.{number_said, case_number, case_numbers, CaseClash}
 use Rattle.ir_types.proofs.LawNames.{get_contained, contains_first, contains_later, contains_cons}
 use Rattle.read_back.specs.BlocksEnd.{BlocksEnd}
 use Rattle.read_back.specs.Said.{width_in, step_says, return_says, case_says, block_says, operator_says, instruction_says, said_by}
 use Rattle.read_back.proofs.BackLines.{said}
 use Rattle.read_back.proofs.BackModules.{names_in, function-back}
-use Rattle.read_back.proofs.BackFaults.{From, printed_from}
+use Rattle.read_back.proofs.BackFaults.{printed_from}
 use Rattle.read_back.proofs.BackEntry.{setting_of}
 use Rattle.read_back.proofs.BackDerived.{inst_of_line}
 use Rattle.read_back.proofs.BackPhis.{middle}

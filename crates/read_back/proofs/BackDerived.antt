@@ -1,8 +1,8 @@
 -- The lines that a source module is printed as let no derived pointer out.
-use Rattle.std.proofs.Common.{◌≡◌, ◌∙◌, ◌⊎◌, inl, inr, ℕ, suc, ◌^◌, ◌<◌, Bool, true, false, cond, List, [], ◌∷◌, ◌++◌, map, take, drop, length, refl, ap, sym, subst, arith}
-use Rattle.std.specs.Prelude.{Option, Some, None, is_some, unwrap_or, filter, filter_map, slice_get}
+use Rattle.std.proofs.Common.{◌≡◌, ◌∙◌, ◌⊎◌, inl, inr, ℕ, suc, Bool, true, false, cond, List, [], ◌∷◌, ◌++◌, map, take, drop, refl, ap, sym, subst, arith}
+use Rattle.std.specs.Prelude.{Option, Some, is_some, unwrap_or, filter, filter_map, slice_get}
 use Rattle.std.specs.Option.{option_map_or}
-use Rattle.std.specs.List.{All, Contains, cons_option}
+use Rattle.std.specs.List.{Contains, cons_option}
 use Rattle.std.proofs.lemmas.Option.{slice_get_within}
 use Rattle.std.proofs.lemmas.List.Elements.{All-contains, Contains-append_right}
 use Rattle.ir_ast.specs.declared.ops.Operand.{Operand}
@@ -25,11 +25,11 @@ use Rattle.ir_reader.specs.Parts.{Val}
 use Rattle.ir_reader.specs.Parts as values
 use Rattle.ir_reader.specs.Lists.{Given, given, function}
 use Rattle.ir_types.specs.Statements.{Line, Statement, select, phi, scalar_step, layout_step, store, call, ret}
-use Rattle.ir_types.specs.Parts.{gives, uses, entry_use, local_name, values_named, leaving, is_step, is_merge, passed_value}
+use Rattle.ir_types.specs.Parts.{gives, entry_use, local_name, values_named, leaving, is_step, is_merge, passed_value}
 use Rattle.ir_types.specs.Places.{number_in}
 use Rattle.ir_types.specs.Sections.{Definition, Naming, result_named, definitions_of}
 use Rattle.ir_types.specs.Modules.{Known, known_of, operand_in, entry_operand, passed_operand, instruction_said, insts_of, function_of}
-use Rattle.ir_types.specs.Faults.DerivedEscapes.{StandsFor, Derived, by_step, by_merge, DerivedEscapes}
+use Rattle.ir_types.specs.Faults.DerivedEscapes.{Derived, by_step, by_merge, DerivedEscapes}
 use Rattle.ir_types.proofs.LawBodies.{insts_said, insts-cons, body_insts}
 use Rattle.ir_types.proofs.LawNames.{get_contained, contains_first, contains_later, contains_cons, contains_map, split_at}
 use Rattle.read_back.specs.BlocksEnd.{BlocksEnd}
@@ -38,7 +38,7 @@ use Rattle.read_back.proofs.BackLines.{said}
 use Rattle.read_back.proofs.BackNames.{Setting, numbered-back}
 use Rattle.read_back.proofs.BackSections.{definitions-are}
 use Rattle.read_back.proofs.BackModules.{names_in, setting, function-names, function-back, few_in}
-use Rattle.read_back.proofs.BackFaults.{From, printed_from}
+use Rattle.read_back.proofs.BackFaults.{printed_from}
 
 -- ---- a line's instruction is one of the function
 

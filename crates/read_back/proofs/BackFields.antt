@@ -1,8 +1,7 @@
 -- The steps that a source module is printed with name fields that there are.
 use Rattle.std.proofs.Common.{◌≡◌, ◌∙◌, ◌⊎◌, inl, inr, ℕ, ◌<◌, Bool, true, false, not, List, [], ◌∷◌, ◌++◌, map, length, drop, refl, ap, sym, subst, arith}
-use Rattle.std.specs.Prelude.{Option, Some, None, IfSome, find, slice_get, option_map}
-use Rattle.std.specs.Str.{bytes_eq}
-use Rattle.std.specs.List.{All, AllByRecursion, Contains, zip}
+use Rattle.std.specs.Prelude.{Option, Some, None, IfSome, slice_get, option_map}
+use Rattle.std.specs.List.{AllByRecursion, zip}
 use Rattle.std.proofs.lemmas.Option.{slice_get-map, same_Some}
 use Rattle.std.proofs.lemmas.List.{length-map}
 use Rattle.std.proofs.lemmas.List.Elements.{All-contains}
@@ -16,7 +15,7 @@ use Rattle.ir_ast.specs.declared.ops.Elem.TheVariants as elements
 use Rattle.ir_ast.specs.declared.ops.Operand.{Operand}
 use Rattle.ir_ast.specs.Insts.{Instruction}
 use Rattle.ir_ast.specs.Layouts.{ObjectLayout}
-use Rattle.ir_ast.specs.Funcs.{Function, instructions_of}
+use Rattle.ir_ast.specs.Funcs.{instructions_of}
 use Rattle.ir_ast.specs.Modules.{ModuleContent}
 use Rattle.ir_ast.specs.Scope as module_scope
 use Rattle.ir_ast.specs.Faults.TypeClash.{IsTyped, FunctionIsTyped, RuleOf, HasField}

@@ -1,8 +1,8 @@
 -- The phis that a source module is printed with are right.
-use Rattle.std.proofs.Common.{◌≡◌, ◌≢◌, ◌∙◌, ℕ, zero, suc, ◌+◌, ◌<◌, Bool, true, false, cond, ◌&&◌, ◌==◌, if◌then◌else◌, List, [], ◌∷◌, ◌++◌, map, length, drop, refl, ap, sym, subst, arith}
-use Rattle.std.specs.Prelude.{Option, Some, None, flat_map, count_by, slice_get, option_map, ⊤}
+use Rattle.std.proofs.Common.{◌≡◌, ◌∙◌, ℕ, zero, suc, ◌+◌, Bool, true, false, cond, ◌==◌, if◌then◌else◌, List, [], ◌∷◌, ◌++◌, map, length, drop, refl, ap, sym, subst, arith}
+use Rattle.std.specs.Prelude.{Option, Some, None, flat_map, count_by, slice_get, option_map}
 use Rattle.std.specs.Option.{option_map_or}
-use Rattle.std.specs.List.{All, AllByRecursion, AllZip, Contains, list_all, zip}
+use Rattle.std.specs.List.{AllByRecursion, AllZip, list_all, zip}
 use Rattle.std.proofs.lemmas.List.{map-append, nil_from_length}
 use Rattle.std.proofs.lemmas.List.Folds.{fold-map}
 use Rattle.std.proofs.lemmas.List.Elements.{All-contains, All-from_recursion}
@@ -33,7 +33,7 @@ use Rattle.ir_types.specs.Statements.{Line, Statement, phi, switch_end}
 use Rattle.ir_types.specs.Parts.{targets, is_phi}
 use Rattle.ir_types.specs.Places.{number_in}
 use Rattle.ir_types.specs.Sections.{Definition, BlockLines, blocks_of}
-use Rattle.ir_types.specs.Scope.{Scope, scope_of, block_number}
+use Rattle.ir_types.specs.Scope.{scope_of}
 use Rattle.ir_types.specs.Modules.{Known, known_of, type_of, entry_operand, entry_label, label_in, label_of, instruction, instruction_said}
 use Rattle.ir_types.specs.Faults.PhiEdges as wrong
 use Rattle.ir_types.specs.Faults.PhiEdges.{PhiEdges, PhiIsWrong, late, uncounted, differ}
@@ -47,7 +47,7 @@ use Rattle.read_back.proofs.BackLists.{Below, phi-back}
 use Rattle.read_back.proofs.BackInsts.{IsPrinted, same_good, first_label, less_one}
 use Rattle.read_back.proofs.BackBlocks.{SaysBlock, blocks-are, flat-append}
 use Rattle.read_back.proofs.BackModules.{names_in, printed}
-use Rattle.read_back.proofs.BackFaults.{From, printed_from}
+use Rattle.read_back.proofs.BackFaults.{printed_from}
 use Rattle.read_back.proofs.BackEntry.{setting_of}
 
 -- ---- the instruction of a phi's line

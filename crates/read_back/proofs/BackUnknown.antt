@@ -1,13 +1,13 @@
 -- The lines that a source module is printed as name what there is.
-use Rattle.std.proofs.Common.{◌≡◌, ◌∙◌, ◌⊎◌, inl, inr, ℕ, zero, suc, ◌+◌, ◌<◌, ◌≤◌, Bool, true, false, not, ◌||◌, ◌==◌, if◌then◌else◌, List, [], ◌∷◌, ◌++◌, map, length, drop, refl, ap, sym, subst, arith, codes}
+use Rattle.std.proofs.Common.{◌≡◌, ◌∙◌, ◌⊎◌, inl, inr, ℕ, zero, suc, ◌+◌, ◌<◌, ◌≤◌, Bool, true, false, not, ◌||◌, ◌==◌, if◌then◌else◌, List, [], ◌∷◌, ◌++◌, map, length, drop, refl, ap, sym, subst, arith}
 use Rattle.std.specs.Prelude.{Option, Some, None, IfSome, is_none, unwrap_or, find, ⊤, flat_map, slice_get, filter_map}
 use Rattle.std.specs.Option.{option_map_or}
 use Rattle.std.specs.Str.{bytes_eq}
-use Rattle.std.specs.List.{All, AllByRecursion, AllZip, Contains, list_any, cons_option, zip, range_with_len}
+use Rattle.std.specs.List.{AllByRecursion, AllZip, Contains, list_any, cons_option, zip, range_with_len}
 use Rattle.std.proofs.lemmas.Bool.Decides.{Decides-eqb}
 use Rattle.std.proofs.lemmas.Option.{slice_get_within}
 use Rattle.std.proofs.lemmas.List.{length-map}
-use Rattle.std.proofs.lemmas.List.Elements.{recursion_from_All, All-from_recursion, All-contains, Contains-append_left, Contains-append_right, Contains-append_cases}
+use Rattle.std.proofs.lemmas.List.Elements.{recursion_from_All, All-contains, Contains-append_left, Contains-append_right, Contains-append_cases}
 use Rattle.sp_ids.specs.Numbers.{wrapped, signed}
 use Rattle.sp_ids.specs.declared.ids.BlockId.{BlockId}
 use Rattle.ir_ast.specs.declared.types.Ty.{Ty}
@@ -45,14 +45,14 @@ use Rattle.ir_reader.specs.declared.words.Binary.{Binary}
 use Rattle.ir_reader.specs.declared.words.Binary.TheVariants as binaries
 use Rattle.ir_reader.specs.declared.words.Conversion.{Conversion}
 use Rattle.ir_reader.specs.declared.words.Conversion.TheVariants as conversions
-use Rattle.ir_types.specs.Statements.{Line, Statement, switch, switch_end, unreachable}
+use Rattle.ir_types.specs.Statements.{Line, Statement, switch, switch_end}
 use Rattle.ir_types.specs.Parts.{uses, targets, entry_labels, functions_named, layouts_named, local_name, passed_value, passed_function, entry_use}
-use Rattle.ir_types.specs.Sections.{LayoutLine, Head, Definition, Naming, BlockLines, layouts_of, heads_of, definitions_of, values_of, blocks_of}
+use Rattle.ir_types.specs.Sections.{LayoutLine, Head, Definition, Naming, BlockLines, layouts_of, heads_of, values_of, blocks_of}
 use Rattle.ir_types.specs.Scope.{Scope, scope_of, value_named, block_named, head_named, layout_named}
 use Rattle.ir_types.specs.Faults.UnknownName.{names_unknown, UnknownName}
 use Rattle.ir_types.proofs.LawNames.{get_some, contains_get, contains_map, contains_cons, contains_later, contains_first}
 use Rattle.ir_types.proofs.LawCalls.{found_by_name, contains_mapped}
-use Rattle.read_back.specs.Said.{literal_of, word_of, width_in, value_says, passed_says, value_at, target_at, label_says, entry_says, binary_says, compare_says, convert_says, select_says, phi_says, step_says, load_says, store_says, call_says, jump_says, branch_says, case_says, switch_says, return_says, operator_says, instruction_says, declaration_says, said_by}
+use Rattle.read_back.specs.Said.{literal_of, word_of, width_in, value_says, passed_says, value_at, target_at, entry_says, binary_says, compare_says, convert_says, select_says, phi_says, step_says, load_says, store_says, call_says, jump_says, branch_says, case_says, return_says, operator_says, declaration_says, said_by}
 use Rattle.read_back.proofs.BackLines.{said}
 use Rattle.read_back.proofs.BackLists.{Below, Passes, CalleeBelow}
 use Rattle.read_back.proofs.BackInsts.{IsPrinted, callee_parts, passes_zip}
