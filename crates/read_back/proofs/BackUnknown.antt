@@ -288,7 +288,7 @@ call_clear : (scope : Scope) (names : Names) → Knows scope names → (callee :
 call_clear scope names k callee ts inst p there called =
     let parts = callee_parts names callee ts inst p.layouts p.functions in
     let functions : AllByRecursion (λ named. named < length names.funcs)
-        (functions_in (record { result = inst.result; op = ops.Load; ty = inst.ty; operands = inst.operands; labels = inst.labels; bundle = [] })) =
+    (functions_in (record { result = inst.result; op = ops.Load; ty = inst.ty; operands = inst.operands; labels = inst.labels; bundle = [] })) =
     subst (λ (b : List (Ty × Operand)). AllByRecursion (λ named. named < length names.funcs)
     (functions_in (record { result = inst.result; op = ops.Load; ty = inst.ty; operands = inst.operands; labels = inst.labels; bundle = b }))) p.bundle parts.1 in
     let passes = passes_zip names callee inst.operands ts p.fits p.line.arguments functions (recursion_from_All IsWidth (flat_map type_widths ts) p.own_widths) in
@@ -317,12 +317,16 @@ inst_clear scope names k (ops.Icmp pred) inst p there called =
 inst_clear scope names k (ops.Trunc to) inst p there called = convert_clear scope names k conversions.Trunc to inst there
 inst_clear scope names k (ops.Zext to) inst p there called = convert_clear scope names k conversions.Zext to inst there
 inst_clear scope names k (ops.Sext to) inst p there called = convert_clear scope names k conversions.Sext to inst there
-inst_clear scope names k ops.Select inst p there called =
-    (clear_by scope (select_says names inst)
-    (use_found scope names k inst there (tys.Int 1) 0, (use_found scope names k inst there inst.ty 1, (use_found scope names k inst there inst.ty 2, tt))) tt tt tt, tt)
-inst_clear scope names k ops.Phi inst p there called =
-    (clear_by scope (phi_says names inst) (entry_uses scope names k inst.ty inst.operands inst.labels there)
-    (entry_blocks scope names k inst.ty inst.operands inst.labels p.labels) tt tt, tt)
+inst_clear scope names k ops.Select inst p there called = (
+  clear_by scope (select_says names inst)
+      (use_found scope names k inst there (tys.Int 1) 0, (use_found scope names k inst there inst.ty 1, (use_found scope names k inst there inst.ty 2, tt))) tt tt tt,
+  tt,
+)
+inst_clear scope names k ops.Phi inst p there called = (
+  clear_by scope (phi_says names inst) (entry_uses scope names k inst.ty inst.operands inst.labels there)
+      (entry_blocks scope names k inst.ty inst.operands inst.labels p.labels) tt tt,
+  tt,
+)
 inst_clear scope names k (ops.Gep elem width place) inst p there called = (step_clear scope names k elem width place inst p there, tt)
 inst_clear scope names k ops.Load inst p there called =
     (clear_by scope (load_says names inst) (use_found scope names k inst there tys.Ptr 0, tt) tt tt tt, tt)
@@ -331,13 +335,16 @@ inst_clear scope names k ops.Store inst p there called =
 inst_clear scope names k (ops.Call callee ts) inst p there called = (call_clear scope names k callee ts inst p there called, tt)
 inst_clear scope names k ops.Br inst p there called =
     (clear_by scope (jump_says names inst) tt (target_found scope names k inst p.labels 0, tt) tt tt, tt)
-inst_clear scope names k ops.CondBr inst p there called =
-    (clear_by scope (branch_says names inst) (use_found scope names k inst there (tys.Int 1) 0, tt)
-    (target_found scope names k inst p.labels 0, (target_found scope names k inst p.labels 1, tt)) tt tt, tt)
-inst_clear scope names k ops.Switch inst p there called =
-    (clear_by scope (switch (width_in inst.ty) (value_at names inst.ty inst 0) (target_at names inst 0)) (use_found scope names k inst there inst.ty 0, tt)
-    (target_found scope names k inst p.labels 0, tt) tt tt,
-    cases_clear scope names k inst.ty (drop 1 inst.operands) (drop 1 inst.labels) (dropped (IsThere names) inst.operands there) (dropped (Below names) inst.labels p.labels))
+inst_clear scope names k ops.CondBr inst p there called = (
+  clear_by scope (branch_says names inst) (use_found scope names k inst there (tys.Int 1) 0, tt)
+      (target_found scope names k inst p.labels 0, (target_found scope names k inst p.labels 1, tt)) tt tt,
+  tt,
+)
+inst_clear scope names k ops.Switch inst p there called = (
+  clear_by scope (switch (width_in inst.ty) (value_at names inst.ty inst 0) (target_at names inst 0)) (use_found scope names k inst there inst.ty 0, tt)
+      (target_found scope names k inst p.labels 0, tt) tt tt,
+  cases_clear scope names k inst.ty (drop 1 inst.operands) (drop 1 inst.labels) (dropped (IsThere names) inst.operands there) (dropped (Below names) inst.labels p.labels),
+)
 inst_clear scope names k ops.Ret inst p there called = (return_clear scope names k inst.ty inst there, tt)
 inst_clear scope names k ops.Unreachable inst p there called = (refl, tt)
 inst_clear scope names k (ops.Statepoint id callee ts) inst p there called = tt
