@@ -4,10 +4,8 @@ use Rattle.ir_ast.specs.Modules.{ModuleContent}
 use Rattle.ir_cfg.specs.SourceModules.{IsSourceModule}
 use Rattle.ir_types.specs.Statements.{Line}
 use Rattle.ir_types.specs.Faults.NameTwice.{NameTwice, layout_again, head_again, declares_defined, label_again, value_again}
-use Rattle.ir_types.specs.Faults.UnknownName.{UnknownName}
-use Rattle.ir_types.specs.Faults.TypeClash.{TypeClash}
-use Rattle.ir_types.specs.Faults.PhiEdges.{PhiEdges}
-use Rattle.ir_types.specs.Faults.DerivedEscapes.{DerivedEscapes}
+use Rattle.ir_types.specs.Faults.TypeClash.{misfits, by_line, by_case}
+use Rattle.ir_types.specs.InBody.{InBody}
 use Rattle.ir_types.specs.Faults.Reserved.{Reserved, defines_external, declares_helper, names_value, names_label}
 use Rattle.ir_types.specs.FaultSet.{HasFault, HasNoFault, name_twice, unknown_name, type_clash, entry_has_pred, phi_edges, derived_escapes, no_strategy, no_main, unknown_extern, bad_layout, reserved, pointer_order, pointer_cast}
 use Rattle.read_back.specs.BlocksEnd.{BlocksEnd}
@@ -18,13 +16,17 @@ use Rattle.read_back.proofs.BackTops.{layouts_once, labels_once, values_once, de
 use Rattle.read_back.proofs.BackEntry.{entry_has_pred-clear}
 use Rattle.read_back.proofs.BackHeads.{declares_defined-clear}
 use Rattle.read_back.proofs.BackOnce.{heads_once}
+use Rattle.read_back.proofs.BackUnknown.{unknown_name-clear}
+use Rattle.read_back.proofs.BackCases.{case_clash-clear}
+use Rattle.read_back.proofs.BackRules.{clashes-clear}
+use Rattle.read_back.proofs.BackFields.{breaks_call, named-clear}
+use Rattle.read_back.proofs.BackPhis.{phi_edges-clear}
+use Rattle.read_back.proofs.BackDerived.{derived_escapes-clear}
 
 -- the faults whose absence is not derived from the module's
 pub record HasNoOther (lines : List Line) : Type 0 where
-  pub names : (line : ℕ) → ¬ (UnknownName lines line)
-  pub types : (line : ℕ) → ¬ (TypeClash lines line)
-  pub phis : (line : ℕ) → ¬ (PhiEdges lines line)
-  pub derived : (line : ℕ) → ¬ (DerivedEscapes lines line)
+  pub fits : (line : ℕ) → ¬ (InBody lines line misfits)
+  pub calls : (line : ℕ) → ¬ (InBody lines line breaks_call)
 
 names_clear : (content : ModuleContent) → IsSourceModule content → (lines : List Line) → said lines ≡ said_by content → (line : ℕ) → NameTwice lines line → ⊥
 names_clear content source lines e line (layout_again r) = layouts_once content source lines e line r
@@ -46,11 +48,12 @@ no_fault-from content source ends lines e other line code f = go code f
   where
     go : (code : ℕ) → HasFault lines line code → ⊥
     go code (name_twice t) = names_clear content source lines e line t
-    go code (unknown_name t) = other.names line t
-    go code (type_clash t) = other.types line t
+    go code (unknown_name t) = unknown_name-clear content source lines e line t
+    go code (type_clash (by_line t)) = clashes-clear content source lines e line (other.fits line) (named-clear content source lines e line (other.calls line)) t
+    go code (type_clash (by_case t)) = case_clash-clear content source ends lines e line t
     go code (entry_has_pred t) = entry_has_pred-clear content source ends lines e line t
-    go code (phi_edges t) = other.phis line t
-    go code (derived_escapes t) = other.derived line t
+    go code (phi_edges t) = phi_edges-clear content source ends lines e line t
+    go code (derived_escapes t) = derived_escapes-clear content source ends lines e line t
     go code (no_strategy t) = no_strategy-clear content lines e line t
     go code (no_main t) = no_main-clear content source lines e line t
     go code (unknown_extern t) = unknown_extern-clear content lines e line t

@@ -78,7 +78,7 @@ repeated zero ty w = tt
 repeated (suc n) ty w = (w, repeated n ty w)
 
 -- of a line that asks the same type of all operands
-same_good : (names : Names) (inst : Instruction) (n : ℕ) → length inst.operands ≡ n → list_all is_value inst.operands ≡ true → WidthsOf inst.ty
+pub same_good : (names : Names) (inst : Instruction) (n : ℕ) → length inst.operands ≡ n → list_all is_value inst.operands ≡ true → WidthsOf inst.ty
     → AllZip (Fits (value_types names.func)) inst.operands (replicate (length inst.operands) inst.ty)
     → AllZip (Good names) inst.operands (replicate n inst.ty)
 same_good names inst n count values width fit =
@@ -110,7 +110,7 @@ argument_cases callee (operands.Value v) ty e = inl (sym (argument-value callee 
 argument_cases callee (operands.Int n) ty e = inl (sym (argument-value callee (operands.Int n) ty refl) ∙ e)
 argument_cases callee operands.Null ty e = inl (sym (argument-value callee operands.Null ty refl) ∙ e)
 
-passes_zip : (names : Names) (callee : Callee) (os : List Operand) (ts : List Ty) → AllZip (Fits (value_types names.func)) os ts → Arguments callee os ts
+pub passes_zip : (names : Names) (callee : Callee) (os : List Operand) (ts : List Ty) → AllZip (Fits (value_types names.func)) os ts → Arguments callee os ts
     → FunctionsOf (λ named. named < length names.funcs) os → AllByRecursion IsWidth (flat_map type_widths ts)
     → AllZip (Passes names) os ts
 passes_zip names callee [] [] fit arguments functions widths = tt
@@ -124,7 +124,7 @@ passes_zip names callee (o ∷ os) (t ∷ ts) fit arguments functions widths =
     )
 
 -- the callee, and the functions that are passed
-callee_parts : (names : Names) (callee : Callee) (ts : List Ty) (inst : Instruction)
+pub callee_parts : (names : Names) (callee : Callee) (ts : List Ty) (inst : Instruction)
     → AllByRecursion (λ layout. layout < length names.layouts) (layouts_named (record inst { op = ops.Call callee ts }))
     → AllByRecursion (λ named. named < length names.funcs) (functions_named (record inst { op = ops.Call callee ts }))
     → CalleeBelow names callee × AllByRecursion (λ named. named < length names.funcs) (functions_named (record inst { op = ops.Load }))
@@ -154,12 +154,12 @@ first_is : (os : List Operand) (P : Operand → Type 0) → 0 < length os → Al
 first_is [] P some h = absurd (omega arith)
 first_is (o ∷ os) P some h = (h.0, h.1, λ x xs e f. ap (λ y. y ∷ xs) e ∙ ap (λ ys. o ∷ ys) f)
 
-first_label : (ls : List BlockId) (P : BlockId → Type 0) → 0 < length ls → AllByRecursion P ls
+pub first_label : (ls : List BlockId) (P : BlockId → Type 0) → 0 < length ls → AllByRecursion P ls
     → P (lab ls 0) × AllByRecursion P (drop 1 ls) × ((x : BlockId) (xs : List BlockId) → x ≡ lab ls 0 → xs ≡ drop 1 ls → x ∷ xs ≡ ls)
 first_label [] P some h = absurd (omega arith)
 first_label (o ∷ os) P some h = (h.0, h.1, λ x xs e f. ap (λ y. y ∷ xs) e ∙ ap (λ ys. o ∷ ys) f)
 
-less_one : {X Y : Type 0} (xs : List X) (ys : List Y) → length xs ≡ length ys → length (drop 1 xs) ≡ length (drop 1 ys)
+pub less_one : {X Y : Type 0} (xs : List X) (ys : List Y) → length xs ≡ length ys → length (drop 1 xs) ≡ length (drop 1 ys)
 less_one [] [] e = refl
 less_one [] (y ∷ ys) e = absurd (omega arith)
 less_one (x ∷ xs) [] e = absurd (omega arith)

@@ -184,7 +184,7 @@ function-names layouts funcs (d ∷ ds) (f ∷ fs) h =
 
 -- ---- the module
 
-function-back : (content : ModuleContent) → IsSourceModule content → (known : Known) (one : Definition) (func : Function)
+pub function-back : (content : ModuleContent) → IsSourceModule content → (known : Known) (one : Definition) (func : Function)
     → SaysDefinition content.layouts content.funcs one func → Contains content.funcs func → Setting (names_in content func) known
     → function_of known one ≡ func
 function-back content source known one func says c s =

@@ -26,7 +26,7 @@ use Rattle.read_back.proofs.BackBlocks.{all_append, flat-append}
 use Rattle.read_back.proofs.BackSections.{InBody, in_body, blocks_inner}
 use Rattle.read_back.proofs.BackTops.{no_repeat}
 
-abbrev head_names : Statement → List (List ℕ)
+abbrev pub head_names : Statement → List (List ℕ)
 head_names (declare answer name parameters) = name ∷ []
 head_names (define answer name arguments strategy) = name ∷ []
 head_names _ = []
@@ -70,13 +70,13 @@ layouts_unnamed (l ∷ ls) = layouts_unnamed ls
 
 -- ---- declarations
 
-abbrev declared_names : List ObjectLayout → External → List (List ℕ)
+abbrev pub declared_names : List ObjectLayout → External → List (List ℕ)
 declared_names layouts external = flat_map head_names (declaration_says layouts external)
 
-abbrev names_if : List ObjectLayout → List Function → External → List (List ℕ)
+abbrev pub names_if : List ObjectLayout → List Function → External → List (List ℕ)
 names_if layouts funcs external = flat_map head_names (declaration_if_called layouts funcs external)
 
-abbrev all_names : List ObjectLayout → List Function → List External → List (List ℕ)
+abbrev pub all_names : List ObjectLayout → List Function → List External → List (List ℕ)
 all_names layouts funcs es = flat_map (names_if layouts funcs) es
 
 if_named : (P : List ℕ → Type 0) (layouts : List ObjectLayout) (funcs : List Function) (external : External)
@@ -287,7 +287,7 @@ flat-flat : {X Y Z : Type 0} (g : Y → List Z) (f : X → List Y) (xs : List X)
 flat-flat g f [] = refl
 flat-flat g f (x ∷ xs) = flat-append g (f x) (flat_map f xs) ∙ ap (λ zs. flat_map g (f x) ++ zs) (flat-flat g f xs)
 
-names_are : (content : ModuleContent) (lines : List Line) → said lines ≡ said_by content
+pub names_are : (content : ModuleContent) (lines : List Line) → said lines ≡ said_by content
     → map (λ (h : Head). h.name) (heads_of lines) ≡ all_names content.layouts content.funcs (externals content.layouts) ++ map (λ f. f.name) content.funcs
 unfolding said_by
 names_are content lines e =

@@ -65,11 +65,11 @@ layouts_once content source lines e line r =
     no_repeat (λ (one : LayoutLine). one.line) (λ (one : LayoutLine). one.name) (layouts_of lines)
     (subst Distinct (sym (layout-names content lines e)) source.no_fault.names.layouts) line r
 
-names_of_blocks : (content : ModuleContent) (one : Definition) (o : From content one) → map (λ b. b.name) (blocks_of one) ≡ map (λ b. b.name) o.func.blocks
+pub names_of_blocks : (content : ModuleContent) (one : Definition) (o : From content one) → map (λ b. b.name) (blocks_of one) ≡ map (λ b. b.name) o.func.blocks
 names_of_blocks content one o =
     block-names (names_in content o.func) (blocks_of one) o.func.blocks (blocks-are (names_in content o.func) one o.func.blocks o.says.body)
 
-names_of_values : (content : ModuleContent) → IsSourceModule content → (one : Definition) (o : From content one)
+pub names_of_values : (content : ModuleContent) → IsSourceModule content → (one : Definition) (o : From content one)
     → map (λ v. v.name) (values_of one) ≡ map definition_name (defs.definitions_of o.func)
 names_of_values content source one o =
     value-names (names_in content o.func) one o.func o.says.arguments o.says.body (printed content source o.func o.stands)

@@ -31,5 +31,11 @@ pub mod BackTops
 pub mod BackEntry
 pub mod BackHeads
 pub mod BackOnce
+pub mod BackUnknown
+pub mod BackDerived
+pub mod BackPhis
+pub mod BackCases
+pub mod BackRules
+pub mod BackFields
 pub mod BackFaultless
 pub mod TheLaw

@@ -1,0 +1,453 @@
+-- The lines that a source module is printed as name what there is.
+use Rattle.std.proofs.Common.{◌≡◌, ◌∙◌, ◌⊎◌, inl, inr, ℕ, zero, suc, ◌+◌, ◌<◌, ◌≤◌, Bool, true, false, not, ◌||◌, ◌==◌, if◌then◌else◌, List, [], ◌∷◌, ◌++◌, map, length, drop, refl, ap, sym, subst, arith}
+use Rattle.std.specs.Prelude.{Option, Some, None, IfSome, is_none, unwrap_or, find, ⊤, flat_map, slice_get, filter_map}
+use Rattle.std.specs.Option.{option_map_or}
+use Rattle.std.specs.Str.{bytes_eq}
+use Rattle.std.specs.List.{AllByRecursion, AllZip, Contains, list_any, cons_option, zip, range_with_len}
+use Rattle.std.proofs.lemmas.Bool.Decides.{Decides-eqb}
+use Rattle.std.proofs.lemmas.Option.{slice_get_within}
+use Rattle.std.proofs.lemmas.List.{length-map}
+use Rattle.std.proofs.lemmas.List.Elements.{recursion_from_All, All-contains, Contains-append_left, Contains-append_right, Contains-append_cases}
+use Rattle.sp_ids.specs.Numbers.{wrapped, signed}
+use Rattle.sp_ids.specs.declared.ids.BlockId.{BlockId}
+use Rattle.ir_ast.specs.declared.types.Ty.{Ty}
+use Rattle.ir_ast.specs.declared.types.Ty.TheVariants as tys
+use Rattle.ir_ast.specs.declared.ops.Op.{Op}
+use Rattle.ir_ast.specs.declared.ops.Op.TheVariants as ops
+use Rattle.ir_ast.specs.declared.ops.Elem.{Elem}
+use Rattle.ir_ast.specs.declared.ops.Elem.TheVariants as elements
+use Rattle.ir_ast.specs.declared.ops.Operand.{Operand}
+use Rattle.ir_ast.specs.declared.ops.Operand.TheVariants as operands
+use Rattle.ir_ast.specs.declared.ops.Callee.{Callee}
+use Rattle.ir_ast.specs.declared.ops.Callee.TheVariants as callees
+use Rattle.ir_ast.specs.Insts.{Instruction}
+use Rattle.ir_ast.specs.Blocks.{BasicBlock}
+use Rattle.ir_ast.specs.Layouts.{ObjectLayout}
+use Rattle.ir_ast.specs.Funcs.{Function, instructions_of}
+use Rattle.ir_ast.specs.Modules.{ModuleContent}
+use Rattle.ir_ast.specs.Values.{definition_name, definition_type, value_types}
+use Rattle.ir_ast.specs.Values as defs
+use Rattle.ir_ast.specs.Callees.{is_helper}
+use Rattle.ir_ast.specs.Operands.{functions_named as functions_in}
+use Rattle.ir_ast.specs.Widths.{IsWidth, type_widths}
+use Rattle.ir_ast.specs.Faults.TypeClash.{Fits, asked}
+use Rattle.ir_cfg.specs.SourceModules.{IsSourceFunction, IsSourceModule}
+use Rattle.ir_printer.specs.Names.{Names, value_name, block_name, function_name, layout_name}
+use Rattle.ir_printer.specs.Calls.{callee_name}
+use Rattle.ir_printer.specs.Operands.{operand_at, label_at}
+use Rattle.ir_printer.specs.Declarations.{is_callee, is_call_of, calls, externals, fixed_externals, integer_widths}
+use Rattle.ir_printer.specs.declared.declarations.External.{External}
+use Rattle.ir_printer.specs.declared.declarations.External.TheVariants as externs
+use Rattle.ir_reader.specs.Parts.{Val}
+use Rattle.ir_reader.specs.Parts as values
+use Rattle.ir_reader.specs.declared.readings.TypeWord.{TypeWord}
+use Rattle.ir_reader.specs.declared.words.Binary.{Binary}
+use Rattle.ir_reader.specs.declared.words.Binary.TheVariants as binaries
+use Rattle.ir_reader.specs.declared.words.Conversion.{Conversion}
+use Rattle.ir_reader.specs.declared.words.Conversion.TheVariants as conversions
+use Rattle.ir_types.specs.Statements.{Line, Statement, switch, switch_end}
+use Rattle.ir_types.specs.Parts.{uses, targets, entry_labels, functions_named, layouts_named, local_name, passed_value, passed_function, entry_use}
+use Rattle.ir_types.specs.Sections.{LayoutLine, Head, Definition, Naming, BlockLines, layouts_of, heads_of, values_of, blocks_of}
+use Rattle.ir_types.specs.Scope.{Scope, scope_of, value_named, block_named, head_named, layout_named}
+use Rattle.ir_types.specs.Faults.UnknownName.{names_unknown, UnknownName}
+use Rattle.ir_types.proofs.LawNames.{get_some, contains_get, contains_map, contains_cons, contains_later, contains_first}
+use Rattle.ir_types.proofs.LawCalls.{found_by_name, contains_mapped}
+use Rattle.read_back.specs.Said.{literal_of, word_of, width_in, value_says, passed_says, value_at, target_at, entry_says, binary_says, compare_says, convert_says, select_says, phi_says, step_says, load_says, store_says, call_says, jump_says, branch_says, case_says, return_says, operator_says, declaration_says, said_by}
+use Rattle.read_back.proofs.BackLines.{said}
+use Rattle.read_back.proofs.BackLists.{Below, Passes, CalleeBelow}
+use Rattle.read_back.proofs.BackInsts.{IsPrinted, callee_parts, passes_zip}
+use Rattle.read_back.proofs.BackSections.{SaysDefinition, layout-names}
+use Rattle.read_back.proofs.BackModules.{names_in, printed_inst}
+use Rattle.read_back.proofs.BackFaults.{From, no_body_fault}
+use Rattle.read_back.proofs.BackTops.{names_of_values, names_of_blocks}
+use Rattle.read_back.proofs.BackOnce.{head_names, declared_names, names_if, all_names, names_are}
+
+-- ---- what is found
+
+abbrev pub ValueFound : Scope → List ℕ → Type 0
+ValueFound scope name = is_none (value_named scope name) ≡ false
+
+abbrev pub BlockFound : Scope → List ℕ → Type 0
+BlockFound scope name = is_none (block_named scope name) ≡ false
+
+abbrev pub HeadFound : Scope → List ℕ → Type 0
+HeadFound scope name = is_none (head_named scope name) ≡ false
+
+abbrev pub LayoutFound : Scope → List ℕ → Type 0
+LayoutFound scope name = is_none (layout_named scope name) ≡ false
+
+-- a value is no name, or one that is found
+abbrev pub UseFound : Scope → Val → Type 0
+UseFound scope value = IfSome (local_name value) (ValueFound scope)
+
+any_none : {X : Type 0} (p : X → Bool) (xs : List X) → AllByRecursion (λ x. p x ≡ false) xs → list_any p xs ≡ false
+any_none p [] h = refl
+any_none p (x ∷ xs) h = ap (λ (b : Bool). b || list_any p xs) h.0 ∙ any_none p xs h.1
+
+names_found : {X : Type 0} (P : List ℕ → Type 0) (f : X → Option (List ℕ)) (xs : List X) → AllByRecursion (λ x. IfSome (f x) P) xs
+    → AllByRecursion P (filter_map f xs)
+names_found P f [] h = tt
+names_found {X} P f (x ∷ xs) h = by (f x) h.0 (names_found P f xs h.1)
+  where
+    by : (o : Option (List ℕ)) → IfSome o P → AllByRecursion P (filter_map f xs) → AllByRecursion P (cons_option o (filter_map f xs))
+    by None k more = more
+    by (Some name) k more = (k, more)
+
+none_of : (a b c d : Bool) → a ≡ false → b ≡ false → c ≡ false → d ≡ false → (a || b || c || d) ≡ false
+none_of false false false false p q r s = refl
+none_of true b c d p q r s = absurd (let bad : true ≡ false = p in cc)
+none_of false true c d p q r s = absurd (let bad : true ≡ false = q in cc)
+none_of false false true d p q r s = absurd (let bad : true ≡ false = r in cc)
+none_of false false false true p q r s = absurd (let bad : true ≡ false = s in cc)
+
+pub clear_by : (scope : Scope) (s : Statement) → AllByRecursion (λ used. UseFound scope used.0) (uses s)
+    → AllByRecursion (BlockFound scope) (targets s ++ entry_labels s) → AllByRecursion (HeadFound scope) (functions_named s)
+    → AllByRecursion (LayoutFound scope) (layouts_named s) → names_unknown scope s ≡ false
+clear_by scope s values blocks heads layouts =
+    none_of (list_any (λ name. is_none (value_named scope name)) (filter_map (λ (used : Val × TypeWord). local_name used.0) (uses s)))
+    (list_any (λ name. is_none (block_named scope name)) (targets s ++ entry_labels s))
+    (list_any (λ name. is_none (head_named scope name)) (functions_named s))
+    (list_any (λ name. is_none (layout_named scope name)) (layouts_named s))
+    (any_none (λ name. is_none (value_named scope name)) (filter_map (λ (used : Val × TypeWord). local_name used.0) (uses s))
+    (names_found (ValueFound scope) (λ (used : Val × TypeWord). local_name used.0) (uses s) values))
+    (any_none (λ name. is_none (block_named scope name)) (targets s ++ entry_labels s) blocks)
+    (any_none (λ name. is_none (head_named scope name)) (functions_named s) heads)
+    (any_none (λ name. is_none (layout_named scope name)) (layouts_named s) layouts)
+
+-- what a function can name is found
+pub record Knows (scope : Scope) (names : Names) : Type 0 where
+  pub has_block : 0 < length names.func.blocks
+  pub value : (k : ℕ) → k < length (defs.definitions_of names.func) → ValueFound scope (value_name names.func k)
+  pub block : (k : ℕ) → k < length names.func.blocks → BlockFound scope (block_name names.func k)
+  pub function : (k : ℕ) → k < length names.funcs → HeadFound scope (function_name names.funcs k)
+  pub layout : (k : ℕ) → k < length names.layouts → LayoutFound scope (layout_name names.layouts k)
+  pub declared : (e : External) → Contains (externals names.layouts) e → calls names.funcs e ≡ true
+      → AllByRecursion (HeadFound scope) (declared_names names.layouts e)
+
+-- ---- operands and labels
+
+abbrev pub IsThere : Names → Operand → Type 0
+IsThere names (operands.Value value) = value.0 < length (defs.definitions_of names.func)
+IsThere names _ = ⊤
+
+pub fits_there : (names : Names) (os : List Operand) (ts : List Ty) → AllZip (Fits (value_types names.func)) os ts → AllByRecursion (IsThere names) os
+fits_there names [] ts h = tt
+fits_there names (o ∷ os) [] h = absurd h
+fits_there names (o ∷ os) (t ∷ ts) h = (one o h.0, fits_there names os ts h.1)
+  where
+    one : (o : Operand) → Fits (value_types names.func) o t → IsThere names o
+    one (operands.Value v) fit =
+        let w = slice_get_within (value_types names.func) v.0 t fit in omega (arith, length-map (defs.definitions_of names.func) definition_type)
+    one (operands.Int n) fit = tt
+    one operands.Null fit = tt
+    one (operands.Fun f) fit = tt
+
+at_place : {X : Type 0} (P : X → Type 0) (xs : List X) (i : ℕ) (other : X) → AllByRecursion P xs → P other → P (unwrap_or (slice_get xs i) other)
+at_place P [] i other h o = o
+at_place P (x ∷ xs) zero other h o = h.0
+at_place P (x ∷ xs) (suc i) other h o = at_place P xs i other h.1 o
+
+pub value_found : (scope : Scope) (names : Names) → Knows scope names → (ty : Ty) (o : Operand) → IsThere names o → UseFound scope (value_says names ty o)
+value_found scope names k ty (operands.Value v) h = k.value v.0 h
+value_found scope names k ty operands.Null h = tt
+value_found scope names k ty (operands.Fun f) h = tt
+value_found scope names k tys.Void (operands.Int n) h = tt
+value_found scope names k tys.Ptr (operands.Int n) h = tt
+value_found scope names k tys.Token (operands.Int n) h = tt
+value_found scope names k (tys.Int w) (operands.Int n) h = by (w == 1)
+  where
+    by : (b : Bool) → UseFound scope (if b then values.truth (not (wrapped 1 n == 0)) else values.number (literal_of (signed w n)))
+    by true = tt
+    by false = tt
+
+use_found : (scope : Scope) (names : Names) → Knows scope names → (inst : Instruction) → AllByRecursion (IsThere names) inst.operands
+    → (ty : Ty) (i : ℕ) → UseFound scope (value_at names ty inst i)
+use_found scope names k inst there ty i = value_found scope names k ty (operand_at inst i) (at_place (IsThere names) inst.operands i operands.Null there tt)
+
+target_found : (scope : Scope) (names : Names) → Knows scope names → (inst : Instruction) → AllByRecursion (Below names) inst.labels
+    → (i : ℕ) → BlockFound scope (target_at names inst i)
+target_found scope names k inst below i = k.block (label_at inst i).0 (at_place (Below names) inst.labels i (record { 0 = 0 }) below k.has_block)
+
+-- ---- the lines by their forms
+
+abbrev Clear : Scope → Statement → Type 0
+Clear scope s = names_unknown scope s ≡ false
+
+binary_clear : (scope : Scope) (names : Names) → Knows scope names → (op : Binary) (inst : Instruction) → AllByRecursion (IsThere names) inst.operands
+    → AllByRecursion (Clear scope) (binary_says names op inst ∷ [])
+binary_clear scope names k op inst there =
+    (clear_by scope (binary_says names op inst) (use_found scope names k inst there inst.ty 0, (use_found scope names k inst there inst.ty 1, tt)) tt tt tt, tt)
+
+convert_clear : (scope : Scope) (names : Names) → Knows scope names → (op : Conversion) (to : ℕ) (inst : Instruction) → AllByRecursion (IsThere names) inst.operands
+    → AllByRecursion (Clear scope) (convert_says names op to inst ∷ [])
+convert_clear scope names k op to inst there =
+    (clear_by scope (convert_says names op to inst) (use_found scope names k inst there inst.ty 0, tt) tt tt tt, tt)
+
+entry_uses : (scope : Scope) (names : Names) → Knows scope names → (ty : Ty) (os : List Operand) (ls : List BlockId) → AllByRecursion (IsThere names) os
+    → AllByRecursion (λ used. UseFound scope used.0) (map (entry_use (word_of ty)) (map (entry_says names ty) (zip os ls)))
+entry_uses scope names k ty [] ls there = tt
+entry_uses scope names k ty (o ∷ os) [] there = tt
+entry_uses scope names k ty (o ∷ os) (l ∷ ls) there = (value_found scope names k ty o there.0, entry_uses scope names k ty os ls there.1)
+
+entry_blocks : (scope : Scope) (names : Names) → Knows scope names → (ty : Ty) (os : List Operand) (ls : List BlockId) → AllByRecursion (Below names) ls
+    → AllByRecursion (BlockFound scope) (map (λ (entry : Val × List ℕ). entry.1) (map (entry_says names ty) (zip os ls)))
+entry_blocks scope names k ty [] ls below = tt
+entry_blocks scope names k ty (o ∷ os) [] below = tt
+entry_blocks scope names k ty (o ∷ os) (l ∷ ls) below = (k.block l.0 below.0, entry_blocks scope names k ty os ls below.1)
+
+cases_clear : (scope : Scope) (names : Names) → Knows scope names → (ty : Ty) (os : List Operand) (ls : List BlockId) → AllByRecursion (IsThere names) os
+    → AllByRecursion (Below names) ls → AllByRecursion (Clear scope) (map (case_says names ty) (zip os ls) ++ switch_end ∷ [])
+cases_clear scope names k ty [] ls there below = (refl, tt)
+cases_clear scope names k ty (o ∷ os) [] there below = (refl, tt)
+cases_clear scope names k ty (o ∷ os) (l ∷ ls) there below = (
+  clear_by scope (case_says names ty (o, l)) (value_found scope names k ty o there.0, tt) (k.block l.0 below.0, tt) tt tt,
+  cases_clear scope names k ty os ls there.1 below.1,
+)
+
+dropped : {X : Type 0} (P : X → Type 0) (xs : List X) → AllByRecursion P xs → AllByRecursion P (drop 1 xs)
+dropped P [] h = tt
+dropped P (x ∷ xs) h = h.1
+
+step_clear : (scope : Scope) (names : Names) → Knows scope names → (elem : Elem) (width : ℕ) (place : Option ℕ) (inst : Instruction)
+    → IsPrinted names (ops.Gep elem width place) inst → AllByRecursion (IsThere names) inst.operands → Clear scope (step_says names elem width place inst)
+step_clear scope names k (elements.Int w) width place inst p there =
+    clear_by scope (step_says names (elements.Int w) width place inst)
+    (use_found scope names k inst there tys.Ptr 0, (use_found scope names k inst there (tys.Int width) 1, tt)) tt tt tt
+step_clear scope names k elements.Ptr width place inst p there =
+    clear_by scope (step_says names elements.Ptr width place inst)
+    (use_found scope names k inst there tys.Ptr 0, (use_found scope names k inst there (tys.Int width) 1, tt)) tt tt tt
+step_clear scope names k (elements.Layout l) width place inst p there =
+    clear_by scope (step_says names (elements.Layout l) width place inst)
+    (use_found scope names k inst there tys.Ptr 0, (use_found scope names k inst there (tys.Int width) 1, tt)) tt tt (k.layout l p.layouts.0, tt)
+
+return_clear : (scope : Scope) (names : Names) → Knows scope names → (ty : Ty) (inst : Instruction) → AllByRecursion (IsThere names) inst.operands
+    → Clear scope (return_says names ty inst)
+return_clear scope names k tys.Void inst there = refl
+return_clear scope names k (tys.Int w) inst there = clear_by scope (return_says names (tys.Int w) inst) (use_found scope names k inst there (tys.Int w) 0, tt) tt tt tt
+return_clear scope names k tys.Ptr inst there = clear_by scope (return_says names tys.Ptr inst) (use_found scope names k inst there tys.Ptr 0, tt) tt tt tt
+return_clear scope names k tys.Token inst there = clear_by scope (return_says names tys.Token inst) (use_found scope names k inst there tys.Token 0, tt) tt tt tt
+
+-- ---- calls
+
+contains_range : (first more k : ℕ) → first ≤ k → k < first + more → Contains (range_with_len first more) k
+contains_range first zero k low high = absurd (omega arith)
+contains_range first (suc more) k low high = by (first == k) refl (λ above. contains_range (first + 1) more k above (omega arith))
+  where
+    by : (b : Bool) → (first == k) ≡ b → (first + 1 ≤ k → Contains (range_with_len (first + 1) more) k) → Contains (first ∷ range_with_len (first + 1) more) k
+    by true e later = subst (λ (n : ℕ). Contains (first ∷ range_with_len (first + 1) more) n) ((Decides-eqb first k).0 e) (contains_first first (range_with_len (first + 1) more))
+    by false e later =
+        let other : ¬ (first ≡ k) = λ same. let bad : true ≡ false = sym ((Decides-eqb first k).1 same) ∙ e in cc in
+        contains_later first k (range_with_len (first + 1) more) (later (omega arith))
+
+made_external : (layouts : List ObjectLayout) (k : ℕ) → k < length layouts → Contains (externals layouts) (externs.New k)
+made_external layouts k below =
+    Contains-append_left (map externs.New (range_with_len 0 (length layouts))) (fixed_externals ++ (map externs.ResultOf integer_widths ++ externs.ResultPointer ∷ [])) (externs.New k)
+    (contains_map externs.New (range_with_len 0 (length layouts)) k (contains_range 0 (length layouts) k (omega arith) (omega arith)))
+
+fixed_external : (layouts : List ObjectLayout) (i : ℕ) (e : External) → slice_get fixed_externals i ≡ Some e → Contains (externals layouts) e
+fixed_external layouts i e at =
+    Contains-append_right (map externs.New (range_with_len 0 (length layouts))) (fixed_externals ++ (map externs.ResultOf integer_widths ++ externs.ResultPointer ∷ [])) e
+    (Contains-append_left fixed_externals (map externs.ResultOf integer_widths ++ externs.ResultPointer ∷ []) e (contains_get fixed_externals i e at))
+
+callee_found : (scope : Scope) (names : Names) → Knows scope names → (callee : Callee) → CalleeBelow names callee → is_helper callee ≡ false
+    → ((e : External) → is_callee e callee ≡ true → calls names.funcs e ≡ true) → HeadFound scope (callee_name names callee)
+unfolding fixed_externals
+callee_found scope names k (callees.Fun f) below plain called = k.function f.0 below
+callee_found scope names k (callees.New l) below plain called =
+    (k.declared (externs.New l) (made_external names.layouts l below) (called (externs.New l) ((Decides-eqb l l).1 refl))).0
+callee_found scope names k callees.Print below plain called = (k.declared externs.Print (fixed_external names.layouts 0 externs.Print refl) (called externs.Print refl)).0
+callee_found scope names k callees.Read below plain called = (k.declared externs.Read (fixed_external names.layouts 1 externs.Read refl) (called externs.Read refl)).0
+callee_found scope names k callees.TaskStart below plain called = (k.declared externs.TaskStart (fixed_external names.layouts 2 externs.TaskStart refl) (called externs.TaskStart refl)).0
+callee_found scope names k callees.Poll below plain called = absurd (let bad : true ≡ false = plain in cc)
+callee_found scope names k callees.Check below plain called = absurd (let bad : true ≡ false = plain in cc)
+callee_found scope names k callees.Same below plain called = absurd (let bad : true ≡ false = plain in cc)
+
+passed_uses : (scope : Scope) (names : Names) → Knows scope names → (os : List Operand) (ts : List Ty) → AllZip (Passes names) os ts → AllByRecursion (IsThere names) os
+    → AllByRecursion (λ used. UseFound scope used.0) (filter_map passed_value (map (λ (argument : Ty × Operand). passed_says names argument.0 argument.1) (zip ts os)))
+passed_uses scope names k [] [] p there = tt
+passed_uses scope names k [] (t ∷ ts) p there = tt
+passed_uses scope names k (o ∷ os) [] p there = tt
+passed_uses scope names k (operands.Value v ∷ os) (t ∷ ts) p there = (value_found scope names k t (operands.Value v) there.0, passed_uses scope names k os ts p.1 there.1)
+passed_uses scope names k (operands.Int n ∷ os) (t ∷ ts) p there = (value_found scope names k t (operands.Int n) tt, passed_uses scope names k os ts p.1 there.1)
+passed_uses scope names k (operands.Null ∷ os) (t ∷ ts) p there = (tt, passed_uses scope names k os ts p.1 there.1)
+passed_uses scope names k (operands.Fun f ∷ os) (t ∷ ts) p there = passed_uses scope names k os ts p.1 there.1
+
+passed_heads : (scope : Scope) (names : Names) → Knows scope names → (os : List Operand) (ts : List Ty) → AllZip (Passes names) os ts
+    → AllByRecursion (HeadFound scope) (filter_map passed_function (map (λ (argument : Ty × Operand). passed_says names argument.0 argument.1) (zip ts os)))
+passed_heads scope names k [] [] p = tt
+passed_heads scope names k [] (t ∷ ts) p = tt
+passed_heads scope names k (o ∷ os) [] p = tt
+passed_heads scope names k (operands.Value v ∷ os) (t ∷ ts) p = passed_heads scope names k os ts p.1
+passed_heads scope names k (operands.Int n ∷ os) (t ∷ ts) p = passed_heads scope names k os ts p.1
+passed_heads scope names k (operands.Null ∷ os) (t ∷ ts) p = passed_heads scope names k os ts p.1
+passed_heads scope names k (operands.Fun f ∷ os) (t ∷ ts) p = (k.function f.0 (p.0.function f refl), passed_heads scope names k os ts p.1)
+
+call_clear : (scope : Scope) (names : Names) → Knows scope names → (callee : Callee) (ts : List Ty) (inst : Instruction) → IsPrinted names (ops.Call callee ts) inst
+    → AllByRecursion (IsThere names) inst.operands → ((e : External) → is_callee e callee ≡ true → calls names.funcs e ≡ true)
+    → Clear scope (call_says names callee ts inst)
+call_clear scope names k callee ts inst p there called =
+    let parts = callee_parts names callee ts inst p.layouts p.functions in
+    let functions : AllByRecursion (λ named. named < length names.funcs)
+    (functions_in (record { result = inst.result; op = ops.Load; ty = inst.ty; operands = inst.operands; labels = inst.labels; bundle = [] })) =
+    subst (λ (b : List (Ty × Operand)). AllByRecursion (λ named. named < length names.funcs)
+    (functions_in (record { result = inst.result; op = ops.Load; ty = inst.ty; operands = inst.operands; labels = inst.labels; bundle = b }))) p.bundle parts.1 in
+    let passes = passes_zip names callee inst.operands ts p.fits p.line.arguments functions (recursion_from_All IsWidth (flat_map type_widths ts) p.own_widths) in
+    clear_by scope (call_says names callee ts inst) (passed_uses scope names k inst.operands ts passes there) tt
+    (callee_found scope names k callee parts.0 p.plain called, passed_heads scope names k inst.operands ts passes) tt
+
+-- ---- any instruction
+
+inst_clear : (scope : Scope) (names : Names) → Knows scope names → (op : Op) (inst : Instruction) → IsPrinted names op inst → AllByRecursion (IsThere names) inst.operands
+    → ((e : External) → is_call_of e op inst.ty ≡ true → calls names.funcs e ≡ true) → AllByRecursion (Clear scope) (operator_says names op inst)
+inst_clear scope names k ops.Add inst p there called = binary_clear scope names k binaries.Add inst there
+inst_clear scope names k ops.Sub inst p there called = binary_clear scope names k binaries.Sub inst there
+inst_clear scope names k ops.Mul inst p there called = binary_clear scope names k binaries.Mul inst there
+inst_clear scope names k ops.Udiv inst p there called = binary_clear scope names k binaries.Udiv inst there
+inst_clear scope names k ops.Sdiv inst p there called = binary_clear scope names k binaries.Sdiv inst there
+inst_clear scope names k ops.Urem inst p there called = binary_clear scope names k binaries.Urem inst there
+inst_clear scope names k ops.Srem inst p there called = binary_clear scope names k binaries.Srem inst there
+inst_clear scope names k ops.And inst p there called = binary_clear scope names k binaries.And inst there
+inst_clear scope names k ops.Or inst p there called = binary_clear scope names k binaries.Or inst there
+inst_clear scope names k ops.Xor inst p there called = binary_clear scope names k binaries.Xor inst there
+inst_clear scope names k ops.Shl inst p there called = binary_clear scope names k binaries.Shl inst there
+inst_clear scope names k ops.Lshr inst p there called = binary_clear scope names k binaries.Lshr inst there
+inst_clear scope names k ops.Ashr inst p there called = binary_clear scope names k binaries.Ashr inst there
+inst_clear scope names k (ops.Icmp pred) inst p there called =
+    (clear_by scope (compare_says names pred inst) (use_found scope names k inst there inst.ty 0, (use_found scope names k inst there inst.ty 1, tt)) tt tt tt, tt)
+inst_clear scope names k (ops.Trunc to) inst p there called = convert_clear scope names k conversions.Trunc to inst there
+inst_clear scope names k (ops.Zext to) inst p there called = convert_clear scope names k conversions.Zext to inst there
+inst_clear scope names k (ops.Sext to) inst p there called = convert_clear scope names k conversions.Sext to inst there
+inst_clear scope names k ops.Select inst p there called = (
+  clear_by scope (select_says names inst)
+      (use_found scope names k inst there (tys.Int 1) 0, (use_found scope names k inst there inst.ty 1, (use_found scope names k inst there inst.ty 2, tt))) tt tt tt,
+  tt,
+)
+inst_clear scope names k ops.Phi inst p there called = (
+  clear_by scope (phi_says names inst) (entry_uses scope names k inst.ty inst.operands inst.labels there)
+      (entry_blocks scope names k inst.ty inst.operands inst.labels p.labels) tt tt,
+  tt,
+)
+inst_clear scope names k (ops.Gep elem width place) inst p there called = (step_clear scope names k elem width place inst p there, tt)
+inst_clear scope names k ops.Load inst p there called =
+    (clear_by scope (load_says names inst) (use_found scope names k inst there tys.Ptr 0, tt) tt tt tt, tt)
+inst_clear scope names k ops.Store inst p there called =
+    (clear_by scope (store_says names inst) (use_found scope names k inst there inst.ty 0, (use_found scope names k inst there tys.Ptr 1, tt)) tt tt tt, tt)
+inst_clear scope names k (ops.Call callee ts) inst p there called = (call_clear scope names k callee ts inst p there called, tt)
+inst_clear scope names k ops.Br inst p there called =
+    (clear_by scope (jump_says names inst) tt (target_found scope names k inst p.labels 0, tt) tt tt, tt)
+inst_clear scope names k ops.CondBr inst p there called = (
+  clear_by scope (branch_says names inst) (use_found scope names k inst there (tys.Int 1) 0, tt)
+      (target_found scope names k inst p.labels 0, (target_found scope names k inst p.labels 1, tt)) tt tt,
+  tt,
+)
+inst_clear scope names k ops.Switch inst p there called = (
+  clear_by scope (switch (width_in inst.ty) (value_at names inst.ty inst 0) (target_at names inst 0)) (use_found scope names k inst there inst.ty 0, tt)
+      (target_found scope names k inst p.labels 0, tt) tt tt,
+  cases_clear scope names k inst.ty (drop 1 inst.operands) (drop 1 inst.labels) (dropped (IsThere names) inst.operands there) (dropped (Below names) inst.labels p.labels),
+)
+inst_clear scope names k ops.Ret inst p there called = (return_clear scope names k inst.ty inst there, tt)
+inst_clear scope names k ops.Unreachable inst p there called = (refl, tt)
+inst_clear scope names k (ops.Statepoint id callee ts) inst p there called = tt
+inst_clear scope names k ops.GcResult inst p there called = tt
+inst_clear scope names k ops.GcRelocate inst p there called = tt
+
+-- ---- what a function of a module can name is found in its lines
+
+named_there : {X Y : Type 0} (f : X → List ℕ) (g : Y → List ℕ) (xs : List X) (ys : List Y) (k : ℕ) → map f xs ≡ map g ys → k < length ys
+    → is_none (find (λ x. bytes_eq (option_map_or g (slice_get ys k) []) (f x)) xs) ≡ false
+named_there {X} {Y} f g xs ys k same below =
+    let y = get_some ys k below in
+    let name : option_map_or g (slice_get ys k) [] ≡ g y.0 = ap (λ (o : Option Y). option_map_or g o []) y.1 in
+    let there : Contains (map f xs) (g y.0) = subst (λ (ns : List (List ℕ)). Contains ns (g y.0)) (sym same) (contains_map g ys y.0 (contains_get ys k y.0 y.1)) in
+    let x = contains_mapped f xs (g y.0) there in
+    subst (λ (n : List ℕ). is_none (find (λ x. bytes_eq n (f x)) xs) ≡ false) (sym name) (found_by_name f xs x.0 (g y.0) x.1 x.2)
+
+head_there : (content : ModuleContent) (lines : List Line) → said lines ≡ said_by content → (one : Definition) (name : List ℕ)
+    → Contains (all_names content.layouts content.funcs (externals content.layouts) ++ map (λ (f : Function). f.name) content.funcs) name
+    → HeadFound (scope_of lines one) name
+head_there content lines e one name c =
+    let there : Contains (map (λ (h : Head). h.name) (heads_of lines)) name =
+    subst (λ (ns : List (List ℕ)). Contains ns name) (sym (names_are content lines e)) c in
+    let h = contains_mapped (λ (h : Head). h.name) (heads_of lines) name there in
+    found_by_name (λ (h : Head). h.name) (heads_of lines) h.0 name h.1 h.2
+
+called_name : (layouts : List ObjectLayout) (funcs : List Function) (es : List External) (e : External) (name : List ℕ) → Contains es e → calls funcs e ≡ true
+    → Contains (declared_names layouts e) name → Contains (all_names layouts funcs es) name
+called_name layouts funcs [] e name c called d = absurd (omega (arith, c.1))
+called_name layouts funcs (f ∷ fs) e name c called d = by (contains_cons f e fs c) (λ later. called_name layouts funcs fs e name later called d)
+  where
+    here : Contains (names_if layouts funcs e) name
+    here = subst (λ (b : Bool). Contains (flat_map head_names (if b then declaration_says layouts e else [])) name) (sym called) d
+
+    by : (f ≡ e) ⊎ Contains fs e → (Contains fs e → Contains (all_names layouts funcs fs) name) → Contains (all_names layouts funcs (f ∷ fs)) name
+    by (inl same) more = Contains-append_left (names_if layouts funcs f) (all_names layouts funcs fs) name
+        (subst (λ (x : External). Contains (names_if layouts funcs x) name) (sym same) here)
+    by (inr later) more = Contains-append_right (names_if layouts funcs f) (all_names layouts funcs fs) name (more later)
+
+each_contained : (P : List ℕ → Type 0) (xs : List (List ℕ)) → ((x : List ℕ) → Contains xs x → P x) → AllByRecursion P xs
+each_contained P [] h = tt
+each_contained P (x ∷ xs) h = (h x (contains_first x xs), each_contained P xs (λ y c. h y (contains_later x y xs c)))
+
+pub knows : (content : ModuleContent) → IsSourceModule content → (lines : List Line) → said lines ≡ said_by content → (one : Definition) (func : Function)
+    → SaysDefinition content.layouts content.funcs one func → Contains content.funcs func → Knows (scope_of lines one) (names_in content func)
+unfolding value_name
+knows content source lines e one func says c =
+    let from : From content one = record { func = func; stands = c; says = says } in
+    record {
+      has_block = (All-contains IsSourceFunction content.funcs func source.functions c).has_block;
+      value = λ k below. named_there (λ (v : Naming). v.name) definition_name (values_of one) (defs.definitions_of func) k (names_of_values content source one from) below;
+      block = λ k below. named_there (λ (b : BlockLines). b.name) (λ (b : BasicBlock). b.name) (blocks_of one) func.blocks k (names_of_blocks content one from) below;
+      function = λ k below.
+          let f = get_some content.funcs k below in
+          let name : function_name content.funcs k ≡ f.0.name = ap (λ (o : Option Function). option_map_or (λ (g : Function). g.name) o []) f.1 in
+          head_there content lines e one (function_name content.funcs k)
+          (Contains-append_right (all_names content.layouts content.funcs (externals content.layouts)) (map (λ (g : Function). g.name) content.funcs) (function_name content.funcs k)
+          (subst (λ (n : List ℕ). Contains (map (λ (g : Function). g.name) content.funcs) n) (sym name)
+          (contains_map (λ (g : Function). g.name) content.funcs f.0 (contains_get content.funcs k f.0 f.1))));
+      layout = λ k below. named_there (λ (l : LayoutLine). l.name) (λ (l : ObjectLayout). l.name) (layouts_of lines) content.layouts k (layout-names content lines e) below;
+      declared = λ x there called. each_contained (HeadFound (scope_of lines one)) (declared_names content.layouts x) (λ name d.
+          head_there content lines e one name
+          (Contains-append_left (all_names content.layouts content.funcs (externals content.layouts)) (map (λ (g : Function). g.name) content.funcs) name
+          (called_name content.layouts content.funcs (externals content.layouts) x name there called d)));
+    }
+
+-- ---- what a line calls is called
+
+any_true : {X : Type 0} (p : X → Bool) (xs : List X) (x : X) → Contains xs x → p x ≡ true → list_any p xs ≡ true
+any_true p [] x c e = absurd (omega (arith, c.1))
+any_true {X} p (y ∷ ys) x c e = by (p y) refl (contains_cons y x ys c) (λ later. any_true p ys x later e)
+  where
+    by : (b : Bool) → p y ≡ b → (y ≡ x) ⊎ Contains ys x → (Contains ys x → list_any p ys ≡ true) → list_any p (y ∷ ys) ≡ true
+    by true is at more = ap (λ (b : Bool). b || list_any p ys) is
+    by false is (inl same) more = absurd (let bad : true ≡ false = sym e ∙ ap p (sym same) ∙ is in cc)
+    by false is (inr later) more = ap (λ (b : Bool). b || list_any p ys) is ∙ more later
+
+block_with : (blocks : List BasicBlock) (inst : Instruction) → Contains (instructions_of blocks) inst → (block : BasicBlock) × Contains blocks block × Contains block.insts inst
+block_with [] inst c = absurd (omega (arith, c.1))
+block_with (b ∷ bs) inst c = by (Contains-append_cases b.insts (instructions_of bs) inst c) (λ d. block_with bs inst d)
+  where
+    by : Contains b.insts inst ⊎ Contains (instructions_of bs) inst → (Contains (instructions_of bs) inst → (block : BasicBlock) × Contains bs block × Contains block.insts inst)
+        → (block : BasicBlock) × Contains (b ∷ bs) block × Contains block.insts inst
+    by (inl d) later = (b, contains_first b bs, d)
+    by (inr d) later = let more = later d in (more.0, contains_later b more.0 bs more.1, more.2)
+
+is_called : (funcs : List Function) (func : Function) (inst : Instruction) (e : External) → Contains funcs func → Contains (instructions_of func.blocks) inst
+    → is_call_of e inst.op inst.ty ≡ true → calls funcs e ≡ true
+unfolding calls
+is_called funcs func inst e c d is =
+    let b = block_with func.blocks inst d in
+    any_true (λ (f : Function). list_any (λ (block : BasicBlock). list_any (λ (i : Instruction). is_call_of e i.op i.ty) block.insts) f.blocks) funcs func c
+    (any_true (λ (block : BasicBlock). list_any (λ (i : Instruction). is_call_of e i.op i.ty) block.insts) func.blocks b.0 b.1
+    (any_true (λ (i : Instruction). is_call_of e i.op i.ty) b.0.insts inst b.2 is))
+
+-- ---- code 4
+
+pub unknown_name-clear : (content : ModuleContent) → IsSourceModule content → (lines : List Line) → said lines ≡ said_by content → (line : ℕ) → ¬ (UnknownName lines line)
+unknown_name-clear content source lines e line f =
+    no_body_fault content lines e names_unknown
+    (λ one func says c inst d.
+    let p = printed_inst content source func c inst d in
+    inst_clear (scope_of lines one) (names_in content func) (knows content source lines e one func says c) inst.op inst p
+    (fits_there (names_in content func) inst.operands (asked inst.op inst.ty (length inst.operands)) p.fits)
+    (λ x is. is_called content.funcs func inst x c d is))
+    (λ scope name. refl) line f
