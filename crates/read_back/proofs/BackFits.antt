@@ -1,9 +1,9 @@
 -- The operands of the lines that a source module is printed as fit what the lines ask of them.
-use Rattle.std.proofs.Common.{◌≡◌, ◌∙◌, ◌⊎◌, inl, inr, ℕ, zero, suc, ◌+◌, ◌-◌, ◌*◌, ◌^◌, ◌<◌, ◌≤◌, Bool, true, false, not, ◌||◌, ◌&&◌, ◌==◌, ℤ, pos, negsuc, ◌-ℤ◌, nat_lt, nat_le, if◌then◌else◌, List, [], ◌∷◌, ◌++◌, map, length, drop, replicate, refl, ap, sym, subst, arith}
-use Rattle.std.specs.Prelude.{Option, Some, None, is_none, is_some, find, flat_map, filter_map, slice_get, option_map, ⊤}
+use Rattle.std.proofs.Common.{◌≡◌, ◌∙◌, ◌⊎◌, inl, inr, ℕ, suc, ◌+◌, ◌-◌, ◌*◌, ◌^◌, ◌<◌, ◌≤◌, Bool, true, false, not, ◌||◌, ◌&&◌, ◌==◌, ℤ, pos, negsuc, ◌-ℤ◌, nat_lt, nat_le, if◌then◌else◌, List, [], ◌∷◌, ◌++◌, map, length, drop, replicate, refl, ap, sym, subst, arith}
+use Rattle.std.specs.Prelude.{Option, Some, None, is_none, find, flat_map, filter_map, slice_get, option_map}
 use Rattle.std.specs.Option.{option_map_or}
 use Rattle.std.specs.Str.{bytes_eq}
-use Rattle.std.specs.List.{All, AllByRecursion, AllZip, Contains, list_any, list_all, zip}
+use Rattle.std.specs.List.{AllByRecursion, AllZip, Contains, list_any, list_all, zip}
 use Rattle.std.proofs.Math.Nat.{mod-eq_of_lt}
 use Rattle.std.proofs.lemmas.Nat.{pow-add}
 use Rattle.std.proofs.lemmas.Bool.Decides.{nat_tests, Decides-eqb}
@@ -26,7 +26,7 @@ use Rattle.ir_ast.specs.Insts.{Instruction}
 use Rattle.ir_ast.specs.Funcs.{Function, instructions_of}
 use Rattle.ir_ast.specs.Modules.{ModuleContent}
 use Rattle.ir_ast.specs.Lists.{Distinct}
-use Rattle.ir_ast.specs.Types.{is_void, is_integer, is_condition, is_first_class, is_answer}
+use Rattle.ir_ast.specs.Types.{is_void, is_integer, is_first_class, is_answer}
 use Rattle.ir_ast.specs.Operands.{is_value, functions_named as functions_in}
 use Rattle.ir_ast.specs.Lines.{Has}
 use Rattle.ir_ast.specs.Widths.{IsWidth, type_widths, operator_widths}
@@ -58,7 +58,7 @@ use Rattle.ir_types.proofs.LawNames.{stands}
 use Rattle.ir_types.proofs.LawFacts.{and-right}
 use Rattle.ir_types.proofs.LawValues.{is_cast_line, values-are}
 use Rattle.read_back.specs.BlocksEnd.{BlocksEnd}
-use Rattle.read_back.specs.Said.{literal_of, word_of, width_in, value_says, passed_says, value_at, target_at, entry_says, binary_says, compare_says, convert_says, select_says, phi_says, step_says, load_says, store_says, call_says, jump_says, branch_says, case_says, return_says, block_says, instruction_says, operator_says, said_by}
+use Rattle.read_back.specs.Said.{literal_of, word_of, width_in, value_says, passed_says, value_at, target_at, entry_says, binary_says, compare_says, convert_says, select_says, phi_says, step_says, load_says, store_says, call_says, branch_says, case_says, return_says, block_says, instruction_says, operator_says, said_by}
 use Rattle.read_back.proofs.BackLines.{said, at, integer-word, condition-is, one_given, two_given, three_given}
 use Rattle.read_back.proofs.BackLists.{each_given, Passes}
 use Rattle.read_back.proofs.BackBlocks.{lines_all}
