@@ -4,7 +4,7 @@ use Rattle.ir_ast.specs.Modules.{ModuleContent}
 use Rattle.ir_cfg.specs.SourceModules.{IsSourceModule}
 use Rattle.ir_types.specs.Statements.{Line}
 use Rattle.ir_types.specs.Faults.NameTwice.{NameTwice, layout_again, head_again, declares_defined, label_again, value_again}
-use Rattle.ir_types.specs.Faults.TypeClash.{misfits, by_line, by_case}
+use Rattle.ir_types.specs.Faults.TypeClash.{by_line, by_case}
 use Rattle.ir_types.specs.InBody.{InBody}
 use Rattle.ir_types.specs.Faults.Reserved.{Reserved, defines_external, declares_helper, names_value, names_label}
 use Rattle.ir_types.specs.FaultSet.{HasFault, HasNoFault, name_twice, unknown_name, type_clash, entry_has_pred, phi_edges, derived_escapes, no_strategy, no_main, unknown_extern, bad_layout, reserved, pointer_order, pointer_cast}
@@ -19,13 +19,13 @@ use Rattle.read_back.proofs.BackOnce.{heads_once}
 use Rattle.read_back.proofs.BackUnknown.{unknown_name-clear}
 use Rattle.read_back.proofs.BackCases.{case_clash-clear}
 use Rattle.read_back.proofs.BackRules.{clashes-clear}
+use Rattle.read_back.proofs.BackFits.{misfits-clear}
 use Rattle.read_back.proofs.BackFields.{breaks_call, named-clear}
 use Rattle.read_back.proofs.BackPhis.{phi_edges-clear}
 use Rattle.read_back.proofs.BackDerived.{derived_escapes-clear}
 
 -- the faults whose absence is not derived from the module's
 pub record HasNoOther (lines : List Line) : Type 0 where
-  pub fits : (line : ℕ) → ¬ (InBody lines line misfits)
   pub calls : (line : ℕ) → ¬ (InBody lines line breaks_call)
 
 names_clear : (content : ModuleContent) → IsSourceModule content → (lines : List Line) → said lines ≡ said_by content → (line : ℕ) → NameTwice lines line → ⊥
@@ -49,7 +49,7 @@ no_fault-from content source ends lines e other line code f = go code f
     go : (code : ℕ) → HasFault lines line code → ⊥
     go code (name_twice t) = names_clear content source lines e line t
     go code (unknown_name t) = unknown_name-clear content source lines e line t
-    go code (type_clash (by_line t)) = clashes-clear content source lines e line (other.fits line) (named-clear content source lines e line (other.calls line)) t
+    go code (type_clash (by_line t)) = clashes-clear content source lines e line (misfits-clear content source ends lines e line) (named-clear content source lines e line (other.calls line)) t
     go code (type_clash (by_case t)) = case_clash-clear content source ends lines e line t
     go code (entry_has_pred t) = entry_has_pred-clear content source ends lines e line t
     go code (phi_edges t) = phi_edges-clear content source ends lines e line t

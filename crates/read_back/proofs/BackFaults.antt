@@ -217,7 +217,7 @@ printed_from content lines e one c =
     (All-from_recursion (From content) (definitions_of lines)
     (from_zip content (definitions_of lines) content.funcs (definitions-are content lines e) (recursion_from_All (Contains content.funcs) content.funcs (All-contains_itself content.funcs)))) c
 
-blocks_pass : (names : Names) (P : Statement → Type 0) (blocks : List BasicBlock) → ((name : List ℕ) → P (label name))
+pub blocks_pass : (names : Names) (P : Statement → Type 0) (blocks : List BasicBlock) → ((name : List ℕ) → P (label name))
     → AllByRecursion (λ inst. AllByRecursion P (instruction_says names inst)) (instructions_of blocks) → AllByRecursion P (flat_map (block_says names) blocks)
 blocks_pass names P [] labels h = tt
 blocks_pass names P (b ∷ bs) labels h =
@@ -266,7 +266,7 @@ no_cast_return names (tys.Int w) inst = refl
 no_cast_return names tys.Ptr inst = refl
 no_cast_return names tys.Token inst = refl
 
-no_cast_inst : (names : Names) (op : Op) (inst : Instruction) → AllByRecursion (Passes is_cast) (operator_says names op inst)
+pub no_cast_inst : (names : Names) (op : Op) (inst : Instruction) → AllByRecursion (Passes is_cast) (operator_says names op inst)
 no_cast_inst names (ops.Gep elem width place) inst = (no_cast_step names elem width place inst, tt)
 no_cast_inst names ops.Ret inst = (no_cast_return names inst.ty inst, tt)
 no_cast_inst names ops.Switch inst = (refl, no_cast_cases names inst.ty (zip (drop 1 inst.operands) (drop 1 inst.labels)))

@@ -59,11 +59,11 @@ pub split_all : {X : Type 0} (P : X → Type 0) (xs ys : List X) → AllByRecurs
 split_all P [] ys h = (tt, h)
 split_all P (x ∷ xs) ys h = let more = split_all P xs ys h.1 in ((h.0, more.0), more.1)
 
-abbrev WidthsOf : Ty → Type 0
+abbrev pub WidthsOf : Ty → Type 0
 WidthsOf ty = All IsWidth (type_widths ty)
 
 -- values that fit
-good_zip : (names : Names) (os : List Operand) (ts : List Ty) → AllZip (Fits (value_types names.func)) os ts → list_all is_value os ≡ true
+pub good_zip : (names : Names) (os : List Operand) (ts : List Ty) → AllZip (Fits (value_types names.func)) os ts → list_all is_value os ≡ true
     → AllByRecursion WidthsOf ts → AllZip (Good names) os ts
 good_zip names [] [] fit value widths = tt
 good_zip names [] (t ∷ ts) fit value widths = absurd fit
@@ -85,10 +85,10 @@ same_good names inst n count values width fit =
     good_zip names inst.operands (replicate n inst.ty)
     (subst (λ (k : ℕ). AllZip (Fits (value_types names.func)) inst.operands (replicate k inst.ty)) count fit) values (repeated n inst.ty width)
 
-one_width : WidthsOf (tys.Int 1)
+pub one_width : WidthsOf (tys.Int 1)
 one_width = All-from_recursion IsWidth (1 ∷ []) ((omega arith, omega arith), tt)
 
-pointer_width : WidthsOf tys.Ptr
+pub pointer_width : WidthsOf tys.Ptr
 pointer_width = All-from_recursion IsWidth [] tt
 
 -- ---- calls

@@ -12,7 +12,7 @@ use Rattle.ir_types.specs.Modules.{wrapped, operand_in}
 use Rattle.read_back.specs.Said.{literal_of, integer_value}
 use Rattle.std.specs.Prelude.{List}
 
-below_zero : (n m k : ℕ) → n + suc k ≡ m → pos n -ℤ pos m ≡ negsuc k
+pub below_zero : (n m k : ℕ) → n + suc k ≡ m → pos n -ℤ pos m ≡ negsuc k
 below_zero n m k e = by n m e
   where
     by : (n m : ℕ) → n + suc k ≡ m → pos n -ℤ pos m ≡ negsuc k

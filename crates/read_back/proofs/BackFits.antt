@@ -1,0 +1,415 @@
+-- The operands of the lines that a source module is printed as fit what the lines ask of them.
+use Rattle.std.proofs.Common.{◌≡◌, ◌∙◌, ◌⊎◌, inl, inr, ℕ, suc, ◌+◌, ◌-◌, ◌*◌, ◌^◌, ◌<◌, ◌≤◌, Bool, true, false, not, ◌||◌, ◌&&◌, ◌==◌, ℤ, pos, negsuc, ◌-ℤ◌, nat_lt, nat_le, if◌then◌else◌, List, [], ◌∷◌, ◌++◌, map, length, drop, replicate, refl, ap, sym, subst, arith}
+use Rattle.std.specs.Prelude.{Option, Some, None, is_none, find, flat_map, filter_map, slice_get, option_map}
+use Rattle.std.specs.Option.{option_map_or}
+use Rattle.std.specs.Str.{bytes_eq}
+use Rattle.std.specs.List.{AllByRecursion, AllZip, Contains, list_any, list_all, zip}
+use Rattle.std.proofs.Math.Nat.{mod-eq_of_lt}
+use Rattle.std.proofs.lemmas.Nat.{pow-add}
+use Rattle.std.proofs.lemmas.Bool.Decides.{nat_tests, Decides-eqb}
+use Rattle.std.proofs.lemmas.Option.{slice_get-map, slice_get_within, same_Some}
+use Rattle.std.proofs.lemmas.List.{length-map}
+use Rattle.std.proofs.lemmas.List.Elements.{All-head, All-from_recursion, recursion_from_All}
+use Rattle.sp_ids.specs.Numbers.{wrapped, signed}
+use Rattle.sp_ids.specs.declared.ids.BlockId.{BlockId}
+use Rattle.sp_ids.specs.declared.ids.FuncId.{FuncId}
+use Rattle.ir_ast.specs.declared.types.Ty.{Ty}
+use Rattle.ir_ast.specs.declared.types.Ty.TheVariants as tys
+use Rattle.ir_ast.specs.declared.ops.Op.{Op}
+use Rattle.ir_ast.specs.declared.ops.Op.TheVariants as ops
+use Rattle.ir_ast.specs.declared.ops.Elem.{Elem}
+use Rattle.ir_ast.specs.declared.ops.Elem.TheVariants as elements
+use Rattle.ir_ast.specs.declared.ops.Operand.{Operand}
+use Rattle.ir_ast.specs.declared.ops.Operand.TheVariants as operands
+use Rattle.ir_ast.specs.declared.ops.Callee.{Callee}
+use Rattle.ir_ast.specs.Insts.{Instruction}
+use Rattle.ir_ast.specs.Funcs.{Function, instructions_of}
+use Rattle.ir_ast.specs.Modules.{ModuleContent}
+use Rattle.ir_ast.specs.Lists.{Distinct}
+use Rattle.ir_ast.specs.Types.{is_void, is_integer, is_first_class, is_answer}
+use Rattle.ir_ast.specs.Operands.{is_value, functions_named as functions_in}
+use Rattle.ir_ast.specs.Lines.{Has}
+use Rattle.ir_ast.specs.Widths.{IsWidth, type_widths, operator_widths}
+use Rattle.ir_ast.specs.Values.{definition_name, definition_type, value_types}
+use Rattle.ir_ast.specs.Values as defs
+use Rattle.ir_ast.specs.Faults.TypeClash.{Fits}
+use Rattle.ir_cfg.specs.SourceModules.{IsSourceModule}
+use Rattle.ir_printer.specs.Names.{Names, value_name}
+use Rattle.ir_printer.specs.Operands.{operand_at}
+use Rattle.ir_reader.specs.declared.readings.TypeWord.{TypeWord}
+use Rattle.ir_reader.specs.declared.readings.TypeWord.TheVariants as types
+use Rattle.ir_reader.specs.declared.words.Binary.{Binary}
+use Rattle.ir_reader.specs.declared.words.Binary.TheVariants as binaries
+use Rattle.ir_reader.specs.declared.words.Conversion.{Conversion}
+use Rattle.ir_reader.specs.declared.words.Conversion.TheVariants as conversions
+use Rattle.ir_reader.specs.Parts.{Val}
+use Rattle.ir_reader.specs.Parts as values
+use Rattle.ir_types.specs.Statements.{Line, Statement, switch, switch_end, cast}
+use Rattle.ir_types.specs.Parts.{uses, passed_value, entry_use}
+use Rattle.ir_types.specs.Places.{place_in}
+use Rattle.ir_types.specs.Sections.{Definition, Naming, values_of}
+use Rattle.ir_types.specs.Scope.{Scope, scope_of, value_named}
+use Rattle.ir_types.specs.Types.{same_type, is_within, naming_fits, takes_null, fits}
+use Rattle.ir_types.specs.Modules.{type_of, known_of}
+use Rattle.ir_types.specs.InBody.{InBody}
+use Rattle.ir_types.specs.Faults.TypeClash.{misfits}
+use Rattle.ir_types.specs.Faults.PointerCast.{is_cast}
+use Rattle.ir_types.proofs.LawNames.{stands}
+use Rattle.ir_types.proofs.LawFacts.{and-right}
+use Rattle.ir_types.proofs.LawValues.{is_cast_line, values-are}
+use Rattle.read_back.specs.BlocksEnd.{BlocksEnd}
+use Rattle.read_back.specs.Said.{literal_of, word_of, width_in, value_says, passed_says, value_at, target_at, entry_says, binary_says, compare_says, convert_says, select_says, phi_says, step_says, load_says, store_says, call_says, branch_says, case_says, return_says, block_says, instruction_says, operator_says, said_by}
+use Rattle.read_back.proofs.BackLines.{said, at, integer-word, condition-is, one_given, two_given, three_given}
+use Rattle.read_back.proofs.BackLists.{each_given, Passes}
+use Rattle.read_back.proofs.BackBlocks.{lines_all}
+use Rattle.read_back.proofs.BackLiterals.{below_zero}
+use Rattle.read_back.proofs.BackNames.{Good, placed-back}
+use Rattle.read_back.proofs.BackInsts.{IsPrinted, WidthsOf, good_zip, same_good, one_width, pointer_width, callee_parts, passes_zip}
+use Rattle.read_back.proofs.BackSections.{SaysDefinition}
+use Rattle.read_back.proofs.BackModules.{names_in, printed_inst, function-back}
+use Rattle.read_back.proofs.BackFaults.{no_body_fault, no_cast_inst, blocks_pass}
+use Rattle.read_back.proofs.BackEntry.{setting_of}
+use Rattle.read_back.proofs.BackRules.{less}
+
+-- ---- literals
+
+not_less : (a b : ℕ) → nat_lt a b ≡ false → b ≤ a
+not_less a b e = grind (arith, nat_tests, e)
+
+at_most : (a b : ℕ) → a ≤ b → nat_le a b ≡ true
+at_most a b h = grind (arith, nat_tests, h)
+
+literal_within : (w n : ℕ) → 1 ≤ w → n < 2 ^ w → is_within w (literal_of (signed w n)) ≡ true
+literal_within w n low below =
+    let kept : wrapped w n ≡ n = mod-eq_of_lt below in
+    ap (λ (k : ℕ). is_within w (literal_of (if nat_lt (2 * k) (2 ^ w) then pos k else pos k -ℤ pos (2 ^ w)))) kept
+    ∙ by (nat_lt (2 * n) (2 ^ w)) refl
+  where
+    double : 2 ^ w ≡ 2 * 2 ^ (w - 1)
+    double = ap (λ (k : ℕ). 2 ^ k) (let e : w ≡ 1 + (w - 1) = omega arith in e) ∙ pow-add 2 1 (w - 1)
+
+    by : (b : Bool) → nat_lt (2 * n) (2 ^ w) ≡ b → is_within w (literal_of (if b then pos n else pos n -ℤ pos (2 ^ w))) ≡ true
+    by true e = less n (2 ^ w) below
+    by false e =
+        let under : pos n -ℤ pos (2 ^ w) ≡ negsuc (2 ^ w - n - 1) = below_zero n (2 ^ w) (2 ^ w - n - 1) (omega arith) in
+        let high : 2 ^ w ≤ 2 * n = not_less (2 * n) (2 ^ w) e in
+        let twice = double in
+        ap (λ (z : ℤ). is_within w (literal_of z)) under
+        ∙ at_most (suc (2 ^ w - n - 1)) (2 ^ (w - 1)) (omega arith)
+
+-- ---- names
+
+word_is : (w : TypeWord) → is_first_class (type_of w) ≡ true → same_type w (word_of (type_of w)) ≡ true
+word_is types.Void e = absurd (let bad : false ≡ true = e in cc)
+word_is (types.Int n) e = (Decides-eqb n n).1 refl
+word_is types.Managed e = refl
+word_is types.Plain e = absurd (let bad : false ≡ true = e in cc)
+
+word_fits : (w : TypeWord) (ty : Ty) → type_of w ≡ ty → is_first_class ty ≡ true → same_type w (word_of ty) ≡ true
+word_fits w ty e first = ap (λ (t : Ty). same_type w (word_of t)) (sym e) ∙ word_is w (ap is_first_class e ∙ first)
+
+naming_of : (ds : List defs.Definition) (ns : List Naming) (k : ℕ) (ty : Ty) → map (λ (n : Naming). n.name) ns ≡ map definition_name ds
+    → Distinct (map definition_name ds) → map definition_type ds ≡ map (λ (n : Naming). type_of n.ty) ns → slice_get (map definition_type ds) k ≡ Some ty
+    → is_first_class ty ≡ true
+    → naming_fits (word_of ty) (find (λ (n : Naming). bytes_eq (option_map_or definition_name (slice_get ds k) []) n.name) ns) ≡ true
+naming_of ds ns k ty names once typed there first = by (find (λ (n : Naming). bytes_eq name n.name) ns) refl
+  where
+    name : List ℕ
+    name = option_map_or definition_name (slice_get ds k) []
+
+    below : k < length ds
+    below = let w = slice_get_within (map definition_type ds) k ty there in omega (arith, length-map ds definition_type)
+
+    by : (o : Option Naming) → find (λ (n : Naming). bytes_eq name n.name) ns ≡ o
+        → naming_fits (word_of ty) (find (λ (n : Naming). bytes_eq name n.name) ns) ≡ true
+    by None is = ap (naming_fits (word_of ty)) is
+    by (Some x) is =
+        let s = stands (λ (n : Naming). n.name) ns name (ap is_none is) in
+        let place : s.place ≡ k =
+        same_Some s.place k (sym s.placed ∙ ap (λ (xs : List (List ℕ)). place_in xs name) names ∙ placed-back definition_name ds k once below) in
+        let here : slice_get (map (λ (n : Naming). type_of n.ty) ns) s.place ≡ Some (type_of s.one.ty) =
+        slice_get-map (λ (n : Naming). type_of n.ty) ns s.place ∙ ap (option_map (λ (n : Naming). type_of n.ty)) s.there in
+        let same : Some (type_of s.one.ty) ≡ Some ty =
+        sym here ∙ ap (slice_get (map (λ (n : Naming). type_of n.ty) ns)) place ∙ ap (λ (ts : List Ty). slice_get ts k) (sym typed) ∙ there in
+        ap (naming_fits (word_of ty)) s.found ∙ word_fits s.one.ty ty (same_Some (type_of s.one.ty) ty same) first
+
+-- each name has the type of the value that it was printed for
+abbrev Typed : Scope → Names → Type 0
+Typed scope names = (k : ℕ) (ty : Ty) → slice_get (value_types names.func) k ≡ Some ty → is_first_class ty ≡ true
+    → naming_fits (word_of ty) (value_named scope (value_name names.func k)) ≡ true
+
+no_cast_line : (s : Statement) → is_cast s ≡ false → is_cast_line s ≡ false
+no_cast_line (cast result op from value to) e = e
+no_cast_line _ e = refl
+
+no_casts : (names : Names) (one : Definition) → said one.body ≡ flat_map (block_says names) names.func.blocks
+    → AllByRecursion (λ l. is_cast_line l.says ≡ false) one.body
+no_casts names one e =
+    lines one.body
+    (lines_all (λ (s : Statement). is_cast s ≡ false) one.body (flat_map (block_says names) names.func.blocks) e
+    (blocks_pass names (λ (s : Statement). is_cast s ≡ false) names.func.blocks (λ name. refl) (each (instructions_of names.func.blocks))))
+  where
+    each : (insts : List Instruction) → AllByRecursion (λ inst. AllByRecursion (λ (s : Statement). is_cast s ≡ false) (instruction_says names inst)) insts
+    each [] = tt
+    each (i ∷ is) = (no_cast_inst names i.op i, each is)
+
+    lines : (ls : List Line) → AllByRecursion (λ (l : Line). is_cast l.says ≡ false) ls → AllByRecursion (λ (l : Line). is_cast_line l.says ≡ false) ls
+    lines [] h = tt
+    lines (l ∷ ls) h = (no_cast_line l.says h.0, lines ls h.1)
+
+all_typed : (content : ModuleContent) → IsSourceModule content → BlocksEnd content → (lines : List Line) → said lines ≡ said_by content
+    → (one : Definition) (func : Function) → SaysDefinition content.layouts content.funcs one func → Contains content.funcs func
+    → Typed (scope_of lines one) (names_in content func)
+unfolding value_name
+all_typed content source ends lines e one func says c k ty there first =
+    let s = setting_of content source ends lines e one func says c in
+    let back = function-back content source (known_of lines one) one func says c s in
+    let typed : map definition_type (defs.definitions_of func) ≡ map (λ (n : Naming). type_of n.ty) (values_of one) =
+    ap value_types (sym back) ∙ values-are (λ name ty. ty) (known_of lines one) one (no_casts (names_in content func) one says.body) in
+    naming_of (defs.definitions_of func) (values_of one) k ty s.values s.values_once typed there first
+
+-- ---- operands
+
+value_fits : (scope : Scope) (names : Names) → Typed scope names → (ty : Ty) (o : Operand) → Good names o ty → is_first_class ty ≡ true
+    → fits scope (word_of ty) (value_says names ty o) ≡ true
+value_fits scope names k ty (operands.Value v) g first = k v.0 ty g.fits first
+value_fits scope names k ty operands.Null g first = ap (λ (t : Ty). takes_null (word_of t)) g.fits
+value_fits scope names k ty (operands.Fun f) g first = absurd (let bad : false ≡ true = g.value in cc)
+value_fits scope names k tys.Void (operands.Int n) g first = absurd (let bad : false ≡ true = first in cc)
+value_fits scope names k tys.Ptr (operands.Int n) g first = absurd (let e : tys.Ptr ≡ tys.Int g.fits.0 = g.fits.1 in cc)
+value_fits scope names k tys.Token (operands.Int n) g first = absurd (let bad : false ≡ true = first in cc)
+value_fits scope names k (tys.Int w) (operands.Int n) g first = by (w == 1) refl
+  where
+    inner : (width : ℕ) → tys.Int w ≡ tys.Int width → w ≡ width
+    inner width e = grind (arith, e)
+
+    below : n < 2 ^ w
+    below = subst (λ (k : ℕ). n < 2 ^ k) (sym (inner g.fits.0 g.fits.1)) g.fits.2
+
+    by : (b : Bool) → (w == 1) ≡ b
+        → fits scope (types.Int w) (if b then values.truth (not (wrapped 1 n == 0)) else values.number (literal_of (signed w n))) ≡ true
+    by true e = e
+    by false e = literal_within w n (All-head IsWidth w [] g.widths).0 below
+
+abbrev IsFit : Scope → Val × TypeWord → Type 0
+IsFit scope used = fits scope used.1 used.0 ≡ true
+
+fit_by : (scope : Scope) (us : List (Val × TypeWord)) → AllByRecursion (IsFit scope) us → list_any (λ used. not (fits scope used.1 used.0)) us ≡ false
+fit_by scope [] h = refl
+fit_by scope (u ∷ us) h = ap (λ (b : Bool). not b || list_any (λ (used : Val × TypeWord). not (fits scope used.1 used.0)) us) h.0 ∙ fit_by scope us h.1
+
+integer_first : (ty : Ty) → is_integer ty ≡ true → is_first_class ty ≡ true
+integer_first (tys.Int w) e = refl
+integer_first tys.Void e = e
+integer_first tys.Ptr e = refl
+integer_first tys.Token e = e
+
+integer_fits : (scope : Scope) (names : Names) → Typed scope names → (ty : Ty) (o : Operand) → Good names o ty → is_integer ty ≡ true
+    → fits scope (types.Int (width_in ty)) (value_says names ty o) ≡ true
+integer_fits scope names k ty o g is =
+    ap (λ (w : TypeWord). fits scope w (value_says names ty o)) (integer-word ty is) ∙ value_fits scope names k ty o g (integer_first ty is)
+
+-- ---- the lines by their forms
+
+abbrev Fit : Scope → Statement → Type 0
+Fit scope s = misfits scope s ≡ false
+
+binary_fit : (scope : Scope) (names : Names) → Typed scope names → (op : Binary) (inst : Instruction) → Has true is_integer 2 0 inst
+    → AllZip (Good names) inst.operands (inst.ty ∷ inst.ty ∷ []) → AllByRecursion (Fit scope) (binary_says names op inst ∷ [])
+binary_fit scope names k op inst has good =
+    let two = two_given (Good names) inst.operands inst.ty inst.ty good in (
+      fit_by scope (uses (binary_says names op inst))
+          (integer_fits scope names k inst.ty (operand_at inst 0) two.first has.type, (integer_fits scope names k inst.ty (operand_at inst 1) two.second has.type, tt)),
+      tt,
+    )
+
+convert_fit : (scope : Scope) (names : Names) → Typed scope names → (op : Conversion) (to : ℕ) (inst : Instruction) → Has true is_integer 1 0 inst
+    → AllZip (Good names) inst.operands (inst.ty ∷ []) → AllByRecursion (Fit scope) (convert_says names op to inst ∷ [])
+convert_fit scope names k op to inst has good =
+    let one = one_given (Good names) inst.operands inst.ty good in
+    (fit_by scope (uses (convert_says names op to inst)) (integer_fits scope names k inst.ty (operand_at inst 0) one.first has.type, tt), tt)
+
+entries_fit : (scope : Scope) (names : Names) → Typed scope names → (ty : Ty) (os : List Operand) (ls : List BlockId) → is_first_class ty ≡ true
+    → AllByRecursion (λ o. Good names o ty) os
+    → AllByRecursion (IsFit scope) (map (entry_use (word_of ty)) (map (entry_says names ty) (zip os ls)))
+entries_fit scope names k ty [] ls first good = tt
+entries_fit scope names k ty (o ∷ os) [] first good = tt
+entries_fit scope names k ty (o ∷ os) (l ∷ ls) first good = (value_fits scope names k ty o good.0 first, entries_fit scope names k ty os ls first good.1)
+
+cases_fit : (scope : Scope) (names : Names) → Typed scope names → (ty : Ty) (os : List Operand) (ls : List BlockId) → is_integer ty ≡ true
+    → AllByRecursion (λ o. Good names o ty) os → AllByRecursion (Fit scope) (map (case_says names ty) (zip os ls) ++ switch_end ∷ [])
+cases_fit scope names k ty [] ls is good = (refl, tt)
+cases_fit scope names k ty (o ∷ os) [] is good = (refl, tt)
+cases_fit scope names k ty (o ∷ os) (l ∷ ls) is good = (
+  fit_by scope (uses (case_says names ty (o, l))) (integer_fits scope names k ty o good.0 is, tt),
+  cases_fit scope names k ty os ls is good.1,
+)
+
+first_and_rest : (os : List Operand) (P : Operand → Type 0) → 0 < length os → AllByRecursion P os → P (at os 0) × AllByRecursion P (drop 1 os)
+first_and_rest [] P some h = absurd (omega arith)
+first_and_rest (o ∷ os) P some h = (h.0, h.1)
+
+index_widths : (elem : Elem) (width : ℕ) (place : Option ℕ) → AllByRecursion IsWidth (operator_widths (ops.Gep elem width place)) → WidthsOf (tys.Int width)
+index_widths (elements.Int w) width place h = All-from_recursion IsWidth (width ∷ []) h.1
+index_widths elements.Ptr width place h = All-from_recursion IsWidth (width ∷ []) h
+index_widths (elements.Layout l) width place h = All-from_recursion IsWidth (width ∷ []) h
+
+step_fit : (scope : Scope) (names : Names) → Typed scope names → (elem : Elem) (width : ℕ) (place : Option ℕ) (inst : Instruction)
+    → AllZip (Good names) inst.operands (tys.Ptr ∷ tys.Int width ∷ []) → Fit scope (step_says names elem width place inst)
+step_fit scope names k elem width place inst good = by elem
+  where
+    both : AllByRecursion (IsFit scope) ((value_at names tys.Ptr inst 0, types.Managed) ∷ (value_at names (tys.Int width) inst 1, types.Int width) ∷ [])
+    both =
+        let two = two_given (Good names) inst.operands tys.Ptr (tys.Int width) good in
+        (value_fits scope names k tys.Ptr (operand_at inst 0) two.first refl, (value_fits scope names k (tys.Int width) (operand_at inst 1) two.second refl, tt))
+
+    by : (elem : Elem) → Fit scope (step_says names elem width place inst)
+    by (elements.Int w) = fit_by scope (uses (step_says names (elements.Int w) width place inst)) both
+    by elements.Ptr = fit_by scope (uses (step_says names elements.Ptr width place inst)) both
+    by (elements.Layout l) = fit_by scope (uses (step_says names (elements.Layout l) width place inst)) both
+
+return_fit : (scope : Scope) (names : Names) → Typed scope names → (ty : Ty) (inst : Instruction) → is_answer ty ≡ true
+    → length inst.operands ≡ (if is_void ty then 0 else 1) → AllByRecursion (λ o. Good names o ty) inst.operands → Fit scope (return_says names ty inst)
+return_fit scope names k tys.Void inst answer count good = refl
+return_fit scope names k (tys.Int w) inst answer count good =
+    let parts = first_and_rest inst.operands (λ o. Good names o (tys.Int w)) (omega arith) good in
+    fit_by scope (uses (return_says names (tys.Int w) inst)) (value_fits scope names k (tys.Int w) (operand_at inst 0) parts.0 refl, tt)
+return_fit scope names k tys.Ptr inst answer count good =
+    let parts = first_and_rest inst.operands (λ o. Good names o tys.Ptr) (omega arith) good in
+    fit_by scope (uses (return_says names tys.Ptr inst)) (value_fits scope names k tys.Ptr (operand_at inst 0) parts.0 refl, tt)
+return_fit scope names k tys.Token inst answer count good = absurd (let bad : false ≡ true = answer in cc)
+
+-- ---- calls
+
+passed_good : (names : Names) (o : Operand) (ty : Ty) → is_value o ≡ true → Passes names o ty → Good names o ty × (is_first_class ty ≡ true)
+passed_good names o ty is p = by p.argument
+  where
+    by : (is_value o && is_first_class ty) ≡ true ⊎ ((func : FuncId) × (o ≡ operands.Fun func)) → Good names o ty × (is_first_class ty ≡ true)
+    by (inl e) = (record { fits = p.fits; value = is; widths = p.widths }, and-right (is_value o) (is_first_class ty) e)
+    by (inr f) = absurd (let bad : true ≡ false = sym is ∙ ap is_value f.1 in cc)
+
+passed_fit : (scope : Scope) (names : Names) → Typed scope names → (os : List Operand) (ts : List Ty) → AllZip (Passes names) os ts
+    → AllByRecursion (IsFit scope) (filter_map passed_value (map (λ (argument : Ty × Operand). passed_says names argument.0 argument.1) (zip ts os)))
+passed_fit scope names k [] [] p = tt
+passed_fit scope names k [] (t ∷ ts) p = tt
+passed_fit scope names k (o ∷ os) [] p = tt
+passed_fit scope names k (operands.Value v ∷ os) (t ∷ ts) p =
+    let g = passed_good names (operands.Value v) t refl p.0 in (value_fits scope names k t (operands.Value v) g.0 g.1, passed_fit scope names k os ts p.1)
+passed_fit scope names k (operands.Int n ∷ os) (t ∷ ts) p =
+    let g = passed_good names (operands.Int n) t refl p.0 in (value_fits scope names k t (operands.Int n) g.0 g.1, passed_fit scope names k os ts p.1)
+passed_fit scope names k (operands.Null ∷ os) (t ∷ ts) p =
+    let g = passed_good names operands.Null t refl p.0 in (value_fits scope names k t operands.Null g.0 g.1, passed_fit scope names k os ts p.1)
+passed_fit scope names k (operands.Fun f ∷ os) (t ∷ ts) p = passed_fit scope names k os ts p.1
+
+call_fit : (scope : Scope) (names : Names) → Typed scope names → (callee : Callee) (ts : List Ty) (inst : Instruction) → IsPrinted names (ops.Call callee ts) inst
+    → Fit scope (call_says names callee ts inst)
+call_fit scope names k callee ts inst p =
+    let parts = callee_parts names callee ts inst p.layouts p.functions in
+    let functions : AllByRecursion (λ named. named < length names.funcs)
+    (functions_in (record { result = inst.result; op = ops.Load; ty = inst.ty; operands = inst.operands; labels = inst.labels; bundle = [] })) =
+    subst (λ (b : List (Ty × Operand)). AllByRecursion (λ named. named < length names.funcs)
+    (functions_in (record { result = inst.result; op = ops.Load; ty = inst.ty; operands = inst.operands; labels = inst.labels; bundle = b }))) p.bundle parts.1 in
+    let passes = passes_zip names callee inst.operands ts p.fits p.line.arguments functions (recursion_from_All IsWidth (flat_map type_widths ts) p.own_widths) in
+    fit_by scope (uses (call_says names callee ts inst)) (passed_fit scope names k inst.operands ts passes)
+
+-- ---- any instruction
+
+binary_good : (names : Names) (inst : Instruction) → Has true is_integer 2 0 inst → WidthsOf inst.ty
+    → AllZip (Fits (value_types names.func)) inst.operands (replicate (length inst.operands) inst.ty)
+    → AllZip (Good names) inst.operands (inst.ty ∷ inst.ty ∷ [])
+binary_good names inst has width fit = same_good names inst 2 has.operand_count has.values width fit
+
+convert_good : (names : Names) (inst : Instruction) → Has true is_integer 1 0 inst → WidthsOf inst.ty
+    → AllZip (Fits (value_types names.func)) inst.operands (replicate (length inst.operands) inst.ty)
+    → AllZip (Good names) inst.operands (inst.ty ∷ [])
+convert_good names inst has width fit = same_good names inst 1 has.operand_count has.values width fit
+
+all_good : (names : Names) (inst : Instruction) → list_all is_value inst.operands ≡ true → WidthsOf inst.ty
+    → AllZip (Fits (value_types names.func)) inst.operands (replicate (length inst.operands) inst.ty)
+    → AllByRecursion (λ o. Good names o inst.ty) inst.operands
+all_good names inst values width fit =
+    each_given (Good names) inst.ty inst.operands (same_good names inst (length inst.operands) refl values width fit)
+
+inst_fit : (scope : Scope) (names : Names) → Typed scope names → (op : Op) (inst : Instruction) → IsPrinted names op inst
+    → AllByRecursion (Fit scope) (operator_says names op inst)
+inst_fit scope names k ops.Add inst p = binary_fit scope names k binaries.Add inst p.line (binary_good names inst p.line p.widths p.fits)
+inst_fit scope names k ops.Sub inst p = binary_fit scope names k binaries.Sub inst p.line (binary_good names inst p.line p.widths p.fits)
+inst_fit scope names k ops.Mul inst p = binary_fit scope names k binaries.Mul inst p.line (binary_good names inst p.line p.widths p.fits)
+inst_fit scope names k ops.Udiv inst p = binary_fit scope names k binaries.Udiv inst p.line (binary_good names inst p.line p.widths p.fits)
+inst_fit scope names k ops.Sdiv inst p = binary_fit scope names k binaries.Sdiv inst p.line (binary_good names inst p.line p.widths p.fits)
+inst_fit scope names k ops.Urem inst p = binary_fit scope names k binaries.Urem inst p.line (binary_good names inst p.line p.widths p.fits)
+inst_fit scope names k ops.Srem inst p = binary_fit scope names k binaries.Srem inst p.line (binary_good names inst p.line p.widths p.fits)
+inst_fit scope names k ops.And inst p = binary_fit scope names k binaries.And inst p.line (binary_good names inst p.line p.widths p.fits)
+inst_fit scope names k ops.Or inst p = binary_fit scope names k binaries.Or inst p.line (binary_good names inst p.line p.widths p.fits)
+inst_fit scope names k ops.Xor inst p = binary_fit scope names k binaries.Xor inst p.line (binary_good names inst p.line p.widths p.fits)
+inst_fit scope names k ops.Shl inst p = binary_fit scope names k binaries.Shl inst p.line (binary_good names inst p.line p.widths p.fits)
+inst_fit scope names k ops.Lshr inst p = binary_fit scope names k binaries.Lshr inst p.line (binary_good names inst p.line p.widths p.fits)
+inst_fit scope names k ops.Ashr inst p = binary_fit scope names k binaries.Ashr inst p.line (binary_good names inst p.line p.widths p.fits)
+inst_fit scope names k (ops.Icmp pred) inst p =
+    let two = two_given (Good names) inst.operands inst.ty inst.ty (same_good names inst 2 p.line.operand_count p.line.values p.widths p.fits) in (
+      fit_by scope (uses (compare_says names pred inst))
+          (value_fits scope names k inst.ty (operand_at inst 0) two.first p.line.type, (value_fits scope names k inst.ty (operand_at inst 1) two.second p.line.type, tt)),
+      tt,
+    )
+inst_fit scope names k (ops.Trunc to) inst p = convert_fit scope names k conversions.Trunc to inst p.line (convert_good names inst p.line p.widths p.fits)
+inst_fit scope names k (ops.Zext to) inst p = convert_fit scope names k conversions.Zext to inst p.line (convert_good names inst p.line p.widths p.fits)
+inst_fit scope names k (ops.Sext to) inst p = convert_fit scope names k conversions.Sext to inst p.line (convert_good names inst p.line p.widths p.fits)
+inst_fit scope names k ops.Select inst p =
+    let three = three_given (Good names) inst.operands (tys.Int 1) inst.ty inst.ty
+    (good_zip names inst.operands (tys.Int 1 ∷ inst.ty ∷ inst.ty ∷ []) p.fits p.line.values (one_width, (p.widths, (p.widths, tt)))) in (
+      fit_by scope (uses (select_says names inst)) (
+        value_fits scope names k (tys.Int 1) (operand_at inst 0) three.first refl,
+        (value_fits scope names k inst.ty (operand_at inst 1) three.second p.line.type, (value_fits scope names k inst.ty (operand_at inst 2) three.third p.line.type, tt)),
+      ),
+      tt,
+    )
+inst_fit scope names k ops.Phi inst p = (
+  fit_by scope (uses (phi_says names inst))
+      (entries_fit scope names k inst.ty inst.operands inst.labels p.line.0.type (all_good names inst p.line.0.values p.widths p.fits)),
+  tt,
+)
+inst_fit scope names k (ops.Gep elem width place) inst p = (
+  step_fit scope names k elem width place inst
+      (good_zip names inst.operands (tys.Ptr ∷ tys.Int width ∷ []) p.fits p.line.0.values
+      (pointer_width, (index_widths elem width place (recursion_from_All IsWidth (operator_widths (ops.Gep elem width place)) p.own_widths), tt))),
+  tt,
+)
+inst_fit scope names k ops.Load inst p =
+    let one = one_given (Good names) inst.operands tys.Ptr (good_zip names inst.operands (tys.Ptr ∷ []) p.fits p.line.values (pointer_width, tt)) in
+    (fit_by scope (uses (load_says names inst)) (value_fits scope names k tys.Ptr (operand_at inst 0) one.first refl, tt), tt)
+inst_fit scope names k ops.Store inst p =
+    let two = two_given (Good names) inst.operands inst.ty tys.Ptr
+    (good_zip names inst.operands (inst.ty ∷ tys.Ptr ∷ []) p.fits p.line.values (p.widths, (pointer_width, tt))) in (
+      fit_by scope (uses (store_says names inst))
+          (value_fits scope names k inst.ty (operand_at inst 0) two.first p.line.type, (value_fits scope names k tys.Ptr (operand_at inst 1) two.second refl, tt)),
+      tt,
+    )
+inst_fit scope names k (ops.Call callee ts) inst p = (call_fit scope names k callee ts inst p, tt)
+inst_fit scope names k ops.Br inst p = (refl, tt)
+inst_fit scope names k ops.CondBr inst p =
+    let one = one_given (Good names) inst.operands inst.ty (same_good names inst 1 p.line.operand_count p.line.values p.widths p.fits) in
+    let given : Good names (operand_at inst 0) (tys.Int 1) = subst (λ (t : Ty). Good names (operand_at inst 0) t) (sym (condition-is inst.ty p.line.type)) one.first in
+    (fit_by scope (uses (branch_says names inst)) (value_fits scope names k (tys.Int 1) (operand_at inst 0) given refl, tt), tt)
+inst_fit scope names k ops.Switch inst p =
+    let parts = first_and_rest inst.operands (λ o. Good names o inst.ty) p.line.1 (all_good names inst p.line.0.values p.widths p.fits) in (
+      fit_by scope (uses (switch (width_in inst.ty) (value_at names inst.ty inst 0) (target_at names inst 0)))
+          (integer_fits scope names k inst.ty (operand_at inst 0) parts.0 p.line.0.type, tt),
+      cases_fit scope names k inst.ty (drop 1 inst.operands) (drop 1 inst.labels) p.line.0.type parts.1,
+    )
+inst_fit scope names k ops.Ret inst p =
+    (return_fit scope names k inst.ty inst p.line.type p.line.operand_count (all_good names inst p.line.values p.widths p.fits), tt)
+inst_fit scope names k ops.Unreachable inst p = (refl, tt)
+inst_fit scope names k (ops.Statepoint id callee ts) inst p = tt
+inst_fit scope names k ops.GcResult inst p = tt
+inst_fit scope names k ops.GcRelocate inst p = tt
+
+-- ---- any line
+
+pub misfits-clear : (content : ModuleContent) → IsSourceModule content → BlocksEnd content → (lines : List Line) → said lines ≡ said_by content
+    → (line : ℕ) → ¬ (InBody lines line misfits)
+misfits-clear content source ends lines e line f =
+    no_body_fault content lines e misfits
+    (λ one func says c inst d.
+    inst_fit (scope_of lines one) (names_in content func) (all_typed content source ends lines e one func says c) inst.op inst
+    (printed_inst content source func c inst d))
+    (λ scope name. refl) line f
