@@ -37,5 +37,6 @@ pub mod BackPhis
 pub mod BackCases
 pub mod BackRules
 pub mod BackFields
+pub mod BackCalls
 pub mod BackFaultless
 pub mod TheLaw
