@@ -1,9 +1,9 @@
 -- The calls that a source module is printed with agree with the heads of what they call.
-use Rattle.std.proofs.Common.{◌≡◌, ◌≢◌, ◌∙◌, inl, inr, ℕ, ◌<◌, Bool, true, false, not, ◌&&◌, ◌||◌, List, [], ◌∷◌, ◌++◌, map, length, drop, get_or, refl, ap, sym, subst, arith, codes}
+use Rattle.std.proofs.Common.{◌≡◌, ◌≢◌, ◌∙◌, inl, inr, ℕ, Bool, true, false, not, ◌&&◌, ◌||◌, List, [], ◌∷◌, ◌++◌, map, drop, get_or, refl, ap, sym, subst, arith, codes}
 use Rattle.std.specs.Prelude.{Option, Some, None, slice_get, option_map}
 use Rattle.std.specs.Option.{option_map_or}
 use Rattle.std.specs.Str.{bytes_eq}
-use Rattle.std.specs.List.{All, AllByRecursion, AllZip, Contains, zip}
+use Rattle.std.specs.List.{AllByRecursion, AllZip, Contains, zip}
 use Rattle.std.proofs.lemmas.Option.{same_Some, slice_get_within}
 use Rattle.std.proofs.lemmas.List.Elements.{recursion_from_All, All-contains}
 use Rattle.std.proofs.lemmas.Slice.Eq.{bytes_eq-Decides}
@@ -33,10 +33,11 @@ use Rattle.ir_ast.specs.Faults.Reserved.{IsExternalName}
 use Rattle.ir_cfg.specs.SourceModules.{IsSourceModule}
 use Rattle.ir_printer.specs.Names.{Names, layout_name, function_name}
 use Rattle.ir_printer.specs.Calls.{callee_name}
+use Rattle.ir_printer.specs.Declarations.{is_call_of}
 use Rattle.ir_reader.specs.declared.readings.TypeWord.{TypeWord}
 use Rattle.ir_reader.specs.declared.readings.TypeWord.TheVariants as types
 use Rattle.ir_reader.specs.Lists.{Named, Given}
-use Rattle.ir_types.specs.Statements.{Line, Statement, switch_end, declare}
+use Rattle.ir_types.specs.Statements.{Line, Statement, switch_end}
 use Rattle.ir_types.specs.Sections.{Head, Definition, types_of, heads_of}
 use Rattle.ir_types.specs.Scope.{Scope, scope_of, head_named}
 use Rattle.ir_types.specs.Types.{same_type, same_types}
@@ -396,7 +397,7 @@ one_call content source lines e one func k c inst d op has p rule callee ts is =
     let below = callee_parts names callee ts inst q.layouts q.functions in
     let found = callee_found (scope_of lines one) names k callee below.0 q.plain
     (λ x called. is_called content.funcs func inst x c d
-    (subst (λ (o : Op). Rattle.ir_printer.specs.Declarations.is_call_of x o inst.ty ≡ true) (sym is ∙ has) called)) in
+    (subst (λ (o : Op). is_call_of x o inst.ty ≡ true) (sym is ∙ has) called)) in
     call_keeps content source lines e one func k callee below.0 q.plain found ts inst q.fits call_rule
 
 pub calls-clear : (content : ModuleContent) → IsSourceModule content → (lines : List Line) → said lines ≡ said_by content → (line : ℕ) → ¬ (InBody lines line breaks_call)
