@@ -1,11 +1,10 @@
--- The lines that a source module is printed as have none of the faults that are proved absent.
+-- The lines that a source module is printed as have no fault.
 use Rattle.std.proofs.Common.{◌≡◌, ℕ, List}
 use Rattle.ir_ast.specs.Modules.{ModuleContent}
 use Rattle.ir_cfg.specs.SourceModules.{IsSourceModule}
 use Rattle.ir_types.specs.Statements.{Line}
 use Rattle.ir_types.specs.Faults.NameTwice.{NameTwice, layout_again, head_again, declares_defined, label_again, value_again}
 use Rattle.ir_types.specs.Faults.TypeClash.{by_line, by_case}
-use Rattle.ir_types.specs.InBody.{InBody}
 use Rattle.ir_types.specs.Faults.Reserved.{Reserved, defines_external, declares_helper, names_value, names_label}
 use Rattle.ir_types.specs.FaultSet.{HasFault, HasNoFault, name_twice, unknown_name, type_clash, entry_has_pred, phi_edges, derived_escapes, no_strategy, no_main, unknown_extern, bad_layout, reserved, pointer_order, pointer_cast}
 use Rattle.read_back.specs.BlocksEnd.{BlocksEnd}
@@ -20,13 +19,10 @@ use Rattle.read_back.proofs.BackUnknown.{unknown_name-clear}
 use Rattle.read_back.proofs.BackCases.{case_clash-clear}
 use Rattle.read_back.proofs.BackRules.{clashes-clear}
 use Rattle.read_back.proofs.BackFits.{misfits-clear}
-use Rattle.read_back.proofs.BackFields.{breaks_call, named-clear}
+use Rattle.read_back.proofs.BackFields.{named-clear}
+use Rattle.read_back.proofs.BackCalls.{calls-clear}
 use Rattle.read_back.proofs.BackPhis.{phi_edges-clear}
 use Rattle.read_back.proofs.BackDerived.{derived_escapes-clear}
-
--- the faults whose absence is not derived from the module's
-pub record HasNoOther (lines : List Line) : Type 0 where
-  pub calls : (line : ℕ) → ¬ (InBody lines line breaks_call)
 
 names_clear : (content : ModuleContent) → IsSourceModule content → (lines : List Line) → said lines ≡ said_by content → (line : ℕ) → NameTwice lines line → ⊥
 names_clear content source lines e line (layout_again r) = layouts_once content source lines e line r
@@ -42,14 +38,14 @@ reserved_clear content source lines e line (declares_helper answer name paramete
 reserved_clear content source lines e line (names_value func one c d at inserted) = values_free content source lines e func c one d inserted
 reserved_clear content source lines e line (names_label func one c d at inserted) = labels_free content source lines e func c one d inserted
 
-pub no_fault-from : (content : ModuleContent) → IsSourceModule content → BlocksEnd content → (lines : List Line) → said lines ≡ said_by content
-    → HasNoOther lines → HasNoFault lines
-no_fault-from content source ends lines e other line code f = go code f
+pub no_fault : (content : ModuleContent) → IsSourceModule content → BlocksEnd content → (lines : List Line) → said lines ≡ said_by content
+    → HasNoFault lines
+no_fault content source ends lines e line code f = go code f
   where
     go : (code : ℕ) → HasFault lines line code → ⊥
     go code (name_twice t) = names_clear content source lines e line t
     go code (unknown_name t) = unknown_name-clear content source lines e line t
-    go code (type_clash (by_line t)) = clashes-clear content source lines e line (misfits-clear content source ends lines e line) (named-clear content source lines e line (other.calls line)) t
+    go code (type_clash (by_line t)) = clashes-clear content source lines e line (misfits-clear content source ends lines e line) (named-clear content source lines e line (calls-clear content source lines e line)) t
     go code (type_clash (by_case t)) = case_clash-clear content source ends lines e line t
     go code (entry_has_pred t) = entry_has_pred-clear content source ends lines e line t
     go code (phi_edges t) = phi_edges-clear content source ends lines e line t

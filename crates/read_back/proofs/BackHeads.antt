@@ -17,7 +17,7 @@ use Rattle.read_back.proofs.BackLines.{said}
 use Rattle.read_back.proofs.BackFaults.{IfDeclares, each_declaration, line_said}
 use Rattle.read_back.proofs.BackTops.{definitions_free}
 
-declares_external : (content : ModuleContent) (lines : List Line) → said lines ≡ said_by content → (l : Line) → Contains lines l
+pub declares_external : (content : ModuleContent) (lines : List Line) → said lines ≡ said_by content → (l : Line) → Contains lines l
     → (answer : TypeWord) (name : List ℕ) (parameters : List Named) → l.says ≡ declare answer name parameters → IsExternalName name
 declares_external content lines e l c answer name parameters says =
     subst (IfDeclares (λ a n ps. IsExternalName n)) says

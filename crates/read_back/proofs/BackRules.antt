@@ -46,7 +46,7 @@ breaks_rule scope (call result answer callee passed) = false
 breaks_rule scope (layout_step result named address width index place) = false
 breaks_rule scope what = not (keeps_rule scope what)
 
-same_type-refl : (a : TypeWord) → same_type a a ≡ true
+pub same_type-refl : (a : TypeWord) → same_type a a ≡ true
 same_type-refl Void = refl
 same_type-refl (Int width) = (Decides-eqb width width).1 refl
 same_type-refl Managed = refl

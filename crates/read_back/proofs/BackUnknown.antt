@@ -249,7 +249,7 @@ fixed_external layouts i e at =
     Contains-append_right (map externs.New (range_with_len 0 (length layouts))) (fixed_externals ++ (map externs.ResultOf integer_widths ++ externs.ResultPointer ∷ [])) e
     (Contains-append_left fixed_externals (map externs.ResultOf integer_widths ++ externs.ResultPointer ∷ []) e (contains_get fixed_externals i e at))
 
-callee_found : (scope : Scope) (names : Names) → Knows scope names → (callee : Callee) → CalleeBelow names callee → is_helper callee ≡ false
+pub callee_found : (scope : Scope) (names : Names) → Knows scope names → (callee : Callee) → CalleeBelow names callee → is_helper callee ≡ false
     → ((e : External) → is_callee e callee ≡ true → calls names.funcs e ≡ true) → HeadFound scope (callee_name names callee)
 unfolding fixed_externals
 callee_found scope names k (callees.Fun f) below plain called = k.function f.0 below
@@ -431,7 +431,7 @@ block_with (b ∷ bs) inst c = by (Contains-append_cases b.insts (instructions_o
     by (inl d) later = (b, contains_first b bs, d)
     by (inr d) later = let more = later d in (more.0, contains_later b more.0 bs more.1, more.2)
 
-is_called : (funcs : List Function) (func : Function) (inst : Instruction) (e : External) → Contains funcs func → Contains (instructions_of func.blocks) inst
+pub is_called : (funcs : List Function) (func : Function) (inst : Instruction) (e : External) → Contains funcs func → Contains (instructions_of func.blocks) inst
     → is_call_of e inst.op inst.ty ≡ true → calls funcs e ≡ true
 unfolding calls
 is_called funcs func inst e c d is =

@@ -38,5 +38,6 @@ pub mod BackCases
 pub mod BackRules
 pub mod BackFields
 pub mod BackFits
+pub mod BackCalls
 pub mod BackFaultless
 pub mod TheLaw
