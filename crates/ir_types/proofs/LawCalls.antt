@@ -34,7 +34,7 @@ use Rattle.ir_types.specs.Places.{place_in, number_of}
 use Rattle.ir_types.specs.Types.{same_type, same_types}
 use Rattle.ir_types.specs.Externals.{External, external}
 use Rattle.ir_types.specs.Modules.{Known, known_of, type_of, argument_of, operand_in, passed_operand, passed_type, given_type, callee_at, callee_of, instruction, function_of, module_of}
-use Rattle.ir_types.specs.FaultSet.{HasNoFault}
+use Rattle.ir_types.specs.PlainFaults.{HasNoPlainFault}
 use Rattle.ir_types.specs.ReadLines.{IsReadLines, SaysRead, IsReadHead, IsReadArgument, IsValueType}
 use Rattle.ir_types.proofs.LawNames.{stands, contains_get, get_contained, contains_first, contains_later, contains_cons, same_by_name, position-cons}
 use Rattle.ir_types.proofs.LawFacts.{same_type-is, same_types-is, true-false}
@@ -103,7 +103,7 @@ pub record Called (lines : List Line) (name : List ℕ) (d : Definition) : Type 
   pub signature : called_in (funcs_of lines) (callees.Fun (record { 0 = number_of (Some place) }))
       ≡ Some (record { answer = type_of d.answer; params = map type_of (types_of d.arguments) })
 
-pub called : (lines : List Line) → IsReadLines lines → HasNoFault lines → (d : Definition) (name : List ℕ) → Contains (definitions_of lines) d → d.name ≡ name → Called lines name d
+pub called : (lines : List Line) → IsReadLines lines → HasNoPlainFault lines → (d : Definition) (name : List ℕ) → Contains (definitions_of lines) d → d.name ≡ name → Called lines name d
 called lines read none d name c e =
     let s = stands (λ (one : Definition). one.name) (definitions_of lines) name (found_by_name (λ (one : Definition). one.name) (definitions_of lines) d name c e) in
     let is : s.one ≡ d = same_by_name (λ (one : Definition). one.name) (definitions_of lines) s.one d (definitions-distinct lines none)

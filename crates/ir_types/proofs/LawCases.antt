@@ -14,7 +14,7 @@ use Rattle.ir_types.specs.Statements.{Line, Statement, switch, switch_case}
 use Rattle.ir_types.specs.Sections.{Definition, definitions_of, cases_of}
 use Rattle.ir_types.specs.Modules.{operand_in, wrapped, case_values, case_labels}
 use Rattle.ir_types.specs.Faults.TypeClash.{number_said, case_number, case_numbers, CaseClash, by_case}
-use Rattle.ir_types.specs.FaultSet.{HasNoFault, type_clash}
+use Rattle.ir_types.specs.PlainFaults.{HasNoPlainFault, type_clash}
 use Rattle.ir_types.specs.ReadLines.{SaysRead}
 use Rattle.ir_types.proofs.LawNames.{contains_get, get_some, get_taken}
 
@@ -140,7 +140,7 @@ case_at width [] k m e = absurd (let bad : None ≡ Some m = e in cc)
 case_at width (l ∷ ls) k m e = one_at width l.number l.says ls (case_at width ls) k m e
 
 -- a `switch` of faultless lines
-pub numbers-distinct : (lines : List Line) → HasNoFault lines → (func : Definition) → Contains (definitions_of lines) func
+pub numbers-distinct : (lines : List Line) → HasNoPlainFault lines → (func : Definition) → Contains (definitions_of lines) func
     → (before : List Line) (number width : ℕ) (value : Val) (default : List ℕ) (behind : List Line)
     → func.body ≡ before ++ (record { number = number; says = switch width value default }) ∷ behind
     → Distinct (case_numbers width (cases_of behind))
@@ -179,7 +179,7 @@ distinct-map ns distinct = λ j k below within e.
     let g : at_j.0 ≡ at_k.0 = cc in
     distinct j k below inside (at_j.1 ∙ ap Some g ∙ sym at_k.1)
 
-pub values-distinct_in : (lines : List Line) → HasNoFault lines → (func : Definition) → Contains (definitions_of lines) func
+pub values-distinct_in : (lines : List Line) → HasNoPlainFault lines → (func : Definition) → Contains (definitions_of lines) func
     → (names : List (List ℕ)) (before : List Line) (number width : ℕ) (value : Val) (default : List ℕ) (behind : List Line)
     → func.body ≡ before ++ (record { number = number; says = switch width value default }) ∷ behind
     → AllByRecursion (λ l. SaysRead l.says) behind → Distinct (case_values names width behind)

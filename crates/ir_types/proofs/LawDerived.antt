@@ -28,7 +28,7 @@ use Rattle.ir_types.specs.Sections.{Definition, Naming, arguments_named, result_
 use Rattle.ir_types.specs.Places.{number_in}
 use Rattle.ir_types.specs.Scope.{scope_of, value_names}
 use Rattle.ir_types.specs.Modules.{Known, known_of, argument_of, operand_in, entry_operand, passed_operand, instruction_said, insts_of, binary_of, conversion_of}
-use Rattle.ir_types.specs.FaultSet.{derived_escapes}
+use Rattle.ir_types.specs.PlainFaults.{derived_escapes}
 use Rattle.ir_types.specs.Faults.DerivedEscapes.{StandsFor, Derived, by_step, by_merge, DerivedEscapes}
 use Rattle.ir_types.proofs.LawBodies.{insts_said, insts-cons, body_insts, func_insts}
 use Rattle.ir_types.proofs.LawFacts.{IsGoodUse, IsKnownUse, true-false}

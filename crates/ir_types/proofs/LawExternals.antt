@@ -24,7 +24,7 @@ use Rattle.ir_types.specs.Places.{place_in, number_of, number_in}
 use Rattle.ir_types.specs.Types.{same_type, same_types}
 use Rattle.ir_types.specs.Externals.{External, external, gc_new, externals_of, helpers}
 use Rattle.ir_types.specs.Modules.{known_of, type_of, layout_of, passed_operand, passed_type, external_callee, callee_at, function_of, module_of}
-use Rattle.ir_types.specs.FaultSet.{HasNoFault, unknown_extern, reserved}
+use Rattle.ir_types.specs.PlainFaults.{HasNoPlainFault, unknown_extern, reserved}
 use Rattle.ir_types.specs.Faults.UnknownExtern.{UnknownExtern}
 use Rattle.ir_types.specs.Faults.Reserved.{declares_helper}
 use Rattle.ir_types.specs.Faults.TypeClash.{agrees, starts_task, is_task, call_agrees}
@@ -39,7 +39,7 @@ layout_names : List Line → List (List ℕ)
 layout_names lines = map (λ one. one.name) (layouts_of lines)
 
 -- a declaration of faultless lines is one of the externals, and no helper
-pub declared : (lines : List Line) → HasNoFault lines → (l : Line) → Contains lines l → (answer : TypeWord) (name : List ℕ) (parameters : List Named)
+pub declared : (lines : List Line) → HasNoPlainFault lines → (l : Line) → Contains lines l → (answer : TypeWord) (name : List ℕ) (parameters : List Named)
     → l.says ≡ declare answer name parameters
     → Contains (externals_of (map (λ one. one.name) (layouts_of lines))) (external name answer (types_of parameters)) × (¬ (Contains helpers name))
 declared lines none l inside answer name parameters e =
@@ -297,7 +297,7 @@ calls_external lines func name answer passed e c there =
 
 -- ---- a call
 
-no_definition_of : (lines : List Line) → HasNoFault lines → (h : Head) → Contains (heads_of lines) h → h.defined ≡ false → (name : List ℕ) → h.name ≡ name
+no_definition_of : (lines : List Line) → HasNoPlainFault lines → (h : Head) → Contains (heads_of lines) h → h.defined ≡ false → (name : List ℕ) → h.name ≡ name
     → place_in (names_defined lines) name ≡ None
 no_definition_of lines none h there undefined name same =
     unplaced (λ (one : Definition). one.name) (definitions_of lines) name

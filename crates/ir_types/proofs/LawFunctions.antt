@@ -41,7 +41,7 @@ use Rattle.ir_types.specs.Scope.{scope_of, block_number}
 use Rattle.ir_types.specs.Modules.{known_of, type_of, operand_of, label_of, argument_of, block_of, instruction_said}
 use Rattle.ir_types.specs.Faults.PointerOrder as words
 use Rattle.ir_types.specs.Faults.Reserved.{names_value, names_label}
-use Rattle.ir_types.specs.FaultSet.{reserved}
+use Rattle.ir_types.specs.PlainFaults.{reserved}
 use Rattle.ir_types.specs.ReadLines.{SaysRead, IsReadArgument, IsNameIfAny, IsValueType, IsReadCall}
 use Rattle.ir_types.specs.TypedModules.{IsTypedFunction}
 use Rattle.ir_types.proofs.LawBodies.{body_insts, func_insts}

@@ -8,7 +8,7 @@ use Rattle.ir_ast.specs.Lists.{Distinct}
 use Rattle.ir_types.specs.Statements.{Line, Statement, layout, declare, define}
 use Rattle.ir_types.specs.Sections.{Head, Definition, LayoutLine, types_of, head_said, heads_of, definition_said, definitions_of, layout_said, layouts_of, is_close}
 use Rattle.ir_types.specs.Faults.NameTwice.{layout_again, head_again, label_again, value_again}
-use Rattle.ir_types.specs.FaultSet.{HasNoFault, name_twice}
+use Rattle.ir_types.specs.PlainFaults.{HasNoPlainFault, name_twice}
 use Rattle.ir_types.proofs.LawNames.{Stands, stands, contains_get, get_contained, contains_first, contains_later, contains_map, distinct-once, same_by_name, apart-distinct, distinct-apart, apart-filter}
 
 abbrev pub head_of : Definition → Head
@@ -94,17 +94,17 @@ heads-from (l ∷ ls) = head_from l.number l.says ls (heads-from ls)
 
 -- ---- names that stand once
 
-pub heads-distinct : (lines : List Line) → HasNoFault lines → Distinct (map (λ one. one.name) (heads_of lines))
+pub heads-distinct : (lines : List Line) → HasNoPlainFault lines → Distinct (map (λ one. one.name) (heads_of lines))
 heads-distinct lines none = distinct-once (heads_of lines) (λ one. one.line) (λ one. one.name) (λ n r. none n 3 (name_twice (head_again r)))
 
-pub layouts-distinct : (lines : List Line) → HasNoFault lines → Distinct (map (λ one. one.name) (layouts_of lines))
+pub layouts-distinct : (lines : List Line) → HasNoPlainFault lines → Distinct (map (λ one. one.name) (layouts_of lines))
 layouts-distinct lines none = distinct-once (layouts_of lines) (λ one. one.line) (λ one. one.name) (λ n r. none n 3 (name_twice (layout_again r)))
 
 names_headed : (defs : List Definition) → map (λ (one : Head). one.name) (map head_of defs) ≡ map (λ (one : Definition). one.name) defs
 names_headed [] = refl
 names_headed (d ∷ ds) = ap (λ ns. d.name ∷ ns) (names_headed ds)
 
-pub definitions-distinct : (lines : List Line) → HasNoFault lines → Distinct (map (λ one. one.name) (definitions_of lines))
+pub definitions-distinct : (lines : List Line) → HasNoPlainFault lines → Distinct (map (λ one. one.name) (definitions_of lines))
 definitions-distinct lines none =
     let heads = apart-filter (λ (h : Head). h.defined) (λ (h : Head). h.name) (heads_of lines)
     (apart-distinct (map (λ (h : Head). h.name) (heads_of lines)) (heads-distinct lines none)) in
@@ -112,12 +112,12 @@ definitions-distinct lines none =
     (subst Rattle.ir_types.proofs.LawNames.Apart
     (ap (map (λ (h : Head). h.name)) (sym (definitions-heads lines)) ∙ names_headed (definitions_of lines)) heads)
 
-pub values-distinct : (lines : List Line) → HasNoFault lines → (func : Definition) → Contains (definitions_of lines) func
+pub values-distinct : (lines : List Line) → HasNoPlainFault lines → (func : Definition) → Contains (definitions_of lines) func
     → Distinct (map (λ one. one.name) (Rattle.ir_types.specs.Sections.values_of func))
 values-distinct lines none func defined =
     distinct-once (Rattle.ir_types.specs.Sections.values_of func) (λ one. one.line) (λ one. one.name) (λ n r. none n 3 (name_twice (value_again func defined r)))
 
-pub blocks-distinct : (lines : List Line) → HasNoFault lines → (func : Definition) → Contains (definitions_of lines) func
+pub blocks-distinct : (lines : List Line) → HasNoPlainFault lines → (func : Definition) → Contains (definitions_of lines) func
     → Distinct (map (λ one. one.name) (Rattle.ir_types.specs.Sections.blocks_of func))
 blocks-distinct lines none func defined =
     distinct-once (Rattle.ir_types.specs.Sections.blocks_of func) (λ one. one.line) (λ one. one.name) (λ n r. none n 3 (name_twice (label_again func defined r)))

@@ -26,7 +26,7 @@ use Rattle.ir_types.specs.Scope.{Scope, scope_of, value_named, block_named, head
 use Rattle.ir_types.specs.Types.{fits, naming_fits}
 use Rattle.ir_types.specs.Modules.{known_of, type_of, operand_in, operand_of, wrapped, function_of, entry_operand}
 use Rattle.ir_types.specs.ReadLines.{IsReadLines, IsReadFunction, SaysRead, IsValueType}
-use Rattle.ir_types.specs.FaultSet.{HasNoFault, unknown_name, type_clash, entry_has_pred, pointer_order, pointer_cast}
+use Rattle.ir_types.specs.PlainFaults.{HasNoPlainFault, unknown_name, type_clash, entry_has_pred, pointer_order, pointer_cast}
 use Rattle.ir_types.specs.Faults.TypeClash.{by_line, clashes, misfits, keeps_rule}
 use Rattle.ir_types.specs.Faults.UnknownName.{names_unknown}
 use Rattle.ir_types.specs.Faults.EntryHasPred.{names_entry}
@@ -40,7 +40,7 @@ use Rattle.ir_types.proofs.LawHeads.{SaysOf, says-defined}
 -- a function of faultless lines that were read
 pub record InLaw (lines : List Line) (func : Definition) : Type 0 where
   pub read : IsReadLines lines
-  pub none : HasNoFault lines
+  pub none : HasNoPlainFault lines
   pub defined : Contains (definitions_of lines) func
 
 pub read_function : (lines : List Line) (func : Definition) → InLaw lines func → IsReadFunction func

@@ -29,7 +29,7 @@ use Rattle.ir_reader.specs.Lists.{Named}
 use Rattle.ir_types.specs.Statements.{Line}
 use Rattle.ir_types.specs.Sections.{Definition, LayoutLine, BlockLines, layouts_of, definitions_of, blocks_of, arguments_named}
 use Rattle.ir_types.specs.Modules.{known_of, type_of, cell_of, layout_of, argument_of, block_of, function_of}
-use Rattle.ir_types.specs.FaultSet.{HasNoFault, bad_layout, no_main, reserved}
+use Rattle.ir_types.specs.PlainFaults.{HasNoPlainFault, bad_layout, no_main, reserved}
 use Rattle.ir_types.specs.Faults.BadLayout.{is_bad_layout, are_cells}
 use Rattle.ir_types.specs.Faults.NoMain.{is_main, takes_nothing, is_status, NoMain}
 use Rattle.ir_types.specs.Faults.Reserved.{defines_external}
@@ -46,7 +46,7 @@ use Rattle.ir_types.proofs.LawPhis.{phis_right}
 
 -- ---- each function
 
-pub each_function : (lines : List Line) → IsReadLines lines → HasNoFault lines → (P : Function → Type 0)
+pub each_function : (lines : List Line) → IsReadLines lines → HasNoPlainFault lines → (P : Function → Type 0)
     → ((func : Definition) → InLaw lines func → P (made lines func)) → All P (content lines).funcs
 each_function lines read none P f =
     All-map P (λ (func : Definition). function_of (known_of lines func) func) (definitions_of lines)
@@ -66,7 +66,7 @@ formed_function lines func law =
 
 -- ---- layouts
 
-pub layouts_filled : (lines : List Line) → HasNoFault lines → LayoutsHaveFields (content lines)
+pub layouts_filled : (lines : List Line) → HasNoPlainFault lines → LayoutsHaveFields (content lines)
 layouts_filled lines none =
     All-map (λ (one : ObjectLayout). 0 < length one.fields) layout_of (layouts_of lines)
     (says-layouts (λ one. 0 < length (map cell_of one.fields)) (λ s. is_bad_layout s ≡ false) (λ n name fields e. filled fields e) lines
@@ -100,7 +100,7 @@ pub head_of_function : (lines : List Line) (func : Definition) → InLaw lines f
 head_of_function lines func law =
     (All-contains (SaysOf SaysRead) (definitions_of lines) func (says-defined SaysRead lines law.read.says) law.defined).head
 
-pub limits_kept : (lines : List Line) → IsReadLines lines → HasNoFault lines → IsWithinLimits (content lines)
+pub limits_kept : (lines : List Line) → IsReadLines lines → HasNoPlainFault lines → IsWithinLimits (content lines)
 limits_kept lines read none = record {
   layouts = (let few = read.few_layouts in omega (arith, length-map (layouts_of lines) layout_of));
   functions = (let few = read.few_functions in omega (arith, length-map (definitions_of lines) (λ (func : Definition). function_of (known_of lines func) func)));
@@ -118,7 +118,7 @@ names_mapped : {A B : Type 0} (f : A → B) (of_new : B → List ℕ) (of_old : 
 names_mapped f of_new of_old same [] = refl
 names_mapped f of_new of_old same (x ∷ xs) = ap (λ (n : List ℕ). n ∷ map of_new (map f xs)) (same x) ∙ ap (λ (ns : List (List ℕ)). of_old x ∷ ns) (names_mapped f of_new of_old same xs)
 
-pub names_once : (lines : List Line) → IsReadLines lines → HasNoFault lines → NamesAreDistinct (content lines)
+pub names_once : (lines : List Line) → IsReadLines lines → HasNoPlainFault lines → NamesAreDistinct (content lines)
 names_once lines read none = record {
   layouts = subst Distinct (sym (names_mapped layout_of (λ (one : ObjectLayout). one.name) (λ (one : LayoutLine). one.name) (λ x. refl) (layouts_of lines))) (layouts-distinct lines none);
   functions = subst Distinct (sym (names_mapped (λ (func : Definition). function_of (known_of lines func) func) (λ (one : Function). one.name) (λ (one : Definition). one.name) (λ x. refl) (definitions_of lines)))
@@ -130,7 +130,7 @@ names_once lines read none = record {
       subst Distinct (sym (names-are lines func law)) (values-distinct lines none func law.defined));
 }
 
-pub names_free : (lines : List Line) → IsReadLines lines → HasNoFault lines → FunctionNamesAreFree (content lines)
+pub names_free : (lines : List Line) → IsReadLines lines → HasNoPlainFault lines → FunctionNamesAreFree (content lines)
 names_free lines read none =
     each_function lines read none (λ func. ¬ (IsExternalName func.name)) (λ func law bad. none func.line 14 (reserved (defines_external func law.defined refl bad)))
 
@@ -194,7 +194,7 @@ map_names : (lines : List Line) (defs : List Definition) → AllByRecursion (λ 
 map_names lines [] all = tt
 map_names lines (d ∷ ds) all = (all.0, map_names lines ds all.1)
 
-pub has_main : (lines : List Line) → HasNoFault lines → HasMain (content lines)
+pub has_main : (lines : List Line) → HasNoPlainFault lines → HasMain (content lines)
 has_main lines none =
     let F : Definition → Function = λ func. function_of (known_of lines func) func in
     let is : is_main (find (λ func. bytes_eq func.name (codes "main")) (definitions_of lines)) ≡ true =
@@ -240,11 +240,11 @@ few_in_all lines read =
 
 -- ---- the module can be printed and analysed
 
-pub module_typed : (lines : List Line) → IsReadLines lines → HasNoFault lines → ModuleIsTyped (content lines)
+pub module_typed : (lines : List Line) → IsReadLines lines → HasNoPlainFault lines → ModuleIsTyped (content lines)
 module_typed lines read none =
     each_function lines read none (λ func. FunctionIsTyped (Rattle.ir_ast.specs.Scope.scope_of (content lines) func) func) (λ func law. function_typed lines func law)
 
-pub module_formed : (lines : List Line) → IsReadLines lines → HasNoFault lines → IsFormedModule (content lines)
+pub module_formed : (lines : List Line) → IsReadLines lines → HasNoPlainFault lines → IsFormedModule (content lines)
 module_formed lines read none = record {
   formed = each_function lines read none IsFormed (formed_function lines);
   known = each_function lines read none (GlobalNamesAreKnown (content lines)) (global_known lines);

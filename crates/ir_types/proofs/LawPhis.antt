@@ -32,7 +32,7 @@ use Rattle.ir_types.specs.Scope.{scope_of, block_number}
 use Rattle.ir_types.specs.Modules.{Known, known_of, type_of, entry_operand, entry_label, label_in, label_of, instruction, instruction_said, insts_of, block_of, binary_of, conversion_of, case_labels}
 use Rattle.ir_types.specs.Faults.PhiEdges as wrong
 use Rattle.ir_types.specs.Faults.PhiEdges.{PhiEdges, PhiIsWrong, late, uncounted, differ}
-use Rattle.ir_types.specs.FaultSet.{phi_edges}
+use Rattle.ir_types.specs.PlainFaults.{phi_edges}
 use Rattle.ir_types.specs.ReadLines.{CasesStand, opens_case}
 use Rattle.ir_types.proofs.LawBodies.{insts_said, insts-cons, until-label, until-other}
 use Rattle.ir_types.proofs.LawFacts.{true-false}

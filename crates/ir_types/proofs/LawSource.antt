@@ -8,7 +8,7 @@ use Rattle.ir_cfg.specs.DefiniteUses.{UsesAreDefinite}
 use Rattle.ir_cfg.specs.SourceModules.{IsSourceModule}
 use Rattle.ir_types.specs.Statements.{Line}
 use Rattle.ir_types.specs.Sections.{Definition}
-use Rattle.ir_types.specs.FaultSet.{HasNoFault as TextHasNoFault}
+use Rattle.ir_types.specs.PlainFaults.{HasNoPlainFault as TextHasNoFault}
 use Rattle.ir_types.specs.ReadLines.{IsReadLines}
 use Rattle.ir_types.specs.TypedModules.{IsTypedFunction, IsTypedModule}
 use Rattle.ir_types.proofs.LawLines.{InLaw, made}

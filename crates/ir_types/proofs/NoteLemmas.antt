@@ -3,7 +3,7 @@ use Rattle.std.proofs.Common.{◌≡◌, ◌∙◌, ℕ, ◌⊎◌, inl, inr, Bo
 use Rattle.std.specs.Prelude.{Option, Some, None, not, IsTrue, ◌↔◌}
 use Rattle.ir_types.specs.declared.faults.Fault.{Fault}
 use Rattle.ir_types.specs.Statements.{Line}
-use Rattle.ir_types.specs.FaultSet.{ComesFirst, HasFault, IsLeastFault, HasNoFault}
+use Rattle.ir_types.specs.PlainFaults.{ComesFirst, HasPlainFault, IsLeastPlainFault, HasNoPlainFault}
 use Rattle.ir_types.specs.Notes.{Notes, IsUpTo, HasSource, Is}
 
 abbrev pub Either : (ℕ → ℕ → Type 0) → (ℕ → ℕ → Type 0) → ℕ → ℕ → Type 0
@@ -58,15 +58,15 @@ first-of : (fault kept : Fault) (line code : ℕ) → Some fault ≡ Some kept �
 first-of fault kept line code e f = let same : kept ≡ fault = cc in subst (λ (one : Fault). ComesFirst one.line one.code line code) same f
 
 -- nothing was kept before: what is kept is the least fault
-pub notes-least : (lines : List Line) (fault : Fault) → Notes None (Some fault) (λ line code. HasFault lines line code)
-    → IsLeastFault lines fault.line fault.code
+pub notes-least : (lines : List Line) (fault : Fault) → Notes None (Some fault) (λ line code. HasPlainFault lines line code)
+    → IsLeastPlainFault lines fault.line fault.code
 notes-least lines fault n = record {
-  is = found-in fault (λ line code. HasFault lines line code) n.source;
+  is = found-in fault (λ line code. HasPlainFault lines line code) n.source;
   least = λ line code f. let u = n.least line code f in first-of fault u.fault line code u.is u.first;
 }
 
 -- nothing is kept: there is no fault
-pub notes-none : (lines : List Line) → Notes None None (λ line code. HasFault lines line code) → HasNoFault lines
+pub notes-none : (lines : List Line) → Notes None None (λ line code. HasPlainFault lines line code) → HasNoPlainFault lines
 notes-none lines n = λ line code f. let u = n.least line code f in let bad : None ≡ Some u.fault = u.is in cc
 
 -- ---- sets of faults that are the same

@@ -12,7 +12,7 @@ use Rattle.ir_ast.specs.Modules.{LinedModule}
 use Rattle.ir_types.specs.Statements.{Line}
 use Rattle.ir_types.specs.Sections.{definitions_of, blocks_of}
 use Rattle.ir_types.specs.Modules.{known_of, block_of, module_of}
-use Rattle.ir_types.specs.FaultSet.{HasNoFault}
+use Rattle.ir_types.specs.PlainFaults.{HasNoPlainFault}
 use Rattle.ir_types.specs.TypedModules.{IsTypedModule}
 use Rattle.ir_types.proofs.LawSource.{typed_module}
 use Rattle.ir_types.specs.Views.{seen_line, seen_lines}
@@ -62,10 +62,10 @@ read_law r read =
     }
 
 -- the law of the typer: a text that was read, without a fault, stands for a typed module
-pub typed_text : (r : Readings) → IsRead r → HasNoFault (seen_lines r.lines) → IsTypedModule (module_of (seen_lines r.lines)).content
+pub typed_text : (r : Readings) → IsRead r → HasNoPlainFault (seen_lines r.lines) → IsTypedModule (module_of (seen_lines r.lines)).content
 typed_text r read none = typed_module (seen_lines r.lines) (read_law r read) none
 
 -- and so does what typing answers
-pub typed_whole : (r : Readings) → IsRead r → (whole : LinedModule) → whole ≡ module_of (seen_lines r.lines) → HasNoFault (seen_lines r.lines)
+pub typed_whole : (r : Readings) → IsRead r → (whole : LinedModule) → whole ≡ module_of (seen_lines r.lines) → HasNoPlainFault (seen_lines r.lines)
     → IsTypedModule whole.content
 typed_whole r read whole is none = subst (λ (one : LinedModule). IsTypedModule one.content) (sym is) (typed_text r read none)

@@ -14,7 +14,7 @@ use Rattle.ir_types.specs.Faults.NoMain.{NoMain}
 use Rattle.ir_types.specs.Faults.UnknownExtern.{UnknownExtern}
 use Rattle.ir_types.specs.Faults.BadLayout.{are_cells, is_bad_layout, BadLayout}
 use Rattle.ir_types.specs.Faults.Reserved.{Reserved, defines_external, declares_helper, names_value, names_label}
-use Rattle.ir_types.specs.FaultSet.{HasFault, name_twice, no_strategy, no_main, unknown_extern, bad_layout, reserved}
+use Rattle.ir_types.specs.PlainFaults.{HasPlainFault, name_twice, no_strategy, no_main, unknown_extern, bad_layout, reserved}
 use Rattle.ir_types.specs.Again.{NamesInserted, FoundByNames, named_values, named_blocks}
 use Rattle.ir_types.specs.TopFaults.{DeclareFault, DefineFault, OuterFault, FoundByTop}
 use Rattle.ir_types.proofs.Members.{contains-none, contains-here, contains-there, contains-one, contains-cases, contains-map, contains-image, IsImage, contains-joined, joined-contains}
@@ -131,10 +131,10 @@ layout_names lines = map (λ one. one.name) (layouts_of lines)
 
 declared-fault : (lines : List Line) (line code : ℕ) (answer : TypeWord) (name : List ℕ) (parameters : List Named)
     → Contains lines (at line (declare answer name parameters))
-    → DeclareFault (function_names lines) (layout_names lines) answer name parameters code → HasFault lines line code
+    → DeclareFault (function_names lines) (layout_names lines) answer name parameters code → HasPlainFault lines line code
 declared-fault lines line code answer name parameters inside (inl f) =
     let d = defined-head lines name (contains-image (λ (one : Definition). one.name) (definitions_of lines) name f.1) in
-    subst (λ (c : ℕ). HasFault lines line c) (sym f.0) (name_twice (declares_defined (record {
+    subst (λ (c : ℕ). HasPlainFault lines line c) (sym f.0) (name_twice (declares_defined (record {
       declared = record { line = line; defined = false; name = name; answer = answer; parameters = types_of parameters };
       stands = line-head lines (at line (declare answer name parameters)) _ inside refl;
       is_declared = refl;
@@ -145,7 +145,7 @@ declared-fault lines line code answer name parameters inside (inl f) =
       same = d.named;
     })))
 declared-fault lines line code answer name parameters inside (inr (inl f)) =
-    subst (λ (c : ℕ). HasFault lines line c) (sym f.0) (unknown_extern (record {
+    subst (λ (c : ℕ). HasPlainFault lines line c) (sym f.0) (unknown_extern (record {
       answer = answer;
       name = name;
       parameters = parameters;
@@ -153,12 +153,12 @@ declared-fault lines line code answer name parameters inside (inr (inl f)) =
       unknown = f.1;
     }))
 declared-fault lines line code answer name parameters inside (inr (inr f)) =
-    subst (λ (c : ℕ). HasFault lines line c) (sym f.0) (reserved (declares_helper answer name parameters inside f.1))
+    subst (λ (c : ℕ). HasPlainFault lines line c) (sym f.0) (reserved (declares_helper answer name parameters inside f.1))
 
 defined-fault : (lines : List Line) (line code : ℕ) (answer : TypeWord) (name : List ℕ) (arguments : List Named) (strategy : Option (List ℕ))
-    → Contains lines (at line (define answer name arguments strategy)) → DefineFault name strategy code → HasFault lines line code
+    → Contains lines (at line (define answer name arguments strategy)) → DefineFault name strategy code → HasPlainFault lines line code
 defined-fault lines line code answer name arguments strategy inside (inl f) =
-    subst (λ (c : ℕ). HasFault lines line c) (sym f.0) (no_strategy (record {
+    subst (λ (c : ℕ). HasPlainFault lines line c) (sym f.0) (no_strategy (record {
       found = at line (define answer name arguments strategy);
       inside = inside;
       number = refl;
@@ -166,13 +166,13 @@ defined-fault lines line code answer name arguments strategy inside (inl f) =
     }))
 defined-fault lines line code answer name arguments strategy inside (inr f) =
     let is = line-definition lines line answer name arguments strategy inside in
-    subst (λ (c : ℕ). HasFault lines line c) (sym f.0)
+    subst (λ (c : ℕ). HasPlainFault lines line c) (sym f.0)
     (reserved (defines_external is.func is.defined is.line (subst (λ (n : List ℕ). IsExternalName n) (sym is.named) f.1)))
 
 outer-fault : (lines : List Line) (line code : ℕ) (says : Statement) → Contains lines (at line says)
-    → OuterFault (function_names lines) (layout_names lines) says code → HasFault lines line code
+    → OuterFault (function_names lines) (layout_names lines) says code → HasPlainFault lines line code
 outer-fault lines line code (layout name fields) inside f =
-    subst (λ (c : ℕ). HasFault lines line c) (sym f.0) (bad_layout (record {
+    subst (λ (c : ℕ). HasPlainFault lines line c) (sym f.0) (bad_layout (record {
       found = at line (layout name fields);
       inside = inside;
       number = refl;
@@ -183,14 +183,14 @@ outer-fault lines line code (define answer name arguments strategy) inside f =
     defined-fault lines line code answer name arguments strategy inside f
 outer-fault lines line code _ inside f = absurd f
 
-pub found_by_top-fault : (lines : List Line) (line code : ℕ) → FoundByTop lines line code → HasFault lines line code
-found_by_top-fault lines line code (inl (e, inl r)) = subst (λ (c : ℕ). HasFault lines line c) (sym e) (name_twice (layout_again r))
-found_by_top-fault lines line code (inl (e, inr r)) = subst (λ (c : ℕ). HasFault lines line c) (sym e) (name_twice (head_again r))
+pub found_by_top-fault : (lines : List Line) (line code : ℕ) → FoundByTop lines line code → HasPlainFault lines line code
+found_by_top-fault lines line code (inl (e, inl r)) = subst (λ (c : ℕ). HasPlainFault lines line c) (sym e) (name_twice (layout_again r))
+found_by_top-fault lines line code (inl (e, inr r)) = subst (λ (c : ℕ). HasPlainFault lines line c) (sym e) (name_twice (head_again r))
 found_by_top-fault lines line code (inr (inl f)) =
     outer-fault lines line code f.found.says
     (subst (λ (n : ℕ). Contains lines (at n f.found.says)) f.number f.inside) f.faulty
 found_by_top-fault lines line code (inr (inr f)) =
-    subst (λ (c : ℕ). HasFault lines line c) (sym f.0.1) (no_main (record { at_no_line = f.0.0; lacks = f.1 }))
+    subst (λ (c : ℕ). HasPlainFault lines line c) (sym f.0.1) (no_main (record { at_no_line = f.0.0; lacks = f.1 }))
 
 value-of : (func : Definition) (line : ℕ) (n : NamesInserted (named_values (values_of func)) line)
     → IsImage {Y = ℕ × List ℕ} (λ (one : Naming). (one.line, one.name)) (values_of func) (line, n.name)
@@ -201,18 +201,18 @@ block-of : (func : Definition) (line : ℕ) (n : NamesInserted (named_blocks (bl
 block-of func line n = contains-image {Y = ℕ × List ℕ} (λ (one : BlockLines). (one.line, one.name)) (blocks_of func) (line, n.name) n.given
 
 pub found_by_names-fault : (lines : List Line) (func : Definition) → Contains (definitions_of lines) func → (line code : ℕ)
-    → FoundByNames func line code → HasFault lines line code
+    → FoundByNames func line code → HasPlainFault lines line code
 found_by_names-fault lines func defined line code (inl (inl f)) =
-    subst (λ (c : ℕ). HasFault lines line c) (sym f.0) (name_twice (value_again func defined f.1))
+    subst (λ (c : ℕ). HasPlainFault lines line c) (sym f.0) (name_twice (value_again func defined f.1))
 found_by_names-fault lines func defined line code (inl (inr f)) =
     let i = value-of func line f.1 in
-    subst (λ (c : ℕ). HasFault lines line c) (sym f.0) (reserved (names_value func i.of defined i.inside (ap (λ (p : ℕ × List ℕ). p.0) i.is)
+    subst (λ (c : ℕ). HasPlainFault lines line c) (sym f.0) (reserved (names_value func i.of defined i.inside (ap (λ (p : ℕ × List ℕ). p.0) i.is)
     (subst (λ (n : List ℕ). IsInsertedName n) (sym (ap (λ (p : ℕ × List ℕ). p.1) i.is)) f.1.inserted)))
 found_by_names-fault lines func defined line code (inr (inl f)) =
-    subst (λ (c : ℕ). HasFault lines line c) (sym f.0) (name_twice (label_again func defined f.1))
+    subst (λ (c : ℕ). HasPlainFault lines line c) (sym f.0) (name_twice (label_again func defined f.1))
 found_by_names-fault lines func defined line code (inr (inr f)) =
     let i = block-of func line f.1 in
-    subst (λ (c : ℕ). HasFault lines line c) (sym f.0) (reserved (names_label func i.of defined i.inside (ap (λ (p : ℕ × List ℕ). p.0) i.is)
+    subst (λ (c : ℕ). HasPlainFault lines line c) (sym f.0) (reserved (names_label func i.of defined i.inside (ap (λ (p : ℕ × List ℕ). p.0) i.is)
     (subst (λ (n : List ℕ). IsInsertedName n) (sym (ap (λ (p : ℕ × List ℕ). p.1) i.is)) f.1.inserted)))
 
 -- ---- each fault of these codes is found

@@ -15,7 +15,7 @@ use Rattle.ir_types.specs.TopFaults.{OuterFault, OuterFaults, LacksMain, Declare
 use Rattle.ir_types.specs.Founds.{Found}
 use Rattle.ir_types.specs.LineFaults.{Coded, unknown_name as coded_name, type_clash as coded_clash, entry_has_pred as coded_entry, pointer_order as coded_order, pointer_cast as coded_cast, LineFault}
 use Rattle.ir_types.specs.FunctionFaults.{LinesOf, CasesOf, CasesBehind, WrongCases, CaseIsWrong, PhisOf, PhisOfBlock, StatementIsWrong, EscapesOf, Escapes, FoundWithin, FoundInFunction, InFunctions}
-use Rattle.ir_types.specs.FaultSet.{HasFault, name_twice, unknown_name, type_clash, entry_has_pred, phi_edges, derived_escapes, no_strategy, no_main, unknown_extern, bad_layout, reserved, pointer_order, pointer_cast}
+use Rattle.ir_types.specs.PlainFaults.{HasPlainFault, name_twice, unknown_name, type_clash, entry_has_pred, phi_edges, derived_escapes, no_strategy, no_main, unknown_extern, bad_layout, reserved, pointer_order, pointer_cast}
 use Rattle.ir_types.specs.Faults.NameTwice.{NameTwice, DeclaresDefined, layout_again, head_again, declares_defined, label_again, value_again}
 use Rattle.ir_types.specs.Faults.TypeClash.{TypeClash, CaseClash, by_line, by_case}
 use Rattle.ir_types.specs.Faults.PhiEdges.{PhiEdges}
@@ -34,8 +34,8 @@ abbrev pub FoundInText : List Line → ℕ → ℕ → Type 0
 FoundInText lines line code = FoundByTop lines line code ⊎ InFunctions lines (definitions_of lines) line code
 
 -- ---- a fault of one code, whichever number that is
-at-code : (lines : List Line) (line code number : ℕ) → code ≡ number → HasFault lines line number → HasFault lines line code
-at-code lines line code number e f = subst (λ (n : ℕ). HasFault lines line n) (sym e) f
+at-code : (lines : List Line) (line code number : ℕ) → code ≡ number → HasPlainFault lines line number → HasPlainFault lines line code
+at-code lines line code number e f = subst (λ (n : ℕ). HasPlainFault lines line n) (sym e) f
 
 to-code : (F : ℕ → ℕ → Type 0) (line code number : ℕ) → code ≡ number → F line number → F line code
 to-code F line code number e f = subst (λ (n : ℕ). F line n) (sym e) f
@@ -50,7 +50,7 @@ in-body lines func found line test defined inside number faulty =
 
 fault-of-coded : (lines : List Line) (func : Definition) (found : Line) (line code : ℕ)
     → Contains (definitions_of lines) func → Contains func.body found → line ≡ found.number
-    → LineFault (scope_of lines func) found.says code → HasFault lines line code
+    → LineFault (scope_of lines func) found.says code → HasPlainFault lines line code
 fault-of-coded lines func found line code defined inside number (coded_name e t) =
     at-code lines line code 4 e (unknown_name (in-body lines func found line _ defined inside number t))
 fault-of-coded lines func found line code defined inside number (coded_clash e t) =
@@ -63,7 +63,7 @@ fault-of-coded lines func found line code defined inside number (coded_cast e t)
     at-code lines line code 16 e (pointer_cast (in-body lines func found line _ defined inside number t))
 
 fault-of-line : (lines : List Line) (func : Definition) (line code : ℕ) → Contains (definitions_of lines) func
-    → LinesOf (scope_of lines func) func.body line code → HasFault lines line code
+    → LinesOf (scope_of lines func) func.body line code → HasPlainFault lines line code
 fault-of-line lines func line code defined f =
     fault-of-coded lines func f.here line code defined (contained-found _ func.body line code f) f.faulty.0 f.faulty.1
 
@@ -74,7 +74,7 @@ line-said l number what e f = λ i. record { number = sym e i; says = f i }
 fault-of-case : (lines : List Line) (func : Definition) (line code number width : ℕ) (value : Val) (default : List ℕ) (before behind : List Line)
     → Contains (definitions_of lines) func → func.body ≡ before ++ (record { number = number; says = switch width value default }) ∷ behind
     → (earlier : List Line) (here : Line) (later : List Line) (what : Statement) → cases_of behind ≡ earlier ++ here ∷ later
-    → code ≡ 5 → line ≡ here.number → here.says ≡ what → CaseIsWrong width earlier what → HasFault lines line code
+    → code ≡ 5 → line ≡ here.number → here.says ≡ what → CaseIsWrong width earlier what → HasPlainFault lines line code
 fault-of-case lines func line code number width value default before behind defined whole earlier here later (switch_case case_width case to) cases e is says wrong =
     at-code lines line code 5 e (type_clash (by_case (record {
       func = func;
@@ -98,7 +98,7 @@ fault-of-case lines func line code number width value default before behind defi
 
 fault-of-cases : (lines : List Line) (func : Definition) (line code : ℕ) (before : List Line) (here : Line) (behind : List Line) (what : Statement)
     → Contains (definitions_of lines) func → func.body ≡ before ++ here ∷ behind → here.says ≡ what → CasesBehind what behind line code
-    → HasFault lines line code
+    → HasPlainFault lines line code
 fault-of-cases lines func line code before here behind (switch width value default) defined whole says f =
     fault-of-case lines func line code here.number width value default before behind defined
     (whole ∙ ap (λ (l : Line). before ++ l ∷ behind) (line-said here here.number (switch width value default) refl says))
@@ -109,7 +109,7 @@ fault-of-phi : (lines : List Line) (func : Definition) (line code : ℕ) (earlie
     → Contains (definitions_of lines) func → blocks_of func ≡ earlier ++ block ∷ later
     → (before : List Line) (here : Line) (after : List Line) (what : Statement) → block.lines ≡ before ++ here ∷ after
     → code ≡ 7 → line ≡ here.number → here.says ≡ what → StatementIsWrong (scope_of lines func) (length earlier) before what
-    → HasFault lines line code
+    → HasPlainFault lines line code
 fault-of-phi lines func line code earlier block later defined blocks before here after (phi result ty entries) stands e is says wrong =
     at-code lines line code 7 e (phi_edges (record {
       func = func;
@@ -130,13 +130,13 @@ fault-of-phi lines func line code earlier block later defined blocks before here
 
 fault-of-block : (lines : List Line) (func : Definition) (line code : ℕ) (earlier : List BlockLines) (block : BlockLines) (later : List BlockLines)
     → Contains (definitions_of lines) func → blocks_of func ≡ earlier ++ block ∷ later
-    → PhisOfBlock (scope_of lines func) (length earlier) block.lines line code → HasFault lines line code
+    → PhisOfBlock (scope_of lines func) (length earlier) block.lines line code → HasPlainFault lines line code
 fault-of-block lines func line code earlier block later defined blocks f =
     fault-of-phi lines func line code earlier block later defined blocks f.before f.here f.after f.here.says f.whole
     f.faulty.0 f.faulty.1 refl f.faulty.2
 
 fault-of-escape : (lines : List Line) (func : Definition) (line code : ℕ) → Contains (definitions_of lines) func
-    → EscapesOf func func.body line code → HasFault lines line code
+    → EscapesOf func func.body line code → HasPlainFault lines line code
 fault-of-escape lines func line code defined f =
     at-code lines line code 9 f.faulty.0 (derived_escapes (record {
       func = func;
@@ -150,7 +150,7 @@ fault-of-escape lines func line code defined f =
     }))
 
 fault-within : (lines : List Line) (func : Definition) (line code : ℕ) → Contains (definitions_of lines) func
-    → FoundWithin (scope_of lines func) func line code → HasFault lines line code
+    → FoundWithin (scope_of lines func) func line code → HasPlainFault lines line code
 fault-within lines func line code defined (inl f) = fault-of-line lines func line code defined f
 fault-within lines func line code defined (inr (inl f)) =
     fault-of-cases lines func line code f.before f.here f.after f.here.says defined f.whole refl f.faulty
@@ -162,7 +162,7 @@ inserted-named : (one name : List ℕ) → one ≡ name → IsInsertedName name 
 inserted-named one name e n = subst IsInsertedName (sym e) n
 
 fault-of-values : (lines : List Line) (func : Definition) (line code : ℕ) → Contains (definitions_of lines) func
-    → NamesFound (named_values (values_of func)) line code → HasFault lines line code
+    → NamesFound (named_values (values_of func)) line code → HasPlainFault lines line code
 fault-of-values lines func line code defined (inl f) = at-code lines line code 3 f.0 (name_twice (value_again func defined f.1))
 fault-of-values lines func line code defined (inr f) =
     let m : IsMapped (λ (one : Naming). (one.line, one.name)) (values_of func) (line, f.1.name)
@@ -171,7 +171,7 @@ fault-of-values lines func line code defined (inr f) =
     (inserted-named m.from.name f.1.name (ap (λ (p : ℕ × List ℕ). p.1) m.gives) f.1.inserted)))
 
 fault-of-blocks : (lines : List Line) (func : Definition) (line code : ℕ) → Contains (definitions_of lines) func
-    → NamesFound (named_blocks (blocks_of func)) line code → HasFault lines line code
+    → NamesFound (named_blocks (blocks_of func)) line code → HasPlainFault lines line code
 fault-of-blocks lines func line code defined (inl f) = at-code lines line code 3 f.0 (name_twice (label_again func defined f.1))
 fault-of-blocks lines func line code defined (inr f) =
     let m : IsMapped (λ (one : BlockLines). (one.line, one.name)) (blocks_of func) (line, f.1.name)
@@ -180,7 +180,7 @@ fault-of-blocks lines func line code defined (inr f) =
     (inserted-named m.from.name f.1.name (ap (λ (p : ℕ × List ℕ). p.1) m.gives) f.1.inserted)))
 
 fault-in-function : (lines : List Line) (func : Definition) (line code : ℕ) → Contains (definitions_of lines) func
-    → FoundInFunction (scope_of lines func) func line code → HasFault lines line code
+    → FoundInFunction (scope_of lines func) func line code → HasPlainFault lines line code
 fault-in-function lines func line code defined (inl (inl f)) = fault-of-values lines func line code defined f
 fault-in-function lines func line code defined (inl (inr f)) = fault-of-blocks lines func line code defined f
 fault-in-function lines func line code defined (inr f) = fault-within lines func line code defined f
@@ -247,7 +247,7 @@ contained-as lines l line what within e f =
 fault-of-declare : (lines : List Line) (l : Line) (line code : ℕ) (answer : TypeWord) (name : List ℕ) (parameters : List Named)
     → Contains lines l → l.number ≡ line → l.says ≡ declare answer name parameters
     → DeclareFault (map (λ one. one.name) (definitions_of lines)) (map (λ one. one.name) (layouts_of lines)) answer name parameters code
-    → HasFault lines line code
+    → HasPlainFault lines line code
 fault-of-declare lines l line code answer name parameters within e says (inl f) =
     let h : IsHeadOf lines l.number name false = head-declared lines l answer name parameters within says in
     let other = head-of-name lines name f.1 in
@@ -275,7 +275,7 @@ fault-of-declare lines l line code answer name parameters within e says (inr (in
 
 fault-of-define : (lines : List Line) (l : Line) (line code : ℕ) (answer : TypeWord) (name : List ℕ) (arguments : List Named) (strategy : Option (List ℕ))
     → Contains lines l → l.number ≡ line → l.says ≡ define answer name arguments strategy → DefineFault name strategy code
-    → HasFault lines line code
+    → HasPlainFault lines line code
 fault-of-define lines l line code answer name arguments strategy within e says (inl f) =
     at-code lines line code 10 f.0 (no_strategy (record {
       found = l;
@@ -290,7 +290,7 @@ fault-of-define lines l line code answer name arguments strategy within e says (
 
 fault-of-layout : (lines : List Line) (l : Line) (line code : ℕ) (name : List ℕ) (fields : List TypeWord)
     → Contains lines l → l.number ≡ line → l.says ≡ layout name fields → (code ≡ 13) × (are_cells fields ≡ false)
-    → HasFault lines line code
+    → HasPlainFault lines line code
 fault-of-layout lines l line code name fields within e says f =
     at-code lines line code 13 f.0 (bad_layout (record {
       found = l;
@@ -300,20 +300,20 @@ fault-of-layout lines l line code name fields within e says f =
     }))
 
 fault-outside : (lines : List Line) (l : Line) (line code : ℕ) (what : Statement) → Contains lines l → l.number ≡ line → l.says ≡ what
-    → OuterFault (map (λ one. one.name) (definitions_of lines)) (map (λ one. one.name) (layouts_of lines)) what code → HasFault lines line code
+    → OuterFault (map (λ one. one.name) (definitions_of lines)) (map (λ one. one.name) (layouts_of lines)) what code → HasPlainFault lines line code
 fault-outside lines l line code (layout name fields) within e says f = fault-of-layout lines l line code name fields within e says f
 fault-outside lines l line code (declare answer name parameters) within e says f = fault-of-declare lines l line code answer name parameters within e says f
 fault-outside lines l line code (define answer name arguments strategy) within e says f = fault-of-define lines l line code answer name arguments strategy within e says f
 fault-outside lines l line code _ within e says f = absurd f
 
-fault-at-top : (lines : List Line) (line code : ℕ) → FoundByTop lines line code → HasFault lines line code
+fault-at-top : (lines : List Line) (line code : ℕ) → FoundByTop lines line code → HasPlainFault lines line code
 fault-at-top lines line code (inl (e, inl r)) = at-code lines line code 3 e (name_twice (layout_again r))
 fault-at-top lines line code (inl (e, inr r)) = at-code lines line code 3 e (name_twice (head_again r))
 fault-at-top lines line code (inr (inl f)) = fault-outside lines f.found line code f.found.says f.inside f.number refl f.faulty
 fault-at-top lines line code (inr (inr f)) =
     at-code lines line code 11 f.0.1 (no_main (record { at_no_line = f.0.0; lacks = f.1 }))
 
-pub fault-found : (lines : List Line) (line code : ℕ) → FoundInText lines line code → HasFault lines line code
+pub fault-found : (lines : List Line) (line code : ℕ) → FoundInText lines line code → HasPlainFault lines line code
 fault-found lines line code (inl f) = fault-at-top lines line code f
 fault-found lines line code (inr f) =
     fault-in-function lines f.here line code (contained-found _ (definitions_of lines) line code f) f.faulty
@@ -464,7 +464,7 @@ clash-found : (lines : List Line) (line : ℕ) → TypeClash lines line → Foun
 clash-found lines line (by_line b) = by-line-found lines line 5 _ b (λ t. coded_clash refl t)
 clash-found lines line (by_case c) = case-found lines line c
 
-pub found-fault : (lines : List Line) (line code : ℕ) → HasFault lines line code → FoundInText lines line code
+pub found-fault : (lines : List Line) (line code : ℕ) → HasPlainFault lines line code → FoundInText lines line code
 found-fault lines line _ (name_twice f) = twice-found lines line f
 found-fault lines line _ (unknown_name b) = by-line-found lines line 4 _ b (λ t. coded_name refl t)
 found-fault lines line _ (type_clash f) = clash-found lines line f
@@ -481,15 +481,15 @@ found-fault lines line _ (pointer_order b) = by-line-found lines line 15 _ b (λ
 found-fault lines line _ (pointer_cast b) = by-line-found lines line 16 _ b (λ t. coded_cast refl t)
 
 -- what the passes find together is what has a fault
-pub notes-faults : (lines : List Line) (old new : Option Fault) → Notes old new (FoundInText lines) → Notes old new (λ line code. HasFault lines line code)
+pub notes-faults : (lines : List Line) (old new : Option Fault) → Notes old new (FoundInText lines) → Notes old new (λ line code. HasPlainFault lines line code)
 notes-faults lines old new n =
-    notes-same old new (FoundInText lines) (λ line code. HasFault lines line code) (fault-found lines) (found-fault lines) n
+    notes-same old new (FoundInText lines) (λ line code. HasPlainFault lines line code) (fault-found lines) (found-fault lines) n
 
 -- the passes over a text, one after another
 pub notes-text : (lines : List Line) (old a b c new : Option Fault) → Notes old a (TopAgain lines)
     → Notes a b (OuterFaults (map (λ one. one.name) (definitions_of lines)) (map (λ one. one.name) (layouts_of lines)) lines)
     → Notes b c (LacksMain (definitions_of lines)) → Notes c new (InFunctions lines (definitions_of lines))
-    → Notes old new (λ line code. HasFault lines line code)
+    → Notes old new (λ line code. HasPlainFault lines line code)
 notes-text lines old a b c new m n p q =
     notes-faults lines old new
     (notes-then old c new (FoundByTop lines) (InFunctions lines (definitions_of lines))
@@ -501,7 +501,7 @@ pub notes-whole : (lines : List Line) (functions layouts : List (List ℕ)) (mai
     → functions ≡ map (λ one. one.name) (definitions_of lines) → layouts ≡ map (λ one. one.name) (layouts_of lines)
     → mains ≡ definitions_of lines → funcs ≡ definitions_of lines
     → Notes old a (TopAgain lines) → Notes a b (OuterFaults functions layouts lines) → Notes b c (LacksMain mains)
-    → Notes c new (InFunctions lines funcs) → Notes old new (λ line code. HasFault lines line code)
+    → Notes c new (InFunctions lines funcs) → Notes old new (λ line code. HasPlainFault lines line code)
 notes-whole lines functions layouts mains funcs old a b c new e f g h m n p q =
     notes-text lines old a b c new m
     (subst (λ (ls : List (List ℕ)). Notes a b (OuterFaults (map (λ one. one.name) (definitions_of lines)) ls lines)) f

@@ -8,7 +8,7 @@ pub mod Modules
 pub mod Types
 pub mod InBody
 pub mod Faults
-pub mod FaultSet
+pub mod PlainFaults
 pub mod Answers
 pub mod Notes
 pub mod Placed

@@ -2,7 +2,7 @@
 
 ghost use Rattle.std.specs.Prelude.{◌≡◌, None, IfOk, OnOk, List, [], map};
 ghost use Rattle.ir_reader.specs.Seen.{seen_argument};
-ghost use Rattle.ir_types.specs.FaultSet.{HasFault};
+ghost use Rattle.ir_types.specs.PlainFaults.{HasPlainFault};
 ghost use Rattle.ir_types.specs.FunctionFaults.{FoundWithin, FoundInFunction, InFunctions};
 ghost use Rattle.ir_types.specs.Notes.{Notes};
 ghost use Rattle.ir_types.specs.Scope.{scope_of};
@@ -98,7 +98,7 @@ pub(crate) fn first_fault(
     alloc: Global,
     lines: &[NumberedReading],
 ) -> Result<Option<Fault>, AllocError>
-    ensures { IfOk result (λ found. Notes None found (λ line code. HasFault (seen_lines lines.now) line code)) }
+    ensures { IfOk result (λ found. Notes None found (λ line code. HasPlainFault (seen_lines lines.now) line code)) }
 {
     let mut first = First::NONE;
     let top = Top::of(alloc, lines, &mut first)?;

@@ -3,7 +3,7 @@
 ghost use Rattle.std.specs.Prelude.{IfOk};
 ghost use Rattle.ir_ast.specs.Formed.{IsFormedModule};
 ghost use Rattle.ir_types.specs.Answers.{Answers};
-ghost use Rattle.ir_types.specs.FaultSet.{HasNoFault};
+ghost use Rattle.ir_types.specs.PlainFaults.{HasNoPlainFault};
 ghost use Rattle.ir_types.specs.TypedModules.{IsTypedModule};
 ghost use Rattle.ir_types.specs.Views.{seen_lines};
 
@@ -30,7 +30,7 @@ pub fn typed(alloc: Global, raw: Raw) -> Result<Module, TypeFault>
 
 // The module of readings without a fault.
 fn faultless(alloc: Global, raw: &Raw) -> Result<Module, TypeFault>
-    requires { HasNoFault (seen_lines raw.now.lines) }
+    requires { HasNoPlainFault (seen_lines raw.now.lines) }
     ensures answers { Answers (seen_lines raw.now.lines) result }
     ensures typed { IfOk result (λ whole. IsTypedModule whole.content) }
     ensures formed { IfOk result (λ whole. IsFormedModule whole.content) }

@@ -6,7 +6,7 @@ use Rattle.ir_types.specs.Statements.{Line}
 use Rattle.ir_types.specs.Faults.NameTwice.{NameTwice, layout_again, head_again, declares_defined, label_again, value_again}
 use Rattle.ir_types.specs.Faults.TypeClash.{by_line, by_case}
 use Rattle.ir_types.specs.Faults.Reserved.{Reserved, defines_external, declares_helper, names_value, names_label}
-use Rattle.ir_types.specs.FaultSet.{HasFault, HasNoFault, name_twice, unknown_name, type_clash, entry_has_pred, phi_edges, derived_escapes, no_strategy, no_main, unknown_extern, bad_layout, reserved, pointer_order, pointer_cast}
+use Rattle.ir_types.specs.PlainFaults.{HasPlainFault, HasNoPlainFault, name_twice, unknown_name, type_clash, entry_has_pred, phi_edges, derived_escapes, no_strategy, no_main, unknown_extern, bad_layout, reserved, pointer_order, pointer_cast}
 use Rattle.read_back.specs.BlocksEnd.{BlocksEnd}
 use Rattle.read_back.specs.Said.{said_by}
 use Rattle.read_back.proofs.BackLines.{said}
@@ -39,10 +39,10 @@ reserved_clear content source lines e line (names_value func one c d at inserted
 reserved_clear content source lines e line (names_label func one c d at inserted) = labels_free content source lines e func c one d inserted
 
 pub no_fault : (content : ModuleContent) → IsSourceModule content → BlocksEnd content → (lines : List Line) → said lines ≡ said_by content
-    → HasNoFault lines
+    → HasNoPlainFault lines
 no_fault content source ends lines e line code f = go code f
   where
-    go : (code : ℕ) → HasFault lines line code → ⊥
+    go : (code : ℕ) → HasPlainFault lines line code → ⊥
     go code (name_twice t) = names_clear content source lines e line t
     go code (unknown_name t) = unknown_name-clear content source lines e line t
     go code (type_clash (by_line t)) = clashes-clear content source lines e line (misfits-clear content source ends lines e line) (named-clear content source lines e line (calls-clear content source lines e line)) t
