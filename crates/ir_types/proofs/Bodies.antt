@@ -46,7 +46,7 @@ in-out : (next : Place) → leads_out (Some next) ≡ false → Inside next
 in-out places.Top e = absurd (let bad : true ≡ false = e in cc)
 in-out next e = tt
 
-stays : (place : Place) (what : Statement) (next : Place) → Inside place → is_close what ≡ false → place_behind place what ≡ Some next → Inside next
+pub stays : (place : Place) (what : Statement) (next : Place) → Inside place → is_close what ≡ false → place_behind place what ≡ Some next → Inside next
 stays place what next in' c e = in-out next (sym (ap leads_out e) ∙ stays-in place what in' c)
 
 abbrev is_closed : Place → Bool

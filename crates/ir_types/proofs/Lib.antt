@@ -21,6 +21,9 @@ pub mod LawModules
 pub mod LawDerived
 pub mod LawSource
 pub mod Runs
+pub mod Rising
+pub mod InOrder
+pub mod PathLaw
 pub mod Formed
 pub mod Bodies
 pub mod Sizes

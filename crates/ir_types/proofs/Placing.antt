@@ -30,17 +30,17 @@ pub record IsPlacedBody (func : Definition) : Type 0 where
   pub short : length func.body ≤ 16777217
   pub few_arguments : length func.arguments ≤ 64
 
-abbrev opens_function : Option Place → Bool
+abbrev pub opens_function : Option Place → Bool
 opens_function (Some places.Entry) = true
 opens_function None = true
 opens_function _ = false
 
-define-opens : (place : Place) (answer : TypeWord) (name : List ℕ) (arguments : List Named) (strategy : Option (List ℕ))
+pub define-opens : (place : Place) (answer : TypeWord) (name : List ℕ) (arguments : List Named) (strategy : Option (List ℕ))
     → opens_function (place_behind place (define answer name arguments strategy)) ≡ true
 define-opens places.Top answer name arguments strategy = refl
 define-opens place answer name arguments strategy = refl
 
-entry-is : (next : Place) → opens_function (Some next) ≡ true → next ≡ places.Entry
+pub entry-is : (next : Place) → opens_function (Some next) ≡ true → next ≡ places.Entry
 entry-is places.Entry e = refl
 entry-is next e = absurd (let bad : false ≡ true = e in cc)
 

@@ -5,14 +5,14 @@ use Rattle.ir_types.specs.declared.faults.TypeFault.{TypeFault}
 use Rattle.ir_types.specs.declared.faults.TypeFault.TheVariants as answers
 use Rattle.ir_types.specs.Statements.{Line}
 use Rattle.ir_types.specs.Modules.{module_of}
-use Rattle.ir_types.specs.PlainFaults.{IsLeastPlainFault, HasNoPlainFault}
+use Rattle.ir_types.specs.FaultSet.{IsLeastFault, HasNoFault}
 
 pub record IsTypedAs (lines : List Line) (whole : LinedModule) : Type 0 where
   pub is : whole ≡ module_of lines
-  pub faultless : HasNoPlainFault lines
+  pub faultless : HasNoFault lines
 
 -- the module, or the least fault, or want of memory
 abbrev pub Answers : List Line → Result LinedModule TypeFault → Type 0
 Answers lines (Ok whole) = IsTypedAs lines whole
-Answers lines (Err (answers.Fault fault)) = IsLeastPlainFault lines fault.line fault.code
+Answers lines (Err (answers.Fault fault)) = IsLeastFault lines fault.line fault.code
 Answers lines (Err answers.Memory) = Unit {0}

@@ -4,6 +4,7 @@ pub mod UnknownName
 pub mod TypeClash
 pub mod EntryHasPred
 pub mod PhiEdges
+pub mod NotDefinite
 pub mod DerivedEscapes
 pub mod NoStrategy
 pub mod NoMain

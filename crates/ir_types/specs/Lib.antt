@@ -9,6 +9,8 @@ pub mod Types
 pub mod InBody
 pub mod Faults
 pub mod PlainFaults
+pub mod FaultSet
+pub mod FirstMissed
 pub mod Answers
 pub mod Notes
 pub mod Placed

@@ -1,4 +1,4 @@
--- The faults of lines, each code in a file of its name, and the least of them.
+-- The faults that lines have without looking at paths, each code in a file of its name, and the least of them.
 use Rattle.std.specs.Prelude.{◌≡◌, ℕ, ◌<◌, ◌≤◌, ◌⊎◌, List}
 use Rattle.ir_types.specs.Statements.{Line}
 use Rattle.ir_types.specs.Faults.NameTwice.{NameTwice}
@@ -15,7 +15,7 @@ use Rattle.ir_types.specs.Faults.Reserved.{Reserved}
 use Rattle.ir_types.specs.Faults.PointerOrder.{PointerOrder}
 use Rattle.ir_types.specs.Faults.PointerCast.{PointerCast}
 
--- the set: a line and a code. That uses are definite stands with the paths.
+-- the set: a line and a code
 pub data HasPlainFault (lines : List Line) (line : ℕ) : ℕ → Type 0 where
   name_twice : NameTwice lines line → HasPlainFault lines line 3
   unknown_name : UnknownName lines line → HasPlainFault lines line 4

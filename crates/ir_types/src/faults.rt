@@ -47,3 +47,11 @@ impl<T: Drop> From<AllocFailed<T>> for TypeFault {
         TypeFault::Memory
     }
 }
+
+impl From<sp_ids::Memory> for TypeFault {
+    ghost from_gives = { λ _ fault. fault ≡ Memory };
+
+    fn from(_memory: sp_ids::Memory) -> Self {
+        TypeFault::Memory
+    }
+}

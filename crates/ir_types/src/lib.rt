@@ -13,6 +13,7 @@ mod literals;
 mod names;
 mod operands;
 mod parts;
+mod paths;
 mod phis;
 mod scope;
 mod sections;

@@ -8,6 +8,7 @@ use std::test::Fail;
 
 mod lines;
 mod modules;
+mod paths;
 mod tops;
 
 const HEAD: &[u8] = b"define void @f(i64 %n, ptr addrspace(1) %p) gc \"statepoint-example\" {\n";

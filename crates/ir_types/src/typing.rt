@@ -1,41 +1,57 @@
 //! The module that readings stand for, or the first fault.
 
-ghost use Rattle.std.specs.Prelude.{IfOk};
+ghost use Rattle.std.specs.Prelude.{◌≡◌, IfOk, None, Some};
 ghost use Rattle.ir_ast.specs.Formed.{IsFormedModule};
+ghost use Rattle.ir_cfg.specs.SourceModules.{IsSourceModule};
 ghost use Rattle.ir_types.specs.Answers.{Answers};
+ghost use Rattle.ir_types.specs.Modules.{module_of};
 ghost use Rattle.ir_types.specs.PlainFaults.{HasNoPlainFault};
 ghost use Rattle.ir_types.specs.TypedModules.{IsTypedModule};
 ghost use Rattle.ir_types.specs.Views.{seen_lines};
 
 use crate::build::module_of;
 use crate::checks::first_fault;
-use crate::faults::TypeFault;
+use crate::faults::{Fault, TypeFault};
+use crate::paths::first_missed;
 use ir_ast::Module;
 use ir_reader::Raw;
 use std::alloc::Global;
 
 /// The source module that the readings of a text stand for, with the lines of its instructions; or the first of its
-/// faults, the least line and of that the least code. That uses are definite is judged apart, over the paths of the
-/// module. [`TypeFault::Memory`] says nothing of the text.
+/// faults, the least line and of that the least code. Whether uses are definite is judged over the paths of a module
+/// without another fault. [`TypeFault::Memory`] says nothing of the text.
 pub fn typed(alloc: Global, raw: Raw) -> Result<Module, TypeFault>
     ensures answers { Answers (seen_lines raw.entry.lines) result }
-    ensures typed { IfOk result (λ whole. IsTypedModule whole.content) }
+    ensures source { IfOk result (λ whole. IsSourceModule whole.content) }
     ensures formed { IfOk result (λ whole. IsFormedModule whole.content) }
 {
     match first_fault(alloc, raw.lines())? {
         Some(fault) => Err(TypeFault::Fault(fault)),
-        None => faultless(alloc, &raw),
+        None => with_paths(alloc, &raw),
     }
 }
 
-// The module of readings without a fault.
-fn faultless(alloc: Global, raw: &Raw) -> Result<Module, TypeFault>
+// The module of readings without a fault but those of paths, or the first of these.
+fn with_paths(alloc: Global, raw: &Raw) -> Result<Module, TypeFault>
     requires { HasNoPlainFault (seen_lines raw.now.lines) }
     ensures answers { Answers (seen_lines raw.now.lines) result }
+    ensures source { IfOk result (λ whole. IsSourceModule whole.content) }
+    ensures formed { IfOk result (λ whole. IsFormedModule whole.content) }
+{
+    let whole = plain_module(alloc, raw)?;
+    match first_missed(alloc, &whole)? {
+        Some(line) => Err(TypeFault::Fault(Fault { line, code: 8 })),
+        None => Ok(whole),
+    }
+}
+
+// The module of readings without a fault but those of paths.
+fn plain_module(alloc: Global, raw: &Raw) -> Result<Module, TypeFault>
+    requires { HasNoPlainFault (seen_lines raw.now.lines) }
+    ensures is { IfOk result (λ whole. whole ≡ module_of (seen_lines raw.now.lines)) }
     ensures typed { IfOk result (λ whole. IsTypedModule whole.content) }
     ensures formed { IfOk result (λ whole. IsFormedModule whole.content) }
 {
-    let lines = raw.lines();
-    let whole = module_of(alloc, lines)?;
+    let whole = module_of(alloc, raw.lines())?;
     Ok(whole)
 }

@@ -6,14 +6,14 @@ use Rattle.ir_printer.specs.Texts.{text_of}
 use Rattle.ir_reader.specs.Text.{Numbered, text_readings}
 use Rattle.ir_types.specs.Statements.{lines_of}
 use Rattle.ir_types.specs.Modules.{module_of}
-use Rattle.ir_types.specs.PlainFaults.{HasNoPlainFault}
+use Rattle.ir_types.specs.FaultSet.{HasNoFault}
 use Rattle.read_back.specs.BlocksEnd.{BlocksEnd}
 
 -- the text has readings, they have no fault, and they stand for the module
 pub record ReadsBack (content : ModuleContent) : Type 0 where
   pub readings : List Numbered
   pub reads : text_readings (text_of content) ≡ Ok readings
-  pub no_fault : HasNoPlainFault (lines_of readings)
+  pub no_fault : HasNoFault (lines_of readings)
   pub same : (module_of (lines_of readings)).content ≡ content
 
 -- That each source module whose printed text is within the file limit reads back. Its blocks end at

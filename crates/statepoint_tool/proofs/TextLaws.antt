@@ -10,7 +10,8 @@ use Rattle.ir_types.specs.declared.faults.TypeFault.{TypeFault as TypingFault}
 use Rattle.ir_types.specs.declared.faults.TypeFault.TheVariants as answers
 use Rattle.ir_types.specs.Views.{seen_line, seen_lines}
 use Rattle.ir_types.specs.Statements.{Line, lines_of}
-use Rattle.ir_types.specs.PlainFaults.{HasNoPlainFault, IsLeastPlainFault, ComesFirst}
+use Rattle.ir_types.specs.PlainFaults.{ComesFirst}
+use Rattle.ir_types.specs.FaultSet.{HasNoFault, IsLeastFault}
 use Rattle.statepoint_tool.specs.Causes.{IsReadAs, IsAccepted, HasTextFault, unread, over_limit, faulty}
 use Rattle.statepoint_tool.specs.NotYet.{first_not_yet}
 use Rattle.statepoint_tool.specs.Steps.{Step, Go, Stop, Then, goes_on, stops}
@@ -39,7 +40,7 @@ same_fault : (one other : TypeFault) → one.line ≡ other.line → one.code �
 same_fault one other line code =
     ap (λ (n : ℕ). record { line = n; code = one.code }) line ∙ ap (λ (n : ℕ). record { line = other.line; code = n }) code
 
-pub one-least : (lines : List Line) (one other : TypeFault) → IsLeastPlainFault lines one.line one.code → IsLeastPlainFault lines other.line other.code → one ≡ other
+pub one-least : (lines : List Line) (one other : TypeFault) → IsLeastFault lines one.line one.code → IsLeastFault lines other.line other.code → one ≡ other
 one-least lines one other p q =
     let first : ComesFirst one.line one.code other.line other.code = p.least other.line other.code q.is in
     let second : ComesFirst other.line other.code one.line one.code = q.least one.line one.code p.is in

@@ -3,7 +3,7 @@ use Rattle.std.specs.Prelude.{◌≡◌, ℕ, List, [], ◌∷◌, Option, Some,
 use Rattle.ir_reader.specs.Text.{Numbered, Fault, syntax_fault, limit_fault, text_readings}
 use Rattle.ir_types.specs.declared.faults.Fault.{Fault as TypeFault}
 use Rattle.ir_types.specs.Statements.{Line, lines_of}
-use Rattle.ir_types.specs.PlainFaults.{HasNoPlainFault, IsLeastPlainFault}
+use Rattle.ir_types.specs.FaultSet.{HasNoFault, IsLeastFault}
 use Rattle.statepoint_tool.specs.Source.{Outcome, source}
 use Rattle.statepoint_tool.specs.NotYet.{first_not_yet}
 use Rattle.statepoint_tool.specs.Taken.{Taken, Bytes, Longer, Faulty}
@@ -25,13 +25,13 @@ pub record IsReadAs (text : List ℕ) (lines : List Line) : Type 0 where
 -- and they have no fault
 pub record IsAccepted (text : List ℕ) (lines : List Line) : Type 0 where
   pub read : IsReadAs text lines
-  pub faultless : HasNoPlainFault lines
+  pub faultless : HasNoFault lines
 
 -- the first line that has no reading or passes a limit; or else the least fault of the lines
 pub data HasTextFault (text : List ℕ) : ModuleFault → Type 0 where
   unread : (line : ℕ) → text_readings text ≡ Err (syntax_fault line) → HasTextFault text (Syntax line)
   over_limit : (line : ℕ) → text_readings text ≡ Err (limit_fault line) → HasTextFault text (Limit line)
-  faulty : (lines : List Line) (fault : TypeFault) → IsReadAs text lines → IsLeastPlainFault lines fault.line fault.code
+  faulty : (lines : List Line) (fault : TypeFault) → IsReadAs text lines → IsLeastFault lines fault.line fault.code
       → HasTextFault text (Typed fault)
 
 -- ---- how far the work goes

@@ -5,7 +5,7 @@ use Rattle.ir_ast.specs.Modules.{ModuleContent}
 use Rattle.ir_reader.specs.Text.{Numbered, Fault, syntax_fault, limit_fault, text_readings}
 use Rattle.ir_types.specs.declared.faults.Fault.{Fault as TypeFault}
 use Rattle.ir_types.specs.Statements.{Line, lines_of}
-use Rattle.ir_types.specs.PlainFaults.{HasNoPlainFault, IsLeastPlainFault}
+use Rattle.ir_types.specs.FaultSet.{HasNoFault, IsLeastFault}
 use Rattle.ir_types.specs.Modules.{module_of}
 use Rattle.ir_printer.specs.Texts.{text_of}
 use Rattle.statepoint_tool.specs.Source.{Outcome, source, text_of_lines}
@@ -59,8 +59,8 @@ content_of lines = (module_of lines).content
 
 -- typing it: the module that the lines stand for where they have no fault, or else the least of their faults
 pub data Typing (lines : List Line) : Step ModuleContent → Type 0 where
-  faultless : HasNoPlainFault lines → Typing lines (Go (content_of lines))
-  faulty : (fault : TypeFault) → IsLeastPlainFault lines fault.line fault.code → Typing lines (Stop (Module (Typed fault)))
+  faultless : HasNoFault lines → Typing lines (Go (content_of lines))
+  faulty : (fault : TypeFault) → IsLeastFault lines fault.line fault.code → Typing lines (Stop (Module (Typed fault)))
 
 abbrev pub module_phase : List ℕ → Step ModuleContent → Type 0
 module_phase text = Then (reading text) Typing

@@ -1,4 +1,6 @@
 use Rattle.std.proofs.lemmas.Result.{err_from_is_err_and}
+use Rattle.ir_types.specs.Views.{seen_lines}
+use Rattle.ir_types.proofs.PathLaw.{plain-least}
 use Rattle.ir_types.proofs.typing.typed.Goals as goal
 
 pub returns-in_err-fault-clause-answers : goal.returns-in_err-fault-clause-answers

@@ -1,0 +1,149 @@
+-- The least fault of lines, by the first fault that isn't one of paths, or by the first line with a use that some path
+-- reaches without its definition.
+use Rattle.std.proofs.Common.{◌≡◌, ℕ, ◌≤◌, ◌<◌, ◌⊎◌, inl, inr, refl, sym, subst, List, length, Some, None, Option, arith}
+use Rattle.std.specs.List.{All}
+use Rattle.std.specs.Prelude.{slice_get, slice_index_or}
+use Rattle.std.proofs.lemmas.Bool.{cases_order}
+use Rattle.std.proofs.lemmas.Option.{slice_get_within, get_or_from_slice_get}
+use Rattle.ir_ast.specs.Funcs.{Function, instructions_of}
+use Rattle.ir_ast.specs.Modules.{LinedModule, line_at}
+use Rattle.ir_cfg.specs.DefiniteUses.{UsesAreDefinite}
+use Rattle.ir_reader.specs.declared.forms.Place.TheVariants as places
+use Rattle.definite_assign.specs.Faults.{HasMissedUse, LineIsDefinite}
+use Rattle.definite_assign.proofs.UseLemmas.{use_within}
+use Rattle.ir_types.specs.Statements.{Line}
+use Rattle.ir_types.specs.Modules.{module_of}
+use Rattle.ir_types.specs.PlainFaults.{HasPlainFault, HasNoPlainFault, IsLeastPlainFault, ComesFirst}
+use Rattle.ir_types.specs.Faults.NotDefinite.{NotDefinite}
+use Rattle.ir_types.specs.FaultSet.{HasFault, HasNoFault, IsLeastFault, plain, not_definite}
+use Rattle.ir_types.specs.FirstMissed.{IsFirstMissed}
+use Rattle.ir_types.specs.TextLines.{Stand}
+use Rattle.ir_types.proofs.Rising.{Within, numbers}
+use Rattle.ir_types.proofs.InOrder.{InOrder, lines_at, module-rises, later-function, later-place, each-lined}
+
+-- ---- where a fault stands without looking at paths
+
+pub plain-least : (lines : List Line) (line code : ℕ) → IsLeastPlainFault lines line code → IsLeastFault lines line code
+plain-least lines line code least = record {
+  is = plain code least.is;
+  least = λ other_line other_code fault. first other_line other_code fault;
+}
+  where
+    first : (other_line other_code : ℕ) → HasFault lines other_line other_code → ComesFirst line code other_line other_code
+    first other_line other_code (plain _ fault) = least.least other_line other_code fault
+    first other_line other_code (not_definite none missed) = absurd (none line code least.is)
+
+-- ---- where none stands
+
+not_missed : (func : Function) (place : ℕ) → LineIsDefinite func place → HasMissedUse func place → ⊥
+not_missed func place definite missed =
+    missed.missed.misses (definite missed.value missed.block missed.place missed.uses missed.missed.path missed.missed.leads)
+
+all_at : (funcs : List Function) (number : ℕ) (func : Function) → All UsesAreDefinite funcs → slice_get funcs number ≡ Some func → UsesAreDefinite func
+all_at funcs number func all stands =
+    subst UsesAreDefinite (get_or_from_slice_get funcs number func func stands) (all number func (slice_get_within funcs number func stands))
+
+none_missed : (lines : List Line) (line : ℕ) → All UsesAreDefinite (module_of lines).content.funcs → NotDefinite lines line → ⊥
+none_missed lines line all fault =
+    not_missed fault.func fault.place
+    (λ value block place used. all_at (module_of lines).content.funcs fault.number fault.func all fault.stands fault.place value block place used) fault.missed
+
+pub definite-faultless : (lines : List Line) → HasNoPlainFault lines → All UsesAreDefinite (module_of lines).content.funcs → HasNoFault lines
+definite-faultless lines none all line _ (plain code fault) = none line code fault
+definite-faultless lines none all line _ (not_definite also missed) = none_missed lines line all missed
+
+-- ---- the first line with a use that isn't definite is the least
+
+missed_within : (func : Function) (place : ℕ) → HasMissedUse func place → place < length (instructions_of func.blocks)
+missed_within func place missed = use_within func place missed.value missed.block missed.place missed.uses
+
+in_lines : (lines : List Line) (number place : ℕ) (func : Function) → slice_get (module_of lines).content.funcs number ≡ Some func → HasMissedUse func place
+    → place < length (lines_at (module_of lines).lines number)
+in_lines lines number place func stands missed =
+    let below = missed_within func place missed in
+    let long = each-lined lines number func stands in omega (arith, below, long)
+
+same_func : (funcs : List Function) (number other : ℕ) (func one : Function) → number ≡ other → slice_get funcs number ≡ Some func
+    → slice_get funcs other ≡ Some one → func ≡ one
+same_func funcs number other func one same stands also =
+    let moved : slice_get funcs number ≡ Some one = subst (λ (n : ℕ). slice_get funcs n ≡ Some one) (sym same) also in cc
+
+-- in one function
+one_function : (lines : List Line) (to number place there : ℕ) (func : Function) → InOrder 1 (module_of lines).lines to
+    → ((earlier : ℕ) → earlier < place → LineIsDefinite func earlier) → HasMissedUse func there
+    → slice_get (module_of lines).content.funcs number ≡ Some func
+    → line_at (module_of lines).lines number place ≤ line_at (module_of lines).lines number there
+one_function lines to number place there func order definite missed stands =
+    elim (cases_order place there) [
+      | inl e ↦ later-place (module_of lines).lines 1 to number place there order (omega (arith, e)) (in_lines lines number there func stands missed)
+      | inr apart ↦ elim apart [
+        | inl before ↦ later-place (module_of lines).lines 1 to number place there order (omega (arith, before)) (in_lines lines number there func stands missed)
+        | inr after ↦ absurd (not_missed func there (definite there after) missed)
+      ]
+    ]
+
+same_function : (lines : List Line) (to line other : ℕ) (first : IsFirstMissed (module_of lines) line) (fault : NotDefinite lines other)
+    → InOrder 1 (module_of lines).lines to → first.number ≡ fault.number → line ≤ other
+same_function lines to line other first fault order same =
+    let moved : slice_get (module_of lines).content.funcs first.number ≡ Some fault.func =
+    subst (λ (n : ℕ). slice_get (module_of lines).content.funcs n ≡ Some fault.func) (sym same) fault.stands in
+    let func : fault.func ≡ first.func = same_func (module_of lines).content.funcs first.number fault.func first.func moved first.stands in
+    let missed : HasMissedUse first.func fault.place = subst (λ (f : Function). HasMissedUse f fault.place) func fault.missed in
+    let below = one_function lines to first.number first.place fault.place first.func order first.first_place missed first.stands in
+    let at : other ≡ line_at (module_of lines).lines first.number fault.place =
+    subst (λ (n : ℕ). other ≡ line_at (module_of lines).lines n fault.place) (sym same) fault.at in
+    omega (arith, below, at, first.at)
+
+other_function : (lines : List Line) (to line other : ℕ) (first : IsFirstMissed (module_of lines) line) (fault : NotDefinite lines other)
+    → InOrder 1 (module_of lines).lines to → first.number < fault.number → line ≤ other
+other_function lines to line other first fault order before =
+    let below = later-function (module_of lines).lines 1 to first.number fault.number first.place fault.place order before
+    (in_lines lines first.number first.place first.func first.stands first.missed)
+    (in_lines lines fault.number fault.place fault.func fault.stands fault.missed) in
+    omega (arith, below, first.at, fault.at)
+
+not_earlier : (lines : List Line) (line other : ℕ) (first : IsFirstMissed (module_of lines) line) (fault : NotDefinite lines other)
+    → fault.number < first.number → ⊥
+not_earlier lines line other first fault before =
+    not_missed fault.func fault.place
+    (λ value block place used. first.first_function fault.number fault.func before fault.stands fault.place value block place used) fault.missed
+
+missed-first : (lines : List Line) (to line other : ℕ) → InOrder 1 (module_of lines).lines to → IsFirstMissed (module_of lines) line → NotDefinite lines other
+    → line ≤ other
+missed-first lines to line other order first fault =
+    elim (cases_order first.number fault.number) [
+      | inl e ↦ same_function lines to line other first fault order e
+      | inr apart ↦ elim apart [
+        | inl before ↦ other_function lines to line other first fault order before
+        | inr after ↦ absurd (not_earlier lines line other first fault after)
+      ]
+    ]
+
+not_later : (line other : ℕ) → line ≤ other → ComesFirst line 8 other 8
+not_later line other before =
+    elim (cases_order line other) [
+      | inl e ↦ inr (e, omega arith)
+      | inr apart ↦ elim apart [
+        | inl less ↦ inl less
+        | inr more ↦ absurd (omega (arith, before, more))
+      ]
+    ]
+
+pub missed-least : (lines : List Line) (to line : ℕ) → HasNoPlainFault lines → Stand places.Top lines → Within 1 (numbers lines) to
+    → IsFirstMissed (module_of lines) line → IsLeastFault lines line 8
+missed-least lines to line none stand within missed = record {
+  is = not_definite none (record {
+    number = missed.number;
+    func = missed.func;
+    stands = missed.stands;
+    place = missed.place;
+    missed = missed.missed;
+    at = missed.at;
+  });
+  least = λ other_line other_code fault. first other_line other_code fault;
+}
+  where
+    first : (other_line other_code : ℕ) → HasFault lines other_line other_code → ComesFirst line 8 other_line other_code
+    first other_line _ (plain code fault) = absurd (none other_line code fault)
+    first other_line _ (not_definite _ fault) =
+        not_later line other_line (missed-first lines to line other_line (module-rises lines 1 to stand within) missed fault)
