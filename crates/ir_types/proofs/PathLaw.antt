@@ -11,15 +11,15 @@ use Rattle.ir_cfg.specs.DefiniteUses.{UsesAreDefinite}
 use Rattle.ir_reader.specs.declared.forms.Place.TheVariants as places
 use Rattle.definite_assign.specs.Faults.{HasMissedUse, LineIsDefinite}
 use Rattle.definite_assign.proofs.UseLemmas.{use_within}
-use Rattle.ir_types.specs.Statements.{Line}
-use Rattle.ir_types.specs.Modules.{module_of}
-use Rattle.ir_types.specs.PlainFaults.{HasPlainFault, HasNoPlainFault, IsLeastPlainFault, ComesFirst}
+use Rattle.ir_lines.specs.Statements.{Line}
+use Rattle.ir_lines.specs.Modules.{module_of}
+use Rattle.ir_lines.specs.PlainFaults.{HasPlainFault, HasNoPlainFault, IsLeastPlainFault, ComesFirst}
 use Rattle.ir_types.specs.Faults.NotDefinite.{NotDefinite}
 use Rattle.ir_types.specs.FaultSet.{HasFault, HasNoFault, IsLeastFault, plain, not_definite}
 use Rattle.ir_types.specs.FirstMissed.{IsFirstMissed}
-use Rattle.ir_types.specs.TextLines.{Stand}
-use Rattle.ir_types.proofs.Rising.{Within, numbers}
-use Rattle.ir_types.proofs.InOrder.{InOrder, lines_at, module-rises, later-function, later-place, each-lined}
+use Rattle.ir_lines.specs.TextLines.{Stand}
+use Rattle.module_laws.proofs.Rising.{Within, numbers}
+use Rattle.module_laws.proofs.InOrder.{InOrder, lines_at, module-rises, later-function, later-place, each-lined}
 
 -- ---- where a fault stands without looking at paths
 

@@ -3,8 +3,8 @@ use Rattle.std.specs.Prelude.{◌≡◌, ℕ, List, Result, Ok, Err}
 use Rattle.ir_ast.specs.Modules.{LinedModule}
 use Rattle.ir_types.specs.declared.faults.TypeFault.{TypeFault}
 use Rattle.ir_types.specs.declared.faults.TypeFault.TheVariants as answers
-use Rattle.ir_types.specs.Statements.{Line}
-use Rattle.ir_types.specs.Modules.{module_of}
+use Rattle.ir_lines.specs.Statements.{Line}
+use Rattle.ir_lines.specs.Modules.{module_of}
 use Rattle.ir_types.specs.FaultSet.{IsLeastFault, HasNoFault}
 
 pub record IsTypedAs (lines : List Line) (whole : LinedModule) : Type 0 where

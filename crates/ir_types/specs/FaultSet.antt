@@ -1,7 +1,7 @@
 -- The faults of lines, and the least of them.
 use Rattle.std.specs.Prelude.{◌≡◌, ℕ, List}
-use Rattle.ir_types.specs.Statements.{Line}
-use Rattle.ir_types.specs.PlainFaults.{HasPlainFault, HasNoPlainFault, ComesFirst}
+use Rattle.ir_lines.specs.Statements.{Line}
+use Rattle.ir_lines.specs.PlainFaults.{HasPlainFault, HasNoPlainFault, ComesFirst}
 use Rattle.ir_types.specs.Faults.NotDefinite.{NotDefinite}
 
 -- the set: a line and a code. Paths are judged where no line has another fault, so that they are those of whole functions.

@@ -1,16 +1,12 @@
+//! Why readings stand for no source module.
+
 ghost use Rattle.std.specs.Prelude.{◌≡◌};
 ghost use Rattle.ir_types.specs.declared.faults.TypeFault.TheVariants.{Memory};
 
+use ir_lines::faults::Fault;
 use std::alloc::{AllocError, AllocFailed};
 use std::error::Error;
 use std::fmt;
-
-/// A fault of a module: the number of its line, from 1, or 0 where it has none, and its code.
-#[derive(Clone, Copy, Debug, PartialEq, Eq)]
-pub struct Fault {
-    pub line: u32,
-    pub code: u8,
-}
 
 /// Why readings stand for no source module.
 #[derive(Clone, Copy, Debug, PartialEq, Eq)]

@@ -2,26 +2,10 @@
 //! Reference, in this project's profile).
 #![tactic(auto)]
 
-mod best;
-mod build;
-mod cases;
-mod checks;
-mod derived;
 mod faults;
-mod lines;
-mod literals;
-mod names;
-mod operands;
-mod parts;
 mod paths;
-mod phis;
-mod scope;
-mod sections;
-mod tops;
 mod typing;
 
-pub use faults::{Fault, TypeFault};
+pub use faults::TypeFault;
+pub use ir_lines::faults::Fault;
 pub use typing::typed;
-
-#[cfg(test)]
-mod tests;

@@ -4,18 +4,19 @@ ghost use Rattle.std.specs.Prelude.{◌≡◌, IfOk, None, Some};
 ghost use Rattle.ir_ast.specs.Formed.{IsFormedModule};
 ghost use Rattle.ir_cfg.specs.SourceModules.{IsSourceModule};
 ghost use Rattle.ir_types.specs.Answers.{Answers};
-ghost use Rattle.ir_types.specs.Modules.{module_of};
-ghost use Rattle.ir_types.specs.PlainFaults.{HasNoPlainFault};
-ghost use Rattle.ir_types.specs.TypedModules.{IsTypedModule};
-ghost use Rattle.ir_types.specs.Views.{seen_lines};
+ghost use Rattle.ir_lines.specs.Modules.{module_of};
+ghost use Rattle.ir_lines.specs.PlainFaults.{HasNoPlainFault};
+ghost use Rattle.module_laws.specs.TypedModules.{IsTypedModule};
+ghost use Rattle.ir_lines.specs.Views.{seen_lines};
 
-use crate::build::module_of;
-use crate::checks::first_fault;
-use crate::faults::{Fault, TypeFault};
+use crate::faults::TypeFault;
 use crate::paths::first_missed;
 use ir_ast::Module;
+use ir_lines::faults::Fault;
 use ir_reader::Raw;
+use module_build::module_of;
 use std::alloc::Global;
+use type_checks::first_fault;
 
 /// The source module that the readings of a text stand for, with the lines of its instructions; or the first of its
 /// faults, the least line and of that the least code. Whether uses are definite is judged over the paths of a module

@@ -22,11 +22,11 @@ use Rattle.ir_ast.specs.Types.{is_first_class}
 use Rattle.ir_printer.specs.Names.{Names}
 use Rattle.ir_reader.specs.declared.readings.TypeWord.{TypeWord}
 use Rattle.ir_reader.specs.Lists.{Named}
-use Rattle.ir_types.specs.Statements.{Line, Statement, layout, declare, define, close, label, switch_end, call}
-use Rattle.ir_types.specs.Parts.{gives, given_by_call}
-use Rattle.ir_types.specs.Sections.{Definition, Naming, BlockLines, arguments_named, result_named, values_of, is_label, label_said, until_label, block_at, labelled_blocks, first_block, blocks_of, count_numbered}
-use Rattle.ir_types.specs.Modules.{Known, type_of, insts_of, block_of, argument_of}
-use Rattle.ir_types.proofs.LawBodies.{until-other, until-label}
+use Rattle.ir_lines.specs.Statements.{Line, Statement, layout, declare, define, close, label, switch_end, call}
+use Rattle.ir_lines.specs.Parts.{gives, given_by_call}
+use Rattle.ir_lines.specs.Sections.{Definition, Naming, BlockLines, arguments_named, result_named, values_of, is_label, label_said, until_label, block_at, labelled_blocks, first_block, blocks_of, count_numbered}
+use Rattle.ir_lines.specs.Modules.{Known, type_of, insts_of, block_of, argument_of}
+use Rattle.module_laws.proofs.LawBodies.{until-other, until-label}
 use Rattle.read_back.specs.Said.{word_of, result_of, operator_says, instruction_says, block_says, argument_says, step_says, case_says, switch_says, return_says}
 use Rattle.read_back.proofs.BackNames.{Setting}
 use Rattle.read_back.proofs.BackLines.{said, cons_parts, word-type}

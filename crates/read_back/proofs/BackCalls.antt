@@ -37,15 +37,15 @@ use Rattle.ir_printer.specs.Declarations.{is_call_of}
 use Rattle.ir_reader.specs.declared.readings.TypeWord.{TypeWord}
 use Rattle.ir_reader.specs.declared.readings.TypeWord.TheVariants as types
 use Rattle.ir_reader.specs.Lists.{Named, Given}
-use Rattle.ir_types.specs.Statements.{Line, Statement, switch_end}
-use Rattle.ir_types.specs.Sections.{Head, Definition, types_of, heads_of}
-use Rattle.ir_types.specs.Scope.{Scope, scope_of, head_named}
-use Rattle.ir_types.specs.Types.{same_type, same_types}
-use Rattle.ir_types.specs.InBody.{InBody}
-use Rattle.ir_types.specs.Modules.{passed_type}
-use Rattle.ir_types.specs.Faults.TypeClash.{is_task, starts_task, agrees, call_agrees}
-use Rattle.ir_types.proofs.LawNames.{stands, contains_get, same_by_name}
-use Rattle.ir_types.proofs.LawHeads.{HeadFrom, from_definition, from_declaration, heads-from}
+use Rattle.ir_lines.specs.Statements.{Line, Statement, switch_end}
+use Rattle.ir_lines.specs.Sections.{Head, Definition, types_of, heads_of}
+use Rattle.ir_lines.specs.Scope.{Scope, scope_of, head_named}
+use Rattle.ir_lines.specs.Types.{same_type, same_types}
+use Rattle.ir_lines.specs.InBody.{InBody}
+use Rattle.ir_lines.specs.Modules.{passed_type}
+use Rattle.ir_lines.specs.Faults.TypeClash.{is_task, starts_task, agrees, call_agrees}
+use Rattle.ir_lines.proofs.LawNames.{stands, contains_get, same_by_name}
+use Rattle.module_laws.proofs.LawHeads.{HeadFrom, from_definition, from_declaration, heads-from}
 use Rattle.read_back.specs.Said.{word_of, argument_says, passed_says, step_says, return_says, case_says, operator_says, said_by}
 use Rattle.read_back.proofs.BackLines.{said}
 use Rattle.read_back.proofs.BackLists.{CalleeBelow}

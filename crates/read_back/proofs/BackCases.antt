@@ -25,11 +25,11 @@ use Rattle.ir_printer.specs.Names.{Names}
 use Rattle.ir_reader.specs.declared.readings.TypeWord.TheVariants as types
 use Rattle.ir_reader.specs.Parts.{Val}
 use Rattle.ir_reader.specs.Parts as values
-use Rattle.ir_types.specs.Statements.{Line, Statement, switch, switch_case, switch_end}
-use Rattle.ir_types.specs.Sections.{cases_of}
-use Rattle.ir_types.specs.Modules.{known_of, operand_of, label_of, instruction, case_value, case_values, case_labels, wrapped}
-use Rattle.ir_types.specs.Faults.TypeClash.{number_said, case_number, case_numbers, CaseClash}
-use Rattle.ir_types.proofs.LawNames.{get_contained, contains_first, contains_later, contains_cons}
+use Rattle.ir_lines.specs.Statements.{Line, Statement, switch, switch_case, switch_end}
+use Rattle.ir_lines.specs.Sections.{cases_of}
+use Rattle.ir_lines.specs.Modules.{known_of, operand_of, label_of, instruction, case_value, case_values, case_labels, wrapped}
+use Rattle.ir_lines.specs.Faults.TypeClash.{number_said, case_number, case_numbers, CaseClash}
+use Rattle.ir_lines.proofs.LawNames.{get_contained, contains_first, contains_later, contains_cons}
 use Rattle.read_back.specs.BlocksEnd.{BlocksEnd}
 use Rattle.read_back.specs.Said.{width_in, step_says, return_says, case_says, block_says, operator_says, instruction_says, said_by}
 use Rattle.read_back.proofs.BackLines.{said}

@@ -24,14 +24,14 @@ use Rattle.ir_reader.specs.declared.readings.TypeWord.TheVariants.{Int}
 use Rattle.ir_reader.specs.Parts.{Val}
 use Rattle.ir_reader.specs.Parts as values
 use Rattle.ir_reader.specs.Lists.{Given, given, function}
-use Rattle.ir_types.specs.Statements.{Line, Statement, select, phi, scalar_step, layout_step, store, call, ret}
-use Rattle.ir_types.specs.Parts.{gives, entry_use, local_name, values_named, leaving, is_step, is_merge, passed_value}
-use Rattle.ir_types.specs.Places.{number_in}
-use Rattle.ir_types.specs.Sections.{Definition, Naming, result_named, definitions_of}
-use Rattle.ir_types.specs.Modules.{Known, known_of, operand_in, entry_operand, passed_operand, instruction_said, insts_of, function_of}
-use Rattle.ir_types.specs.Faults.DerivedEscapes.{Derived, by_step, by_merge, DerivedEscapes}
-use Rattle.ir_types.proofs.LawBodies.{insts_said, insts-cons, body_insts}
-use Rattle.ir_types.proofs.LawNames.{get_contained, contains_first, contains_later, contains_cons, contains_map, split_at}
+use Rattle.ir_lines.specs.Statements.{Line, Statement, select, phi, scalar_step, layout_step, store, call, ret}
+use Rattle.ir_lines.specs.Parts.{gives, entry_use, local_name, values_named, leaving, is_step, is_merge, passed_value}
+use Rattle.ir_lines.specs.Places.{number_in}
+use Rattle.ir_lines.specs.Sections.{Definition, Naming, result_named, definitions_of}
+use Rattle.ir_lines.specs.Modules.{Known, known_of, operand_in, entry_operand, passed_operand, instruction_said, insts_of, function_of}
+use Rattle.ir_lines.specs.Faults.DerivedEscapes.{Derived, by_step, by_merge, DerivedEscapes}
+use Rattle.module_laws.proofs.LawBodies.{insts_said, insts-cons, body_insts}
+use Rattle.ir_lines.proofs.LawNames.{get_contained, contains_first, contains_later, contains_cons, contains_map, split_at}
 use Rattle.read_back.specs.BlocksEnd.{BlocksEnd}
 use Rattle.read_back.specs.Said.{said_by}
 use Rattle.read_back.proofs.BackLines.{said}

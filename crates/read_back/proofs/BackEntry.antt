@@ -21,11 +21,11 @@ use Rattle.ir_ast.specs.Faultless.{FunctionHasNoFault}
 use Rattle.ir_ast.specs.Faults.EntryHasPred as module_entry
 use Rattle.ir_cfg.specs.SourceModules.{IsSourceModule}
 use Rattle.ir_printer.specs.Names.{Names}
-use Rattle.ir_types.specs.Statements.{Line, Statement, switch_end}
-use Rattle.ir_types.specs.Sections.{Definition, definitions_of, blocks_of}
-use Rattle.ir_types.specs.Scope.{Scope, scope_of, block_number}
-use Rattle.ir_types.specs.Modules.{Known, known_of}
-use Rattle.ir_types.specs.Faults.EntryHasPred.{names_entry, EntryHasPred}
+use Rattle.ir_lines.specs.Statements.{Line, Statement, switch_end}
+use Rattle.ir_lines.specs.Sections.{Definition, definitions_of, blocks_of}
+use Rattle.ir_lines.specs.Scope.{Scope, scope_of, block_number}
+use Rattle.ir_lines.specs.Modules.{Known, known_of}
+use Rattle.ir_lines.specs.Faults.EntryHasPred.{names_entry, EntryHasPred}
 use Rattle.read_back.specs.BlocksEnd.{BlocksEnd}
 use Rattle.read_back.specs.Said.{operator_says, step_says, return_says, case_says, label_says, said_by}
 use Rattle.read_back.proofs.BackNames.{Setting, label-back}

@@ -2,11 +2,11 @@
 use Rattle.std.proofs.Common.{◌≡◌, ℕ, List}
 use Rattle.ir_ast.specs.Modules.{ModuleContent}
 use Rattle.ir_cfg.specs.SourceModules.{IsSourceModule}
-use Rattle.ir_types.specs.Statements.{Line}
-use Rattle.ir_types.specs.Faults.NameTwice.{NameTwice, layout_again, head_again, declares_defined, label_again, value_again}
-use Rattle.ir_types.specs.Faults.TypeClash.{by_line, by_case}
-use Rattle.ir_types.specs.Faults.Reserved.{Reserved, defines_external, declares_helper, names_value, names_label}
-use Rattle.ir_types.specs.PlainFaults.{HasPlainFault, HasNoPlainFault, name_twice, unknown_name, type_clash, entry_has_pred, phi_edges, derived_escapes, no_strategy, no_main, unknown_extern, bad_layout, reserved, pointer_order, pointer_cast}
+use Rattle.ir_lines.specs.Statements.{Line}
+use Rattle.ir_lines.specs.Faults.NameTwice.{NameTwice, layout_again, head_again, declares_defined, label_again, value_again}
+use Rattle.ir_lines.specs.Faults.TypeClash.{by_line, by_case}
+use Rattle.ir_lines.specs.Faults.Reserved.{Reserved, defines_external, declares_helper, names_value, names_label}
+use Rattle.ir_lines.specs.PlainFaults.{HasPlainFault, HasNoPlainFault, name_twice, unknown_name, type_clash, entry_has_pred, phi_edges, derived_escapes, no_strategy, no_main, unknown_extern, bad_layout, reserved, pointer_order, pointer_cast}
 use Rattle.read_back.specs.BlocksEnd.{BlocksEnd}
 use Rattle.read_back.specs.Said.{said_by}
 use Rattle.read_back.proofs.BackLines.{said}

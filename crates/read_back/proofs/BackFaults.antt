@@ -30,22 +30,22 @@ use Rattle.ir_printer.specs.declared.declarations.External.{External}
 use Rattle.ir_printer.specs.declared.declarations.External.TheVariants as externs
 use Rattle.ir_reader.specs.declared.readings.TypeWord.{TypeWord}
 use Rattle.ir_reader.specs.declared.readings.TypeWord.TheVariants as types
-use Rattle.ir_types.specs.Statements.{Line, Statement, layout, declare, define, close, label, switch_end}
-use Rattle.ir_types.specs.Sections.{Definition, definitions_of, types_of}
-use Rattle.ir_types.specs.Externals.{external, gc_new, makers_of, externals_of, own_externals, helpers}
-use Rattle.ir_types.specs.Faults.UnknownExtern.{UnknownExtern}
+use Rattle.ir_lines.specs.Statements.{Line, Statement, layout, declare, define, close, label, switch_end}
+use Rattle.ir_lines.specs.Sections.{Definition, definitions_of, types_of}
+use Rattle.ir_lines.specs.Externals.{external, gc_new, makers_of, externals_of, own_externals, helpers}
+use Rattle.ir_lines.specs.Faults.UnknownExtern.{UnknownExtern}
 use Rattle.ir_reader.specs.Lists.{Named}
 use Rattle.ir_ast.specs.Lists.{HasFront}
 use Rattle.ir_printer.specs.Names.{layout_name}
 use Rattle.std.specs.Option.{option_map_or}
-use Rattle.ir_types.specs.Scope.{Scope, scope_of}
-use Rattle.ir_types.specs.Types.{is_cell}
-use Rattle.ir_types.specs.InBody.{InBody, InText}
-use Rattle.ir_types.specs.Faults.BadLayout.{are_cells, is_bad_layout, BadLayout}
-use Rattle.ir_types.specs.Faults.NoStrategy.{lacks_strategy, NoStrategy}
-use Rattle.ir_types.specs.Faults.PointerCast.{is_cast, PointerCast}
-use Rattle.ir_types.specs.Faults.PointerOrder.{is_order, orders, orders_pointers, PointerOrder}
-use Rattle.ir_types.proofs.LawNames.{get_contained, contains_get, contains_cons, contains_map, get_some}
+use Rattle.ir_lines.specs.Scope.{Scope, scope_of}
+use Rattle.ir_lines.specs.Types.{is_cell}
+use Rattle.ir_lines.specs.InBody.{InBody, InText}
+use Rattle.ir_lines.specs.Faults.BadLayout.{are_cells, is_bad_layout, BadLayout}
+use Rattle.ir_lines.specs.Faults.NoStrategy.{lacks_strategy, NoStrategy}
+use Rattle.ir_lines.specs.Faults.PointerCast.{is_cast, PointerCast}
+use Rattle.ir_lines.specs.Faults.PointerOrder.{is_order, orders, orders_pointers, PointerOrder}
+use Rattle.ir_lines.proofs.LawNames.{get_contained, contains_get, contains_cons, contains_map, get_some}
 use Rattle.read_back.specs.Said.{word_of, cell_word, operator_says, instruction_says, block_says, function_says, layout_says, argument_says, declaration_says, declaration_if_called, said_by, unnamed, step_says, return_says, case_says}
 use Rattle.read_back.proofs.BackLines.{said}
 use Rattle.read_back.proofs.BackInsts.{split_all}
@@ -427,7 +427,7 @@ unknown_extern-clear content lines e line f =
     (record { number = line; says = declare f.answer f.name f.parameters }) f.stands in
     f.unknown (subst (λ (ns : List (List ℕ)). IsExtern ns f.answer f.name f.parameters) (sym (layout-names content lines e)) there)
   where
-    own : (names : List (List ℕ)) (k : ℕ) (x : Rattle.ir_types.specs.Externals.External) → slice_get own_externals k ≡ Some x → Contains (externals_of names) x
+    own : (names : List (List ℕ)) (k : ℕ) (x : Rattle.ir_lines.specs.Externals.External) → slice_get own_externals k ≡ Some x → Contains (externals_of names) x
     own names k x at = Contains-append_right (makers_of names) own_externals x (contains_get own_externals k x at)
 
     made : (names : List (List ℕ)) (layouts : List ObjectLayout) → names ≡ map (λ (l : ObjectLayout). l.name) layouts → (number : ℕ) → number < length layouts

@@ -21,14 +21,14 @@ use Rattle.ir_ast.specs.Scope as module_scope
 use Rattle.ir_ast.specs.Faults.TypeClash.{IsTyped, FunctionIsTyped, RuleOf, HasField}
 use Rattle.ir_cfg.specs.SourceModules.{IsSourceModule}
 use Rattle.ir_printer.specs.Names.{Names, layout_name}
-use Rattle.ir_types.specs.Statements.{Line, Statement, switch_end, call, layout_step}
-use Rattle.ir_types.specs.Places.{place_in}
-use Rattle.ir_types.specs.Sections.{LayoutLine, Definition, layouts_of}
-use Rattle.ir_types.specs.Scope.{Scope, scope_of, layout_named}
-use Rattle.ir_types.specs.InBody.{InBody}
-use Rattle.ir_types.specs.Modules.{layout_of, cell_of}
-use Rattle.ir_types.specs.Faults.TypeClash.{place_fits, keeps_rule}
-use Rattle.ir_types.proofs.LawNames.{stands}
+use Rattle.ir_lines.specs.Statements.{Line, Statement, switch_end, call, layout_step}
+use Rattle.ir_lines.specs.Places.{place_in}
+use Rattle.ir_lines.specs.Sections.{LayoutLine, Definition, layouts_of}
+use Rattle.ir_lines.specs.Scope.{Scope, scope_of, layout_named}
+use Rattle.ir_lines.specs.InBody.{InBody}
+use Rattle.ir_lines.specs.Modules.{layout_of, cell_of}
+use Rattle.ir_lines.specs.Faults.TypeClash.{place_fits, keeps_rule}
+use Rattle.ir_lines.proofs.LawNames.{stands}
 use Rattle.read_back.specs.Said.{place_says, step_says, return_says, case_says, operator_says, said_by}
 use Rattle.read_back.proofs.BackLines.{said}
 use Rattle.read_back.proofs.BackNames.{placed-back}

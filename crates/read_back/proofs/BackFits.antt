@@ -44,19 +44,19 @@ use Rattle.ir_reader.specs.declared.words.Conversion.{Conversion}
 use Rattle.ir_reader.specs.declared.words.Conversion.TheVariants as conversions
 use Rattle.ir_reader.specs.Parts.{Val}
 use Rattle.ir_reader.specs.Parts as values
-use Rattle.ir_types.specs.Statements.{Line, Statement, switch, switch_end, cast}
-use Rattle.ir_types.specs.Parts.{uses, passed_value, entry_use}
-use Rattle.ir_types.specs.Places.{place_in}
-use Rattle.ir_types.specs.Sections.{Definition, Naming, values_of}
-use Rattle.ir_types.specs.Scope.{Scope, scope_of, value_named}
-use Rattle.ir_types.specs.Types.{same_type, is_within, naming_fits, takes_null, fits}
-use Rattle.ir_types.specs.Modules.{type_of, known_of}
-use Rattle.ir_types.specs.InBody.{InBody}
-use Rattle.ir_types.specs.Faults.TypeClash.{misfits}
-use Rattle.ir_types.specs.Faults.PointerCast.{is_cast}
-use Rattle.ir_types.proofs.LawNames.{stands}
-use Rattle.ir_types.proofs.LawFacts.{and-right}
-use Rattle.ir_types.proofs.LawValues.{is_cast_line, values-are}
+use Rattle.ir_lines.specs.Statements.{Line, Statement, switch, switch_end, cast}
+use Rattle.ir_lines.specs.Parts.{uses, passed_value, entry_use}
+use Rattle.ir_lines.specs.Places.{place_in}
+use Rattle.ir_lines.specs.Sections.{Definition, Naming, values_of}
+use Rattle.ir_lines.specs.Scope.{Scope, scope_of, value_named}
+use Rattle.ir_lines.specs.Types.{same_type, is_within, naming_fits, takes_null, fits}
+use Rattle.ir_lines.specs.Modules.{type_of, known_of}
+use Rattle.ir_lines.specs.InBody.{InBody}
+use Rattle.ir_lines.specs.Faults.TypeClash.{misfits}
+use Rattle.ir_lines.specs.Faults.PointerCast.{is_cast}
+use Rattle.ir_lines.proofs.LawNames.{stands}
+use Rattle.module_laws.proofs.LawFacts.{and-right}
+use Rattle.module_laws.proofs.LawValues.{is_cast_line, values-are}
 use Rattle.read_back.specs.BlocksEnd.{BlocksEnd}
 use Rattle.read_back.specs.Said.{literal_of, word_of, width_in, value_says, passed_says, value_at, target_at, entry_says, binary_says, compare_says, convert_says, select_says, phi_says, step_says, load_says, store_says, call_says, branch_says, case_says, return_says, block_says, instruction_says, operator_says, said_by}
 use Rattle.read_back.proofs.BackLines.{said, at, integer-word, condition-is, one_given, two_given, three_given}

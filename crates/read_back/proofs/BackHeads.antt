@@ -8,10 +8,10 @@ use Rattle.ir_cfg.specs.SourceModules.{IsSourceModule}
 use Rattle.ir_printer.specs.Names.{layout_name}
 use Rattle.ir_reader.specs.declared.readings.TypeWord.{TypeWord}
 use Rattle.ir_reader.specs.Lists.{Named}
-use Rattle.ir_types.specs.Statements.{Line, Statement, declare}
-use Rattle.ir_types.specs.Sections.{Definition, Head, heads_of}
-use Rattle.ir_types.specs.Faults.NameTwice.{DeclaresDefined}
-use Rattle.ir_types.proofs.LawHeads.{HeadFrom, from_definition, from_declaration, heads-from}
+use Rattle.ir_lines.specs.Statements.{Line, Statement, declare}
+use Rattle.ir_lines.specs.Sections.{Definition, Head, heads_of}
+use Rattle.ir_lines.specs.Faults.NameTwice.{DeclaresDefined}
+use Rattle.module_laws.proofs.LawHeads.{HeadFrom, from_definition, from_declaration, heads-from}
 use Rattle.read_back.specs.Said.{said_by}
 use Rattle.read_back.proofs.BackLines.{said}
 use Rattle.read_back.proofs.BackFaults.{IfDeclares, each_declaration, line_said}

@@ -29,11 +29,11 @@ use Rattle.ir_reader.specs.declared.words.Binary.{Binary}
 use Rattle.ir_reader.specs.declared.words.Binary.TheVariants as binaries
 use Rattle.ir_reader.specs.declared.words.Conversion.{Conversion}
 use Rattle.ir_reader.specs.declared.words.Conversion.TheVariants as conversions
-use Rattle.ir_types.specs.Statements.{Line, Statement, switch, switch_end, unreachable}
-use Rattle.ir_types.specs.Modules.{Known, operand_of, label_of, instruction_said, insts_of, instruction, binary_of, conversion_of, case_values, case_labels}
-use Rattle.ir_types.proofs.LawBodies.{insts_said, insts-cons}
-use Rattle.ir_types.proofs.LawFacts.{and-left, and-right}
-use Rattle.ir_types.proofs.LawCalls.{argument-value}
+use Rattle.ir_lines.specs.Statements.{Line, Statement, switch, switch_end, unreachable}
+use Rattle.ir_lines.specs.Modules.{Known, operand_of, label_of, instruction_said, insts_of, instruction, binary_of, conversion_of, case_values, case_labels}
+use Rattle.module_laws.proofs.LawBodies.{insts_said, insts-cons}
+use Rattle.module_laws.proofs.LawFacts.{and-left, and-right}
+use Rattle.module_laws.proofs.LawCalls.{argument-value}
 use Rattle.ir_printer.specs.Operands.{operand_at, label_at}
 use Rattle.read_back.specs.Said.{width_in, value_at, target_at, operator_says, binary_says, compare_says, convert_says, select_says, phi_says, step_says, load_says, store_says, call_says, jump_says, branch_says, case_says, switch_says, return_says}
 use Rattle.read_back.proofs.BackNames.{Setting, Good, operand-back, label-back}

@@ -28,11 +28,11 @@ use Rattle.ir_reader.specs.declared.readings.TypeWord.{TypeWord}
 use Rattle.ir_reader.specs.declared.readings.TypeWord.TheVariants as types
 use Rattle.ir_reader.specs.declared.words.Binary.{Binary}
 use Rattle.ir_reader.specs.declared.words.Conversion.{Conversion}
-use Rattle.ir_types.specs.Statements.{Line, Statement}
-use Rattle.ir_types.specs.Sections.{is_case, cases_of}
-use Rattle.ir_types.specs.Modules.{Known, type_of, operand_of, instruction_said, insts_of, place_of, label_of, binary_of, conversion_of, instruction}
-use Rattle.ir_types.proofs.LawBodies.{insts_said, insts-cons}
-use Rattle.ir_types.proofs.LawFacts.{and-right}
+use Rattle.ir_lines.specs.Statements.{Line, Statement}
+use Rattle.ir_lines.specs.Sections.{is_case, cases_of}
+use Rattle.ir_lines.specs.Modules.{Known, type_of, operand_of, instruction_said, insts_of, place_of, label_of, binary_of, conversion_of, instruction}
+use Rattle.module_laws.proofs.LawBodies.{insts_said, insts-cons}
+use Rattle.module_laws.proofs.LawFacts.{and-right}
 use Rattle.read_back.specs.Said.{word_of, width_in, result_of, value_says, value_at, binary_says, compare_says, convert_says, select_says, load_says, store_says, jump_says, branch_says, return_says, step_says, place_says, target_at}
 use Rattle.read_back.proofs.BackNames.{Setting, Good, operand-back, label-back, layout-number}
 use Rattle.ir_ast.specs.declared.ops.Pred.{Pred}

@@ -30,12 +30,12 @@ use Rattle.ir_reader.specs.declared.readings.TypeWord.{TypeWord}
 use Rattle.ir_reader.specs.declared.readings.TypeWord.TheVariants as types
 use Rattle.ir_reader.specs.Parts.{Val}
 use Rattle.ir_reader.specs.Lists.{Given}
-use Rattle.ir_types.specs.Statements.{Line, Statement, switch_end}
-use Rattle.ir_types.specs.Sections.{is_case, cases_of}
-use Rattle.ir_types.specs.Places.{place_in, number_of}
-use Rattle.ir_types.specs.Modules.{Known, type_of, operand_in, operand_of, label_of, instruction_said, insts_of, instruction, entry_operand, entry_label, passed_operand, given_type, callee_of, callee_at, external_callee, case_value, case_label}
-use Rattle.ir_types.proofs.LawBodies.{insts_said, insts-cons}
-use Rattle.ir_types.proofs.LawFacts.{and-left, and-right}
+use Rattle.ir_lines.specs.Statements.{Line, Statement, switch_end}
+use Rattle.ir_lines.specs.Sections.{is_case, cases_of}
+use Rattle.ir_lines.specs.Places.{place_in, number_of}
+use Rattle.ir_lines.specs.Modules.{Known, type_of, operand_in, operand_of, label_of, instruction_said, insts_of, instruction, entry_operand, entry_label, passed_operand, given_type, callee_of, callee_at, external_callee, case_value, case_label}
+use Rattle.module_laws.proofs.LawBodies.{insts_said, insts-cons}
+use Rattle.module_laws.proofs.LawFacts.{and-left, and-right}
 use Rattle.read_back.specs.Said.{word_of, width_in, result_of, value_says, value_at, label_says, target_at, entry_says, phi_says, passed_says, call_says, case_says, switch_says}
 use Rattle.read_back.proofs.BackNames.{Setting, Good, operand-back, label-back, layout-number, function-placed, function-number, unplaced-by}
 use Rattle.read_back.proofs.BackLines.{said, cons_parts, same-inst, result-is, no_result, integer-is, integer-word, word-type}

@@ -8,7 +8,7 @@ use Rattle.sp_ids.specs.Numbers as numbers
 use Rattle.ir_ast.specs.declared.ops.Operand.{Operand}
 use Rattle.ir_ast.specs.declared.ops.Operand.TheVariants as operands
 use Rattle.ir_reader.specs.declared.readings.TypeWord.TheVariants as types
-use Rattle.ir_types.specs.Modules.{wrapped, operand_in}
+use Rattle.ir_lines.specs.Modules.{wrapped, operand_in}
 use Rattle.read_back.specs.Said.{literal_of, integer_value}
 use Rattle.std.specs.Prelude.{List}
 

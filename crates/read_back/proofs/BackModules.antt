@@ -35,9 +35,9 @@ use Rattle.ir_ast.specs.Scope.{scope_of}
 use Rattle.ir_cfg.specs.SourceModules.{IsSourceFunction, IsSourceModule}
 use Rattle.ir_printer.specs.Names.{Names}
 use Rattle.ir_reader.specs.Lists.{Named}
-use Rattle.ir_types.specs.Statements.{Line}
-use Rattle.ir_types.specs.Sections.{Definition, layouts_of, definitions_of, arguments_named, values_of, blocks_of}
-use Rattle.ir_types.specs.Modules.{Known, known_of, type_of, layout_of, argument_of, block_of, function_of, module_of}
+use Rattle.ir_lines.specs.Statements.{Line}
+use Rattle.ir_lines.specs.Sections.{Definition, layouts_of, definitions_of, arguments_named, values_of, blocks_of}
+use Rattle.ir_lines.specs.Modules.{Known, known_of, type_of, layout_of, argument_of, block_of, function_of, module_of}
 use Rattle.read_back.specs.BlocksEnd.{BlocksEnd}
 use Rattle.read_back.specs.Said.{word_of, argument_says, said_by}
 use Rattle.read_back.proofs.BackNames.{Setting}

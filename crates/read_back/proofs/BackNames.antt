@@ -20,10 +20,10 @@ use Rattle.ir_ast.specs.Operands.{is_value}
 use Rattle.ir_ast.specs.Widths.{IsWidth, type_widths}
 use Rattle.ir_ast.specs.Faults.TypeClash.{Fits}
 use Rattle.ir_printer.specs.Names.{Names, value_name, block_name, function_name, layout_name}
-use Rattle.ir_types.specs.Places.{place_in, number_of, number_in}
-use Rattle.ir_types.specs.Modules.{Known, operand_in, label_in}
-use Rattle.ir_types.proofs.LawNames.{stands, same_place, contains_get, get_some, position-cons}
-use Rattle.ir_types.proofs.LawCalls.{found_by_name}
+use Rattle.ir_lines.specs.Places.{place_in, number_of, number_in}
+use Rattle.ir_lines.specs.Modules.{Known, operand_in, label_in}
+use Rattle.ir_lines.proofs.LawNames.{stands, same_place, contains_get, get_some, position-cons}
+use Rattle.module_laws.proofs.LawCalls.{found_by_name}
 use Rattle.read_back.specs.Said.{word_of, value_says, label_says}
 use Rattle.read_back.proofs.BackLiterals.{integer-back}
 

@@ -16,10 +16,10 @@ use Rattle.ir_printer.specs.Names.{Names, layout_name}
 use Rattle.ir_printer.specs.Declarations.{calls, externals, fixed_externals, integer_widths}
 use Rattle.ir_printer.specs.declared.declarations.External.{External}
 use Rattle.ir_printer.specs.declared.declarations.External.TheVariants as externs
-use Rattle.ir_types.specs.Statements.{Line, Statement, declare, define, close}
-use Rattle.ir_types.specs.Sections.{Head, head_said, heads_of}
-use Rattle.ir_types.specs.InBody.{Repeats}
-use Rattle.ir_types.proofs.LawNames.{Apart, apart-distinct, distinct-apart, same_place, get_some, contains_cons}
+use Rattle.ir_lines.specs.Statements.{Line, Statement, declare, define, close}
+use Rattle.ir_lines.specs.Sections.{Head, head_said, heads_of}
+use Rattle.ir_lines.specs.InBody.{Repeats}
+use Rattle.ir_lines.proofs.LawNames.{Apart, apart-distinct, distinct-apart, same_place, get_some, contains_cons}
 use Rattle.read_back.specs.Said.{function_says, layout_says, block_says, declaration_says, declaration_if_called, said_by}
 use Rattle.read_back.proofs.BackLines.{said}
 use Rattle.read_back.proofs.BackBlocks.{all_append, flat-append}

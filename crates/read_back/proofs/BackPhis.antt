@@ -29,16 +29,16 @@ use Rattle.ir_printer.specs.Names.{Names}
 use Rattle.ir_printer.specs.Operands.{label_at}
 use Rattle.ir_reader.specs.declared.readings.TypeWord.{TypeWord}
 use Rattle.ir_reader.specs.Parts.{Val}
-use Rattle.ir_types.specs.Statements.{Line, Statement, phi, switch_end}
-use Rattle.ir_types.specs.Parts.{targets, is_phi}
-use Rattle.ir_types.specs.Places.{number_in}
-use Rattle.ir_types.specs.Sections.{Definition, BlockLines, blocks_of}
-use Rattle.ir_types.specs.Scope.{scope_of}
-use Rattle.ir_types.specs.Modules.{Known, known_of, type_of, entry_operand, entry_label, label_in, label_of, instruction, instruction_said}
-use Rattle.ir_types.specs.Faults.PhiEdges as wrong
-use Rattle.ir_types.specs.Faults.PhiEdges.{PhiEdges, PhiIsWrong, late, uncounted, differ}
-use Rattle.ir_types.proofs.LawFacts.{and-left, and-right, true-false}
-use Rattle.ir_types.proofs.LawNames.{get_contained}
+use Rattle.ir_lines.specs.Statements.{Line, Statement, phi, switch_end}
+use Rattle.ir_lines.specs.Parts.{targets, is_phi}
+use Rattle.ir_lines.specs.Places.{number_in}
+use Rattle.ir_lines.specs.Sections.{Definition, BlockLines, blocks_of}
+use Rattle.ir_lines.specs.Scope.{scope_of}
+use Rattle.ir_lines.specs.Modules.{Known, known_of, type_of, entry_operand, entry_label, label_in, label_of, instruction, instruction_said}
+use Rattle.ir_lines.specs.Faults.PhiEdges as wrong
+use Rattle.ir_lines.specs.Faults.PhiEdges.{PhiEdges, PhiIsWrong, late, uncounted, differ}
+use Rattle.module_laws.proofs.LawFacts.{and-left, and-right, true-false}
+use Rattle.ir_lines.proofs.LawNames.{get_contained}
 use Rattle.read_back.specs.BlocksEnd.{BlocksEnd}
 use Rattle.read_back.specs.Said.{target_at, phi_says, step_says, return_says, case_says, operator_says, instruction_says, said_by}
 use Rattle.read_back.proofs.BackNames.{Setting, label-back}

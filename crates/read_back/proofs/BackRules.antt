@@ -24,11 +24,11 @@ use Rattle.ir_cfg.specs.SourceModules.{IsSourceModule}
 use Rattle.ir_printer.specs.Names.{Names}
 use Rattle.ir_reader.specs.declared.readings.TypeWord.{TypeWord}
 use Rattle.ir_reader.specs.declared.readings.TypeWord.TheVariants.{Void, Int, Managed, Plain}
-use Rattle.ir_types.specs.Statements.{Line, Statement, switch_end, call, layout_step}
-use Rattle.ir_types.specs.Scope.{Scope, scope_of}
-use Rattle.ir_types.specs.Types.{same_type, is_cell}
-use Rattle.ir_types.specs.InBody.{InBody}
-use Rattle.ir_types.specs.Faults.TypeClash.{misfits, keeps_rule, clashes}
+use Rattle.ir_lines.specs.Statements.{Line, Statement, switch_end, call, layout_step}
+use Rattle.ir_lines.specs.Scope.{Scope, scope_of}
+use Rattle.ir_lines.specs.Types.{same_type, is_cell}
+use Rattle.ir_lines.specs.InBody.{InBody}
+use Rattle.ir_lines.specs.Faults.TypeClash.{misfits, keeps_rule, clashes}
 use Rattle.read_back.specs.Said.{word_of, width_in, step_says, return_says, case_says, operator_says, said_by}
 use Rattle.read_back.proofs.BackLines.{said}
 use Rattle.read_back.proofs.BackModules.{names_in}

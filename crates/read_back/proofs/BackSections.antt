@@ -16,9 +16,9 @@ use Rattle.ir_printer.specs.declared.declarations.External.{External}
 use Rattle.ir_printer.specs.declared.declarations.External.TheVariants as externs
 use Rattle.ir_reader.specs.declared.readings.TypeWord.{TypeWord}
 use Rattle.ir_reader.specs.Lists.{Named}
-use Rattle.ir_types.specs.Statements.{Line, Statement, layout, declare, define, close, label}
-use Rattle.ir_types.specs.Sections.{LayoutLine, Definition, layout_said, layouts_of, is_close, definition_said, definitions_of}
-use Rattle.ir_types.specs.Modules.{cell_of, layout_of}
+use Rattle.ir_lines.specs.Statements.{Line, Statement, layout, declare, define, close, label}
+use Rattle.ir_lines.specs.Sections.{LayoutLine, Definition, layout_said, layouts_of, is_close, definition_said, definitions_of}
+use Rattle.ir_lines.specs.Modules.{cell_of, layout_of}
 use Rattle.read_back.specs.Said.{word_of, argument_says, instruction_says, block_says, function_says, layout_says, cell_word, declaration_says, declaration_if_called, said_by}
 use Rattle.read_back.proofs.BackLines.{said, cons_parts}
 use Rattle.read_back.proofs.BackBlocks.{cut, nothing_said, all_append, all_flat, in_block, InBlock, insts_inner, lines_all, flat-append}

@@ -22,12 +22,12 @@ use Rattle.ir_ast.specs.Faults.Reserved.{IsExternalName, IsInsertedName, IsSourc
 use Rattle.ir_cfg.specs.SourceModules.{IsSourceModule}
 use Rattle.ir_reader.specs.Lists.{Named}
 use Rattle.ir_reader.specs.declared.readings.TypeWord.{TypeWord}
-use Rattle.ir_types.specs.Statements.{Line}
-use Rattle.ir_types.specs.Sections.{LayoutLine, Definition, Naming, BlockLines, layouts_of, definitions_of, values_of, blocks_of}
-use Rattle.ir_types.specs.InBody.{Repeats}
-use Rattle.ir_types.specs.Faults.NoMain.{takes_nothing, is_status, is_main, NoMain}
-use Rattle.ir_types.proofs.LawNames.{Apart, apart-distinct, contains_cons, contains_middle, contains_map}
-use Rattle.ir_types.proofs.LawCalls.{contains_mapped}
+use Rattle.ir_lines.specs.Statements.{Line}
+use Rattle.ir_lines.specs.Sections.{LayoutLine, Definition, Naming, BlockLines, layouts_of, definitions_of, values_of, blocks_of}
+use Rattle.ir_lines.specs.InBody.{Repeats}
+use Rattle.ir_lines.specs.Faults.NoMain.{takes_nothing, is_status, is_main, NoMain}
+use Rattle.ir_lines.proofs.LawNames.{Apart, apart-distinct, contains_cons, contains_middle, contains_map}
+use Rattle.module_laws.proofs.LawCalls.{contains_mapped}
 use Rattle.read_back.specs.Said.{word_of, argument_says, said_by}
 use Rattle.read_back.proofs.BackLines.{said}
 use Rattle.read_back.proofs.BackBlocks.{blocks-are, block-names, value-names}

@@ -45,13 +45,13 @@ use Rattle.ir_reader.specs.declared.words.Binary.{Binary}
 use Rattle.ir_reader.specs.declared.words.Binary.TheVariants as binaries
 use Rattle.ir_reader.specs.declared.words.Conversion.{Conversion}
 use Rattle.ir_reader.specs.declared.words.Conversion.TheVariants as conversions
-use Rattle.ir_types.specs.Statements.{Line, Statement, switch, switch_end}
-use Rattle.ir_types.specs.Parts.{uses, targets, entry_labels, functions_named, layouts_named, local_name, passed_value, passed_function, entry_use}
-use Rattle.ir_types.specs.Sections.{LayoutLine, Head, Definition, Naming, BlockLines, layouts_of, heads_of, values_of, blocks_of}
-use Rattle.ir_types.specs.Scope.{Scope, scope_of, value_named, block_named, head_named, layout_named}
-use Rattle.ir_types.specs.Faults.UnknownName.{names_unknown, UnknownName}
-use Rattle.ir_types.proofs.LawNames.{get_some, contains_get, contains_map, contains_cons, contains_later, contains_first}
-use Rattle.ir_types.proofs.LawCalls.{found_by_name, contains_mapped}
+use Rattle.ir_lines.specs.Statements.{Line, Statement, switch, switch_end}
+use Rattle.ir_lines.specs.Parts.{uses, targets, entry_labels, functions_named, layouts_named, local_name, passed_value, passed_function, entry_use}
+use Rattle.ir_lines.specs.Sections.{LayoutLine, Head, Definition, Naming, BlockLines, layouts_of, heads_of, values_of, blocks_of}
+use Rattle.ir_lines.specs.Scope.{Scope, scope_of, value_named, block_named, head_named, layout_named}
+use Rattle.ir_lines.specs.Faults.UnknownName.{names_unknown, UnknownName}
+use Rattle.ir_lines.proofs.LawNames.{get_some, contains_get, contains_map, contains_cons, contains_later, contains_first}
+use Rattle.module_laws.proofs.LawCalls.{found_by_name, contains_mapped}
 use Rattle.read_back.specs.Said.{literal_of, word_of, width_in, value_says, passed_says, value_at, target_at, entry_says, binary_says, compare_says, convert_says, select_says, phi_says, step_says, load_says, store_says, call_says, jump_says, branch_says, case_says, return_says, operator_says, declaration_says, said_by}
 use Rattle.read_back.proofs.BackLines.{said}
 use Rattle.read_back.proofs.BackLists.{Below, Passes, CalleeBelow}

@@ -20,7 +20,7 @@ use Rattle.ir_reader.specs.Places.{behind, behind_label}
 use Rattle.ir_reader.specs.Seen.{label, of_form}
 use Rattle.ir_reader.specs.Slots.{parse}
 use Rattle.ir_reader.specs.Text.{said, outcome, is_top, next_state}
-use Rattle.ir_types.specs.Statements.{Statement}
+use Rattle.ir_lines.specs.Statements.{Statement}
 use Rattle.read_back.specs.Said.{instruction_says, block_says}
 use Rattle.read_back.proofs.Steps.{IsClean, name-clean}
 use Rattle.read_back.proofs.LinesRead.{Says, says-nil, says-both, says-line, formed_outcome, label_line, ends_none-clean, ends_none}

@@ -21,7 +21,7 @@ use Rattle.ir_reader.specs.declared.forms.Place.{Place}
 use Rattle.ir_reader.specs.declared.forms.State.{State}
 use Rattle.ir_reader.specs.Seen.{Said, label, of_form, line_at}
 use Rattle.ir_reader.specs.Text.{nothing, said, outcome, Fault, Numbered, with_first, readings, is_top, next_state, labelled, tokens_outcome}
-use Rattle.ir_types.specs.Statements.{Statement, stated}
+use Rattle.ir_lines.specs.Statements.{Statement, stated}
 
 abbrev pub newline : ℕ
 newline = 10

@@ -49,8 +49,8 @@ use Rattle.ir_reader.specs.Places.{behind, is_dropped_form}
 use Rattle.ir_reader.specs.Seen.{of_form}
 use Rattle.ir_reader.specs.Slots as parts
 use Rattle.ir_reader.specs.Text.{Numbered, next_state, opening, readings, text_readings}
-use Rattle.ir_types.specs.Statements.{Line, Statement, stated}
-use Rattle.ir_types.specs.Statements as statements
+use Rattle.ir_lines.specs.Statements.{Line, Statement, stated}
+use Rattle.ir_lines.specs.Statements as statements
 use Rattle.read_back.specs.BlocksEnd.{BlocksEnd}
 use Rattle.read_back.specs.Said.{cell_word, layout_says, unnamed, declaration_says, declaration_if_called, function_says, said_by}
 use Rattle.read_back.proofs.BackInsts.{IsPrinted}

@@ -22,7 +22,7 @@ use Rattle.ir_reader.specs.declared.forms.Form.TheVariants as forms
 use Rattle.ir_reader.specs.declared.words.Conversion.{Conversion}
 use Rattle.ir_reader.specs.Forms.{conversion_word}
 use Rattle.ir_reader.specs.Slots as parts
-use Rattle.ir_types.specs.Statements as statements
+use Rattle.ir_lines.specs.Statements as statements
 use Rattle.read_back.specs.Said.{word_of, value_says, operator_says, convert_says}
 use Rattle.read_back.proofs.Forms.{convert_line, select_line, branch_line, return_line}
 use Rattle.read_back.proofs.Operands.{HaveNames, IsNarrow, block-named, type_spelled, type_allowed, type_fits_in, value_spelled, value_in_limit}

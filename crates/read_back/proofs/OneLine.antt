@@ -33,7 +33,7 @@ use Rattle.ir_reader.specs.Limits.{item_fits, counts_as}
 use Rattle.ir_reader.specs.Places.{behind_instruction, is_dropped_form}
 use Rattle.ir_reader.specs.Seen.{of_form}
 use Rattle.ir_reader.specs.Slots.{Item, name, width, ty, value, pred}
-use Rattle.ir_types.specs.Statements.{stated}
+use Rattle.ir_lines.specs.Statements.{stated}
 use Rattle.read_back.specs.Said.{word_of, value_says, instruction_says, operator_says, binary_says}
 use Rattle.read_back.proofs.Forms.{ReadsAs, binary_line, compare_line, load_line, store_line, jump_line, unreachable_line, return_void_line}
 use Rattle.read_back.proofs.Operands.{HaveNames, block-named, IsNarrow, type_spelled, type_allowed, type_fits_in, value_spelled, value_in_limit}

@@ -30,7 +30,7 @@ use Rattle.ir_reader.specs.Places.{behind, is_dropped_form}
 use Rattle.ir_reader.specs.Seen.{of_form}
 use Rattle.ir_reader.specs.Slots as parts
 use Rattle.ir_reader.specs.Text.{is_top, next_state}
-use Rattle.ir_types.specs.Statements.{stated}
+use Rattle.ir_lines.specs.Statements.{stated}
 use Rattle.read_back.specs.Said.{value_says, case_says, literal_of}
 use Rattle.read_back.proofs.Steps.{IsClean}
 use Rattle.read_back.proofs.Forms.{ReadsAs, switch_line, case_line, switch_end_line}

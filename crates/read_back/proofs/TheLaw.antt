@@ -5,7 +5,7 @@ use Rattle.std.specs.List.{All}
 use Rattle.ir_ast.specs.Modules.{ModuleContent}
 use Rattle.ir_cfg.specs.DefiniteUses.{UsesAreDefinite}
 use Rattle.ir_cfg.specs.SourceModules.{IsSourceModule}
-use Rattle.ir_types.specs.Statements.{lines_of}
+use Rattle.ir_lines.specs.Statements.{lines_of}
 use Rattle.ir_types.proofs.PathLaw.{definite-faultless}
 use Rattle.read_back.specs.ReadsBack.{EachReadsBack}
 use Rattle.read_back.proofs.BackFaultless.{no_fault}

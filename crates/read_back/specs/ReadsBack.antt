@@ -4,8 +4,8 @@ use Rattle.ir_ast.specs.Modules.{ModuleContent}
 use Rattle.ir_cfg.specs.SourceModules.{IsSourceModule}
 use Rattle.ir_printer.specs.Texts.{text_of}
 use Rattle.ir_reader.specs.Text.{Numbered, text_readings}
-use Rattle.ir_types.specs.Statements.{lines_of}
-use Rattle.ir_types.specs.Modules.{module_of}
+use Rattle.ir_lines.specs.Statements.{lines_of}
+use Rattle.ir_lines.specs.Modules.{module_of}
 use Rattle.ir_types.specs.FaultSet.{HasNoFault}
 use Rattle.read_back.specs.BlocksEnd.{BlocksEnd}
 

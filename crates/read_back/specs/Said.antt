@@ -37,8 +37,8 @@ use Rattle.ir_reader.specs.declared.words.Conversion.TheVariants as conversions
 use Rattle.ir_reader.specs.Parts.{Val}
 use Rattle.ir_reader.specs.Parts as values
 use Rattle.ir_reader.specs.Lists.{Named, Given, given, function}
-use Rattle.ir_types.specs.Statements.{Statement}
-use Rattle.ir_types.specs.Statements as says
+use Rattle.ir_lines.specs.Statements.{Statement}
+use Rattle.ir_lines.specs.Statements as says
 
 -- ---- types
 

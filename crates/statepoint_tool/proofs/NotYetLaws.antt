@@ -4,9 +4,9 @@ use Rattle.std.proofs.Math.Seq.{drop-cons}
 use Rattle.std.specs.Prelude.{take_while}
 use Rattle.std.proofs.lemmas.List.Sums.{take_while-cons}
 use Rattle.ir_reader.specs.declared.raw.NumberedReading.{NumberedReading}
-use Rattle.ir_types.specs.Statements.{Line, Statement, label, close}
-use Rattle.ir_types.specs.Sections.{Definition, is_close, is_label, definition_said, definitions_of}
-use Rattle.ir_types.specs.Views.{said, seen_line, seen_lines}
+use Rattle.ir_lines.specs.Statements.{Line, Statement, label, close}
+use Rattle.ir_lines.specs.Sections.{Definition, is_close, is_label, definition_said, definitions_of}
+use Rattle.ir_lines.specs.Views.{said, seen_line, seen_lines}
 use Rattle.statepoint_tool.specs.NotYet.{first_among, or_else, first_in_function, first_behind, begins_with_label, first_in_body, behind_label, first_not_yet, runs_behind, with_given, name_given}
 
 pub cut : (xs : List NumberedReading) (i : ℕ) (x : NumberedReading) → i < length xs → x ≡ get_or xs i x → drop i xs ≡ x ∷ drop (i + 1) xs

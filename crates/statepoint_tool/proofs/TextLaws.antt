@@ -2,15 +2,15 @@
 use Rattle.std.proofs.Common.{◌≡◌, ℕ, ◌<◌, ◌≤◌, ◌⊎◌, inl, inr, List, [], ◌∷◌, map, Option, Some, None, Result, Ok, Err, ◌∙◌, refl, sym, ap, subst, arith}
 use Rattle.ir_ast.specs.Modules.{ModuleContent, LinedModule}
 use Rattle.ir_reader.specs.Text.{Numbered, Fault, syntax_fault, limit_fault, text_readings}
-use Rattle.ir_types.specs.declared.faults.Fault.{Fault as TypeFault}
+use Rattle.ir_lines.specs.declared.faults.Fault.{Fault as TypeFault}
 use Rattle.ir_reader.specs.declared.raw.NumberedReading.{NumberedReading}
 use Rattle.ir_reader.specs.Raws.{seen_numbered}
 use Rattle.ir_types.specs.Answers.{IsTypedAs, Answers}
 use Rattle.ir_types.specs.declared.faults.TypeFault.{TypeFault as TypingFault}
 use Rattle.ir_types.specs.declared.faults.TypeFault.TheVariants as answers
-use Rattle.ir_types.specs.Views.{seen_line, seen_lines}
-use Rattle.ir_types.specs.Statements.{Line, lines_of}
-use Rattle.ir_types.specs.PlainFaults.{ComesFirst}
+use Rattle.ir_lines.specs.Views.{seen_line, seen_lines}
+use Rattle.ir_lines.specs.Statements.{Line, lines_of}
+use Rattle.ir_lines.specs.PlainFaults.{ComesFirst}
 use Rattle.ir_types.specs.FaultSet.{HasNoFault, IsLeastFault}
 use Rattle.statepoint_tool.specs.Causes.{IsReadAs, IsAccepted, HasTextFault, unread, over_limit, faulty}
 use Rattle.statepoint_tool.specs.NotYet.{first_not_yet}

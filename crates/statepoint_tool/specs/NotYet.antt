@@ -10,8 +10,8 @@ use Rattle.ir_reader.specs.declared.readings.TypeWord.TheVariants.{Int}
 use Rattle.ir_reader.specs.Parts.{Val}
 use Rattle.ir_reader.specs.Parts as values
 use Rattle.ir_reader.specs.Lists.{Given, given, function}
-use Rattle.ir_types.specs.Statements.{Line, Statement, label, binary, call, ret}
-use Rattle.ir_types.specs.Sections.{Definition, is_label, definitions_of}
+use Rattle.ir_lines.specs.Statements.{Line, Statement, label, binary, call, ret}
+use Rattle.ir_lines.specs.Sections.{Definition, is_label, definitions_of}
 
 -- these names were given, and the value is one of theirs or no name
 abbrev pub is_given : List (List ℕ) → Val → Bool

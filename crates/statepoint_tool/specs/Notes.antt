@@ -1,6 +1,6 @@
 -- The line that each refusal puts on standard error, and its status.
 use Rattle.std.specs.Prelude.{ℕ, ◌==◌, List, [], ◌++◌, codes, decimal, if◌then◌else◌}
-use Rattle.ir_types.specs.declared.faults.Fault.{Fault}
+use Rattle.ir_lines.specs.declared.faults.Fault.{Fault}
 use Rattle.statepoint_tool.specs.declared.refusal.Cause.{Cause}
 use Rattle.statepoint_tool.specs.declared.refusal.Cause.TheVariants.{Words, ReadFault, TooLong, Module, Input, Plan}
 use Rattle.statepoint_tool.specs.declared.refusal.ModuleFault.{ModuleFault}

@@ -3,10 +3,10 @@
 use Rattle.std.specs.Prelude.{◌≡◌, ℕ, ⊤, List, [], ◌∷◌, Option, Some, None, Result, Ok, Err}
 use Rattle.ir_ast.specs.Modules.{ModuleContent}
 use Rattle.ir_reader.specs.Text.{Numbered, Fault, syntax_fault, limit_fault, text_readings}
-use Rattle.ir_types.specs.declared.faults.Fault.{Fault as TypeFault}
-use Rattle.ir_types.specs.Statements.{Line, lines_of}
+use Rattle.ir_lines.specs.declared.faults.Fault.{Fault as TypeFault}
+use Rattle.ir_lines.specs.Statements.{Line, lines_of}
 use Rattle.ir_types.specs.FaultSet.{HasNoFault, IsLeastFault}
-use Rattle.ir_types.specs.Modules.{module_of}
+use Rattle.ir_lines.specs.Modules.{module_of}
 use Rattle.ir_printer.specs.Texts.{text_of}
 use Rattle.statepoint_tool.specs.Source.{Outcome, source, text_of_lines}
 use Rattle.statepoint_tool.specs.NotYet.{first_not_yet}

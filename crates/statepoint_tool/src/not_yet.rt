@@ -1,8 +1,8 @@
 //! The first line of a definition that can't be run yet.
 ghost use Rattle.std.specs.Prelude.{◌≡◌, ◌≤◌, ◌+◌, IsTrue, [], drop, length, not, map, take_while, IfOk, OnOk};
 ghost use Rattle.ir_reader.specs.Seen.{seen_value, seen_passed};
-ghost use Rattle.ir_types.specs.Sections.{is_close as closes, is_label, definition_said};
-ghost use Rattle.ir_types.specs.Views.{said, seen_lines};
+ghost use Rattle.ir_lines.specs.Sections.{is_close as closes, is_label, definition_said};
+ghost use Rattle.ir_lines.specs.Views.{said, seen_lines};
 ghost use Rattle.statepoint_tool.specs.NotYet.{begins_with_label, first_not_yet, first_among, first_in_body, first_behind, is_given, is_passed, is_printed, is_word, name_given, runs_behind, with_given};
 
 use crate::names::Names;

@@ -3,7 +3,7 @@ ghost use Rattle.std.specs.Prelude.{◌≡◌, ◌≤◌, ℕ, List, length, vec
 ghost use Rattle.sp_ids.specs.declared.limits.TheConstants.{FILE_BYTES};
 ghost use Rattle.tool_io.specs.Counts.{NoneFell};
 ghost use Rattle.ir_ast.specs.Formed.{IsFormedModule};
-ghost use Rattle.ir_types.specs.Views.{seen_lines};
+ghost use Rattle.ir_lines.specs.Views.{seen_lines};
 ghost use Rattle.statepoint_tool.specs.Answers.{Agrees, Reads};
 ghost use Rattle.statepoint_tool.specs.Steps.{Step, Go, comes_to};
 ghost use Rattle.statepoint_tool.specs.Taken.{files_seen};

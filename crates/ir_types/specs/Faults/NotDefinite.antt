@@ -4,8 +4,8 @@ use Rattle.std.specs.Prelude.{◌≡◌, ℕ, List, Some, slice_get}
 use Rattle.ir_ast.specs.Funcs.{Function}
 use Rattle.ir_ast.specs.Modules.{line_at}
 use Rattle.definite_assign.specs.Faults.{HasMissedUse}
-use Rattle.ir_types.specs.Statements.{Line}
-use Rattle.ir_types.specs.Modules.{module_of}
+use Rattle.ir_lines.specs.Statements.{Line}
+use Rattle.ir_lines.specs.Modules.{module_of}
 
 -- the line is that of an instruction of the module with such a use
 pub record NotDefinite (lines : List Line) (line : ℕ) : Type 0 where

@@ -1,12 +1,12 @@
 use Rattle.std.proofs.Common.{◌≡◌, List, sym, subst}
 use Rattle.ir_reader.specs.declared.raw.NumberedReading.{NumberedReading}
-use Rattle.ir_types.specs.Modules.{module_of}
-use Rattle.ir_types.specs.Views.{seen_lines}
-use Rattle.ir_types.specs.Placed.{IsPlaced}
-use Rattle.ir_types.proofs.LawSource.{formed_module}
-use Rattle.ir_types.proofs.ReadLaw.{typed_whole}
-use Rattle.ir_types.proofs.ReadTexts.{read-lines}
-use Rattle.ir_types.proofs.Placing.{read-placed}
+use Rattle.ir_lines.specs.Modules.{module_of}
+use Rattle.ir_lines.specs.Views.{seen_lines}
+use Rattle.module_build.specs.Placed.{IsPlaced}
+use Rattle.module_laws.proofs.LawSource.{formed_module}
+use Rattle.module_laws.proofs.ReadLaw.{typed_whole}
+use Rattle.module_laws.proofs.ReadTexts.{read-lines}
+use Rattle.module_laws.proofs.Placing.{read-placed}
 use Rattle.ir_types.proofs.typing.plain_module.Goals as goal
 
 pub module_of-requires : goal.module_of-requires

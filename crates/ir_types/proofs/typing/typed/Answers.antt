@@ -1,5 +1,5 @@
 use Rattle.std.proofs.lemmas.Result.{err_from_is_err_and}
-use Rattle.ir_types.specs.Views.{seen_lines}
+use Rattle.ir_lines.specs.Views.{seen_lines}
 use Rattle.ir_types.proofs.PathLaw.{plain-least}
 use Rattle.ir_types.proofs.typing.typed.Goals as goal
 

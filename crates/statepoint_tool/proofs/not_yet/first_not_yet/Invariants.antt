@@ -1,6 +1,6 @@
 use Rattle.std.proofs.Common.{◌≡◌, drop}
-use Rattle.ir_types.specs.Sections.{definitions_of}
-use Rattle.ir_types.specs.Views.{seen_lines}
+use Rattle.ir_lines.specs.Sections.{definitions_of}
+use Rattle.ir_lines.specs.Views.{seen_lines}
 use Rattle.statepoint_tool.specs.NotYet.{first_among, first_not_yet}
 use Rattle.statepoint_tool.proofs.not_yet.first_not_yet.Given as goal
 

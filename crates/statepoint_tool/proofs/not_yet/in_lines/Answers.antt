@@ -1,7 +1,7 @@
 use Rattle.std.proofs.Common.{◌≡◌, ◌∙◌, ◌+◌, true, false, [], ◌∷◌, drop, sym, ap, arith}
 use Rattle.std.proofs.lemmas.List.{drop_all}
-use Rattle.ir_types.specs.Sections.{is_close}
-use Rattle.ir_types.specs.Views.{said, seen_line}
+use Rattle.ir_lines.specs.Sections.{is_close}
+use Rattle.ir_lines.specs.Views.{said, seen_line}
 use Rattle.statepoint_tool.specs.NotYet.{first_behind, runs_behind, with_given, name_given}
 use Rattle.statepoint_tool.proofs.NotYetLaws.{cut, body, body-closed, body-more, behind-more, behind-stops, behind-none}
 use Rattle.statepoint_tool.proofs.not_yet.in_lines.Goals as goal

@@ -1,7 +1,7 @@
 use Rattle.std.proofs.lemmas.Result.{err_from_is_err_and}
 use Rattle.ir_ast.specs.Modules.{LinedModule}
 use Rattle.ir_reader.specs.Raws.{Readings}
-use Rattle.ir_types.specs.Views.{seen_lines}
+use Rattle.ir_lines.specs.Views.{seen_lines}
 use Rattle.statepoint_tool.specs.Work.{reading, Typing}
 use Rattle.statepoint_tool.proofs.WorksLaws.{Agrees-stops, Agrees-goes_on}
 use Rattle.statepoint_tool.proofs.phases.module_in.Goals as goal

@@ -1,4 +1,4 @@
-use Rattle.ir_types.specs.Views.{seen_lines}
+use Rattle.ir_lines.specs.Views.{seen_lines}
 use Rattle.statepoint_tool.proofs.TextLaws.{typed-go, typed-stop}
 use Rattle.statepoint_tool.proofs.phases.type_in.Goals as goal
 

@@ -3,7 +3,7 @@ use Rattle.std.proofs.lemmas.Result.{err_from_is_err_and}
 use Rattle.ir_reader.specs.declared.raw.NumberedReading.{NumberedReading}
 use Rattle.ir_ast.specs.Modules.{LinedModule}
 use Rattle.ir_reader.specs.Raws.{Readings}
-use Rattle.ir_types.specs.Views.{seen_lines}
+use Rattle.ir_lines.specs.Views.{seen_lines}
 use Rattle.statepoint_tool.specs.NotYet.{first_not_yet}
 use Rattle.statepoint_tool.specs.Work.{Typing, building}
 use Rattle.statepoint_tool.proofs.TextLaws.{builds, not_built}

@@ -1,0 +1,11 @@
+pub mod Powers
+pub mod Positions
+pub mod Samples
+pub mod NoteLemmas
+pub mod LawNames
+pub mod Steps
+pub mod Members
+pub mod AgainLemmas
+pub mod PlaceLemmas
+pub mod FrontLemmas
+pub mod TableLemmas

@@ -1,0 +1,14 @@
+-- The faults, each in a file of its name: which lines have one.
+pub mod NameTwice
+pub mod UnknownName
+pub mod TypeClash
+pub mod EntryHasPred
+pub mod PhiEdges
+pub mod DerivedEscapes
+pub mod NoStrategy
+pub mod NoMain
+pub mod UnknownExtern
+pub mod BadLayout
+pub mod Reserved
+pub mod PointerOrder
+pub mod PointerCast

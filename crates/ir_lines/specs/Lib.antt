@@ -1,0 +1,17 @@
+pub mod Statements
+pub mod Parts
+pub mod Sections
+pub mod Places
+pub mod Scope
+pub mod Externals
+pub mod Modules
+pub mod Types
+pub mod InBody
+pub mod Faults
+pub mod PlainFaults
+pub mod Notes
+pub mod Views
+pub mod Tables
+pub mod ReadLines
+pub mod TextLines
+pub mod Again

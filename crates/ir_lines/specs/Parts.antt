@@ -1,0 +1,108 @@
+-- What a line of a function gives, uses and names.
+use Rattle.std.specs.Prelude.{ℕ, Bool, true, false, List, [], ◌∷◌, map, Option, Some, None, filter_map}
+use Rattle.ir_reader.specs.declared.readings.TypeWord.{TypeWord}
+use Rattle.ir_reader.specs.declared.readings.TypeWord.TheVariants.{Int, Managed, Plain}
+use Rattle.ir_reader.specs.Parts.{Val}
+use Rattle.ir_reader.specs.Parts as values
+use Rattle.ir_reader.specs.Lists.{Given, given, function}
+use Rattle.ir_lines.specs.Statements.{Statement, label, binary, compare, convert, select, phi, scalar_step, layout_step, load, store, call, jump, branch, switch, switch_case, ret_void, ret, unreachable, cast}
+
+abbrev pub given_by_call : Option (List ℕ) → TypeWord → Option (List ℕ × TypeWord)
+given_by_call None answer = None
+given_by_call (Some result) answer = Some (result, answer)
+
+-- the name and the type of its result
+abbrev pub gives : Statement → Option (List ℕ × TypeWord)
+gives (binary result op width left right) = Some (result, Int width)
+gives (compare result predicate ty left right) = Some (result, Int 1)
+gives (convert result op width value to) = Some (result, Int to)
+gives (select result condition left_ty left right_ty right) = Some (result, left_ty)
+gives (phi result ty entries) = Some (result, ty)
+gives (scalar_step result element address width index) = Some (result, Managed)
+gives (layout_step result named address width index place) = Some (result, Managed)
+gives (load result ty address) = Some (result, ty)
+gives (call result answer callee passed) = given_by_call result answer
+gives (cast result op from value to) = Some (result, to)
+gives _ = None
+
+abbrev pub passed_value : Given → Option (Val × TypeWord)
+passed_value (given ty value) = Some (value, ty)
+passed_value (function name) = None
+
+abbrev pub entry_use : TypeWord → Val × List ℕ → Val × TypeWord
+entry_use ty entry = (entry.0, ty)
+
+-- the values that it uses, each with the type that the line asks of it
+abbrev pub uses : Statement → List (Val × TypeWord)
+uses (binary result op width left right) = (left, Int width) ∷ (right, Int width) ∷ []
+uses (compare result predicate ty left right) = (left, ty) ∷ (right, ty) ∷ []
+uses (convert result op width value to) = (value, Int width) ∷ []
+uses (select result condition left_ty left right_ty right) = (condition, Int 1) ∷ (left, left_ty) ∷ (right, right_ty) ∷ []
+uses (phi result ty entries) = map (entry_use ty) entries
+uses (scalar_step result element address width index) = (address, Managed) ∷ (index, Int width) ∷ []
+uses (layout_step result named address width index place) = (address, Managed) ∷ (index, Int width) ∷ []
+uses (load result ty address) = (address, Managed) ∷ []
+uses (store ty value address) = (value, ty) ∷ (address, Managed) ∷ []
+uses (call result answer callee passed) = filter_map passed_value passed
+uses (branch condition on_true on_false) = (condition, Int 1) ∷ []
+uses (switch width value default) = (value, Int width) ∷ []
+uses (switch_case width value to) = (value, Int width) ∷ []
+uses (ret ty value) = (value, ty) ∷ []
+uses (cast result op from value to) = (value, from) ∷ []
+uses _ = []
+
+-- the labels that a terminator or a case names: an edge each
+abbrev pub targets : Statement → List (List ℕ)
+targets (jump to) = to ∷ []
+targets (branch condition on_true on_false) = on_true ∷ on_false ∷ []
+targets (switch width value default) = default ∷ []
+targets (switch_case width value to) = to ∷ []
+targets _ = []
+
+abbrev pub entry_labels : Statement → List (List ℕ)
+entry_labels (phi result ty entries) = map (λ entry. entry.1) entries
+entry_labels _ = []
+
+abbrev pub passed_function : Given → Option (List ℕ)
+passed_function (given ty value) = None
+passed_function (function name) = Some name
+
+-- the functions that it names: what it calls, and what it passes
+abbrev pub functions_named : Statement → List (List ℕ)
+functions_named (call result answer callee passed) = callee ∷ filter_map passed_function passed
+functions_named _ = []
+
+abbrev pub layouts_named : Statement → List (List ℕ)
+layouts_named (layout_step result named address width index place) = named ∷ []
+layouts_named _ = []
+
+abbrev pub local_name : Val → Option (List ℕ)
+local_name (values.local name) = Some name
+local_name _ = None
+
+-- the names of the values that it uses
+abbrev pub values_named : Statement → List (List ℕ)
+values_named what = filter_map (λ used. local_name used.0) (uses what)
+
+abbrev pub is_phi : Statement → Bool
+is_phi (phi result ty entries) = true
+is_phi _ = false
+
+-- a line that gives a pointer some bytes further
+abbrev pub is_step : Statement → Bool
+is_step (scalar_step result element address width index) = true
+is_step (layout_step result named address width index place) = true
+is_step _ = false
+
+-- a line where several values meet
+abbrev pub is_merge : Statement → Bool
+is_merge (phi result ty entries) = true
+is_merge (select result condition left_ty left right_ty right) = true
+is_merge _ = false
+
+-- what is stored, passed or returned
+abbrev pub leaving : Statement → List Val
+leaving (store ty value address) = value ∷ []
+leaving (call result answer callee passed) = map (λ used. used.0) (filter_map passed_value passed)
+leaving (ret ty value) = value ∷ []
+leaving _ = []

@@ -1,0 +1,133 @@
+-- What the lines of a text that was read are like: each stands where it may, is formed as its form asks, and passes no limit of a line.
+use Rattle.std.specs.Prelude.{◌≡◌, ℕ, ◌≤◌, Bool, true, false, ◌&&◌, nat_le, List, [], ◌∷◌, length, Option, Some, None}
+use Rattle.std.specs.List.{All, list_all}
+use Rattle.ir_reader.specs.declared.forms.Place.{Place}
+use Rattle.ir_reader.specs.declared.forms.Place.TheVariants as places
+use Rattle.ir_reader.specs.Parts.{is_value_type, is_answer_type, is_cast_type, is_scalar_type, is_case_value}
+use Rattle.ir_reader.specs.Lists.{Given, given, function, is_argument_type, is_task_start}
+use Rattle.ir_reader.specs.Limits.{width_fits, type_fits, value_fits, place_fits, argument_fits, given_fits, entry_value_fits, name_fits}
+use Rattle.ir_lines.specs.Statements.{Statement, Line, layout, declare, define, close, label, binary, compare, convert, select, phi, scalar_step, layout_step, load, store, call, jump, branch, switch, switch_case, switch_end, ret_void, ret, unreachable, cast}
+
+-- ---- places
+
+abbrev pub behind_top : Statement → Option Place
+behind_top (layout name fields) = Some places.Top
+behind_top (declare answer name parameters) = Some places.Top
+behind_top (define answer name arguments strategy) = Some places.Entry
+behind_top _ = None
+
+-- a terminator ends its block, and a `switch` opens its cases
+abbrev pub behind_instruction : Statement → Option Place
+behind_instruction (binary result op width left right) = Some places.Block
+behind_instruction (compare result predicate ty left right) = Some places.Block
+behind_instruction (convert result op width value to) = Some places.Block
+behind_instruction (select result condition left_ty left right_ty right) = Some places.Block
+behind_instruction (phi result ty entries) = Some places.Block
+behind_instruction (scalar_step result element address width index) = Some places.Block
+behind_instruction (layout_step result named address width index place) = Some places.Block
+behind_instruction (load result ty address) = Some places.Block
+behind_instruction (store ty value address) = Some places.Block
+behind_instruction (call result answer callee passed) = Some places.Block
+behind_instruction (cast result op from value to) = Some places.Block
+behind_instruction (jump to) = Some places.Closed
+behind_instruction (branch condition on_true on_false) = Some places.Closed
+behind_instruction ret_void = Some places.Closed
+behind_instruction (ret ty value) = Some places.Closed
+behind_instruction unreachable = Some places.Closed
+behind_instruction (switch width value default) = Some places.Cases
+behind_instruction _ = None
+
+abbrev pub behind_head : Statement → Option Place
+behind_head (label name) = Some places.Block
+behind_head what = behind_instruction what
+
+abbrev pub behind_closed : Statement → Option Place
+behind_closed (label name) = Some places.Block
+behind_closed close = Some places.Top
+behind_closed _ = None
+
+abbrev pub behind_case : Statement → Option Place
+behind_case (switch_case width value to) = Some places.Cases
+behind_case switch_end = Some places.Closed
+behind_case _ = None
+
+-- the place behind a line, if it may stand there
+abbrev pub place_behind : Place → Statement → Option Place
+place_behind places.Top what = behind_top what
+place_behind places.Entry what = behind_head what
+place_behind places.Block what = behind_instruction what
+place_behind places.Closed what = behind_closed what
+place_behind places.Cases what = behind_case what
+
+-- there is a place behind, where the rest stands
+pub record Goes (behind : Option Place) (rest : Place → Type 0) : Type 0 where
+  pub next : Place
+  pub is : behind ≡ Some next
+  pub more : rest next
+
+-- the lines stand from this place on to the end of the text, which is outside functions
+abbrev pub Stand : Place → List Line → Type 0
+Stand place [] = place ≡ places.Top
+Stand place (l ∷ ls) = Goes (place_behind place l.says) (λ next. Stand next ls)
+
+-- ---- limits of a line
+
+-- the widths, literals, lengths of lists and of names that it spells are within the limits
+abbrev pub statement_fits : Statement → Bool
+statement_fits (layout name fields) = name_fits name && (nat_le (length fields) 64 && list_all type_fits fields)
+statement_fits (declare answer name parameters) = type_fits answer && list_all argument_fits parameters
+statement_fits (define answer name arguments strategy) =
+    type_fits answer && (name_fits name && nat_le (length arguments) 64 && list_all argument_fits arguments)
+statement_fits (binary result op width left right) = width_fits width && (value_fits left && value_fits right)
+statement_fits (compare result predicate ty left right) = type_fits ty && (value_fits left && value_fits right)
+statement_fits (convert result op width value to) = width_fits width && (value_fits value && width_fits to)
+statement_fits (select result condition left_ty left right_ty right) =
+    value_fits condition && (type_fits left_ty && (value_fits left && (type_fits right_ty && value_fits right)))
+statement_fits (phi result ty entries) = type_fits ty && list_all entry_value_fits entries
+statement_fits (scalar_step result element address width index) = value_fits address && (width_fits width && value_fits index)
+statement_fits (layout_step result named address width index place) =
+    value_fits address && (width_fits width && (value_fits index && place_fits place))
+statement_fits (load result ty address) = type_fits ty && value_fits address
+statement_fits (store ty value address) = type_fits ty && (value_fits value && value_fits address)
+statement_fits (call result answer callee passed) = type_fits answer && list_all given_fits passed
+statement_fits (branch condition on_true on_false) = value_fits condition
+statement_fits (switch width value default) = width_fits width && value_fits value
+statement_fits (switch_case width value to) = width_fits width && value_fits value
+statement_fits (ret ty value) = type_fits ty && value_fits value
+statement_fits (cast result op from value to) = type_fits from && (value_fits value && type_fits to)
+statement_fits _ = true
+
+-- ---- what the forms ask
+
+-- only `task_start` takes a function
+abbrev pub given_is_formed : List ℕ → Given → Bool
+given_is_formed callee (given ty value) = is_value_type ty
+given_is_formed callee (function name) = is_task_start callee
+
+-- its types are of the classes that its form asks, and a phi has an entry
+abbrev pub is_formed : Statement → Bool
+is_formed (layout name fields) = list_all is_value_type fields
+is_formed (declare answer name parameters) =
+    is_answer_type answer && list_all (λ one. is_argument_type (is_task_start name) one.ty) parameters
+is_formed (define answer name arguments strategy) = is_answer_type answer && list_all (λ one. is_argument_type false one.ty) arguments
+is_formed (compare result predicate ty left right) = is_value_type ty
+is_formed (select result condition left_ty left right_ty right) = is_value_type left_ty && is_value_type right_ty
+is_formed (phi result ty entries) = is_value_type ty && nat_le 1 (length entries)
+is_formed (scalar_step result element address width index) = is_scalar_type element
+is_formed (load result ty address) = is_value_type ty
+is_formed (store ty value address) = is_value_type ty
+is_formed (call None answer callee passed) = list_all (given_is_formed callee) passed
+is_formed (call (Some result) answer callee passed) = is_value_type answer && list_all (given_is_formed callee) passed
+is_formed (switch_case width value to) = is_case_value value
+is_formed (ret ty value) = is_value_type ty
+is_formed (cast result op from value to) = is_cast_type from && is_cast_type to
+is_formed _ = true
+
+-- ---- the lines of a text
+
+pub record IsTextLines (lines : List Line) : Type 0 where
+  pub placed : Stand places.Top lines
+  pub fit : All (λ l. statement_fits l.says ≡ true) lines
+  pub formed : All (λ l. is_formed l.says ≡ true) lines
+  -- a text within the file limit has no more lines than bytes and one
+  pub few : length lines ≤ 16777217

@@ -1,0 +1,52 @@
+-- Types as lines spell them, and what fits them.
+use Rattle.std.specs.Prelude.{ℕ, ◌-◌, ◌^◌, Bool, true, false, ◌&&◌, ◌==◌, nat_lt, nat_le, List, [], ◌∷◌, Option, Some, None, if◌then◌else◌}
+use Rattle.ir_reader.specs.declared.readings.TypeWord.{TypeWord}
+use Rattle.ir_reader.specs.declared.readings.TypeWord.TheVariants.{Void, Int, Managed, Plain}
+use Rattle.ir_reader.specs.declared.readings.Literal.{Literal}
+use Rattle.ir_reader.specs.Parts.{Val}
+use Rattle.ir_reader.specs.Parts as values
+use Rattle.ir_lines.specs.Sections.{Naming}
+use Rattle.ir_lines.specs.Scope.{Scope, value_named}
+
+abbrev pub same_type : TypeWord → TypeWord → Bool
+same_type Void Void = true
+same_type (Int width) (Int other) = width == other
+same_type Managed Managed = true
+same_type Plain Plain = true
+same_type _ _ = false
+
+abbrev pub same_types : List TypeWord → List TypeWord → Bool
+same_types [] [] = true
+same_types (ty ∷ tys) (other ∷ others) = same_type ty other && same_types tys others
+same_types _ _ = false
+
+-- `i64` or `ptr addrspace(1)`, which memory holds
+abbrev pub is_cell : TypeWord → Bool
+is_cell (Int width) = width == 64
+is_cell Managed = true
+is_cell _ = false
+
+-- a literal of iN lies from -2^(N - 1) to 2^N - 1
+abbrev pub is_within : ℕ → Literal → Bool
+is_within width literal =
+    if literal.negative then nat_le literal.magnitude (2 ^ (width - 1)) else nat_lt literal.magnitude (2 ^ width)
+
+abbrev pub literal_fits : TypeWord → Literal → Bool
+literal_fits (Int width) literal = is_within width literal
+literal_fits _ literal = false
+
+abbrev pub takes_null : TypeWord → Bool
+takes_null Managed = true
+takes_null Plain = true
+takes_null _ = false
+
+-- a name that nothing gives has a fault of its own
+abbrev pub naming_fits : TypeWord → Option Naming → Bool
+naming_fits ty None = true
+naming_fits ty (Some one) = same_type one.ty ty
+
+abbrev pub fits : Scope → TypeWord → Val → Bool
+fits scope ty (values.local name) = naming_fits ty (value_named scope name)
+fits scope ty (values.number literal) = literal_fits ty literal
+fits scope ty (values.truth said) = same_type ty (Int 1)
+fits scope ty values.null = takes_null ty

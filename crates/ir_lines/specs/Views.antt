@@ -1,0 +1,16 @@
+-- What readings say.
+use Rattle.std.specs.Prelude.{List, map}
+use Rattle.ir_reader.specs.declared.readings.Reading.{Reading}
+use Rattle.ir_reader.specs.declared.raw.NumberedReading.{NumberedReading}
+use Rattle.ir_reader.specs.Seen.{seen}
+use Rattle.ir_reader.specs.Raws.{seen_numbered}
+use Rattle.ir_lines.specs.Statements.{Statement, Line, stated, line_of}
+
+abbrev pub said : Reading → Statement
+said reading = stated (seen reading)
+
+abbrev pub seen_line : NumberedReading → Line
+seen_line reading = line_of (seen_numbered reading)
+
+abbrev pub seen_lines : List NumberedReading → List Line
+seen_lines readings = map seen_line readings

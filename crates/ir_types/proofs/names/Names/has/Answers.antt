@@ -1,5 +1,0 @@
-use Rattle.ir_types.proofs.PlaceLemmas.{is-one}
-use Rattle.ir_types.proofs.names.Names.has.Goals as goal
-
-pub returns : goal.returns
-returns c = is-one c.args.self.now c.args.name.now c.find.result c.is_some.result c.find.ensures c.is_some.ensures

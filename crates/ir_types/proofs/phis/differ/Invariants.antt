@@ -1,8 +1,0 @@
-use Rattle.std.proofs.Common.{take}
-use Rattle.std.specs.Prelude.{map}
-use Rattle.ir_reader.specs.Seen.{seen_entry}
-use Rattle.ir_types.proofs.PhiValues.{IsFilled}
-use Rattle.ir_types.proofs.phis.differ.Given as goal
-
-abbrev pub invariant-loop-entry : goal.invariant-loop-entry
-invariant-loop-entry l = IsFilled l.local.values l.local.blocks l.ty (take l.entry-index (map seen_entry l.entries)) l.seen

@@ -1,0 +1,35 @@
+-- One more case of a `switch`.
+use Rattle.std.proofs.Common.{◌≡◌, ◌∙◌, ℕ, ◌+◌, ◌<◌, suc, List, [], ◌∷◌, ◌++◌, length, get_or, drop, refl, ap, sym, append_assoc, add-one}
+use Rattle.std.proofs.Math.Seq.{drop-cons}
+use Rattle.std.specs.Prelude.{map}
+use Rattle.ir_reader.specs.declared.readings.Reading.{Reading}
+use Rattle.ir_reader.specs.declared.readings.Reading.TheVariants.{Case}
+use Rattle.ir_reader.specs.declared.readings.Value.{Value}
+use Rattle.ir_reader.specs.declared.readings.TypeWord.TheVariants.{Int}
+use Rattle.ir_reader.specs.declared.raw.NumberedReading.{NumberedReading}
+use Rattle.ir_reader.specs.Seen.{seen_value}
+use Rattle.ir_lines.specs.Statements.{Line}
+use Rattle.ir_lines.specs.Views.{said, seen_line, seen_lines}
+use Rattle.ir_lines.specs.Modules.{operand_in, label_in, case_values, case_labels}
+use denote.Bor.{Bor}
+
+pub case_values-more : (names : List (List ℕ)) (width : ℕ) (line : NumberedReading) (rest : List Line) (own : ℕ) (value : Value) (label : Bor (List ℕ))
+    → line.reading ≡ Case own value label
+    → case_values names width (seen_line line ∷ rest) ≡ operand_in names (Int width) (seen_value value) ∷ case_values names width rest
+case_values-more names width line rest own value label e =
+    ap (λ (r : Reading). case_values names width (record { number = line.line; says = said r } ∷ rest)) e
+
+pub case_labels-more : (names : List (List ℕ)) (line : NumberedReading) (rest : List Line) (own : ℕ) (value : Value) (label : Bor (List ℕ))
+    → line.reading ≡ Case own value label
+    → case_labels names (seen_line line ∷ rest) ≡ label_in names label.now ∷ case_labels names rest
+case_labels-more names line rest own value label e =
+    ap (λ (r : Reading). case_labels names (record { number = line.line; says = said r } ∷ rest)) e
+
+pub cut : (xs : List NumberedReading) (i : ℕ) (x : NumberedReading) → i < length xs → x ≡ get_or xs i x → drop i xs ≡ x ∷ drop (i + 1) xs
+cut xs i x below is =
+    drop-cons xs i x below ∙ ap (λ y. y ∷ drop (suc i) xs) (sym is) ∙ ap (λ n. x ∷ drop n xs) (sym (add-one i))
+
+pub moved : {B : Type 0} (items more : List B) (one : B) (left rest whole : List B)
+    → more ≡ items ++ one ∷ [] → left ≡ one ∷ rest → items ++ left ≡ whole → more ++ rest ≡ whole
+moved items more one left rest whole is next e =
+    ap (λ xs. xs ++ rest) is ∙ append_assoc items (one ∷ []) rest ∙ ap (λ xs. items ++ xs) (sym next) ∙ e

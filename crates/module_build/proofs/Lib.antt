@@ -1,0 +1,5 @@
+pub mod CaseLemmas
+pub mod Bodies
+pub mod Sizes
+pub mod ArgumentLists
+pub mod BuiltLemmas

@@ -1,0 +1,15 @@
+use Rattle.std.proofs.Common.{◌≡◌, ◌++◌, drop}
+use Rattle.std.specs.Prelude.{map, flat_map}
+use Rattle.ir_lines.specs.Sections.{BlockLines}
+use Rattle.ir_lines.specs.Tables.{seen_block}
+use Rattle.ir_lines.specs.Modules.{block_of, numbers_of}
+use Rattle.module_build.specs.Known.{known_in}
+use Rattle.module_build.proofs.build.Scope.built_blocks.Given as goal
+
+abbrev pub invariant-loop-block : goal.invariant-loop-block
+invariant-loop-block l = record {
+  made : l.built.items ++ map (block_of (known_in l.self)) (map seen_block (drop l.block-index l.blocks))
+      ≡ map (block_of (known_in l.self)) (map seen_block l.blocks);
+  numbered : l.numbers.items ++ flat_map (λ (block : BlockLines). numbers_of (known_in l.self) block.lines) (map seen_block (drop l.block-index l.blocks))
+      ≡ l.initial.numbers.items ++ flat_map (λ (block : BlockLines). numbers_of (known_in l.self) block.lines) (map seen_block l.blocks);
+}

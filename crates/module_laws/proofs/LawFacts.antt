@@ -1,0 +1,109 @@
+-- What the absence of faults tells of the lines of a function.
+use Rattle.std.proofs.Common.{◌≡◌, ◌∙◌, ℕ, Bool, true, false, not, ◌&&◌, ◌||◌, List, [], ◌∷◌, refl, ap, sym}
+use Rattle.std.specs.Prelude.{is_none, filter_map, ⊤}
+use Rattle.std.specs.List.{AllByRecursion, Contains, list_any, cons_option}
+use Rattle.std.proofs.lemmas.Bool.Decides.{Decides-eqb}
+use Rattle.ir_reader.specs.declared.readings.TypeWord.{TypeWord}
+use Rattle.ir_reader.specs.declared.readings.TypeWord.TheVariants.{Void, Int, Managed, Plain}
+use Rattle.ir_reader.specs.Parts.{Val}
+use Rattle.ir_reader.specs.Parts as values
+use Rattle.ir_lines.specs.Statements.{Line, Statement}
+use Rattle.ir_lines.specs.Parts.{local_name}
+use Rattle.ir_lines.specs.Sections.{Definition, definitions_of}
+use Rattle.ir_lines.specs.Scope.{Scope, scope_of, value_named}
+use Rattle.ir_lines.specs.Types.{same_type, same_types, fits}
+use Rattle.ir_lines.specs.InBody.{InBody}
+
+pub not-true : (b : Bool) → ¬ (b ≡ true) → b ≡ false
+not-true true h = absurd (h refl)
+not-true false h = refl
+
+pub not-false : (b : Bool) → not b ≡ false → b ≡ true
+not-false true e = refl
+not-false false e = absurd (let bad : true ≡ false = e in cc)
+
+pub or-left : (a b : Bool) → (a || b) ≡ false → a ≡ false
+or-left false b e = refl
+or-left true b e = e
+
+pub or-right : (a b : Bool) → (a || b) ≡ false → b ≡ false
+or-right false b e = e
+or-right true b e = absurd (let bad : true ≡ false = e in cc)
+
+pub and-left : (a b : Bool) → (a && b) ≡ true → a ≡ true
+and-left true b e = refl
+and-left false b e = e
+
+pub and-right : (a b : Bool) → (a && b) ≡ true → b ≡ true
+and-right true b e = e
+and-right false b e = absurd (let bad : false ≡ true = e in cc)
+
+pub true-false : (b : Bool) → b ≡ true → b ≡ false → ⊥
+true-false b t f = let bad : true ≡ false = sym t ∙ f in cc
+
+pub none_any : {A : Type 0} (p : A → Bool) (xs : List A) → list_any p xs ≡ false → AllByRecursion (λ x. p x ≡ false) xs
+none_any p [] e = tt
+none_any p (x ∷ xs) e = (or-left (p x) (list_any p xs) e, none_any p xs (or-right (p x) (list_any p xs) e))
+
+-- a test of a line that is a fault finds none of the function's lines
+pub body_clear : (lines : List Line) (test : Scope → Statement → Bool) → ((line : ℕ) → ¬ (InBody lines line test))
+    → (func : Definition) → Contains (definitions_of lines) func → (l : Line) → Contains func.body l
+    → test (scope_of lines func) l.says ≡ false
+body_clear lines test clear func defined l inside =
+    not-true (test (scope_of lines func) l.says) (λ e.
+    let told : InBody lines l.number test = record {
+      func = func;
+      defined = defined;
+      found = l;
+      inside = inside;
+      number = refl;
+      faulty = e;
+    } in clear l.number told)
+
+-- ---- types
+
+pub same_type-is : (a b : TypeWord) → same_type a b ≡ true → a ≡ b
+same_type-is Void Void e = refl
+same_type-is (Int width) (Int other) e = ap Int ((Decides-eqb width other).0 e)
+same_type-is Managed Managed e = refl
+same_type-is Plain Plain e = refl
+same_type-is _ _ e = absurd (let bad : false ≡ true = e in cc)
+
+pub same_types-is : (xs ys : List TypeWord) → same_types xs ys ≡ true → xs ≡ ys
+same_types-is [] [] e = refl
+same_types-is (x ∷ xs) (y ∷ ys) e =
+    let first : x ≡ y = same_type-is x y (and-left (same_type x y) (same_types xs ys) e) in
+    let rest : xs ≡ ys = same_types-is xs ys (and-right (same_type x y) (same_types xs ys) e) in
+    cc
+same_types-is [] (y ∷ ys) e = absurd (let bad : false ≡ true = e in cc)
+same_types-is (x ∷ xs) [] e = absurd (let bad : false ≡ true = e in cc)
+
+-- ---- uses
+
+abbrev pub IsKnownUse : Scope → Val → Type 0
+IsKnownUse scope (values.local name) = is_none (value_named scope name) ≡ false
+IsKnownUse scope _ = ⊤
+
+-- a value that a line uses is known, and fits the type that the line asks of it
+abbrev pub IsGoodUse : Scope → Val × TypeWord → Type 0
+IsGoodUse scope used = (fits scope used.1 used.0 ≡ true) × IsKnownUse scope used.0
+
+known_first : (scope : Scope) (v : Val) (rest : List (List ℕ))
+    → list_any (λ name. is_none (value_named scope name)) (cons_option (local_name v) rest) ≡ false
+    → IsKnownUse scope v × (list_any (λ name. is_none (value_named scope name)) rest ≡ false)
+known_first scope (values.local name) rest e = (
+  or-left (is_none (value_named scope name)) (list_any (λ n. is_none (value_named scope n)) rest) e,
+  or-right (is_none (value_named scope name)) (list_any (λ n. is_none (value_named scope n)) rest) e,
+)
+known_first scope _ rest e = (tt, e)
+
+pub good_uses : (scope : Scope) (us : List (Val × TypeWord))
+    → list_any (λ used. not (fits scope used.1 used.0)) us ≡ false
+    → list_any (λ name. is_none (value_named scope name)) (filter_map (λ used. local_name used.0) us) ≡ false
+    → AllByRecursion (IsGoodUse scope) us
+good_uses scope [] misfit unknown = tt
+good_uses scope (u ∷ us) misfit unknown =
+    let known = known_first scope u.0 (filter_map (λ used. local_name used.0) us) unknown in (
+      (not-false (fits scope u.1 u.0) (or-left (not (fits scope u.1 u.0)) (list_any (λ used. not (fits scope used.1 used.0)) us) misfit), known.0),
+      good_uses scope us (or-right (not (fits scope u.1 u.0)) (list_any (λ used. not (fits scope used.1 used.0)) us) misfit) known.1,
+    )

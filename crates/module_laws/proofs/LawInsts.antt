@@ -1,0 +1,336 @@
+-- Phis, calls and terminators; and the instruction of any line.
+use Rattle.std.proofs.Common.{◌≡◌, ◌≢◌, ◌∙◌, ℕ, suc, ◌<◌, ◌-◌, ◌^◌, true, false, not, ◌||◌, ◌==◌, List, [], ◌∷◌, ◌++◌, map, length, min, refl, ap, sym, subst, arith}
+use Rattle.std.specs.Prelude.{Option, Some, None, IfSome, is_none, is_some, find, slice_get, option_map, filter_map, flat_map, ⊤}
+use Rattle.std.specs.List.{All, AllByRecursion, AllZip, Contains, list_any, list_all}
+use Rattle.std.proofs.lemmas.List.{length-map}
+use Rattle.std.proofs.lemmas.List.Elements.{All-nil, All-cons, All-append, All-from_recursion, recursion_from_All}
+use Rattle.std.proofs.lemmas.Option.{slice_get-map}
+use Rattle.std.proofs.lemmas.Bool.Decides.{Decides-eqb, Decides-ltb, not_from_Decides}
+use Rattle.sp_ids.specs.declared.ids.BlockId.{BlockId}
+use Rattle.ir_ast.specs.declared.types.Ty.{Ty}
+use Rattle.ir_ast.specs.declared.types.Ty.TheVariants as tys
+use Rattle.ir_ast.specs.declared.ops.Op.TheVariants as ops
+use Rattle.ir_ast.specs.declared.ops.Operand.{Operand}
+use Rattle.ir_ast.specs.declared.ops.Callee.{Callee}
+use Rattle.ir_ast.specs.Values as defs
+use Rattle.ir_ast.specs.Lists.{Distinct}
+use Rattle.ir_ast.specs.Types.{is_void}
+use Rattle.ir_ast.specs.Operands.{is_value, is_literal}
+use Rattle.ir_ast.specs.Widths.{IsWidth, type_widths}
+use Rattle.ir_ast.specs.Faults.TypeClash.{Fits, HasField}
+use Rattle.ir_ast.specs.declared.ops.Elem.TheVariants as elements
+use Rattle.ir_reader.specs.declared.readings.TypeWord.{TypeWord}
+use Rattle.ir_reader.specs.declared.readings.TypeWord.TheVariants.{Void, Int, Managed, Plain}
+use Rattle.ir_reader.specs.declared.readings.Literal.{Literal}
+use Rattle.ir_reader.specs.Parts.{Val, is_case_value}
+use Rattle.ir_reader.specs.Parts as values
+use Rattle.ir_reader.specs.Lists.{Given, given, function}
+use Rattle.ir_lines.specs.Statements.{Line, Statement, layout_step, call, switch, switch_case}
+use Rattle.ir_lines.specs.Parts.{passed_value, entry_use}
+use Rattle.ir_lines.specs.Sections.{Definition, LayoutLine, BlockLines, blocks_of, layouts_of}
+use Rattle.ir_lines.specs.Scope.{scope_of, layout_named, block_named, block_number}
+use Rattle.ir_lines.specs.Places.{number_in}
+use Rattle.ir_lines.specs.Modules.{Known, known_of, type_of, layout_of, operand_in, operand_of, entry_operand, entry_label, label_of, label_in, passed_operand, given_type, instruction, instruction_said, place_of, block_of, callee_of, case_values, case_labels}
+use Rattle.ir_lines.specs.Faults.TypeClash.{place_fits, is_field}
+use Rattle.ir_lines.specs.ReadLines.{SaysRead, IsValueType, IsReadCall, IsReadPassed}
+use Rattle.ir_lines.proofs.LawNames.{stands, stands_below, number-is}
+use Rattle.module_laws.proofs.LawFacts.{or-left, and-right, none_any, IsGoodUse}
+use Rattle.module_laws.proofs.LawLines.{InLaw, LineFacts, made, read_function, is_value_in, fit, entries_fit, all_zip_same, wrapped_below, truth_below}
+use Rattle.module_laws.proofs.LawCases.{each_case, labels-cases, values-distinct_in}
+use Rattle.module_laws.proofs.LawCalls.{IsGoodCall}
+use Rattle.module_laws.proofs.LawExternals.{good_call}
+use Rattle.module_laws.proofs.LawTyped.{GoodInst, content, scope_made, both, all-list, type_width, answers, is_first, widths_made, no_names, no_layout, two_values, width_one, good_layout}
+
+-- ---- labels
+
+abbrev pub IsGoodLabel : List Line → Definition → BlockId → Type 0
+IsGoodLabel lines func label = (label.0 < length (made lines func).blocks) × (label.0 ≢ 0)
+
+pub label_below : (lines : List Line) (func : Definition) → InLaw lines func → (name : List ℕ) → is_none (block_named (scope_of lines func) name) ≡ false
+    → (label_of (known_of lines func) name).0 < length (made lines func).blocks
+label_below lines func law name e =
+    let s = stands (λ (one : BlockLines). one.name) (blocks_of func) name e in
+    let few = (read_function lines func law).few_blocks in
+    let b = stands_below (λ (one : BlockLines). one.name) (blocks_of func) name s in
+    let n = number-is (λ (one : BlockLines). one.name) (blocks_of func) name s (omega arith) in
+    omega (arith, n, length-map (blocks_of func) (block_of (known_of lines func)))
+
+pub good_label : (lines : List Line) (func : Definition) → InLaw lines func → (name : List ℕ) → is_none (block_named (scope_of lines func) name) ≡ false
+    → (block_number (scope_of lines func) name == 0) ≡ false → IsGoodLabel lines func (label_of (known_of lines func) name)
+good_label lines func law name e f = (
+  label_below lines func law name e,
+  not_from_Decides (block_number (scope_of lines func) name == 0) (Decides-eqb (block_number (scope_of lines func) name) 0) f,
+)
+
+-- ---- phis
+
+entries_values : (names : List (List ℕ)) (ty : TypeWord) (es : List (Val × List ℕ)) → AllByRecursion (λ op. is_value op ≡ true) (map (entry_operand names ty) es)
+entries_values names ty [] = tt
+entries_values names ty (e ∷ es) = (is_value_in names ty e.0, entries_values names ty es)
+
+entries_labels : (lines : List Line) (func : Definition) → InLaw lines func → (es : List (Val × List ℕ))
+    → AllByRecursion (λ name. is_none (block_named (scope_of lines func) name) ≡ false) (map (λ (entry : Val × List ℕ). entry.1) es)
+    → AllByRecursion (λ label. label.0 < length (made lines func).blocks) (map (entry_label (known_of lines func).blocks) es)
+entries_labels lines func law [] known = tt
+entries_labels lines func law (e ∷ es) known = (label_below lines func law e.1 known.0, entries_labels lines func law es known.1)
+
+pub good_phi : (lines : List Line) (func : Definition) → InLaw lines func → (result : List ℕ) (ty : TypeWord) (es : List (Val × List ℕ))
+    → IsValueType ty → 0 < length es → AllByRecursion (IsGoodUse (scope_of lines func)) (map (entry_use ty) es)
+    → list_any (λ name. is_none (block_named (scope_of lines func) name)) (map (λ (entry : Val × List ℕ). entry.1) es) ≡ false
+    → GoodInst lines func (instruction (Some result) ops.Phi (type_of ty) (map (entry_operand (known_of lines func).values ty) es) (map (entry_label (known_of lines func).blocks) es))
+good_phi lines func law result ty es read some uses known =
+    let names = (known_of lines func).values in
+    let blocks = (known_of lines func).blocks in
+    let os = map (entry_operand names ty) es in
+    let labels = map (entry_label blocks) es in
+    let vals : list_all is_value os ≡ true = all-list is_value os (entries_values names ty es) in
+    let count : length os ≡ length es = length-map es (entry_operand names ty) in
+    let label_count : length labels ≡ length os = length-map es (entry_label blocks) ∙ sym count in
+    record {
+      line = (
+        record { result = refl; type = is_first ty read; operand_count = refl; values = vals; label_count = label_count; no_bundle = refl },
+        (let n : 0 < length os = omega (arith, count) in n),
+      );
+      typed = record {
+        operands = all_zip_same (defs.value_types (made lines func)) (type_of ty) os (entries_fit lines func law ty read es uses);
+        bundle = All-nil (λ (entry : Ty × Operand). Fits (scope_made lines func).values entry.1 entry.0);
+        rule = tt;
+      };
+      widths = widths_made ops.Phi (Some result) (type_of ty) os labels (All-nil IsWidth) (type_width ty read);
+      bundle = refl;
+      plain = refl;
+      unordered = refl;
+      layouts = no_layout lines;
+      functions = no_names lines os vals;
+      labels = All-from_recursion (λ (label : BlockId). label.0 < length (made lines func).blocks) labels
+          (entries_labels lines func law es (none_any (λ name. is_none (block_named (scope_of lines func) name)) (map (λ (entry : Val × List ℕ). entry.1) es) known));
+      entry = λ e. absurd (let bad : false ≡ true = e in cc);
+    }
+
+-- ---- calls
+
+passed_fit : (lines : List Line) (func : Definition) → InLaw lines func → (passed : List Given) → AllByRecursion IsReadPassed passed
+    → AllByRecursion (IsGoodUse (scope_of lines func)) (filter_map passed_value passed)
+    → AllZip (Fits (defs.value_types (made lines func))) (map (passed_operand (known_of lines func)) passed) (map given_type passed)
+passed_fit lines func law [] read good = tt
+passed_fit lines func law (given ty v ∷ passed) read good = (fit lines func law ty v read.0 good.0, passed_fit lines func law passed read.1 good.1)
+passed_fit lines func law (function name ∷ passed) read good = (refl, passed_fit lines func law passed read.1 good)
+
+passed_widths : (passed : List Given) → AllByRecursion IsReadPassed passed → All IsWidth (flat_map type_widths (map given_type passed))
+passed_widths [] read = All-nil IsWidth
+passed_widths (given ty v ∷ passed) read =
+    All-append IsWidth (type_widths (type_of ty)) (flat_map type_widths (map given_type passed)) (type_width ty read.0) (passed_widths passed read.1)
+passed_widths (function name ∷ passed) read = passed_widths passed read.1
+
+call_result : (result : Option (List ℕ)) (answer : TypeWord) → IsReadCall result answer → is_some result ≡ not (is_void (type_of answer))
+call_result None answer read = sym (ap (λ (t : TypeWord). not (is_void (type_of t))) read)
+call_result (Some result) (Int width) read = refl
+call_result (Some result) Managed read = refl
+call_result (Some result) Void read = absurd read.1
+call_result (Some result) Plain read = absurd read.1
+
+call_width : (result : Option (List ℕ)) (answer : TypeWord) → IsReadCall result answer → All IsWidth (type_widths (type_of answer))
+call_width None answer read = subst (λ (t : TypeWord). All IsWidth (type_widths (type_of t))) (sym read) (All-nil IsWidth)
+call_width (Some result) answer read = type_width answer read.1
+
+call_at : (lines : List Line) (func : Definition) → InLaw lines func → (result : Option (List ℕ)) (answer : TypeWord) (name : List ℕ) (passed : List Given)
+    → IsReadCall result answer → AllByRecursion IsReadPassed passed → AllByRecursion (IsGoodUse (scope_of lines func)) (filter_map passed_value passed)
+    → (g : IsGoodCall lines func name answer passed)
+    → GoodInst lines func (instruction result (ops.Call g.callee (map given_type passed)) (type_of answer) (map (passed_operand (known_of lines func)) passed) [])
+call_at lines func law result answer name passed read read_passed uses g = record {
+  line = record {
+    result = call_result result answer read;
+    type = answers answer;
+    arguments = g.arguments;
+    no_labels = refl;
+    bundle = refl;
+    leaf = λ _. refl;
+  };
+  typed = record {
+    operands = passed_fit lines func law passed read_passed uses;
+    bundle = All-nil (λ (entry : Ty × Operand). Fits (scope_made lines func).values entry.1 entry.0);
+    rule = record { signature = g.signature; operands = g.takes };
+  };
+  widths = widths_made (ops.Call g.callee (map given_type passed)) result (type_of answer) (map (passed_operand (known_of lines func)) passed) []
+      (passed_widths passed read_passed) (call_width result answer read);
+  bundle = refl;
+  plain = g.helper;
+  unordered = refl;
+  layouts = g.layouts;
+  functions = g.functions;
+  labels = All-nil (λ (label : BlockId). label.0 < length (made lines func).blocks);
+  entry = λ e. absurd (let bad : false ≡ true = e in cc);
+}
+
+pub good_call_line : (lines : List Line) (func : Definition) → InLaw lines func → (result : Option (List ℕ)) (answer : TypeWord) (name : List ℕ) (passed : List Given)
+    → LineFacts (scope_of lines func) (call result answer name passed)
+    → GoodInst lines func (instruction result (ops.Call (callee_of (known_of lines func) name) (map given_type passed)) (type_of answer) (map (passed_operand (known_of lines func)) passed) [])
+good_call_line lines func law result answer name passed facts =
+    let g = good_call lines func law name answer passed facts.functions facts.rule facts.read.1 in
+    subst (λ (c : Callee). GoodInst lines func (instruction result (ops.Call c (map given_type passed)) (type_of answer) (map (passed_operand (known_of lines func)) passed) []))
+    (sym g.is) (call_at lines func law result answer name passed facts.read.0 (recursion_from_All IsReadPassed passed facts.read.1) facts.uses g)
+
+-- ---- terminators with labels
+
+good_labels : (lines : List Line) (func : Definition) (labels : List BlockId) → AllByRecursion (IsGoodLabel lines func) labels
+    → All (λ label. label.0 < length (made lines func).blocks) labels × All (λ label. label.0 ≢ 0) labels
+good_labels lines func [] all = (All-nil (λ (label : BlockId). label.0 < length (made lines func).blocks), All-nil (λ (label : BlockId). label.0 ≢ 0))
+good_labels lines func (label ∷ labels) all =
+    let more = good_labels lines func labels all.1 in (
+      All-cons (λ (label : BlockId). label.0 < length (made lines func).blocks) label labels all.0.0 more.0,
+      All-cons (λ (label : BlockId). label.0 ≢ 0) label labels all.0.1 more.1,
+    )
+
+pub good_jump : (lines : List Line) (func : Definition) (label : BlockId) → IsGoodLabel lines func label
+    → GoodInst lines func (instruction None ops.Br tys.Void [] (label ∷ []))
+good_jump lines func label good =
+    let labels = good_labels lines func (label ∷ []) (good, tt) in
+    record {
+      line = record { result = refl; type = refl; operand_count = refl; values = refl; label_count = refl; no_bundle = refl };
+      typed = record { operands = tt; bundle = All-nil (λ (entry : Ty × Operand). Fits (scope_made lines func).values entry.1 entry.0); rule = tt };
+      widths = All-nil IsWidth;
+      bundle = refl;
+      plain = refl;
+      unordered = refl;
+      layouts = no_layout lines;
+      functions = no_names lines [] refl;
+      labels = labels.0;
+      entry = λ _. labels.1;
+    }
+
+pub good_branch : (lines : List Line) (func : Definition) (a : Operand) (on_true on_false : BlockId) → list_all is_value (a ∷ []) ≡ true
+    → Fits (defs.value_types (made lines func)) a (tys.Int 1) → IsGoodLabel lines func on_true → IsGoodLabel lines func on_false
+    → GoodInst lines func (instruction None ops.CondBr (tys.Int 1) (a ∷ []) (on_true ∷ on_false ∷ []))
+good_branch lines func a on_true on_false v f good_true good_false =
+    let labels = good_labels lines func (on_true ∷ on_false ∷ []) (good_true, (good_false, tt)) in
+    record {
+      line = record { result = refl; type = refl; operand_count = refl; values = v; label_count = refl; no_bundle = refl };
+      typed = record { operands = (f, tt); bundle = All-nil (λ (entry : Ty × Operand). Fits (scope_made lines func).values entry.1 entry.0); rule = tt };
+      widths = width_one 1 (omega arith, omega arith);
+      bundle = refl;
+      plain = refl;
+      unordered = refl;
+      layouts = no_layout lines;
+      functions = no_names lines (a ∷ []) v;
+      labels = labels.0;
+      entry = λ _. labels.1;
+    }
+
+pub good_switch : (lines : List Line) (func : Definition) (width : ℕ) (a : Operand) (cases : List Operand) (label : BlockId) (labels : List BlockId)
+    → IsWidth width → list_all is_value (a ∷ cases) ≡ true → list_all is_literal cases ≡ true → length labels ≡ length cases
+    → AllByRecursion (λ op. Fits (defs.value_types (made lines func)) op (tys.Int width)) (a ∷ cases)
+    → Distinct cases → AllByRecursion (IsGoodLabel lines func) (label ∷ labels)
+    → GoodInst lines func (instruction None ops.Switch (tys.Int width) (a ∷ cases) (label ∷ labels))
+good_switch lines func width a cases label labels read v literal count fits distinct good =
+    let both_good = good_labels lines func (label ∷ labels) good in
+    record {
+      line = (record { result = refl; type = refl; operand_count = refl; values = v; label_count = ap suc count; no_bundle = refl }, omega arith, literal);
+      typed = record {
+        operands = all_zip_same (defs.value_types (made lines func)) (tys.Int width) (a ∷ cases) fits;
+        bundle = All-nil (λ (entry : Ty × Operand). Fits (scope_made lines func).values entry.1 entry.0);
+        rule = distinct;
+      };
+      widths = widths_made ops.Switch None (tys.Int width) (a ∷ cases) (label ∷ labels) (All-nil IsWidth) (width_one width read);
+      bundle = refl;
+      plain = refl;
+      unordered = refl;
+      layouts = no_layout lines;
+      functions = no_names lines (a ∷ cases) v;
+      labels = both_good.0;
+      entry = λ _. both_good.1;
+    }
+
+-- the labels of the cases behind a line
+one_case_label : (lines : List Line) (func : Definition) → InLaw lines func → (n : ℕ) (s : Statement) (ls : List Line) → LineFacts (scope_of lines func) s
+    → AllByRecursion (IsGoodLabel lines func) (case_labels (known_of lines func).blocks ls)
+    → AllByRecursion (IsGoodLabel lines func) (case_labels (known_of lines func).blocks (record { number = n; says = s } ∷ ls))
+one_case_label lines func law n (switch_case width value to) ls facts ih = (
+  good_label lines func law to (or-left (is_none (block_named (scope_of lines func) to)) false facts.labels)
+      (or-left (block_number (scope_of lines func) to == 0) false facts.entry),
+  ih,
+)
+one_case_label lines func law n _ ls facts ih = tt
+
+pub good_case_labels : (lines : List Line) (func : Definition) → InLaw lines func → (ls : List Line)
+    → AllByRecursion (λ l. LineFacts (scope_of lines func) l.says) ls → AllByRecursion (IsGoodLabel lines func) (case_labels (known_of lines func).blocks ls)
+good_case_labels lines func law [] facts = tt
+good_case_labels lines func law (l ∷ ls) facts = one_case_label lines func law l.number l.says ls facts.0 (good_case_labels lines func law ls facts.1)
+
+reads : (lines : List Line) (func : Definition) (ls : List Line) → AllByRecursion (λ l. LineFacts (scope_of lines func) l.says) ls → AllByRecursion (λ l. SaysRead l.says) ls
+reads lines func [] facts = tt
+reads lines func (l ∷ ls) facts = (facts.0.read, reads lines func ls facts.1)
+
+case_fits : (T : List Ty) (names : List (List ℕ)) (width : ℕ) → IsWidth width → (v : Val) → is_case_value v ≡ true → Fits T (operand_in names (Int width) v) (tys.Int width)
+case_fits T names width read (values.number literal) e = (width, refl, wrapped_below width literal)
+case_fits T names width read (values.truth said) e = (width, refl, truth_below width said read.0)
+case_fits T names width read (values.local name) e = absurd (let bad : false ≡ true = e in cc)
+case_fits T names width read values.null e = absurd (let bad : false ≡ true = e in cc)
+
+case_literal : (names : List (List ℕ)) (width : ℕ) (v : Val) → is_case_value v ≡ true → is_literal (operand_in names (Int width) v) ≡ true
+case_literal names width (values.number literal) e = refl
+case_literal names width (values.truth said) e = refl
+case_literal names width (values.local name) e = absurd (let bad : false ≡ true = e in cc)
+case_literal names width values.null e = absurd (let bad : false ≡ true = e in cc)
+
+pub good_switch_line : (lines : List Line) (func : Definition) → InLaw lines func → (before : List Line) (n width : ℕ) (value : Val) (default : List ℕ) (after : List Line)
+    → func.body ≡ before ++ (record { number = n; says = switch width value default }) ∷ after
+    → LineFacts (scope_of lines func) (switch width value default) → AllByRecursion (λ l. LineFacts (scope_of lines func) l.says) after
+    → GoodInst lines func (instruction None ops.Switch (tys.Int width)
+    (operand_of (known_of lines func) (Int width) value ∷ case_values (known_of lines func).values width after)
+    (label_of (known_of lines func) default ∷ case_labels (known_of lines func).blocks after))
+good_switch_line lines func law before n width value default after whole facts behind =
+    let known = known_of lines func in
+    let T = defs.value_types (made lines func) in
+    let cases = case_values known.values width after in
+    let read = reads lines func after behind in
+    let first = operand_of known (Int width) value in
+    good_switch lines func width first cases (label_of known default) (case_labels known.blocks after) facts.read
+    (both (is_value first) (list_all is_value cases) (is_value_in known.values (Int width) value)
+    (all-list is_value cases (each_case (λ (op : Operand). is_value op ≡ true) known.values width (λ v _. is_value_in known.values (Int width) v) after read)))
+    (all-list is_literal cases (each_case (λ (op : Operand). is_literal op ≡ true) known.values width (case_literal known.values width) after read))
+    (labels-cases known.values known.blocks width after) (
+      fit lines func law (Int width) value facts.read facts.uses.0,
+      each_case (λ (op : Operand). Fits T op (tys.Int width)) known.values width (case_fits T known.values width facts.read) after read,
+    )
+    (values-distinct_in lines law.none func law.defined known.values before n width value default after whole read) (
+      good_label lines func law default (or-left (is_none (block_named (scope_of lines func) default)) false facts.labels)
+          (or-left (block_number (scope_of lines func) default == 0) false facts.entry),
+      good_case_labels lines func law after behind,
+    )
+
+-- ---- `getelementptr` over a layout
+
+place_below : (place : Literal) (count : ℕ) → is_field place count ≡ true → place_of place < count
+place_below place count e =
+    let less : place.magnitude < count = (Decides-ltb place.magnitude count).0
+    (and-right (not place.negative || not (Rattle.std.specs.Prelude.nat_lt 0 place.magnitude)) (Rattle.std.specs.Prelude.nat_lt place.magnitude count) e) in
+    let m : min place.magnitude (2 ^ 32 - 1) < count = omega arith in m
+
+field_by : (fields : List ℕ) (number : ℕ) (one : LayoutLine) (place : Option Literal) → slice_get fields number ≡ Some (length one.fields)
+    → place_fits place (Some one) ≡ true → HasField fields (elements.Layout number) (option_map place_of place)
+field_by fields number one None count e = tt
+field_by fields number one (Some place) count e =
+    subst (λ (o : Option ℕ). IfSome o (λ (k : ℕ). place_of place < k)) (sym count) (place_below place (length one.fields) e)
+
+pub good_layout_line : (lines : List Line) (func : Definition) → InLaw lines func → (result named : List ℕ) (address : Val) (width : ℕ) (index : Val) (place : Option Literal)
+    → LineFacts (scope_of lines func) (layout_step result named address width index place)
+    → GoodInst lines func (instruction (Some result) (ops.Gep (elements.Layout (number_in (known_of lines func).layouts named)) width (option_map place_of place)) tys.Ptr
+    (operand_of (known_of lines func) Managed address ∷ operand_of (known_of lines func) (Int width) index ∷ []) [])
+good_layout_line lines func law result named address width index place facts =
+    let known = known_of lines func in
+    let a = operand_of known Managed address in
+    let b = operand_of known (Int width) index in
+    let s = stands (λ (l : LayoutLine). l.name) (layouts_of lines) named (or-left (is_none (layout_named (scope_of lines func) named)) false facts.layouts) in
+    let few = law.read.few_layouts in
+    let n = number-is (λ (l : LayoutLine). l.name) (layouts_of lines) named s (omega arith) in
+    let fields = (scope_made lines func).fields in
+    let within : number_in known.layouts named < length (content lines).layouts =
+    (let below = stands_below (λ (l : LayoutLine). l.name) (layouts_of lines) named s in omega (arith, n, length-map (layouts_of lines) layout_of)) in
+    let count : slice_get fields (number_in known.layouts named) ≡ Some (length s.one.fields) =
+    ap (slice_get fields) n ∙ slice_get-map (λ (layout : Rattle.ir_ast.specs.Layouts.ObjectLayout). length layout.fields) (map layout_of (layouts_of lines)) s.place
+    ∙ ap (option_map (λ (layout : Rattle.ir_ast.specs.Layouts.ObjectLayout). length layout.fields)) (slice_get-map layout_of (layouts_of lines) s.place ∙ ap (option_map layout_of) s.there)
+    ∙ ap Some (length-map s.one.fields Rattle.ir_lines.specs.Modules.cell_of) in
+    good_layout lines func result (number_in known.layouts named) width (option_map place_of place) a b
+    (two_values a b (is_value_in known.values Managed address) (is_value_in known.values (Int width) index))
+    (fit lines func law Managed address tt facts.uses.0, (fit lines func law (Int width) index facts.read.1 facts.uses.1.0, tt))
+    facts.read.1 within (field_by fields (number_in known.layouts named) s.one place count (sym (ap (place_fits place) s.found) ∙ facts.rule))

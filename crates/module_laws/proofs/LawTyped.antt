@@ -1,0 +1,348 @@
+-- The instruction of each line of faultless lines has the parts of its form, its types and its names.
+use Rattle.std.proofs.Common.{◌≡◌, ◌≢◌, ◌∙◌, ℕ, ◌<◌, Bool, true, false, ◌&&◌, ◌||◌, ◌==◌, if◌then◌else◌, List, [], ◌∷◌, ◌++◌, length, refl, ap, sym, arith}
+use Rattle.std.specs.Prelude.{Option, Some, None}
+use Rattle.std.specs.List.{All, AllByRecursion, AllZip, list_all}
+use Rattle.std.proofs.lemmas.List.Elements.{All-nil, All-cons, All-append, All-from_recursion}
+use Rattle.std.proofs.lemmas.Bool.Decides.{Decides-eqb, Decides-ltb}
+use Rattle.sp_ids.specs.declared.ids.BlockId.{BlockId}
+use Rattle.ir_ast.specs.declared.types.Ty.{Ty}
+use Rattle.ir_ast.specs.declared.types.Ty.TheVariants as tys
+use Rattle.ir_ast.specs.declared.cells.Cell.TheVariants as cells
+use Rattle.ir_ast.specs.declared.ops.Op.{Op}
+use Rattle.ir_ast.specs.declared.ops.Op.TheVariants as ops
+use Rattle.ir_ast.specs.declared.ops.Operand.{Operand}
+use Rattle.ir_ast.specs.declared.ops.Operand.TheVariants as operands
+use Rattle.ir_ast.specs.declared.ops.Elem.TheVariants as elements
+use Rattle.ir_ast.specs.Insts.{Instruction}
+use Rattle.ir_ast.specs.Values as defs
+use Rattle.ir_ast.specs.Types.{is_void, is_integer, is_first_class, is_answer}
+use Rattle.ir_ast.specs.Lines.{IsLine, Has, is_element, is_rewritten}
+use Rattle.ir_ast.specs.Operands.{is_value, functions_named as functions_in, layouts_named as layouts_in}
+use Rattle.ir_ast.specs.Widths.{IsWidth, type_widths, operator_widths, line_widths}
+use Rattle.ir_ast.specs.Scope.{scope_of as module_scope}
+use Rattle.ir_ast.specs.Faults.TypeClash.{Fits, IsTyped, IsCallOf, HasField, IsCellType, asked}
+use Rattle.ir_ast.specs.Faults.EntryHasPred.{LeavesEntry}
+use Rattle.ir_ast.specs.Faults.PointerOrder.{orders_pointers}
+use Rattle.ir_reader.specs.declared.readings.TypeWord.{TypeWord}
+use Rattle.ir_reader.specs.declared.readings.TypeWord.TheVariants.{Void, Int, Managed, Plain}
+use Rattle.ir_reader.specs.declared.words.Binary.{Binary}
+use Rattle.ir_reader.specs.declared.words.Binary.TheVariants.{Add, Sub, Mul, Udiv, Sdiv, Urem, Srem, And, Or, Xor, Shl, Lshr, Ashr}
+use Rattle.ir_reader.specs.declared.words.Conversion.{Conversion}
+use Rattle.ir_reader.specs.declared.words.Conversion.TheVariants.{Trunc, Zext, Sext}
+use Rattle.ir_reader.specs.Parts.{Val, is_scalar_type}
+use Rattle.ir_lines.specs.Statements.{Line}
+use Rattle.ir_lines.specs.Sections.{Definition}
+use Rattle.ir_lines.specs.Types.{is_cell}
+use Rattle.ir_lines.specs.Modules.{Known, known_of, type_of, element_of, layout_of, operand_in, operand_of, label_of, label_in, passed_operand, given_type, instruction, place_of, block_of, callee_of, module_of}
+use Rattle.ir_lines.specs.Faults.TypeClash.{place_fits, is_field}
+use Rattle.ir_lines.specs.ReadLines.{IsValueType, IsAnswerType}
+use Rattle.module_laws.proofs.LawLines.{made}
+use Rattle.module_laws.proofs.LawCalls.{IsGoodCall, funcs_of, over, call_made}
+
+abbrev pub content : List Line → Rattle.ir_ast.specs.Modules.ModuleContent
+content lines = (module_of lines).content
+
+abbrev pub scope_made : List Line → Definition → Rattle.ir_ast.specs.Scope.Scope
+scope_made lines func = module_scope (content lines) (made lines func)
+
+pub record GoodInst (lines : List Line) (func : Definition) (inst : Instruction) : Type 0 where
+  pub line : IsLine inst
+  pub typed : IsTyped (scope_made lines func) inst
+  pub widths : All IsWidth (line_widths inst)
+  pub bundle : inst.bundle ≡ []
+  pub plain : is_rewritten inst.op ≡ false
+  pub unordered : orders_pointers inst.op inst.ty ≡ false
+  pub layouts : All (λ layout. layout < length (content lines).layouts) (layouts_in inst)
+  pub functions : All (λ named. named < length (content lines).funcs) (functions_in inst)
+  pub labels : All (λ label. label.0 < length (made lines func).blocks) inst.labels
+  pub entry : LeavesEntry inst
+
+-- ---- parts
+
+pub both : (a b : Bool) → a ≡ true → b ≡ true → (a && b) ≡ true
+both a b e f = ap (λ (x : Bool). x && b) e ∙ f
+
+pub all-list : {A : Type 0} (p : A → Bool) (xs : List A) → AllByRecursion (λ x. p x ≡ true) xs → list_all p xs ≡ true
+all-list p [] all = refl
+all-list p (x ∷ xs) all = both (p x) (list_all p xs) all.0 (all-list p xs all.1)
+
+pub type_width : (ty : TypeWord) → IsValueType ty → All IsWidth (type_widths (type_of ty))
+type_width (Int width) read = All-cons IsWidth width [] read (All-nil IsWidth)
+type_width Managed read = All-nil IsWidth
+type_width Void read = absurd read
+type_width Plain read = absurd read
+
+pub answer_width : (ty : TypeWord) → IsAnswerType ty → All IsWidth (type_widths (type_of ty))
+answer_width (Int width) read = All-cons IsWidth width [] read (All-nil IsWidth)
+answer_width Managed read = All-nil IsWidth
+answer_width Void read = All-nil IsWidth
+answer_width Plain read = absurd read
+
+pub answers : (ty : TypeWord) → is_answer (type_of ty) ≡ true
+answers Void = refl
+answers (Int width) = refl
+answers Managed = refl
+answers Plain = refl
+
+pub is_first : (ty : TypeWord) → IsValueType ty → is_first_class (type_of ty) ≡ true
+is_first ty read = Rattle.module_laws.proofs.LawCalls.first_class ty read
+
+pub widths_made : (op : Op) (result : Option (List ℕ)) (ty : Ty) (operands : List Operand) (labels : List BlockId)
+    → All IsWidth (operator_widths op) → All IsWidth (type_widths ty) → All IsWidth (line_widths (instruction result op ty operands labels))
+widths_made op result ty operands labels of_op of_type =
+    All-append IsWidth (operator_widths op ++ type_widths ty) [] (All-append IsWidth (operator_widths op) (type_widths ty) of_op of_type) (All-nil IsWidth)
+
+values_name_none : (P : ℕ → Type 0) (os : List Operand) → list_all is_value os ≡ true → AllByRecursion P (functions_in (over os))
+values_name_none P [] e = tt
+values_name_none P (operands.Value value ∷ os) e = values_name_none P os e
+values_name_none P (operands.Int number ∷ os) e = values_name_none P os e
+values_name_none P (operands.Null ∷ os) e = values_name_none P os e
+values_name_none P (operands.Fun f ∷ os) e = absurd (let bad : false ≡ true = e in cc)
+
+pub no_names : (lines : List Line) (os : List Operand) → list_all is_value os ≡ true
+    → All (λ named. named < length (content lines).funcs) (functions_in (over os))
+no_names lines os e =
+    All-from_recursion (λ named. named < length (content lines).funcs) (functions_in (over os)) (values_name_none (λ named. named < length (content lines).funcs) os e)
+
+-- a line with a result or none, over operands that are values, with no labels
+abbrev pub Plain_inst : Option (List ℕ) → Op → Ty → List Operand → Instruction
+Plain_inst result op ty operands = instruction result op ty operands []
+
+abbrev pub NoLayout : List Line → Type 0
+NoLayout lines = All (λ layout. layout < length (content lines).layouts) []
+
+pub no_layout : (lines : List Line) → All (λ layout. layout < length (content lines).layouts) []
+no_layout lines = All-nil (λ layout. layout < length (content lines).layouts)
+
+pub good_plain : (lines : List Line) (func : Definition) (result : Option (List ℕ)) (op : Op) (ty : Ty) (os : List Operand)
+    → IsLine (Plain_inst result op ty os) → AllZip (Fits (defs.value_types (made lines func))) os (asked op ty (length os))
+    → Rattle.ir_ast.specs.Faults.TypeClash.RuleOf (scope_made lines func) op (Plain_inst result op ty os)
+    → All IsWidth (operator_widths op) → All IsWidth (type_widths ty) → is_rewritten op ≡ false → orders_pointers op ty ≡ false
+    → All (λ layout. layout < length (content lines).layouts) (layouts_in (Plain_inst result op ty os))
+    → All (λ named. named < length (content lines).funcs) (functions_in (Plain_inst result op ty os))
+    → GoodInst lines func (Plain_inst result op ty os)
+good_plain lines func result op ty os line fits rule of_op of_type plain unordered layouts functions = record {
+  line = line;
+  typed = record {
+    operands = fits;
+    bundle = All-nil (λ (entry : Ty × Operand). Fits (scope_made lines func).values entry.1 entry.0);
+    rule = rule;
+  };
+  widths = widths_made op result ty os [] of_op of_type;
+  bundle = refl;
+  plain = plain;
+  unordered = unordered;
+  layouts = layouts;
+  functions = functions;
+  labels = All-nil (λ (label : BlockId). label.0 < length (made lines func).blocks);
+  entry = λ _. All-nil (λ (label : BlockId). label.0 ≢ 0);
+}
+
+abbrev op_in : List Line → Definition → TypeWord → Val → Operand
+op_in lines func ty v = operand_of (known_of lines func) ty v
+
+pub two_values : (a b : Operand) → is_value a ≡ true → is_value b ≡ true → list_all is_value (a ∷ b ∷ []) ≡ true
+two_values a b e f = both (is_value a) (is_value b && true) e (both (is_value b) true f refl)
+
+pub one_value : (a : Operand) → is_value a ≡ true → list_all is_value (a ∷ []) ≡ true
+one_value a e = both (is_value a) true e refl
+
+-- ---- each form
+
+binary_by : (lines : List Line) (func : Definition) (result : List ℕ) (op : Op) (width : ℕ) (a b : Operand)
+    → list_all is_value (a ∷ b ∷ []) ≡ true → (IsLine (Plain_inst (Some result) op (tys.Int width) (a ∷ b ∷ [])))
+    → AllZip (Fits (defs.value_types (made lines func))) (a ∷ b ∷ []) (asked op (tys.Int width) 2)
+    → Rattle.ir_ast.specs.Faults.TypeClash.RuleOf (scope_made lines func) op (Plain_inst (Some result) op (tys.Int width) (a ∷ b ∷ []))
+    → All IsWidth (operator_widths op) → IsWidth width → is_rewritten op ≡ false → orders_pointers op (tys.Int width) ≡ false
+    → All (λ layout. layout < length (content lines).layouts) (layouts_in (Plain_inst (Some result) op (tys.Int width) (a ∷ b ∷ [])))
+    → All (λ named. named < length (content lines).funcs) (functions_in (Plain_inst (Some result) op (tys.Int width) (a ∷ b ∷ [])))
+    → GoodInst lines func (Plain_inst (Some result) op (tys.Int width) (a ∷ b ∷ []))
+binary_by lines func result op width a b vals line fits rule of_op wide plain unordered layouts functions =
+    good_plain lines func (Some result) op (tys.Int width) (a ∷ b ∷ []) line fits rule of_op (All-cons IsWidth width [] wide (All-nil IsWidth)) plain unordered layouts functions
+
+has_two : (result : List ℕ) (op : Op) (width : ℕ) (a b : Operand) → list_all is_value (a ∷ b ∷ []) ≡ true
+    → Has true is_integer 2 0 (Plain_inst (Some result) op (tys.Int width) (a ∷ b ∷ []))
+has_two result op width a b vals = record {
+  result = refl;
+  type = refl;
+  operand_count = refl;
+  values = vals;
+  label_count = refl;
+  no_bundle = refl;
+}
+
+abbrev BinaryFits : List Line → Definition → Operand → Operand → ℕ → Type 0
+BinaryFits lines func a b width = AllZip (Fits (defs.value_types (made lines func))) (a ∷ b ∷ []) (tys.Int width ∷ tys.Int width ∷ [])
+
+pub good_binary : (lines : List Line) (func : Definition) (result : List ℕ) (op : Binary) (width : ℕ) (a b : Operand)
+    → list_all is_value (a ∷ b ∷ []) ≡ true → BinaryFits lines func a b width → IsWidth width
+    → GoodInst lines func (Plain_inst (Some result) (Rattle.ir_lines.specs.Modules.binary_of op) (tys.Int width) (a ∷ b ∷ []))
+good_binary lines func result Add width a b v f w = binary_by lines func result ops.Add width a b v (has_two result ops.Add width a b v) f tt (All-nil IsWidth) w refl refl (no_layout lines) (no_names lines (a ∷ b ∷ []) v)
+good_binary lines func result Sub width a b v f w = binary_by lines func result ops.Sub width a b v (has_two result ops.Sub width a b v) f tt (All-nil IsWidth) w refl refl (no_layout lines) (no_names lines (a ∷ b ∷ []) v)
+good_binary lines func result Mul width a b v f w = binary_by lines func result ops.Mul width a b v (has_two result ops.Mul width a b v) f tt (All-nil IsWidth) w refl refl (no_layout lines) (no_names lines (a ∷ b ∷ []) v)
+good_binary lines func result Udiv width a b v f w = binary_by lines func result ops.Udiv width a b v (has_two result ops.Udiv width a b v) f tt (All-nil IsWidth) w refl refl (no_layout lines) (no_names lines (a ∷ b ∷ []) v)
+good_binary lines func result Sdiv width a b v f w = binary_by lines func result ops.Sdiv width a b v (has_two result ops.Sdiv width a b v) f tt (All-nil IsWidth) w refl refl (no_layout lines) (no_names lines (a ∷ b ∷ []) v)
+good_binary lines func result Urem width a b v f w = binary_by lines func result ops.Urem width a b v (has_two result ops.Urem width a b v) f tt (All-nil IsWidth) w refl refl (no_layout lines) (no_names lines (a ∷ b ∷ []) v)
+good_binary lines func result Srem width a b v f w = binary_by lines func result ops.Srem width a b v (has_two result ops.Srem width a b v) f tt (All-nil IsWidth) w refl refl (no_layout lines) (no_names lines (a ∷ b ∷ []) v)
+good_binary lines func result And width a b v f w = binary_by lines func result ops.And width a b v (has_two result ops.And width a b v) f tt (All-nil IsWidth) w refl refl (no_layout lines) (no_names lines (a ∷ b ∷ []) v)
+good_binary lines func result Or width a b v f w = binary_by lines func result ops.Or width a b v (has_two result ops.Or width a b v) f tt (All-nil IsWidth) w refl refl (no_layout lines) (no_names lines (a ∷ b ∷ []) v)
+good_binary lines func result Xor width a b v f w = binary_by lines func result ops.Xor width a b v (has_two result ops.Xor width a b v) f tt (All-nil IsWidth) w refl refl (no_layout lines) (no_names lines (a ∷ b ∷ []) v)
+good_binary lines func result Shl width a b v f w = binary_by lines func result ops.Shl width a b v (has_two result ops.Shl width a b v) f tt (All-nil IsWidth) w refl refl (no_layout lines) (no_names lines (a ∷ b ∷ []) v)
+good_binary lines func result Lshr width a b v f w = binary_by lines func result ops.Lshr width a b v (has_two result ops.Lshr width a b v) f tt (All-nil IsWidth) w refl refl (no_layout lines) (no_names lines (a ∷ b ∷ []) v)
+good_binary lines func result Ashr width a b v f w = binary_by lines func result ops.Ashr width a b v (has_two result ops.Ashr width a b v) f tt (All-nil IsWidth) w refl refl (no_layout lines) (no_names lines (a ∷ b ∷ []) v)
+
+-- `icmp`, whose order of pointers has a fault of its own
+pub good_compare : (lines : List Line) (func : Definition) (result : List ℕ) (pred : Rattle.ir_ast.specs.declared.ops.Pred.Pred) (ty : TypeWord) (a b : Operand)
+    → list_all is_value (a ∷ b ∷ []) ≡ true → AllZip (Fits (defs.value_types (made lines func))) (a ∷ b ∷ []) (type_of ty ∷ type_of ty ∷ []) → IsValueType ty
+    → orders_pointers (ops.Icmp pred) (type_of ty) ≡ false
+    → GoodInst lines func (Plain_inst (Some result) (ops.Icmp pred) (type_of ty) (a ∷ b ∷ []))
+good_compare lines func result pred ty a b v f read unordered =
+    good_plain lines func (Some result) (ops.Icmp pred) (type_of ty) (a ∷ b ∷ [])
+    (record { result = refl; type = is_first ty read; operand_count = refl; values = v; label_count = refl; no_bundle = refl })
+    f tt (All-nil IsWidth) (type_width ty read) refl unordered (no_layout lines) (no_names lines (a ∷ b ∷ []) v)
+
+has_one : (result : List ℕ) (op : Op) (width : ℕ) (a : Operand) → list_all is_value (a ∷ []) ≡ true
+    → Has true is_integer 1 0 (Plain_inst (Some result) op (tys.Int width) (a ∷ []))
+has_one result op width a vals = record {
+  result = refl;
+  type = refl;
+  operand_count = refl;
+  values = vals;
+  label_count = refl;
+  no_bundle = refl;
+}
+
+pub width_one : (width : ℕ) → IsWidth width → All IsWidth (width ∷ [])
+width_one width read = All-cons IsWidth width [] read (All-nil IsWidth)
+
+pub good_convert : (lines : List Line) (func : Definition) (result : List ℕ) (op : Conversion) (width to : ℕ) (a : Operand)
+    → list_all is_value (a ∷ []) ≡ true → AllZip (Fits (defs.value_types (made lines func))) (a ∷ []) (tys.Int width ∷ []) → IsWidth width → IsWidth to
+    → Rattle.ir_lines.specs.Faults.TypeClash.widens op width to ≡ true
+    → GoodInst lines func (Plain_inst (Some result) (Rattle.ir_lines.specs.Modules.conversion_of op to) (tys.Int width) (a ∷ []))
+good_convert lines func result Trunc width to a v f w t e =
+    good_plain lines func (Some result) (ops.Trunc to) (tys.Int width) (a ∷ []) (has_one result (ops.Trunc to) width a v) f
+    (width, refl, (Decides-ltb to width).0 e) (width_one to t) (width_one width w) refl refl (no_layout lines) (no_names lines (a ∷ []) v)
+good_convert lines func result Zext width to a v f w t e =
+    good_plain lines func (Some result) (ops.Zext to) (tys.Int width) (a ∷ []) (has_one result (ops.Zext to) width a v) f
+    (width, refl, (Decides-ltb width to).0 e) (width_one to t) (width_one width w) refl refl (no_layout lines) (no_names lines (a ∷ []) v)
+good_convert lines func result Sext width to a v f w t e =
+    good_plain lines func (Some result) (ops.Sext to) (tys.Int width) (a ∷ []) (has_one result (ops.Sext to) width a v) f
+    (width, refl, (Decides-ltb width to).0 e) (width_one to t) (width_one width w) refl refl (no_layout lines) (no_names lines (a ∷ []) v)
+
+pub good_select : (lines : List Line) (func : Definition) (result : List ℕ) (ty : TypeWord) (c a b : Operand)
+    → list_all is_value (c ∷ a ∷ b ∷ []) ≡ true → AllZip (Fits (defs.value_types (made lines func))) (c ∷ a ∷ b ∷ []) (tys.Int 1 ∷ type_of ty ∷ type_of ty ∷ []) → IsValueType ty
+    → GoodInst lines func (Plain_inst (Some result) ops.Select (type_of ty) (c ∷ a ∷ b ∷ []))
+good_select lines func result ty c a b v f read =
+    good_plain lines func (Some result) ops.Select (type_of ty) (c ∷ a ∷ b ∷ [])
+    (record { result = refl; type = is_first ty read; operand_count = refl; values = v; label_count = refl; no_bundle = refl })
+    f tt (All-nil IsWidth) (type_width ty read) refl refl (no_layout lines) (no_names lines (c ∷ a ∷ b ∷ []) v)
+
+element_ok : (ty : TypeWord) → is_scalar_type ty ≡ true → is_element (element_of ty) None ≡ true
+element_ok (Int width) e = both ((width == 8) || (width == 16) || (width == 32) || (width == 64)) true e refl
+element_ok Managed e = refl
+element_ok Void e = absurd (let bad : false ≡ true = e in cc)
+element_ok Plain e = absurd (let bad : false ≡ true = e in cc)
+
+scalar_width : (width : ℕ) → ((width == 8) || (width == 16) || (width == 32) || (width == 64)) ≡ true → IsWidth width
+scalar_width width e = by (width == 8) refl (width == 16) refl (width == 32) refl (width == 64) refl e
+  where
+    is : (n : ℕ) → (width == n) ≡ true → width ≡ n
+    is n f = (Decides-eqb width n).0 f
+
+    by : (a : Bool) → (width == 8) ≡ a → (b : Bool) → (width == 16) ≡ b → (c : Bool) → (width == 32) ≡ c → (d : Bool) → (width == 64) ≡ d
+        → ((width == 8) || (width == 16) || (width == 32) || (width == 64)) ≡ true → IsWidth width
+    by true f b g c h d k e = let w = is 8 f in (omega arith, omega arith)
+    by false f true g c h d k e = let w = is 16 g in (omega arith, omega arith)
+    by false f false g true h d k e = let w = is 32 h in (omega arith, omega arith)
+    by false f false g false h true k e = let w = is 64 k in (omega arith, omega arith)
+    by false f false g false h false k e =
+        let bad : false ≡ true = sym (ap (λ (x : Bool). x || (width == 16) || (width == 32) || (width == 64)) f ∙ ap (λ (x : Bool). false || x || (width == 32) || (width == 64)) g
+        ∙ ap (λ (x : Bool). false || false || x || (width == 64)) h ∙ ap (λ (x : Bool). false || false || false || x) k) ∙ e in absurd (cc)
+
+element_width : (ty : TypeWord) (width : ℕ) → is_scalar_type ty ≡ true → IsWidth width → All IsWidth (operator_widths (ops.Gep (element_of ty) width None))
+element_width (Int own) width e read = All-cons IsWidth own (width ∷ []) (scalar_width own e) (width_one width read)
+element_width Managed width e read = width_one width read
+element_width Void width e read = absurd (let bad : false ≡ true = e in cc)
+element_width Plain width e read = absurd (let bad : false ≡ true = e in cc)
+
+scalar_layouts : (lines : List Line) (result : List ℕ) (ty : TypeWord) (width : ℕ) (os : List Operand)
+    → All (λ layout. layout < length (content lines).layouts) (layouts_in (Plain_inst (Some result) (ops.Gep (element_of ty) width None) tys.Ptr os))
+scalar_layouts lines result (Int own) width os = no_layout lines
+scalar_layouts lines result Managed width os = no_layout lines
+scalar_layouts lines result Void width os = no_layout lines
+scalar_layouts lines result Plain width os = no_layout lines
+
+scalar_rule : (fields : List ℕ) (ty : TypeWord) → HasField fields (element_of ty) None
+scalar_rule fields (Int own) = tt
+scalar_rule fields Managed = tt
+scalar_rule fields Void = tt
+scalar_rule fields Plain = tt
+
+pub good_scalar : (lines : List Line) (func : Definition) (result : List ℕ) (ty : TypeWord) (width : ℕ) (a b : Operand)
+    → list_all is_value (a ∷ b ∷ []) ≡ true → AllZip (Fits (defs.value_types (made lines func))) (a ∷ b ∷ []) (tys.Ptr ∷ tys.Int width ∷ [])
+    → is_scalar_type ty ≡ true → IsWidth width
+    → GoodInst lines func (Plain_inst (Some result) (ops.Gep (element_of ty) width None) tys.Ptr (a ∷ b ∷ []))
+good_scalar lines func result ty width a b v f e read =
+    good_plain lines func (Some result) (ops.Gep (element_of ty) width None) tys.Ptr (a ∷ b ∷ [])
+    (record { result = refl; type = refl; operand_count = refl; values = v; label_count = refl; no_bundle = refl }, element_ok ty e)
+    f (scalar_rule (scope_made lines func).fields ty) (element_width ty width e read) (All-nil IsWidth) refl refl (scalar_layouts lines result ty width (a ∷ b ∷ []))
+    (no_names lines (a ∷ b ∷ []) v)
+
+pub good_layout : (lines : List Line) (func : Definition) (result : List ℕ) (number width : ℕ) (place : Option ℕ) (a b : Operand)
+    → list_all is_value (a ∷ b ∷ []) ≡ true → AllZip (Fits (defs.value_types (made lines func))) (a ∷ b ∷ []) (tys.Ptr ∷ tys.Int width ∷ [])
+    → IsWidth width → number < length (content lines).layouts → HasField (scope_made lines func).fields (elements.Layout number) place
+    → GoodInst lines func (Plain_inst (Some result) (ops.Gep (elements.Layout number) width place) tys.Ptr (a ∷ b ∷ []))
+good_layout lines func result number width place a b v f read below field =
+    good_plain lines func (Some result) (ops.Gep (elements.Layout number) width place) tys.Ptr (a ∷ b ∷ [])
+    (record { result = refl; type = refl; operand_count = refl; values = v; label_count = refl; no_bundle = refl }, refl)
+    f field (width_one width read) (All-nil IsWidth) refl refl
+    (All-cons (λ layout. layout < length (content lines).layouts) number [] below (no_layout lines)) (no_names lines (a ∷ b ∷ []) v)
+
+pub cell_type : (ty : TypeWord) → is_cell ty ≡ true → IsCellType (type_of ty)
+cell_type (Int width) e = (cells.I64, ap tys.Int (sym ((Decides-eqb width 64).0 e)))
+cell_type Managed e = (cells.Ptr, refl)
+cell_type Void e = absurd (let bad : false ≡ true = e in cc)
+cell_type Plain e = absurd (let bad : false ≡ true = e in cc)
+
+pub good_load : (lines : List Line) (func : Definition) (result : List ℕ) (ty : TypeWord) (a : Operand)
+    → list_all is_value (a ∷ []) ≡ true → AllZip (Fits (defs.value_types (made lines func))) (a ∷ []) (tys.Ptr ∷ []) → IsValueType ty → is_cell ty ≡ true
+    → GoodInst lines func (Plain_inst (Some result) ops.Load (type_of ty) (a ∷ []))
+good_load lines func result ty a v f read cell =
+    good_plain lines func (Some result) ops.Load (type_of ty) (a ∷ [])
+    (record { result = refl; type = is_first ty read; operand_count = refl; values = v; label_count = refl; no_bundle = refl })
+    f (cell_type ty cell) (All-nil IsWidth) (type_width ty read) refl refl (no_layout lines) (no_names lines (a ∷ []) v)
+
+pub good_store : (lines : List Line) (func : Definition) (ty : TypeWord) (a b : Operand)
+    → list_all is_value (a ∷ b ∷ []) ≡ true → AllZip (Fits (defs.value_types (made lines func))) (a ∷ b ∷ []) (type_of ty ∷ tys.Ptr ∷ []) → IsValueType ty → is_cell ty ≡ true
+    → GoodInst lines func (Plain_inst None ops.Store (type_of ty) (a ∷ b ∷ []))
+good_store lines func ty a b v f read cell =
+    good_plain lines func None ops.Store (type_of ty) (a ∷ b ∷ [])
+    (record { result = refl; type = is_first ty read; operand_count = refl; values = v; label_count = refl; no_bundle = refl })
+    f (cell_type ty cell) (All-nil IsWidth) (type_width ty read) refl refl (no_layout lines) (no_names lines (a ∷ b ∷ []) v)
+
+pub good_ret_void : (lines : List Line) (func : Definition) → Void ≡ func.answer
+    → GoodInst lines func (Plain_inst None ops.Ret tys.Void [])
+good_ret_void lines func e =
+    good_plain lines func None ops.Ret tys.Void []
+    (record { result = refl; type = refl; operand_count = refl; values = refl; label_count = refl; no_bundle = refl })
+    tt (ap type_of e) (All-nil IsWidth) (All-nil IsWidth) refl refl (no_layout lines) (no_names lines [] refl)
+
+one_operand : (ty : TypeWord) → IsValueType ty → ◌≡◌ {A = ℕ} 1 (if is_void (type_of ty) then 0 else 1)
+one_operand (Int width) read = refl
+one_operand Managed read = refl
+one_operand Void read = absurd read
+one_operand Plain read = absurd read
+
+pub good_ret : (lines : List Line) (func : Definition) (ty : TypeWord) (a : Operand)
+    → list_all is_value (a ∷ []) ≡ true → AllZip (Fits (defs.value_types (made lines func))) (a ∷ []) (type_of ty ∷ []) → IsValueType ty → ty ≡ func.answer
+    → GoodInst lines func (Plain_inst None ops.Ret (type_of ty) (a ∷ []))
+good_ret lines func ty a v f read e =
+    good_plain lines func None ops.Ret (type_of ty) (a ∷ [])
+    (record { result = refl; type = answers ty; operand_count = one_operand ty read; values = v; label_count = refl; no_bundle = refl })
+    f (ap type_of e) (All-nil IsWidth) (type_width ty read) refl refl (no_layout lines) (no_names lines (a ∷ []) v)
+
+pub good_unreachable : (lines : List Line) (func : Definition) → GoodInst lines func (Plain_inst None ops.Unreachable tys.Void [])
+good_unreachable lines func =
+    good_plain lines func None ops.Unreachable tys.Void []
+    (record { result = refl; type = refl; operand_count = refl; values = refl; label_count = refl; no_bundle = refl })
+    tt tt (All-nil IsWidth) (All-nil IsWidth) refl refl (no_layout lines) (no_names lines [] refl)

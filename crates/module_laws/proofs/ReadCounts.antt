@@ -1,0 +1,366 @@
+-- Lines that stand in their places and were counted: each body has a line, its cases stand behind their `switch`,
+-- and no count passes its limit.
+use Rattle.std.proofs.Common.{◌≡◌, ◌∙◌, ℕ, ◌<◌, ◌≤◌, ◌+◌, refl, sym, ap, subst, Bool, true, false, not, cond, ◌&&◌, List, [], ◌∷◌, ◌++◌, length, map, length-append, Option, Some, None, arith}
+use Rattle.std.specs.Prelude.{take_while, nat_le}
+use Rattle.std.specs.List.{All, sum_by}
+use Rattle.std.proofs.lemmas.Bool.{leb-true}
+use Rattle.std.proofs.lemmas.List.Sums.{take_while-cons, sum_by-cons}
+use Rattle.std.proofs.lemmas.List.Elements.{All-nil, All-cons}
+use Rattle.ir_reader.specs.declared.forms.Place.{Place}
+use Rattle.ir_reader.specs.declared.forms.Place.TheVariants as places
+use Rattle.ir_reader.specs.declared.forms.State.{State}
+use Rattle.ir_reader.specs.declared.forms.Counts.{Counts}
+use Rattle.ir_reader.specs.declared.forms.Counted.{Counted}
+use Rattle.ir_reader.specs.declared.forms.Counted.TheVariants as kinds
+use Rattle.ir_reader.specs.declared.readings.Reading.{Reading}
+use Rattle.ir_reader.specs.declared.readings.Reading.TheVariants as readings
+use Rattle.ir_reader.specs.declared.raw.NumberedReading.{NumberedReading}
+use Rattle.ir_reader.specs.Limits.{said_counts_as, counted, counts_fit}
+use Rattle.ir_reader.specs.Seen.{seen}
+use Rattle.ir_reader.specs.Raws.{seen_numbered}
+use Rattle.ir_lines.specs.Statements.{Statement, Line, layout, declare, define, close, label, switch_case, switch_end}
+use Rattle.ir_lines.specs.Sections.{Definition, layouts_of, layout_said, definitions_of, definition_said, is_case, is_close}
+use Rattle.ir_lines.specs.Views.{said, seen_line}
+use Rattle.ir_lines.specs.TextLines.{place_behind, Goes, Stand}
+use Rattle.ir_lines.specs.ReadLines.{is_instruction, instruction_count, opens_case, CasesStand}
+use Rattle.module_laws.proofs.Runs.{Runs}
+use Rattle.module_build.proofs.Bodies.{Inside, Body, inside_function}
+
+-- ---- places
+
+abbrev pub is_cases : Place → Bool
+is_cases places.Cases = true
+is_cases _ = false
+
+abbrev CasesAgree : Statement → Option Place → Type 0
+CasesAgree s None = Unit {0}
+CasesAgree s (Some next) = is_cases next ≡ opens_case s
+
+cases_agree : (place : Place) (s : Statement) → CasesAgree s (place_behind place s)
+cases_agree places.Top close = tt
+cases_agree places.Top (layout name fields) = refl
+cases_agree places.Top (declare answer name parameters) = refl
+cases_agree places.Top (define answer name arguments strategy) = refl
+cases_agree places.Top s = tt
+cases_agree places.Closed close = refl
+cases_agree places.Closed (label name) = refl
+cases_agree places.Closed s = tt
+cases_agree places.Cases (switch_case width value to) = refl
+cases_agree places.Cases switch_end = refl
+cases_agree places.Cases s = tt
+cases_agree places.Entry (label name) = refl
+cases_agree places.Entry s = by s
+  where
+    by : (s : Statement) → CasesAgree s (Rattle.ir_lines.specs.TextLines.behind_instruction s)
+    by close = tt
+    by (layout name fields) = tt
+    by (declare answer name parameters) = tt
+    by (define answer name arguments strategy) = tt
+    by (label name) = tt
+    by (switch_case width value to) = tt
+    by switch_end = tt
+    by s = refl
+cases_agree places.Block s = by s
+  where
+    by : (s : Statement) → CasesAgree s (Rattle.ir_lines.specs.TextLines.behind_instruction s)
+    by close = tt
+    by (layout name fields) = tt
+    by (declare answer name parameters) = tt
+    by (define answer name arguments strategy) = tt
+    by (label name) = tt
+    by (switch_case width value to) = tt
+    by switch_end = tt
+    by s = refl
+
+abbrev CaseNeeds : Place → Statement → Option Place → Type 0
+CaseNeeds place s None = Unit {0}
+CaseNeeds place s (Some next) = is_case s ≡ true → is_cases place ≡ true
+
+needs_not : (place : Place) (s : Statement) (o : Option Place) → is_case s ≡ false → CaseNeeds place s o
+needs_not place s None e = tt
+needs_not place s (Some next) e = λ f. absurd (let bad : true ≡ false = sym f ∙ e in cc)
+
+case_needs : (place : Place) (s : Statement) → CaseNeeds place s (place_behind place s)
+case_needs places.Cases (switch_case width value to) = λ e. refl
+case_needs places.Top (switch_case width value to) = tt
+case_needs places.Entry (switch_case width value to) = tt
+case_needs places.Block (switch_case width value to) = tt
+case_needs places.Closed (switch_case width value to) = tt
+case_needs place s = needs_not place s (place_behind place s) refl
+
+pub cases_stand : (ls : List Line) (place : Place) → Body place ls → CasesStand (is_cases place) ls
+cases_stand [] place body = tt
+cases_stand (l ∷ ls) place body =
+    let next = body.next in
+    let agree : is_cases next ≡ opens_case l.says = subst (CasesAgree l.says) body.is (cases_agree place l.says) in (
+      subst (CaseNeeds place l.says) body.is (case_needs place l.says),
+      subst (λ (b : Bool). CasesStand b ls) agree (cases_stand ls next body.more.1),
+    )
+
+pub has_line : (ls : List Line) → Body places.Entry ls → 0 < length ls
+has_line [] body = absurd (let bad : places.Entry ≡ places.Closed = body in cc)
+has_line (l ∷ ls) body = omega arith
+
+-- ---- counts
+
+abbrev pub kind_said : Statement → Counted
+kind_said (layout name fields) = kinds.Layout
+kind_said (define answer name arguments strategy) = kinds.Function (length arguments)
+kind_said s = cond (is_instruction s) kinds.Instruction kinds.Nothing
+
+same_kind : (r : Reading) → said_counts_as (seen r) ≡ kind_said (said r)
+same_kind (readings.Label n) = refl
+same_kind r = refl
+
+-- the lines were counted from here on, within the limits
+abbrev pub Run : Counts → List Line → Type 0
+Run c [] = counts_fit c ≡ true
+Run c (l ∷ ls) = (counts_fit c ≡ true) × Run (counted (kind_said l.says) c) ls
+
+pub runs-counted : (rs : List NumberedReading) (s : State) → counts_fit s.counts ≡ true → Runs s (map seen_numbered rs) → Run s.counts (map seen_line rs)
+runs-counted [] s fits run = fits
+runs-counted (r ∷ rs) s fits run = (
+  fits,
+  subst (λ (c : Counts). Run c (map seen_line rs))
+      (run.step.counts ∙ ap (λ (k : Counted). counted k s.counts) (same_kind r.reading))
+      (runs-counted rs run.next (run.step.few fits) run.more),
+)
+
+record Fit (c : Counts) : Type 0 where
+  layouts : c.layouts ≤ 4096
+  functions : c.functions ≤ 4096
+  values : c.values ≤ 4096
+  instructions : c.instructions ≤ 65536
+
+fit-is : (c : Counts) → counts_fit c ≡ true → Fit c
+fit-is c e =
+    let a = both (nat_le c.layouts 4096 && nat_le c.functions 4096 && nat_le c.values 4096) (nat_le c.instructions 65536) e in
+    let b = both (nat_le c.layouts 4096 && nat_le c.functions 4096) (nat_le c.values 4096) a.0 in
+    let d = both (nat_le c.layouts 4096) (nat_le c.functions 4096) b.0 in
+    record {
+      layouts = leb-true c.layouts 4096 d.0;
+      functions = leb-true c.functions 4096 d.1;
+      values = leb-true c.values 4096 b.1;
+      instructions = leb-true c.instructions 65536 a.1;
+    }
+  where
+    both : (x y : Bool) → (x && y) ≡ true → (x ≡ true) × (y ≡ true)
+    both true y e = (refl, e)
+    both false y e = absurd (let bad : false ≡ true = e in cc)
+
+run-fits : (c : Counts) (ls : List Line) → Run c ls → Fit c
+run-fits c [] run = fit-is c run
+run-fits c (l ∷ ls) run = fit-is c run.0
+
+-- what one line adds
+record Adds (c next : Counts) (s : Statement) : Type 0 where
+  layouts : next.layouts ≡ c.layouts + length (layout_said 0 s)
+  functions : next.functions ≡ c.functions + length (definition_said 0 s [])
+  instructions : next.instructions ≡ c.instructions + cond (is_instruction s) 1 0
+
+adds : (c : Counts) (s : Statement) → Adds c (counted (kind_said s) c) s
+adds c (layout name fields) = record { layouts = omega arith; functions = omega arith; instructions = omega arith }
+adds c (define answer name arguments strategy) = record { layouts = omega arith; functions = omega arith; instructions = omega arith }
+adds c s = record { layouts = omega arith; functions = omega arith; instructions = omega arith }
+
+same_layouts : (n : ℕ) (s : Statement) → length (layout_said n s) ≡ length (layout_said 0 s)
+same_layouts n (layout name fields) = refl
+same_layouts n s = refl
+
+same_definitions : (n : ℕ) (s : Statement) (ls : List Line) → length (definition_said n s ls) ≡ length (definition_said 0 s [])
+same_definitions n (define answer name arguments strategy) ls = refl
+same_definitions n s ls = refl
+
+count-cons : (l : Line) (ls : List Line) → instruction_count (l ∷ ls) ≡ cond (is_instruction l.says) 1 0 + instruction_count ls
+count-cons l ls = sum_by-cons (λ (one : Line). cond (is_instruction one.says) 1 0) l ls
+
+pub layouts_total : (ls : List Line) (c : Counts) → Run c ls → c.layouts + length (layouts_of ls) ≤ 4096
+layouts_total [] c run = let f = (fit-is c run).layouts in omega arith
+layouts_total (l ∷ ls) c run =
+    let more = layouts_total ls (counted (kind_said l.says) c) run.1 in
+    let a = (adds c l.says).layouts in
+    omega (arith, length-append (layout_said l.number l.says) (layouts_of ls), same_layouts l.number l.says)
+
+pub functions_total : (ls : List Line) (c : Counts) → Run c ls → c.functions + length (definitions_of ls) ≤ 4096
+functions_total [] c run = let f = (fit-is c run).functions in omega arith
+functions_total (l ∷ ls) c run =
+    let more = functions_total ls (counted (kind_said l.says) c) run.1 in
+    let a = (adds c l.says).functions in
+    omega (arith, length-append (definition_said l.number l.says ls) (definitions_of ls), same_definitions l.number l.says ls)
+
+pub instructions_total : (ls : List Line) (c : Counts) → Run c ls → c.instructions + instruction_count ls ≤ 65536
+instructions_total [] c run = let f = (fit-is c run).instructions in omega arith
+instructions_total (l ∷ ls) c run =
+    let more = instructions_total ls (counted (kind_said l.says) c) run.1 in
+    let a = (adds c l.says).instructions in
+    omega (arith, count-cons l ls)
+
+-- ---- in a body
+
+abbrev is_define : Statement → Bool
+is_define (define answer name arguments strategy) = true
+is_define s = false
+
+abbrev DefineNeeds : Statement → Option Place → Type 0
+DefineNeeds s None = Unit {0}
+DefineNeeds s (Some next) = is_define s ≡ false
+
+defines_not : (s : Statement) (o : Option Place) → is_define s ≡ false → DefineNeeds s o
+defines_not s None e = tt
+defines_not s (Some next) e = e
+
+define_needs : (place : Place) (s : Statement) → Inside place → DefineNeeds s (place_behind place s)
+define_needs places.Top s in' = absurd in'
+define_needs places.Entry (define answer name arguments strategy) in' = tt
+define_needs places.Block (define answer name arguments strategy) in' = tt
+define_needs places.Closed (define answer name arguments strategy) in' = tt
+define_needs places.Cases (define answer name arguments strategy) in' = tt
+define_needs place s in' = defines_not s (place_behind place s) refl
+
+values_add : (c : Counts) (s : Statement) → is_define s ≡ false → (counted (kind_said s) c).values ≡ c.values + cond (is_instruction s) 1 0
+values_add c (define answer name arguments strategy) e = absurd (let bad : true ≡ false = e in cc)
+values_add c (layout name fields) e = omega arith
+values_add c s e = omega arith
+
+pub values_in : (ls : List Line) (place : Place) (c : Counts) → Inside place → Body place ls → Run c ls → c.values + instruction_count ls ≤ 4096
+values_in [] place c in' body run = let f = (fit-is c run).values in omega arith
+values_in (l ∷ ls) place c in' body run =
+    let plain : is_define l.says ≡ false = subst (DefineNeeds l.says) body.is (define_needs place l.says in') in
+    let more = values_in ls body.next (counted (kind_said l.says) c) body.more.0 body.more.1 run.1 in
+    let a = values_add c l.says plain in
+    omega (arith, count-cons l ls)
+
+run_first : (c : Counts) (ls : List Line) → Run c ls → counts_fit c ≡ true
+run_first c [] run = run
+run_first c (l ∷ ls) run = run.0
+
+run-while : (p : Line → Bool) (ls : List Line) (c : Counts) → Run c ls → Run c (take_while p ls)
+run-while p [] c run = run
+run-while p (l ∷ ls) c run = by (p l) refl (run-while p ls (counted (kind_said l.says) c) run.1)
+  where
+    by : (b : Bool) → p l ≡ b → Run (counted (kind_said l.says) c) (take_while p ls) → Run c (take_while p (l ∷ ls))
+    by true e ih = subst (Run c) (sym (take_while-cons p l ls ∙ ap (λ (b : Bool). cond b (l ∷ take_while p ls) []) e)) (run.0, ih)
+    by false e ih = subst (Run c) (sym (take_while-cons p l ls ∙ ap (λ (b : Bool). cond b (l ∷ take_while p ls) []) e)) run.0
+
+-- arguments and instructions of each function
+abbrev pub FewValues : Definition → Type 0
+FewValues func = Body places.Entry func.body → length func.arguments + instruction_count func.body ≤ 4096
+
+one_few : (n : ℕ) (s : Statement) (ls : List Line) (c : Counts) → Run (counted (kind_said s) c) ls → All FewValues (definitions_of ls)
+    → All FewValues (definition_said n s ls ++ definitions_of ls)
+one_few n (define answer name arguments strategy) ls c run ih =
+    All-cons FewValues (record {
+      line = n;
+      answer = answer;
+      name = name;
+      arguments = arguments;
+      strategy = strategy;
+      body = take_while inside_function ls;
+    }) (definitions_of ls) (λ body.
+    values_in (take_while inside_function ls) places.Entry (counted (kinds.Function (length arguments)) c) tt body
+    (run-while inside_function ls (counted (kinds.Function (length arguments)) c) run)) ih
+one_few n s ls c run ih = ih
+
+pub few_values_each : (ls : List Line) (c : Counts) → Run c ls → All FewValues (definitions_of ls)
+few_values_each [] c run = All-nil FewValues
+few_values_each (l ∷ ls) c run = one_few l.number l.says ls c run.1 (few_values_each ls (counted (kind_said l.says) c) run.1)
+
+-- ---- all instructions
+
+abbrev body_part : Place → List Line → ℕ
+body_part places.Top ls = 0
+body_part _ ls = instruction_count (take_while inside_function ls)
+
+no_part : (place : Place) → body_part place [] ≤ 0
+no_part places.Top = omega arith
+no_part place = omega arith
+
+abbrev in_all : List Line → ℕ
+in_all ls = sum_by (λ (func : Definition). instruction_count func.body) (definitions_of ls)
+
+abbrev Total : Place → List Line → Type 0
+Total place ls = body_part place ls + in_all ls ≤ instruction_count ls
+
+abbrev TotalAt : Place → Statement → ℕ → List Line → Option Place → Type 0
+TotalAt place s n ls None = Unit {0}
+TotalAt place s n ls (Some next) = Total next ls → Total place (record { number = n; says = s } ∷ ls)
+
+-- a line of no definition
+plain_total : (place : Place) (s : Statement) (n : ℕ) (ls : List Line) (next : Place) → is_define s ≡ false → in_all (record { number = n; says = s } ∷ ls) ≡ in_all ls
+    → (Inside place → is_close s ≡ false → Inside next) → Total next ls → Total place (record { number = n; says = s } ∷ ls)
+plain_total places.Top s n ls next plain same stays total =
+    omega (arith, count-cons (record { number = n; says = s }) ls, same)
+plain_total place s n ls next plain same stays total = by place (is_close s) refl stays
+  where
+    part : (next : Place) → Inside next → body_part next ls ≡ instruction_count (take_while inside_function ls)
+    part places.Top in' = absurd in'
+    part next in' = refl
+
+    cut : (b : Bool) → is_close s ≡ b → instruction_count (take_while inside_function (record { number = n; says = s } ∷ ls))
+        ≡ instruction_count (cond (not b) (record { number = n; says = s } ∷ take_while inside_function ls) [])
+    cut b e = ap instruction_count (take_while-cons inside_function (record { number = n; says = s }) ls
+        ∙ ap (λ (x : Bool). cond (not x) (record { number = n; says = s } ∷ take_while inside_function ls) []) e)
+
+    by : (p : Place) (b : Bool) → is_close s ≡ b → (Inside p → is_close s ≡ false → Inside next) → body_part p (record { number = n; says = s } ∷ ls) + in_all (record { number = n; says = s } ∷ ls) ≤ instruction_count (record { number = n; says = s } ∷ ls)
+    by places.Top b e stays = omega (arith, count-cons (record { number = n; says = s }) ls, same)
+    by p true e stays = omega (arith, cut true e, count-cons (record { number = n; says = s }) ls, same)
+    by p false e stays =
+        let inside = stays tt e in
+        omega (
+          arith,
+          cut false e,
+          part next inside,
+          count-cons (record { number = n; says = s }) ls,
+          count-cons (record { number = n; says = s }) (take_while inside_function ls),
+          same,
+        )
+
+abbrev StaysIn : Option Place → Type 0
+StaysIn None = Unit {0}
+StaysIn (Some next) = Inside next
+
+stays_in : (place : Place) (s : Statement) → Inside place → is_close s ≡ false → StaysIn (place_behind place s)
+stays_in places.Top s in' c = absurd in'
+stays_in places.Closed close in' c = absurd (let bad : true ≡ false = c in cc)
+stays_in places.Entry (label name) in' c = tt
+stays_in places.Block (label name) in' c = tt
+stays_in places.Cases (label name) in' c = tt
+stays_in place s in' c = tt
+
+total_plain : (place : Place) (s : Statement) (n : ℕ) (ls : List Line) (next : Place) → place_behind place s ≡ Some next → is_define s ≡ false
+    → in_all (record { number = n; says = s } ∷ ls) ≡ in_all ls → Total next ls → Total place (record { number = n; says = s } ∷ ls)
+total_plain place s n ls next is plain same total =
+    plain_total place s n ls next plain same (λ in' c. subst StaysIn is (stays_in place s in' c)) total
+
+abbrev OpensEntry : Place → Option Place → Type 0
+OpensEntry place None = Unit {0}
+OpensEntry place (Some next) = (place ≡ places.Top) × (next ≡ places.Entry)
+
+opens_entry : (place : Place) (answer : Rattle.ir_reader.specs.declared.readings.TypeWord.TypeWord) (name : List ℕ) (arguments : List (Rattle.ir_reader.specs.Lists.Named)) (strategy : Option (List ℕ))
+    → OpensEntry place (place_behind place (define answer name arguments strategy))
+opens_entry places.Top answer name arguments strategy = (refl, refl)
+opens_entry place answer name arguments strategy = tt
+
+total_step : (place : Place) (s : Statement) (n : ℕ) (ls : List Line) (next : Place) → place_behind place s ≡ Some next → Total next ls → Total place (record { number = n; says = s } ∷ ls)
+total_step place (define answer name arguments strategy) n ls next is total =
+    let at = subst (OpensEntry place) is (opens_entry place answer name arguments strategy) in
+    let func : Definition = record {
+      line = n;
+      answer = answer;
+      name = name;
+      arguments = arguments;
+      strategy = strategy;
+      body = take_while inside_function ls;
+    } in
+    let t : Total places.Entry ls = subst (λ (p : Place). Total p ls) at.1 total in
+    subst (λ (p : Place). Total p (record { number = n; says = define answer name arguments strategy } ∷ ls)) (sym at.0)
+    (omega (
+      arith,
+      count-cons (record { number = n; says = define answer name arguments strategy }) ls,
+      sum_by-cons (λ (one : Definition). instruction_count one.body) func (definitions_of ls),
+    ))
+total_step place s n ls next is total = total_plain place s n ls next is refl refl total
+
+pub total_all : (ls : List Line) (place : Place) → Stand place ls → Total place ls
+total_all [] place stand = let none = no_part place in omega arith
+total_all (l ∷ ls) place stand = total_step place l.says l.number ls stand.next stand.is (total_all ls stand.next stand.more)

@@ -1,0 +1,130 @@
+-- The lines of a text that was read stand where they may, pass no limit of a line, and are few.
+use Rattle.std.proofs.Common.{◌≡◌, ◌∙◌, ℕ, ◌+◌, ◌≤◌, suc, refl, sym, ap, Bool, true, false, ◌&&◌, List, [], ◌∷◌, length, arith}
+use Rattle.std.specs.Prelude.{map, ◌==◌, if◌then◌else◌}
+use Rattle.std.specs.List.{All, slice_split}
+use Rattle.std.specs.Str.Lines.{lines, lines_of_parts}
+use Rattle.std.proofs.lemmas.List.{length-map}
+use Rattle.std.proofs.lemmas.List.Elements.{All-nil, All-cons}
+use Rattle.std.proofs.lemmas.List.Splits.{length-slice_split}
+use Rattle.std.proofs.lemmas.List.Sums.{count_by-le-length}
+use Rattle.sp_text.specs.Lines.{numbered, lines_of as text_lines}
+use Rattle.ir_reader.specs.declared.forms.Place.{Place}
+use Rattle.ir_reader.specs.declared.forms.Place.TheVariants as places
+use Rattle.ir_reader.specs.declared.forms.State.{State}
+use Rattle.ir_reader.specs.declared.readings.Reading.{Reading}
+use Rattle.ir_reader.specs.declared.readings.Reading.TheVariants as readings
+use Rattle.ir_reader.specs.declared.raw.NumberedReading.{NumberedReading}
+use Rattle.ir_reader.specs.Limits.{said_fits}
+use Rattle.ir_reader.specs.Seen.{seen}
+use Rattle.ir_reader.specs.Raws.{Readings, IsRead, seen_numbered}
+use Rattle.ir_reader.specs.Text.{is_top, opening, text_readings}
+use Rattle.ir_lines.specs.Statements.{Line}
+use Rattle.ir_lines.specs.Views.{said, seen_line, seen_lines}
+use Rattle.ir_lines.specs.TextLines.{place_behind, Stand, statement_fits, is_formed, IsTextLines}
+use Rattle.module_laws.proofs.Formed.{said_suits, spelled-suits}
+use Rattle.module_laws.proofs.Runs.{said_behind, Runs, readings-run, readings-few}
+
+-- ---- line by line
+
+same-place : (place : Place) (r : Reading) → place_behind place (said r) ≡ said_behind place (seen r)
+same-place places.Top readings.Close = refl
+same-place places.Entry readings.Close = refl
+same-place places.Block readings.Close = refl
+same-place places.Closed readings.Close = refl
+same-place places.Cases readings.Close = refl
+same-place place r = refl
+
+and-true : (b : Bool) → (b && true) ≡ b
+and-true true = refl
+and-true false = refl
+
+same-limits : (r : Reading) → said_fits (seen r) ≡ statement_fits (said r)
+same-limits readings.Close = refl
+same-limits (readings.Label n) = refl
+same-limits readings.SwitchEnd = refl
+same-limits readings.ReturnVoid = refl
+same-limits readings.Unreachable = refl
+same-limits (readings.Jump l) = refl
+same-limits r = simp and-true
+
+top-is : (place : Place) → is_top place ≡ true → place ≡ places.Top
+top-is places.Top e = refl
+top-is place e = absurd (let bad : false ≡ true = e in cc)
+
+stand-of : (rs : List NumberedReading) (s : State) → Runs s (map seen_numbered rs) → Stand s.place (map seen_line rs)
+stand-of [] s top = top-is s.place top
+stand-of (r ∷ rs) s run =
+    record { next = run.next.place; is = same-place s.place r.reading ∙ run.step.place; more = stand-of rs run.next run.more }
+
+abbrev Fits : Line → Type 0
+Fits l = statement_fits l.says ≡ true
+
+fit-of : (rs : List NumberedReading) (s : State) → Runs s (map seen_numbered rs) → All Fits (map seen_line rs)
+fit-of [] s top = All-nil Fits
+fit-of (r ∷ rs) s run =
+    All-cons Fits (seen_line r) (map seen_line rs) (sym (same-limits r.reading) ∙ run.step.fits) (fit-of rs run.next run.more)
+
+same-forms : (r : Reading) → said_suits (seen r) ≡ is_formed (said r)
+same-forms readings.Close = refl
+same-forms (readings.Label n) = refl
+same-forms readings.SwitchEnd = refl
+same-forms readings.ReturnVoid = refl
+same-forms readings.Unreachable = refl
+same-forms (readings.Jump l) = refl
+same-forms (readings.Branch c l m) = refl
+same-forms (readings.Switch n v d) = refl
+same-forms (readings.Binary x op n l m) = refl
+same-forms (readings.Convert x op n v to) = refl
+same-forms (readings.LayoutElement x l a n i p) = refl
+same-forms r = simp and-true
+
+abbrev Formed : Line → Type 0
+Formed l = is_formed l.says ≡ true
+
+formed-of : (rs : List NumberedReading) (s : State) → Runs s (map seen_numbered rs) → All Formed (map seen_line rs)
+formed-of [] s top = All-nil Formed
+formed-of (r ∷ rs) s run =
+    All-cons Formed (seen_line r) (map seen_line rs) (sym (same-forms r.reading) ∙ spelled-suits (seen r.reading) run.step.spelled)
+    (formed-of rs run.next run.more)
+
+-- ---- few lines
+
+length-numbered : (n : ℕ) (ls : List (List ℕ)) → length (numbered n ls) ≡ length ls
+length-numbered n [] = refl
+length-numbered n (l ∷ ls) = ap suc (length-numbered (n + 1) ls)
+
+last-part : (x : List ℕ) (b : Bool) → length (if b then [] else x ∷ []) ≤ 1
+last-part x true = omega arith
+last-part x false = omega arith
+
+parts-few : (parts : List (List ℕ)) → length (lines_of_parts parts) ≤ length parts
+parts-few [] = omega arith
+parts-few (x ∷ []) = last-part x (length x == 0)
+parts-few (x ∷ y ∷ more) = let h = parts-few (y ∷ more) in omega (arith, h)
+
+lines-few : (text : List ℕ) → length (text_lines text) ≤ length text + 1
+unfolding text_lines
+lines-few text =
+    let a = length-numbered 1 (lines text) in
+    let b = parts-few (slice_split (λ (c : ℕ). c == 10) text) in
+    let d = length-slice_split (λ (c : ℕ). c == 10) text in
+    let e = count_by-le-length (λ (c : ℕ). c == 10) text in
+    omega (arith, a, b, d, e)
+
+-- ---- the text
+
+pub read-lines : (r : Readings) → IsRead r → IsTextLines (seen_lines r.lines)
+unfolding text_readings
+read-lines r read =
+    let run : Runs opening (map seen_numbered r.lines) = readings-run (text_lines r.text) opening 1 (map seen_numbered r.lines) read.lines in
+    let a = readings-few (text_lines r.text) opening 1 (map seen_numbered r.lines) read.lines in
+    let b = lines-few r.text in
+    let c = length-map r.lines seen_numbered in
+    let d = length-map r.lines seen_line in
+    let e = read.small in
+    record {
+      placed = stand-of r.lines opening run;
+      fit = fit-of r.lines opening run;
+      formed = formed-of r.lines opening run;
+      few = omega (arith, a, b, c, d, e);
+    }

@@ -1,0 +1,2 @@
+//! Laws of the module that a text without a fault stands for.
+#![tactic(auto)]

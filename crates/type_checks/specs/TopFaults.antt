@@ -1,0 +1,50 @@
+-- The faults that are seen without the lines of functions: those of layouts, declarations and heads, and of no main function.
+use Rattle.std.specs.Prelude.{◌≡◌, ℕ, false, ◌⊎◌, List, map, find, codes, Option}
+use Rattle.std.specs.List.{Contains}
+use Rattle.std.specs.Str.{bytes_eq}
+use Rattle.ir_reader.specs.declared.readings.TypeWord.{TypeWord}
+use Rattle.ir_reader.specs.Lists.{Named}
+use Rattle.ir_ast.specs.Lists.{HasFront}
+use Rattle.ir_ast.specs.Faults.Reserved.{IsExternalName}
+use Rattle.ir_lines.specs.Statements.{Statement, Line, layout, declare, define}
+use Rattle.ir_lines.specs.Sections.{Definition, layouts_of, definitions_of, types_of}
+use Rattle.ir_lines.specs.Externals.{external, externals_of, helpers}
+use Rattle.ir_lines.specs.Faults.BadLayout.{are_cells}
+use Rattle.ir_lines.specs.Faults.NoStrategy.{is_strategy}
+use Rattle.ir_lines.specs.Faults.NoMain.{is_main}
+use Rattle.ir_lines.specs.Again.{TopAgain}
+
+-- the codes of a declaration, where definitions and layouts have these names
+abbrev pub DeclareFault : List (List ℕ) → List (List ℕ) → TypeWord → List ℕ → List Named → ℕ → Type 0
+DeclareFault functions layouts answer name parameters code =
+    ((code ≡ 3) × Contains functions name)
+    ⊎ (((code ≡ 12) × ¬ Contains (externals_of layouts) (external name answer (types_of parameters)))
+    ⊎ ((code ≡ 14) × (Contains helpers name ⊎ HasFront (codes "llvm.") name)))
+
+abbrev pub DefineFault : List ℕ → Option (List ℕ) → ℕ → Type 0
+DefineFault name strategy code = ((code ≡ 10) × (is_strategy strategy ≡ false)) ⊎ ((code ≡ 14) × IsExternalName name)
+
+-- the codes of a line outside functions
+abbrev pub OuterFault : List (List ℕ) → List (List ℕ) → Statement → ℕ → Type 0
+OuterFault functions layouts (layout name fields) code = (code ≡ 13) × (are_cells fields ≡ false)
+OuterFault functions layouts (declare answer name parameters) code = DeclareFault functions layouts answer name parameters code
+OuterFault functions layouts (define answer name arguments strategy) code = DefineFault name strategy code
+OuterFault functions layouts _ code = ⊥
+
+-- a line outside functions has the code
+pub record OuterFaults (functions layouts : List (List ℕ)) (lines : List Line) (line code : ℕ) : Type 0 where
+  pub found : Line
+  pub inside : Contains lines found
+  pub number : found.number ≡ line
+  pub faulty : OuterFault functions layouts found.says code
+
+-- there is no main function that takes nothing and answers `i32` or `i64`
+abbrev pub LacksMain : List Definition → ℕ → ℕ → Type 0
+LacksMain funcs line code =
+    ((line ≡ 0) × (code ≡ 11)) × (is_main (find (λ func. bytes_eq func.name (codes "main")) funcs) ≡ false)
+
+abbrev pub FoundByTop : List Line → ℕ → ℕ → Type 0
+FoundByTop lines line code =
+    TopAgain lines line code
+    ⊎ (OuterFaults (map (λ one. one.name) (definitions_of lines)) (map (λ one. one.name) (layouts_of lines)) lines line code
+    ⊎ LacksMain (definitions_of lines) line code)

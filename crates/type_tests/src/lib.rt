@@ -1,0 +1,5 @@
+//! Tests of typing whole texts.
+#![tactic(auto)]
+
+#[cfg(test)]
+mod tests;
