@@ -2,9 +2,8 @@
 -- reaches without its definition.
 use Rattle.std.proofs.Common.{◌≡◌, ℕ, ◌≤◌, ◌<◌, ◌⊎◌, inl, inr, refl, sym, subst, List, length, Some, None, Option, arith}
 use Rattle.std.specs.List.{All}
-use Rattle.std.specs.Prelude.{slice_get, slice_index_or}
+use Rattle.std.specs.Prelude.{slice_get}
 use Rattle.std.proofs.lemmas.Bool.{cases_order}
-use Rattle.std.proofs.lemmas.Option.{slice_get_within, get_or_from_slice_get}
 use Rattle.ir_ast.specs.Funcs.{Function, instructions_of}
 use Rattle.ir_ast.specs.Modules.{LinedModule, line_at}
 use Rattle.ir_cfg.specs.DefiniteUses.{UsesAreDefinite}
@@ -17,6 +16,7 @@ use Rattle.ir_lines.specs.PlainFaults.{HasPlainFault, HasNoPlainFault, IsLeastPl
 use Rattle.ir_types.specs.Faults.NotDefinite.{NotDefinite}
 use Rattle.ir_types.specs.FaultSet.{HasFault, HasNoFault, IsLeastFault, plain, not_definite}
 use Rattle.ir_types.specs.FirstMissed.{IsFirstMissed}
+use Rattle.ir_types.proofs.FirstLemmas.{all_at, same_func}
 use Rattle.ir_lines.specs.TextLines.{Stand}
 use Rattle.module_laws.proofs.Rising.{Within, numbers}
 use Rattle.module_laws.proofs.InOrder.{InOrder, lines_at, module-rises, later-function, later-place, each-lined}
@@ -39,14 +39,10 @@ not_missed : (func : Function) (place : ℕ) → LineIsDefinite func place → H
 not_missed func place definite missed =
     missed.missed.misses (definite missed.value missed.block missed.place missed.uses missed.missed.path missed.missed.leads)
 
-all_at : (funcs : List Function) (number : ℕ) (func : Function) → All UsesAreDefinite funcs → slice_get funcs number ≡ Some func → UsesAreDefinite func
-all_at funcs number func all stands =
-    subst UsesAreDefinite (get_or_from_slice_get funcs number func func stands) (all number func (slice_get_within funcs number func stands))
-
 none_missed : (lines : List Line) (line : ℕ) → All UsesAreDefinite (module_of lines).content.funcs → NotDefinite lines line → ⊥
 none_missed lines line all fault =
     not_missed fault.func fault.place
-    (λ value block place used. all_at (module_of lines).content.funcs fault.number fault.func all fault.stands fault.place value block place used) fault.missed
+    (λ value block place used. all_at UsesAreDefinite (module_of lines).content.funcs fault.number fault.func all fault.stands fault.place value block place used) fault.missed
 
 pub definite-faultless : (lines : List Line) → HasNoPlainFault lines → All UsesAreDefinite (module_of lines).content.funcs → HasNoFault lines
 definite-faultless lines none all line _ (plain code fault) = none line code fault
@@ -62,11 +58,6 @@ in_lines : (lines : List Line) (number place : ℕ) (func : Function) → slice_
 in_lines lines number place func stands missed =
     let below = missed_within func place missed in
     let long = each-lined lines number func stands in omega (arith, below, long)
-
-same_func : (funcs : List Function) (number other : ℕ) (func one : Function) → number ≡ other → slice_get funcs number ≡ Some func
-    → slice_get funcs other ≡ Some one → func ≡ one
-same_func funcs number other func one same stands also =
-    let moved : slice_get funcs number ≡ Some one = subst (λ (n : ℕ). slice_get funcs n ≡ Some one) (sym same) also in cc
 
 -- in one function
 one_function : (lines : List Line) (to number place there : ℕ) (func : Function) → InOrder 1 (module_of lines).lines to

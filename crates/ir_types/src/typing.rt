@@ -3,6 +3,7 @@
 ghost use Rattle.std.specs.Prelude.{◌≡◌, IfOk, None, Some};
 ghost use Rattle.ir_ast.specs.Formed.{IsFormedModule};
 ghost use Rattle.ir_cfg.specs.SourceModules.{IsSourceModule};
+ghost use Rattle.ir_reader.specs.Raws.{IsRead};
 ghost use Rattle.ir_types.specs.Answers.{Answers};
 ghost use Rattle.ir_lines.specs.Modules.{module_of};
 ghost use Rattle.ir_lines.specs.PlainFaults.{HasNoPlainFault};
@@ -15,7 +16,7 @@ use ir_ast::Module;
 use ir_lines::faults::Fault;
 use ir_reader::Raw;
 use module_build::module_of;
-use std::alloc::Global;
+use std::alloc::{AllocError, Global};
 use type_checks::first_fault;
 
 /// The source module that the readings of a text stand for, with the lines of its instructions; or the first of its
@@ -34,7 +35,8 @@ pub fn typed(alloc: Global, raw: Raw) -> Result<Module, TypeFault>
 
 // The module of readings without a fault but those of paths, or the first of these.
 fn with_paths(alloc: Global, raw: &Raw) -> Result<Module, TypeFault>
-    requires { HasNoPlainFault (seen_lines raw.now.lines) }
+    requires plain { HasNoPlainFault (seen_lines raw.now.lines) }
+    requires read { IsRead raw.now }
     ensures answers { Answers (seen_lines raw.now.lines) result }
     ensures source { IfOk result (λ whole. IsSourceModule whole.content) }
     ensures formed { IfOk result (λ whole. IsFormedModule whole.content) }
@@ -47,7 +49,7 @@ fn with_paths(alloc: Global, raw: &Raw) -> Result<Module, TypeFault>
 }
 
 // The module of readings without a fault but those of paths.
-fn plain_module(alloc: Global, raw: &Raw) -> Result<Module, TypeFault>
+fn plain_module(alloc: Global, raw: &Raw) -> Result<Module, AllocError>
     requires { HasNoPlainFault (seen_lines raw.now.lines) }
     ensures is { IfOk result (λ whole. whole ≡ module_of (seen_lines raw.now.lines)) }
     ensures typed { IfOk result (λ whole. IsTypedModule whole.content) }

@@ -1,6 +1,6 @@
 -- The lines of a module's instructions rise in the order of its text: in a function and from one function to the next.
 use Rattle.std.proofs.Common.{◌≡◌, ◌∙◌, ℕ, ◌≤◌, ◌<◌, zero, suc, refl, sym, ap, subst, Bool, true, false, not, cond, List, [], ◌∷◌, ◌++◌, length, map, Option, Some, None, arith}
-use Rattle.std.specs.Prelude.{flat_map, take_while, slice_get, slice_index, unwrap_or, is_some, if◌then◌else◌}
+use Rattle.std.specs.Prelude.{decimal, flat_map, take_while, slice_get, slice_index, unwrap_or, is_some, if◌then◌else◌}
 use Rattle.std.proofs.lemmas.List.Sums.{take_while-cons}
 use Rattle.ir_reader.specs.declared.forms.Place.{Place}
 use Rattle.ir_reader.specs.declared.forms.Place.TheVariants as places
@@ -10,7 +10,7 @@ use Rattle.ir_ast.specs.Insts.{Instruction}
 use Rattle.ir_ast.specs.Funcs.{Function, instructions_of}
 use Rattle.ir_ast.specs.Modules.{line_at}
 use Rattle.ir_lines.specs.Statements.{Statement, Line, define, close, label}
-use Rattle.ir_lines.specs.Sections.{Definition, BlockLines, is_close, is_label, label_said, until_label, block_at, labelled_blocks, first_block, blocks_of, definition_said, definitions_of}
+use Rattle.ir_lines.specs.Sections.{Definition, BlockLines, is_close, is_label, label_said, until_label, block_at, labelled_blocks, first_block, blocks_of, count_numbered, definition_said, definitions_of}
 use Rattle.ir_lines.specs.Modules.{Known, known_of, with_line, instruction_said, instructions_of as lined_instructions, numbers_of, function_of, instruction_lines, module_of}
 use Rattle.ir_lines.specs.TextLines.{place_behind, Stand}
 use Rattle.module_build.proofs.Bodies.{Inside, inside_function, stays}
@@ -57,17 +57,19 @@ left-rises known (l ∷ ls) from to within =
     (left-step known l ls (label_said l.says) (is_label l.says) from to (label-said l.says) within.0
     (left-rises known ls l.number to within.1))
 
-blocks-left : (known : Known) (func : Definition) (l : Line) (ls : List Line) (b : Bool) → is_label l.says ≡ b
-    → numbers_in known (first_block func (l ∷ ls) ++ labelled_blocks (l ∷ ls)) ≡ numbers_left known (l ∷ ls)
-blocks-left known func l ls true e =
-    let none : until_label (l ∷ ls) ≡ [] = take_while-cons before_label l ls ∙ ap (λ b. cond (not b) (l ∷ until_label ls) []) e in
-    rw (e, none) refl
-blocks-left known func l ls false e = rw e refl
+first-left : (known : Known) (b : Bool) (block : BlockLines) (rest : List BlockLines) (until : List Line) → block.lines ≡ cond (not b) until []
+    → numbers_in known ((if b then [] else block ∷ []) ++ rest) ≡ numbers_of known (cond (not b) until []) ++ numbers_in known rest
+first-left known true block rest until e = refl
+first-left known false block rest until e = ap (λ (ls : List Line). numbers_of known ls ++ numbers_in known rest) e
 
 all-left : (known : Known) (func : Definition) (ls : List Line)
     → numbers_in known (first_block func ls ++ labelled_blocks ls) ≡ numbers_left known ls
 all-left known func [] = refl
-all-left known func (l ∷ ls) = blocks-left known func l ls (is_label l.says) refl
+all-left known func (l ∷ ls) =
+    let block : BlockLines = record { line = func.line; name = decimal (count_numbered func.arguments); lines = until_label (l ∷ ls) } in
+    let until : until_label (l ∷ ls) ≡ cond (before_label l) (l ∷ until_label ls) [] = take_while-cons before_label l ls in
+    first-left known (is_label l.says) block (labelled_blocks (l ∷ ls)) (l ∷ until_label ls) until
+    ∙ ap (λ (us : List Line). numbers_of known us ++ numbers_in known (labelled_blocks (l ∷ ls))) (sym until)
 
 -- the lines of a definition's instructions are among those of its body
 body-rises : (known : Known) (func : Definition) (from to : ℕ) → Within from (numbers func.body) to → Within from (instruction_lines known func) to
