@@ -3,10 +3,10 @@ use Rattle.std.proofs.Common.{◌≡◌, ◌∙◌, ℕ, ◌+◌, ◌≤◌, ◌
 use Rattle.std.specs.List.{All}
 use Rattle.std.specs.Prelude.{slice_get, slice_index, option_map, unwrap_or}
 use Rattle.std.proofs.lemmas.Bool.{cases_order}
-use Rattle.std.proofs.lemmas.List.{length-map, get_or_default}
+use Rattle.std.proofs.lemmas.List.{get_or_default}
 use Rattle.std.proofs.lemmas.Option.{slice_get-map, slice_get_read, slice_get_within, get_or_from_slice_get}
 use Rattle.ir_ast.specs.Funcs.{Function, LinedFunction, content_of, lines_of}
-use Rattle.ir_ast.specs.Modules.{LinedModule, line_at}
+use Rattle.ir_ast.specs.Modules.{LinedModule}
 use Rattle.ir_cfg.specs.DefiniteUses.{UsesAreDefinite}
 use Rattle.definite_assign.specs.Faults.{IsFirstLine}
 use Rattle.ir_types.specs.FirstMissed.{IsFirstMissed}

@@ -1,18 +1,18 @@
 -- The least fault of lines, by the first fault that isn't one of paths, or by the first line with a use that some path
 -- reaches without its definition.
-use Rattle.std.proofs.Common.{◌≡◌, ℕ, ◌≤◌, ◌<◌, ◌⊎◌, inl, inr, refl, sym, subst, List, length, Some, None, Option, arith}
+use Rattle.std.proofs.Common.{◌≡◌, ℕ, ◌≤◌, ◌<◌, inl, inr, sym, subst, List, length, Some, arith}
 use Rattle.std.specs.List.{All}
 use Rattle.std.specs.Prelude.{slice_get}
 use Rattle.std.proofs.lemmas.Bool.{cases_order}
 use Rattle.ir_ast.specs.Funcs.{Function, instructions_of}
-use Rattle.ir_ast.specs.Modules.{LinedModule, line_at}
+use Rattle.ir_ast.specs.Modules.{line_at}
 use Rattle.ir_cfg.specs.DefiniteUses.{UsesAreDefinite}
 use Rattle.ir_reader.specs.declared.forms.Place.TheVariants as places
 use Rattle.definite_assign.specs.Faults.{HasMissedUse, LineIsDefinite}
 use Rattle.definite_assign.proofs.UseLemmas.{use_within}
 use Rattle.ir_lines.specs.Statements.{Line}
 use Rattle.ir_lines.specs.Modules.{module_of}
-use Rattle.ir_lines.specs.PlainFaults.{HasPlainFault, HasNoPlainFault, IsLeastPlainFault, ComesFirst}
+use Rattle.ir_lines.specs.PlainFaults.{HasNoPlainFault, IsLeastPlainFault, ComesFirst}
 use Rattle.ir_types.specs.Faults.NotDefinite.{NotDefinite}
 use Rattle.ir_types.specs.FaultSet.{HasFault, HasNoFault, IsLeastFault, plain, not_definite}
 use Rattle.ir_types.specs.FirstMissed.{IsFirstMissed}

@@ -1,5 +1,5 @@
 -- What typing answers.
-use Rattle.std.specs.Prelude.{◌≡◌, ℕ, List, Result, Ok, Err}
+use Rattle.std.specs.Prelude.{◌≡◌, List, Result, Ok, Err}
 use Rattle.ir_ast.specs.Modules.{LinedModule}
 use Rattle.ir_types.specs.declared.faults.TypeFault.{TypeFault}
 use Rattle.ir_types.specs.declared.faults.TypeFault.TheVariants as answers

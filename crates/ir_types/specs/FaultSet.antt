@@ -1,5 +1,5 @@
 -- The faults of lines, and the least of them.
-use Rattle.std.specs.Prelude.{◌≡◌, ℕ, List}
+use Rattle.std.specs.Prelude.{ℕ, List}
 use Rattle.ir_lines.specs.Statements.{Line}
 use Rattle.ir_lines.specs.PlainFaults.{HasPlainFault, HasNoPlainFault, ComesFirst}
 use Rattle.ir_types.specs.Faults.NotDefinite.{NotDefinite}

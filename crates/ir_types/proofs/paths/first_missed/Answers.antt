@@ -23,3 +23,12 @@ returns-clause-none c =
     let same = ap (λ (fs : List Function). length fs) c.funcs-func-items.ensures.content in
     let long = length-map c.funcs-func-items.result.now content_of in
     all_definite c.args.whole.now.content.funcs c.loop-func.func-index c.loop-func.invariant (omega (arith, same, long, c.loop-func-test.false))
+
+pub returns-in-Some-clause-some : goal.returns-in-Some-clause-some
+returns-in-Some-clause-some c =
+    first_found c.args.whole.now c.loop-func.func-index c.func-item.result c.in_ok-line.field-0 c.in-Some.line c.loop-func.invariant
+    (content_at c.funcs-func-items.result.now c.args.whole.now.content.funcs c.loop-func.func-index c.func-item.result
+    c.funcs-func-items.ensures.content c.loop-func-test.true c.func-item.is)
+    (lines_at c.funcs-func-items.result.now c.args.whole.now.lines c.loop-func.func-index c.func-item.result
+    c.funcs-func-items.ensures.lines c.loop-func-test.true c.func-item.is)
+    c.in_ok-line.ensures.some c.in-Some.is

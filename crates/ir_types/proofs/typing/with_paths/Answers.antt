@@ -1,10 +1,9 @@
-use Rattle.std.proofs.Common.{◌≡◌, ℕ, ◌+◌, Option, None, Some, subst, length, IfNone, IfSome}
+use Rattle.std.proofs.Common.{ℕ, ◌+◌, Option, subst, length, IfNone, IfSome}
 use Rattle.std.proofs.lemmas.Result.{err_from_is_err_and}
 use Rattle.std.specs.List.{All}
 use Rattle.std.specs.Str.Lines.{lines}
 use Rattle.ir_ast.specs.Modules.{LinedModule}
 use Rattle.ir_cfg.specs.DefiniteUses.{UsesAreDefinite}
-use Rattle.ir_lines.specs.Modules.{module_of}
 use Rattle.ir_lines.specs.Views.{seen_lines}
 use Rattle.module_laws.proofs.LawSource.{source_module}
 use Rattle.module_laws.proofs.ReadTexts.{read-lines}
