@@ -5,14 +5,14 @@ use Rattle.std.proofs.lemmas.List.{map-append, length-append, length-replicate, 
 use Rattle.std.proofs.lemmas.List.Sums.{length-filter, count_by-le-length}
 use Rattle.ir_ast.specs.declared.funcs.Arg.{Arg}
 use Rattle.ir_ast.specs.declared.types.Ty.{Ty}
-use Rattle.ir_ast.specs.Funcs.{Function, instructions_of, IsSmall}
+use Rattle.ir_ast.specs.Funcs.{Function, LinedFunction, instructions_of, content_of, lines_of, IsSmall}
 use Rattle.ir_ast.specs.Modules.{ModuleContent}
 use Rattle.ir_ast.specs.Formed.{IsFormed}
 use Rattle.ir_cfg.specs.SourceModules.{IsSourceModule}
 use Rattle.ir_ast.specs.Insts.{Instruction}
 use Rattle.ir_ast.specs.Ops.{is_terminator}
 use Rattle.ir_ast.specs.Blocks.{BasicBlock, EndsAtTerminator}
-use Rattle.ir_cfg.specs.Unreached.{Kept, kept_of, inst_kept, block_kept, result_count, result_marks, value_marks, kept_by, function_kept}
+use Rattle.ir_cfg.specs.Unreached.{Kept, kept_of, inst_kept, block_kept, result_count, result_marks, value_marks, kept_by, function_kept, zeros_of}
 
 kept_next : {A : Type 0} (marks : List Bool) (xs : List A) (place : ℕ) (x : A) → place < length xs
     → kept_of marks (take (suc place) xs) ≡ kept_of marks (take place xs) ++ (if get_or marks place false then get_or xs place x ∷ [] else [])
@@ -194,3 +194,12 @@ function_left func marks name answer args blocks same_name same_answer same_args
 pub numbers_left : (func : Function) (marks values : List Bool) (count : ℕ) (blocks : List BasicBlock) → count ≡ length func.args
     → blocks ≡ func.blocks → values ≡ replicate count true ++ result_marks marks blocks → values ≡ value_marks marks func
 numbers_left func marks values count blocks same_count same_blocks is = rw (is, same_count, same_blocks) refl
+
+-- one function more whose lines are all 0
+pub lines_push : (funcs : List LinedFunction) (func : LinedFunction) → map lines_of funcs ≡ map zeros_of (map content_of funcs)
+    → func.lines ≡ zeros_of func.content → map lines_of (funcs ++ func ∷ []) ≡ map zeros_of (map content_of (funcs ++ func ∷ []))
+lines_push funcs func before one =
+    map-append lines_of funcs (func ∷ [])
+    ∙ ap (λ (lines : List (List ℕ)). lines ++ func.lines ∷ []) before
+    ∙ ap (λ (lines : List ℕ). map zeros_of (map content_of funcs) ++ lines ∷ []) one
+    ∙ sym (ap (map zeros_of) (map-append content_of funcs (func ∷ [])) ∙ map-append zeros_of (map content_of funcs) (func.content ∷ []))

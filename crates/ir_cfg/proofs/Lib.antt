@@ -1,5 +1,6 @@
 pub mod RowLemmas
 pub mod GraphLemmas
+pub mod CountLemmas
 pub mod TurnLemmas
 pub mod PlaceLemmas
 pub mod SearchLemmas

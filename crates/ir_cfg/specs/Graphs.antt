@@ -18,6 +18,10 @@ block_at place = record { 0 = place }
 abbrev pub succs_of : Graph → ℕ → List BlockId
 succs_of graph block = slice_index_or graph block []
 
+-- where all edges lead, in text order
+abbrev pub labels_of : Graph → List BlockId
+labels_of graph = flat_map (λ row. row) graph
+
 -- where the edges into a block come from: one entry per edge, in text order
 abbrev pub preds_of : Graph → ℕ → List BlockId
 preds_of graph block =

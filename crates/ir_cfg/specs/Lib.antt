@@ -7,6 +7,7 @@ pub mod Limits
 pub mod SourceModules
 pub mod TargetModules
 pub mod Turned
+pub mod Filled
 pub mod Marks
 pub mod Cfgs
 pub mod Unreached

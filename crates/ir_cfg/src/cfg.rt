@@ -5,9 +5,10 @@ ghost use Rattle.ir_cfg.specs.Graphs.{graph_of, succs_of, preds_of, Retreats};
 ghost use Rattle.ir_cfg.specs.Paths.{Reached};
 ghost use Rattle.ir_cfg.specs.PollPoints.{CyclesPoll};
 
-use crate::graphs::{edges, turned};
+use crate::graphs::edges;
 use crate::reach::marks;
 use crate::rows::Rows;
+use crate::turned::turned;
 use ir_ast::Func;
 use sp_ids::{BlockId, Memory};
 use std::alloc::Global;

@@ -8,6 +8,7 @@ mod renumber;
 mod rows;
 #[cfg(test)]
 mod tests;
+mod turned;
 mod unreached;
 
 pub use cfg::Cfg;

@@ -1,5 +1,5 @@
 ghost use Rattle.std.specs.Prelude.{◌≡◌, ◌<◌, ◌≤◌, [], ◌∷◌, ◌++◌, length, slice_index, slice_range, IfOk};
-ghost use Rattle.ir_cfg.specs.Graphs.{succs_of};
+ghost use Rattle.ir_cfg.specs.Graphs.{succs_of, labels_of};
 ghost use Rattle.ir_cfg.specs.Rows.{rows_from, AreStops};
 
 use sp_ids::{BlockId, Memory};
@@ -36,6 +36,14 @@ impl Rows {
         }
     }
 
+    /// The rows that end at these places.
+    pub(crate) fn of(stops: Vec<usize>, items: Vec<BlockId>) -> Rows
+        requires { AreStops 0 stops.items (length items.items) }
+        ensures { result ≡ rows_from 0 stops.items items.items }
+    {
+        Rows { stops, items }
+    }
+
     /// These rows, and one more.
     pub(crate) fn with_row(self, row: &[BlockId]) -> Result<Rows, Memory>
         ensures { IfOk result (λ rows. rows ≡ self ++ row.now ∷ []) }
@@ -52,6 +60,13 @@ impl Rows {
         ensures { result ≡ length self.now }
     {
         self.stops.len()
+    }
+
+    /// What the rows have, one after the other.
+    pub(crate) fn items(&self) -> &[BlockId]
+        ensures { result.now ≡ labels_of self.now }
+    {
+        self.items.as_slice()
     }
 
     /// The row at a place.

@@ -1,7 +1,7 @@
 ghost use Rattle.std.specs.Prelude.{◌≡◌, ◌^◌, ◌<◌, [], ◌∷◌, ◌++◌, true, false, if◌then◌else◌, length, map, replicate, slice_index_or, IfOk};
-ghost use Rattle.ir_ast.specs.Funcs.{content_of};
+ghost use Rattle.ir_ast.specs.Funcs.{content_of, lines_of};
 ghost use Rattle.ir_ast.specs.Formed.{IsFormed};
-ghost use Rattle.ir_cfg.specs.Unreached.{kept_of, result_marks, result_count, block_kept, DropsUnreached, ModuleDropsUnreached};
+ghost use Rattle.ir_cfg.specs.Unreached.{kept_of, result_marks, result_count, block_kept, zeros_of, DropsUnreached, ModuleDropsUnreached};
 ghost use Rattle.std.specs.List.{All, AllZip};
 ghost use Rattle.ir_cfg.specs.SourceModules.{IsSourceModule};
 
@@ -17,6 +17,7 @@ use std::alloc::Global;
 pub fn drop_unreachable(alloc: Global, source: Module) -> Result<Module, Memory>
     requires { IsSourceModule source.content }
     ensures drops { IfOk result (λ after. ModuleDropsUnreached source.content after.content) }
+    ensures lines { IfOk result (λ after. after.lines ≡ map zeros_of after.content.funcs) }
     ensures keeps_source { IfOk result (λ after. IsSourceModule after.content) }
 {
     let (layouts, old_funcs, form) = source.into_parts();
@@ -27,6 +28,7 @@ pub fn drop_unreachable(alloc: Global, source: Module) -> Result<Module, Memory>
 fn all_without(alloc: Global, funcs: Vec<Func>) -> Result<Vec<Func>, Memory>
     requires { All (λ func. IsFormed func.content) funcs.items }
     ensures functions { IfOk result (λ kept. AllZip DropsUnreached (map content_of funcs.items) (map content_of kept.items)) }
+    ensures lines { IfOk result (λ kept. map lines_of kept.items ≡ map zeros_of (map content_of kept.items)) }
     ensures count { IfOk result (λ kept. length kept.items ≡ length funcs.items) }
 {
     let mut kept = Vec::new(alloc);
@@ -38,7 +40,8 @@ fn all_without(alloc: Global, funcs: Vec<Func>) -> Result<Vec<Func>, Memory>
 
 fn without_unreached(alloc: Global, func: Func) -> Result<Func, Memory>
     requires { IsFormed func.content }
-    ensures { IfOk result (λ after. DropsUnreached func.content after.content) }
+    ensures drops { IfOk result (λ after. DropsUnreached func.content after.content) }
+    ensures lines { IfOk result (λ after. after.lines ≡ zeros_of after.content) }
 {
     let succs = edges(alloc, &func)?;
     let marks = marks(alloc, &succs)?;

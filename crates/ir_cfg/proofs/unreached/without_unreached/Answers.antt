@@ -1,10 +1,10 @@
-use Rattle.std.proofs.Common.{◌≡◌, Bool, List, rules, true, length, replicate, ap, ◌∙◌, arith}
+use Rattle.std.proofs.Common.{◌≡◌, Bool, List, rules, true, length, replicate, ap, sym, ◌∙◌, arith}
 use Rattle.std.proofs.lemmas.List.{length-append, length-replicate}
 use Rattle.ir_ast.specs.Blocks.{BasicBlock}
 use Rattle.ir_ast.specs.Funcs.{instructions_of}
 use Rattle.ir_cfg.specs.Graphs.{graph_of}
 use Rattle.ir_cfg.specs.Marks.{MarksReached}
-use Rattle.ir_cfg.specs.Unreached.{Kept, result_marks, new_numbers, kept_by}
+use Rattle.ir_cfg.specs.Unreached.{Kept, result_marks, new_numbers, kept_by, zeros_of}
 use Rattle.ir_cfg.proofs.GraphLemmas.{leads_inside}
 use Rattle.ir_cfg.proofs.KeptLemmas.{few_results, small_kept, numbers_left, blocks_left, function_left}
 use Rattle.ir_cfg.proofs.unreached.without_unreached.Goals as goal
@@ -39,8 +39,11 @@ of-requires-2 c =
     rw (c.in_ok-kept.ensures, c.into_parts-name.ensures.args, c.into_parts-name.ensures.blocks)
     (small_kept c.args.func.content.args c.in_ok-renumber.renumber c.in_ok-renumber.renumber.marks c.args.func.content.blocks c.into_parts-name.ensures.small)
 
-pub returns : goal.returns
-returns c =
+pub returns-clause-lines : goal.returns-clause-lines
+returns-clause-lines c = c.of-2.ensures.lines ∙ sym (ap zeros_of c.of-2.ensures.content)
+
+pub returns-clause-drops : goal.returns-clause-drops
+returns-clause-drops c =
     let reached : MarksReached (graph_of c.args.func.content) c.in_ok-marks.marks.items = rw (← c.in_ok-succs.ensures.rows) c.in_ok-marks.ensures in
     let count : c.len.result ≡ length c.into_parts-name.result.2.items = search rules in
     let told = rw c.as_slice.ensures.value at c.in_ok-values.ensures in
