@@ -8,6 +8,7 @@ pub mod NamedLaws
 pub mod CauseLaws
 pub mod AnswerLaws
 pub mod CompleteLaws
-pub mod SourceRuns
+pub mod RunLaws
+pub mod NotYetLaw
 pub mod NotYetLaws
 pub mod NameLaws
