@@ -1,10 +1,11 @@
 -- Runs by the source meaning, as a phase of the work.
-use Rattle.std.proofs.Common.{◌≡◌, ℕ, List, [], ◌++◌, Option, refl, sym, ap, ◌∙◌, append_assoc}
+use Rattle.std.proofs.Common.{◌≡◌, ℕ, List, [], ◌++◌, Option, Result, Ok, Err, IfOk, OnOk, refl, sym, ap, ◌∙◌, append_assoc}
 use Rattle.tool_io.specs.Sink.{append_known, AppendsFront}
 use Rattle.tool_io.proofs.AppendLaws.{append_known-then, AppendsFront-front, AppendsFront-same, AppendsFront-second}
 use Rattle.sp_ids.specs.declared.ends.End.{End}
 use Rattle.ir_ast.specs.Modules.{ModuleContent}
 use Rattle.ir_meaning.specs.declared.interpret.Ran.{Ran}
+use Rattle.ir_meaning.specs.declared.interpret.RefFault.{RefFault}
 use Rattle.ir_meaning.specs.References.{IsRun}
 use Rattle.ir_meaning.specs.SourceRuns.{Progress, SourceRun, WritesFrontOfRun, no_go, opening, proceeds, source_setting, whole_text}
 use Rattle.ir_meaning.specs.Texts.{closing_text, text_of}
@@ -57,7 +58,7 @@ module _ (content : ModuleContent) (steps : ℕ) (ran : Ran) (old mid new : Opti
       ∙ ap (λ (seen : ℕ). closing_line content ran.end run.last.state.running.func run.last.state.steps seen) run.events)
 
   -- the whole of the output is written once the closing line is
-  pub done-run : (status : Status) → status ≡ status_of_end ran.end → new ≡ append_known mid (closing_line content ran.end ran.func.0 ran.steps ran.events)
+  done-run : (status : Status) → status ≡ status_of_end ran.end → new ≡ append_known mid (closing_line content ran.end ran.func.0 ran.steps ran.events)
       → IsDone status (run_phase content steps) (sink_seen old new before after)
   unfolding closing_of
   done-run status is closed = record {
@@ -78,3 +79,9 @@ module _ (content : ModuleContent) (steps : ℕ) (ran : Ran) (old mid new : Opti
     defined = comes ran.end run.last run.run;
     front = AppendsFront-second old (whole_text content ran.end run.last) run.written (AppendsFront-same front (closing_of content ran.end run.last) (sym closes));
   }
+
+  pub closed-run : (result : Result Status RefFault) → IfOk result (λ status. status ≡ status_of_end ran.end)
+      → OnOk result (new ≡ append_known mid (closing_line content ran.end ran.func.0 ran.steps ran.events))
+      → IfOk result (λ status. IsDone status (run_phase content steps) (sink_seen old new before after))
+  closed-run (Ok status) is closed = done-run status is closed
+  closed-run (Err fault) is closed = tt
