@@ -10,4 +10,4 @@ pub mod AnswerLaws
 pub mod CompleteLaws
 pub mod SourceRuns
 pub mod NotYetLaws
-pub mod NameLaws
+pub mod NotYetLaw

@@ -2,7 +2,6 @@
 #![tactic(auto)]
 
 mod evaluate;
-mod names;
 mod not_yet;
 mod notes;
 mod phases;

@@ -152,7 +152,7 @@ fn runnable_in(alloc: Global, text: &[u8]) -> Result<Module, Refusal>
 fn type_to_run(alloc: Global, raw: Raw) -> Result<Module, Refusal>
     ensures { Agrees (λ read. read.content) result (typing_to_run (seen_lines raw.entry.lines)) }
 {
-    let not_yet = first_not_yet(alloc, raw.lines())?;
+    let not_yet = first_not_yet(raw.lines());
     let read = type_in(alloc, raw)?;
     match not_yet {
         None => Ok(read),

@@ -19,11 +19,11 @@ returns-in_err-read c =
 pub returns-in-None : goal.returns-in-None
 returns-in-None c =
     let same = ap (λ (xs : List NumberedReading). first_not_yet (seen_lines xs)) c.lines.ensures.lines in
-    let none : first_not_yet (seen_lines c.args.raw.lines) ≡ None = sym same ∙ (sym c.in_ok-not_yet.ensures ∙ c.in-None.is) in
+    let none : first_not_yet (seen_lines c.args.raw.lines) ≡ None = sym same ∙ (sym c.not_yet.ensures ∙ c.in-None.is) in
     builds (seen_lines c.args.raw.lines) c.in_ok-read.read.content c.in_ok-read.ensures.typed none
 
 pub returns-in-Some : goal.returns-in-Some
 returns-in-Some c =
     let same = ap (λ (xs : List NumberedReading). first_not_yet (seen_lines xs)) c.lines.ensures.lines in
-    let found : first_not_yet (seen_lines c.args.raw.lines) ≡ Some c.in-Some.line = sym same ∙ (sym c.in_ok-not_yet.ensures ∙ c.in-Some.is) in
+    let found : first_not_yet (seen_lines c.args.raw.lines) ≡ Some c.in-Some.line = sym same ∙ (sym c.not_yet.ensures ∙ c.in-Some.is) in
     not_built (seen_lines c.args.raw.lines) c.in_ok-read.read.content c.in-Some.line c.in_ok-read.ensures.typed found
