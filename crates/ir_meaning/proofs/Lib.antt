@@ -9,4 +9,3 @@ pub mod RunLemmas
 pub mod ReadyLemmas
 pub mod NumberLemmas
 pub mod OpeningLemmas
-pub mod TodayLemmas
