@@ -10,4 +10,3 @@ pub mod EndLaws
 pub mod ReadyLemmas
 pub mod NumberLemmas
 pub mod OpeningLemmas
-pub mod TodayLemmas

@@ -9,6 +9,5 @@ pub mod CauseLaws
 pub mod AnswerLaws
 pub mod CompleteLaws
 pub mod RunLaws
-pub mod NotYetLaw
 pub mod NotYetLaws
-pub mod NameLaws
+pub mod NotYetLaw
