@@ -280,15 +280,15 @@ fares_called : (content : ModuleContent) (bound : ℕ) (state : State) (done : D
 fares_called content bound state done behind (callees.Fun func) operands =
     fares_stepped (setting_of content bound) state (entering (setting_of content bound) func.0 (map (value state.running.registers) operands))
     (counts_entering (setting_of content bound) func.0 (map (value state.running.registers) operands) (record state { steps = state.steps + 1 }))
-fares_called content bound state done behind (callees.New layout) operands = 
+fares_called content bound state done behind (callees.New layout) operands =
     fares_allocating bound state done behind (setting_of content bound) layout (signed 64 (number_in (operand state.running.registers operands 0)))
 fares_called content bound state done behind callees.Print operands = fares_done bound state done behind nothing
 fares_called content bound state done behind callees.Read operands = fares_taking bound state done behind state.input
-fares_called content bound state done behind callees.TaskStart operands = 
+fares_called content bound state done behind callees.TaskStart operands =
     fares_started bound state done behind (setting_of content bound) (function_in (slice_get operands 0)) (operand state.running.registers operands 1)
 fares_called content bound state done behind callees.Poll operands =
     let there = behind nothing in passed_on there.steps there.tasks there.rest
-fares_called content bound state done behind callees.Check operands = 
+fares_called content bound state done behind callees.Check operands =
     fares_checked bound state done behind
     (accessed content.layouts state.objects (number_in (operand state.running.registers operands 2)) (pointer_in (operand state.running.registers operands 1)))
 fares_called content bound state done behind callees.Same operands =
@@ -298,7 +298,7 @@ fares_called content bound state done behind callees.Same operands =
 fares_acts : (content : ModuleContent) (bound : ℕ) (state : State) (line : Line) (rest : List Line) → length rest < length state.running.rest
     → (op : Op) → Fares bound state (acts (setting_of content bound) state line rest op)
 fares_acts content bound state line rest shorter ops.Load = fares_loading bound state line rest (accesses (setting_of content bound) state line 0) shorter
-fares_acts content bound state line rest shorter ops.Store = 
+fares_acts content bound state line rest shorter ops.Store =
     fares_storing bound state line rest (operand state.running.registers line.inst.operands 0) (accesses (setting_of content bound) state line 1) shorter
 fares_acts content bound state line rest shorter (ops.Call callee types) =
     fares_called content bound state (passed state line rest) (λ answer. behind_passed state line rest answer shorter) callee line.inst.operands

@@ -1,5 +1,5 @@
 -- Runs by the source meaning, as a phase of the work.
-use Rattle.std.proofs.Common.{◌≡◌, ℕ, List, [], ◌++◌, Option, Result, Ok, Err, IfOk, OnOk, refl, sym, ap, ◌∙◌, append_assoc}
+use Rattle.std.proofs.Common.{◌≡◌, ℕ, List, [], ◌++◌, Option, Result, Ok, Err, IfOk, OnOk, sym, ap, ◌∙◌, append_assoc}
 use Rattle.tool_io.specs.Sink.{append_known, AppendsFront}
 use Rattle.tool_io.proofs.AppendLaws.{append_known-then, AppendsFront-front, AppendsFront-same, AppendsFront-second}
 use Rattle.sp_ids.specs.declared.ends.End.{End}
@@ -7,13 +7,13 @@ use Rattle.ir_ast.specs.Modules.{ModuleContent}
 use Rattle.ir_meaning.specs.declared.interpret.Ran.{Ran}
 use Rattle.ir_meaning.specs.declared.interpret.RefFault.{RefFault}
 use Rattle.ir_meaning.specs.References.{IsRun}
-use Rattle.ir_meaning.specs.SourceRuns.{Progress, SourceRun, WritesFrontOfRun, no_go, opening, proceeds, source_setting, whole_text}
+use Rattle.ir_meaning.specs.SourceRuns.{Progress, WritesFrontOfRun, no_go, opening, proceeds, source_setting, whole_text}
 use Rattle.ir_meaning.specs.Texts.{closing_text, text_of}
 use Rattle.ir_meaning.proofs.EndLaws.{one_end, printed_first, source_ends}
 use Rattle.statepoint_tool.specs.Answers.{IsBegun, IsDone, SinkSeen, sink_seen}
 use Rattle.statepoint_tool.specs.Closings.{closing_line, status_of_end}
-use Rattle.statepoint_tool.specs.Steps.{Step, Go}
-use Rattle.statepoint_tool.specs.Work.{Output, comes, output_of, run_phase}
+use Rattle.statepoint_tool.specs.Steps.{Go}
+use Rattle.statepoint_tool.specs.Work.{comes, output_of, run_phase}
 use Rattle.statepoint_tool.specs.declared.status.Status.{Status}
 use Rattle.statepoint_tool.proofs.StepLaws.{Once}
 

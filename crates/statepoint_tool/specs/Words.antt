@@ -38,11 +38,18 @@ run_of module_file input plan steps =
 abbrev pub show_of : List ℕ → Option Command
 show_of module_file = if names_file module_file then Some (Show module_file) else None
 
--- the program's name, the command's name, and what the command takes; nothing else is a command
-abbrev pub command_of : List (List ℕ) → Option Command
-command_of (program ∷ name ∷ module_file ∷ []) = if bytes_eq name (codes "show") then show_of module_file else None
-command_of (program ∷ name ∷ module_file ∷ input ∷ plan ∷ steps ∷ []) =
+-- the commands that take a module, and those that take all that a run needs
+unfoldable pub of_module : (name module_file : List ℕ) → Option Command
+of_module name module_file = if bytes_eq name (codes "show") then show_of module_file else None
+
+unfoldable pub of_run : (name module_file input plan steps : List ℕ) → Option Command
+of_run name module_file input plan steps =
     if bytes_eq name (codes "source") then source_of module_file input plan steps
     else if bytes_eq name (codes "run") then run_of module_file input plan steps
     else None
+
+-- the program's name, the command's name, and what the command takes; nothing else is a command
+abbrev pub command_of : List (List ℕ) → Option Command
+command_of (program ∷ name ∷ module_file ∷ []) = of_module name module_file
+command_of (program ∷ name ∷ module_file ∷ input ∷ plan ∷ steps ∷ []) = of_run name module_file input plan steps
 command_of _ = None

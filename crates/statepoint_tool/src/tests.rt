@@ -126,7 +126,11 @@ fn sums_by_a_function_that_calls_itself(rt: HostRuntime) -> Result<(), Fail> {
         for (steps, status, line) in [
             ("1000", Status::Done, "= return 6 steps 13 events 5\n"),
             ("13", Status::Done, "= return 6 steps 13 events 5\n"),
-            ("12", Status::OutOfSteps, "= out of steps steps 12 events 5\n"),
+            (
+                "12",
+                Status::OutOfSteps,
+                "= out of steps steps 12 events 5\n",
+            ),
         ] {
             let words = run_words(alloc, command, steps)?;
             let mut files = files(alloc, SUMS)?;

@@ -18,17 +18,17 @@ returns-in_err-read-clause-read c =
 pub returns-in-None-clause-read : goal.returns-in-None-clause-read
 returns-in-None-clause-read c =
     let same = ap (λ (xs : List NumberedReading). first_not_yet (seen_lines xs)) c.lines.ensures.lines in
-    let none : first_not_yet (seen_lines c.args.raw.lines) ≡ None = sym same ∙ (sym c.not_yet.ensures ∙ c.in-None.is) in
+    let none : first_not_yet (seen_lines c.args.raw.lines) ≡ None = sym same ∙ (sym c.first_not_yet-not_yet.ensures ∙ c.in-None.is) in
     builds (seen_lines c.args.raw.lines) c.in_ok-read.read.content c.in_ok-read.ensures.typed none
 
 pub returns-in-None-clause-today : goal.returns-in-None-clause-today
 returns-in-None-clause-today c =
     let same = ap (λ (xs : List NumberedReading). first_not_yet (seen_lines xs)) c.lines.ensures.lines in
-    let none : first_not_yet (seen_lines c.args.raw.lines) ≡ None = sym same ∙ (sym c.not_yet.ensures ∙ c.in-None.is) in
+    let none : first_not_yet (seen_lines c.args.raw.lines) ≡ None = sym same ∙ (sym c.first_not_yet-not_yet.ensures ∙ c.in-None.is) in
     runs_today_as (seen_lines c.args.raw.lines) c.in_ok-read.read.content c.in_ok-read.ensures.typed none
 
 pub returns-in-Some-clause-read : goal.returns-in-Some-clause-read
 returns-in-Some-clause-read c =
     let same = ap (λ (xs : List NumberedReading). first_not_yet (seen_lines xs)) c.lines.ensures.lines in
-    let found : first_not_yet (seen_lines c.args.raw.lines) ≡ Some c.in-Some.line = sym same ∙ (sym c.not_yet.ensures ∙ c.in-Some.is) in
+    let found : first_not_yet (seen_lines c.args.raw.lines) ≡ Some c.in-Some.line = sym same ∙ (sym c.first_not_yet-not_yet.ensures ∙ c.in-Some.is) in
     not_built (seen_lines c.args.raw.lines) c.in_ok-read.read.content c.in-Some.line c.in_ok-read.ensures.typed found
