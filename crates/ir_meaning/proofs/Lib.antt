@@ -6,7 +6,7 @@ pub mod RegisterLemmas
 pub mod StackLemmas
 pub mod FrameLemmas
 pub mod RunLemmas
+pub mod EndLaws
 pub mod ReadyLemmas
 pub mod NumberLemmas
 pub mod OpeningLemmas
-pub mod TodayLemmas

@@ -10,7 +10,6 @@ use Rattle.ir_ast.specs.declared.ops.Op.{Op}
 use Rattle.ir_ast.specs.declared.ops.Op.TheVariants.{Gep, Load, Store, Call, Statepoint, GcResult, GcRelocate}
 use Rattle.ir_ast.specs.Types.{is_pointer}
 use Rattle.ir_ast.specs.Insts.{Instruction}
-use Rattle.ir_ast.specs.Blocks.{BasicBlock}
 use Rattle.ir_ast.specs.Funcs.{Function, instructions_of}
 use Rattle.ir_ast.specs.Modules.{ModuleContent}
 use Rattle.ir_meaning.specs.Lines.{insts_of}
@@ -39,10 +38,6 @@ runs_today _ = true
 -- the line has no managed pointer as operand or result, and calls neither `gc_new` nor `task_start`
 abbrev pub is_today : Instruction → Bool
 is_today inst = runs_today inst.op && not (is_pointer inst.ty) && list_all (λ operand. not (is_null operand)) inst.operands
-
--- the same of all lines of these blocks, as a test
-abbrev pub blocks_today : List BasicBlock → Bool
-blocks_today blocks = list_all (λ block. list_all is_today block.insts) blocks
 
 abbrev pub FunctionIsToday : Function → Type 0
 FunctionIsToday func = All (λ inst. is_today inst ≡ true) (instructions_of func.blocks)

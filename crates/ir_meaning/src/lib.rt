@@ -8,8 +8,6 @@ mod machine;
 mod numbers;
 mod spots;
 mod stacks;
-mod stages;
 mod words;
 
 pub use interpret::{Ran, RefFault, reference};
-pub use stages::first_not_yet;

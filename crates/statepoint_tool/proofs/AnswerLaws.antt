@@ -1,15 +1,18 @@
 -- What follows from the whole answer of a call.
 use Rattle.std.proofs.Common.{◌≡◌, ◌≢◌, ℕ, ◌⊎◌, inl, inr, List, [], Option, Some, None, Result, Ok, Err, refl, sym, ap, subst, ◌∙◌, arith}
+use Rattle.sp_ids.specs.declared.ends.End.{End}
+use Rattle.sp_ids.specs.declared.ends.End.TheVariants as ended_by
+use Rattle.ir_meaning.specs.SourceRuns.{Progress, SourceRun, no_go}
+use Rattle.ir_meaning.proofs.EndLaws.{not_poison, not_lost}
 use Rattle.statepoint_tool.specs.Answers.{SinkSeen, Gained, GainedFront, SinkFailed, Came, IsBegun, IsTold, IsSaid, IsSaidInPart, IsAnswer}
-use Rattle.statepoint_tool.specs.Causes.{CannotRead, Ends, by_showing, by_running, Runs, meaning, Shows}
+use Rattle.statepoint_tool.specs.Causes.{CannotRead, Ends, by_showing, by_running, Runs, module_run, steps_asked, Shows}
 use Rattle.statepoint_tool.specs.Notes.{refusal_line, status_of_cause, status_of_refusal}
 use Rattle.statepoint_tool.specs.Statuses.{CauseOf, Exactly, IsDue, OverSome, OverAll, ReadFaultCounted, Says, Writes, WritesFront, Yields, status_of_step}
 use Rattle.statepoint_tool.specs.Steps.{Step, Go, Stop}
 use Rattle.statepoint_tool.specs.Taken.{FilesSeen}
 use Rattle.statepoint_tool.specs.Words.{command_of}
-use Rattle.statepoint_tool.specs.Work.{Output, Given, MayGiveNamed, content_of, shown, output_of, status_of_end, work}
-use Rattle.statepoint_tool.specs.declared.evaluate.Ended.{Ended}
-use Rattle.statepoint_tool.specs.declared.evaluate.Ended.TheVariants.{Returned, OutOfSteps as StepsRanOut}
+use Rattle.statepoint_tool.specs.Work.{Output, Given, MayGiveNamed, content_of, shown, output_of, work}
+use Rattle.statepoint_tool.specs.Closings.{status_of_end}
 use Rattle.statepoint_tool.specs.declared.refusal.Cause.{Cause}
 use Rattle.statepoint_tool.specs.declared.refusal.Cause.TheVariants as cause
 use Rattle.statepoint_tool.specs.declared.refusal.PlanFault.{PlanFault}
@@ -105,17 +108,24 @@ module _ (words : List (List ℕ)) (files : FilesSeen) (out notes : SinkSeen) (g
   ends_of : (output : Output) → work words given (Go output) → Ends words given output
   ends_of output due = Explains-work words given (Go output) due
 
-  writes_run : (runs : Runs words given) → (ended : Ended) → (meaning runs).ended ≡ ended → Gained out (output_of (meaning runs)).text →
-      Writes (status_of_end ended) words files out
-  writes_run runs Returned is written =
-      record { given = given; may = may; holds = ((output_of (meaning runs), by_running runs, ap status_of_end is), written) }
-  writes_run runs StepsRanOut is written =
-      record { given = given; may = may; holds = ((output_of (meaning runs), by_running runs, ap status_of_end is), written) }
+  writes_run : (runs : Runs words given) (end : End) (last : Progress) → SourceRun (module_run runs) [] no_go (steps_asked runs) end last →
+      Gained out (output_of (module_run runs) end last).text → Writes (status_of_end end) words files out
+  writes_run runs (ended_by.Return number) last run written =
+      let end = ended_by.Return number in
+      record { given = given; may = may; holds = ((output_of (module_run runs) end last, by_running runs end last run, refl), written) }
+  writes_run runs (ended_by.Trap trap) last run written =
+      let end = ended_by.Trap trap in
+      record { given = given; may = may; holds = ((output_of (module_run runs) end last, by_running runs end last run, refl), written) }
+  writes_run runs ended_by.OutOfSteps last run written =
+      let end = ended_by.OutOfSteps in
+      record { given = given; may = may; holds = ((output_of (module_run runs) end last, by_running runs end last run, refl), written) }
+  writes_run runs ended_by.Poison last run written = absurd (not_poison (module_run runs) [] (steps_asked runs) last run)
+  writes_run runs ended_by.LostFrame last run written = absurd (not_lost (module_run runs) [] (steps_asked runs) last run)
 
   writes_output : (output : Output) → Ends words given output → Gained out output.text → Writes output.status words files out
   writes_output _ (by_showing shows) written =
       record { given = given; may = may; holds = ((shown (content_of shows.lines), by_showing shows, refl), written) }
-  writes_output _ (by_running runs) written = writes_run runs (meaning runs).ended refl written
+  writes_output _ (by_running runs end last run) written = writes_run runs end last run written
 
   writes_nothing : (reason : Cause) → Gained out [] → Writes (status_of_cause reason) words files out
   writes_nothing cause.Words unwritten = unwritten
@@ -149,13 +159,17 @@ module _ (words : List (List ℕ)) (files : FilesSeen) (out notes : SinkSeen) (g
   writes_of (Err Memory) status came (inl said) = subst (λ (s : Status). Writes s words files out) (sym said.status_is) (writes_front came)
   writes_of (Err Memory) status came (inr part) = subst (λ (s : Status). Writes s words files out) (sym part.status_is) (writes_front came)
 
-  says_nothing : (ended : Ended) → Gained notes [] → Says (status_of_end ended) words files out notes
-  says_nothing Returned silent = silent
-  says_nothing StepsRanOut silent = silent
+  says_nothing : (runs : Runs words given) (end : End) (last : Progress) → SourceRun (module_run runs) [] no_go (steps_asked runs) end last →
+      Gained notes [] → Says (status_of_end end) words files out notes
+  says_nothing runs (ended_by.Return number) last run silent = silent
+  says_nothing runs (ended_by.Trap trap) last run silent = silent
+  says_nothing runs ended_by.OutOfSteps last run silent = silent
+  says_nothing runs ended_by.Poison last run silent = absurd (not_poison (module_run runs) [] (steps_asked runs) last run)
+  says_nothing runs ended_by.LostFrame last run silent = absurd (not_lost (module_run runs) [] (steps_asked runs) last run)
 
   says_output : (output : Output) → Ends words given output → Gained notes [] → Says output.status words files out notes
   says_output _ (by_showing shows) silent = silent
-  says_output _ (by_running runs) silent = says_nothing (meaning runs).ended silent
+  says_output _ (by_running runs end last run) silent = says_nothing runs end last run silent
 
   says_line : (reason : Cause) → Explains (Stop reason) words given → Gained notes (refusal_line (Defined reason)) → Says (status_of_cause reason) words files out notes
   says_line cause.Words explains line = line

@@ -1,26 +1,29 @@
 -- Each status of the work comes exactly by its cause.
-use Rattle.std.proofs.Common.{◌≡◌, ℕ, List, [], ◌∷◌, Option, Some, None, refl, sym, ap, subst, ◌∙◌}
+use Rattle.std.proofs.Common.{◌≡◌, inl, inr, ℕ, List, [], ◌∷◌, Option, Some, None, refl, sym, ap, subst, ◌∙◌}
+use Rattle.sp_ids.specs.declared.ends.End.{End}
+use Rattle.sp_ids.specs.declared.ends.End.TheVariants as ended
 use Rattle.ir_ast.specs.Modules.{ModuleContent}
+use Rattle.ir_meaning.specs.SourceRuns.{Progress, SourceRun, no_go}
+use Rattle.ir_meaning.proofs.EndLaws.{not_poison, not_lost}
 use Rattle.tool_io.specs.Counts.{Rose}
-use Rattle.statepoint_tool.specs.Causes.{AsksToShow, AsksForRun, Shows, ReadsModule, Prepares, ReadsInput, Runs, meaning, Ends, by_showing, by_running, EndsWith, NoCommand, NamesModule, to_show, to_run, HasTextFault, IsAccepted, HasModuleFault, in_text, not_yet, HasSomeModuleFault, HasInputFault, HasPlanFault, FileGives, module_gives, input_gives, plan_gives, CannotRead, IsTooLong}
+use Rattle.statepoint_tool.specs.Causes.{AsksToShow, AsksForRun, Shows, ReadsModule, Prepares, ReadsInput, Runs, module_run, steps_asked, Ends, by_showing, by_running, EndsWith, NoCommand, NamesModule, to_show, to_run, HasTextFault, IsAccepted, HasModuleFault, in_text, not_yet, HasSomeModuleFault, HasInputFault, HasPlanFault, FileGives, module_gives, input_gives, plan_gives, CannotRead, IsTooLong}
 use Rattle.statepoint_tool.specs.NotYet.{first_not_yet}
-use Rattle.statepoint_tool.specs.Source.{source}
 use Rattle.statepoint_tool.specs.Statuses.{CauseOf, status_of_step}
 use Rattle.statepoint_tool.specs.Steps.{Step, Go, Stop, Then, goes_on, stops, comes_to}
 use Rattle.statepoint_tool.specs.Taken.{Taken, Bytes, Longer, Faulty, FilesSeen, MayGive, file_phase}
 use Rattle.statepoint_tool.specs.Words.{command_of}
-use Rattle.statepoint_tool.specs.Work.{Output, Given, MayGiveAll, MayGiveNamed, content_of, shown, module_phase, runnable_phase, input_phase, input_step, plan_phase, plan_step, status_of_end, show_phase, show_work, after_input, after_module, run_phase, run_work, output_of, command_work, work}
-use Rattle.statepoint_tool.specs.declared.evaluate.Ended.{Ended}
-use Rattle.statepoint_tool.specs.declared.evaluate.Ended.TheVariants.{Returned, OutOfSteps as StepsRanOut}
+use Rattle.statepoint_tool.specs.Work.{Output, Given, MayGiveAll, MayGiveNamed, content_of, shown, module_phase, runnable_phase, input_phase, input_step, plan_phase, plan_step, show_phase, show_work, after_input, after_module, run_phase, run_work, comes, output_of, command_work, work}
+use Rattle.statepoint_tool.specs.Closings.{status_of_end}
 use Rattle.statepoint_tool.specs.declared.refusal.Cause.{Cause}
 use Rattle.statepoint_tool.specs.declared.refusal.Cause.TheVariants as cause
 use Rattle.statepoint_tool.specs.declared.refusal.ModuleFault.{ModuleFault}
 use Rattle.statepoint_tool.specs.declared.refusal.ModuleFault.TheVariants as module_fault
 use Rattle.statepoint_tool.specs.declared.refusal.PlanFault.TheVariants as plan_fault
 use Rattle.statepoint_tool.specs.declared.request.Command.{Command}
-use Rattle.statepoint_tool.specs.declared.request.Command.TheVariants.{Show, Run}
+use Rattle.statepoint_tool.specs.declared.request.Command.TheVariants.{Show, Source, Run}
 use Rattle.statepoint_tool.specs.declared.status.Status.{Status}
 use Rattle.statepoint_tool.specs.declared.status.Status.TheVariants.{Done, OutOfSteps, ModuleRefused, WordsRefused, ReadFault, PlanRefused, InputRefused, TooLong}
+use Rattle.statepoint_tool.proofs.RunLaws.{Once-run_phase}
 use Rattle.statepoint_tool.proofs.StepLaws.{Once, stop_in, same-value, not_both, Once-comes_to, Once-Then, Once-file_phase}
 use Rattle.statepoint_tool.proofs.TextLaws.{Accepts, accepts, StopsByText, refuses, AcceptsToRun, accepts-to_run, StopsToRun, by_text, by_line, refuses-to_run, as-accepted, as-refused, as-runnable, as-not_yet, as-unrunnable, Once-module_phase, Once-runnable_phase}
 
@@ -29,23 +32,27 @@ use Rattle.statepoint_tool.proofs.TextLaws.{Accepts, accepts, StopsByText, refus
 Once-after_input : (plan : List ℕ) (content : ModuleContent) (steps : ℕ) (taken : Taken) → Once (after_input plan content steps taken)
 Once-after_input plan content steps taken =
     Once-Then (file_phase plan plan_phase taken) (λ _. run_phase content steps)
-    (Once-file_phase plan plan_phase (λ text. Once-comes_to (plan_step text)) taken) (λ _. Once-comes_to (Go (output_of (source content steps))))
+    (Once-file_phase plan plan_phase (λ text. Once-comes_to (plan_step text)) taken) (λ _. Once-run_phase content steps)
 
 Once-after_module : (input plan : List ℕ) (content : ModuleContent) (steps : ℕ) (given : Taken × Taken) → Once (after_module input plan content steps given)
 Once-after_module input plan content steps given =
     Once-Then (file_phase input input_phase given.0) (λ _. after_input plan content steps given.1)
     (Once-file_phase input input_phase (λ text. Once-comes_to (input_step text)) given.0) (λ _. Once-after_input plan content steps given.1)
 
+Once-run_work : (module_file input plan : List ℕ) (steps : ℕ) (given : Given) → Once (run_work module_file input plan steps given)
+Once-run_work module_file input plan steps given =
+    Once-Then (file_phase module_file runnable_phase given.module_file)
+    (λ content. after_module input plan content steps (given.input, given.plan))
+    (Once-file_phase module_file runnable_phase Once-runnable_phase given.module_file)
+    (λ content. Once-after_module input plan content steps (given.input, given.plan))
+
 Once-command : (command : Option Command) (given : Given) → Once (command_work command given)
 Once-command None given = Once-comes_to (Stop cause.Words)
 Once-command (Some (Show module_file)) given =
     Once-Then (file_phase module_file module_phase given.module_file) show_phase
     (Once-file_phase module_file module_phase Once-module_phase given.module_file) (λ content. Once-comes_to (Go (shown content)))
-Once-command (Some (Run module_file input plan steps)) given =
-    Once-Then (file_phase module_file runnable_phase given.module_file)
-    (λ content. after_module input plan content steps (given.input, given.plan))
-    (Once-file_phase module_file runnable_phase Once-runnable_phase given.module_file)
-    (λ content. Once-after_module input plan content steps (given.input, given.plan))
+Once-command (Some (Source module_file input plan steps)) given = Once-run_work module_file input plan steps given
+Once-command (Some (Run module_file input plan steps)) given = Once-run_work module_file input plan steps given
 
 pub Once-work : (words : List (List ℕ)) (given : Given) → Once (work words given)
 Once-work words given = Once-command (command_of words) given
@@ -94,11 +101,13 @@ module _ (words : List (List ℕ)) (given : Given) where
 
   -- running
 
+  running_explains : (runs : Runs words given) (step : Step Output) → run_phase (module_run runs) (steps_asked runs) step → Explains step words given
+  running_explains runs _ (comes end last run) = by_running runs end last run
+
   plan_explains : (reads : ReadsInput words given) (plan : Taken) → given.plan ≡ plan → (step : Step Output) →
       after_input reads.prepares.reads.asks.plan (content_of reads.prepares.reads.lines) reads.prepares.reads.asks.steps plan step → Explains step words given
   plan_explains reads (Bytes []) is _ (goes_on value step first rest) =
-      explains-at step (Go (output_of (source (content_of reads.prepares.reads.lines) reads.prepares.reads.asks.steps))) rest
-      (by_running (record { reads = reads; empty = is }))
+      running_explains (record { reads = reads; empty = is }) step rest
   plan_explains reads (Bytes []) is _ (stops reason first) = absurd (not_both tt reason (sym first))
   plan_explains reads (Bytes (byte ∷ more)) is _ (goes_on value step first rest) = absurd (not_both value (cause.Plan (plan_fault.NotYet 1)) first)
   plan_explains reads (Bytes (byte ∷ more)) is _ (stops reason first) =
@@ -149,20 +158,27 @@ module _ (words : List (List ℕ)) (given : Given) where
   command_explains : (command : Option Command) → command_of words ≡ command → (step : Step Output) → command_work command given step → Explains step words given
   command_explains None is step due = explains-at step (Stop cause.Words) due is
   command_explains (Some (Show module_file)) is step due = show_explains (record { module_file = module_file; command = is }) given.module_file refl step due
+  command_explains (Some (Source module_file input plan steps)) is step due =
+      run_explains (record { module_file = module_file; input = input; plan = plan; steps = steps; command = inl is }) given.module_file refl step due
   command_explains (Some (Run module_file input plan steps)) is step due =
-      run_explains (record { module_file = module_file; input = input; plan = plan; steps = steps; command = is }) given.module_file refl step due
+      run_explains (record { module_file = module_file; input = input; plan = plan; steps = steps; command = inr is }) given.module_file refl step due
 
   -- each step of the work has its cause
   pub Explains-work : (step : Step Output) → work words given step → Explains step words given
   Explains-work step due = command_explains (command_of words) refl step due
 
-  cause_at_end : (runs : Runs words given) (ended : Ended) → (meaning runs).ended ≡ ended → CauseOf (status_of_end ended) words given
-  cause_at_end runs Returned is = (output_of (meaning runs), by_running runs, ap status_of_end is)
-  cause_at_end runs StepsRanOut is = (output_of (meaning runs), by_running runs, ap status_of_end is)
+  cause_at_end : (runs : Runs words given) (end : End) (last : Progress) → SourceRun (module_run runs) [] no_go (steps_asked runs) end last
+      → CauseOf (status_of_end end) words given
+  cause_at_end runs (ended.Return number) last run =
+      (output_of (module_run runs) (ended.Return number) last, by_running runs (ended.Return number) last run, refl)
+  cause_at_end runs (ended.Trap trap) last run = (output_of (module_run runs) (ended.Trap trap) last, by_running runs (ended.Trap trap) last run, refl)
+  cause_at_end runs ended.OutOfSteps last run = (output_of (module_run runs) ended.OutOfSteps last, by_running runs ended.OutOfSteps last run, refl)
+  cause_at_end runs ended.Poison last run = absurd (not_poison (module_run runs) [] (steps_asked runs) last run)
+  cause_at_end runs ended.LostFrame last run = absurd (not_lost (module_run runs) [] (steps_asked runs) last run)
 
   cause_of_output : (output : Output) → Ends words given output → CauseOf output.status words given
   cause_of_output _ (by_showing shows) = (shown (content_of shows.lines), by_showing shows, refl)
-  cause_of_output _ (by_running runs) = cause_at_end runs (meaning runs).ended refl
+  cause_of_output _ (by_running runs end last run) = cause_at_end runs end last run
 
   -- and so has its status
   pub CauseOf-explained : (step : Step Output) → Explains step words given → CauseOf (status_of_step step) words given
@@ -179,11 +195,17 @@ module _ (words : List (List ℕ)) (given : Given) where
   commanded : (command : Option Command) (step : Step Output) → command_of words ≡ command → command_work command given step → work words given step
   commanded command step is due = subst (λ (c : Option Command). command_work c given step) (sym is) due
 
+  commanded_run : (asks : AsksForRun words) (step : Step Output) → run_work asks.module_file asks.input asks.plan asks.steps given step → work words given step
+  commanded_run asks step due = elim asks.command [
+    | inl is ↦ commanded (Some (Source asks.module_file asks.input asks.plan asks.steps)) step is due
+    | inr is ↦ commanded (Some (Run asks.module_file asks.input asks.plan asks.steps)) step is due
+  ]
+
   prepared : (prepares : Prepares words given) (step : Step Output) →
       after_module prepares.reads.asks.input prepares.reads.asks.plan (content_of prepares.reads.lines) prepares.reads.asks.steps (given.input, given.plan) step → work words given step
   prepared prepares step rest =
       let reads = prepares.reads in
-      commanded (Some (Run reads.asks.module_file reads.asks.input reads.asks.plan reads.asks.steps)) step reads.asks.command
+      commanded_run reads.asks step
       (goes_on (content_of reads.lines) step
       (subst (λ (taken : Taken). file_phase reads.asks.module_file runnable_phase taken (Go (content_of reads.lines))) (sym reads.taken)
       (as-runnable reads.text reads.lines reads.accepted prepares.built))
@@ -203,11 +225,11 @@ module _ (words : List (List ℕ)) (given : Given) where
       (subst (λ (taken : Taken). file_phase shows.asks.module_file module_phase taken (Go (content_of shows.lines))) (sym shows.taken)
       (as-accepted shows.text shows.lines shows.accepted))
       refl)
-  work-ends _ (by_running runs) =
-      with_input runs.reads (Go (output_of (meaning runs)))
-      (goes_on tt (Go (output_of (meaning runs)))
+  work-ends _ (by_running runs end last run) =
+      with_input runs.reads (Go (output_of (module_run runs) end last))
+      (goes_on tt (Go (output_of (module_run runs) end last))
       (subst (λ (taken : Taken). file_phase runs.reads.prepares.reads.asks.plan plan_phase taken (Go tt)) (sym runs.empty) refl)
-      refl)
+      (comes end last run))
 
   -- the work comes to a step of this status
   abbrev pub ComesWith : Status → Type 0
@@ -223,7 +245,7 @@ module _ (words : List (List ℕ)) (given : Given) where
       file_phase name module_phase given.module_file (Stop reason) → file_phase name runnable_phase given.module_file (Stop reason) → work words given (Stop reason)
   module_stops _ reason (to_show asks) shown runnable = commanded (Some (Show asks.module_file)) (Stop reason) asks.command (stops reason shown)
   module_stops _ reason (to_run asks) shown runnable =
-      commanded (Some (Run asks.module_file asks.input asks.plan asks.steps)) (Stop reason) asks.command (stops reason runnable)
+      commanded_run asks (Stop reason) (stops reason runnable)
 
   module_fault_stops : (fault : ModuleFault) → HasModuleFault words given fault → work words given (Stop (cause.Module fault))
   module_fault_stops _ (in_text name text fault names taken has) =
@@ -231,7 +253,7 @@ module _ (words : List (List ℕ)) (given : Given) where
       (subst (λ (t : Taken). file_phase name module_phase t (Stop (cause.Module fault))) (sym taken) (as-refused text fault has))
       (subst (λ (t : Taken). file_phase name runnable_phase t (Stop (cause.Module fault))) (sym taken) (as-unrunnable text fault has))
   module_fault_stops _ (not_yet reads line found) =
-      commanded (Some (Run reads.asks.module_file reads.asks.input reads.asks.plan reads.asks.steps)) (Stop (cause.Module (module_fault.NotYet line))) reads.asks.command
+      commanded_run reads.asks (Stop (cause.Module (module_fault.NotYet line)))
       (stops (cause.Module (module_fault.NotYet line))
       (subst (λ (t : Taken). file_phase reads.asks.module_file runnable_phase t (Stop (cause.Module (module_fault.NotYet line)))) (sym reads.taken)
       (as-not_yet reads.text reads.lines line reads.accepted found)))
@@ -280,7 +302,10 @@ module _ (words : List (List ℕ)) (given : Given) where
 -- a file that could not be read had its fault counted
 module _ (words : List (List ℕ)) (given : Given) (files : FilesSeen) (may : MayGiveNamed files (command_of words) given) where
   may_of_run : (asks : AsksForRun words) → MayGiveAll files asks.module_file asks.input asks.plan given
-  may_of_run asks = subst (λ (command : Option Command). MayGiveNamed files command given) asks.command may
+  may_of_run asks = elim asks.command [
+    | inl is ↦ subst (λ (command : Option Command). MayGiveNamed files command given) is may
+    | inr is ↦ subst (λ (command : Option Command). MayGiveNamed files command given) is may
+  ]
 
   may_of_module : (name : List ℕ) → NamesModule words name → MayGive files name given.module_file
   may_of_module _ (to_show asks) = subst (λ (command : Option Command). MayGiveNamed files command given) asks.command may

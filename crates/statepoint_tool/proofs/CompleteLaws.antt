@@ -8,11 +8,11 @@ use Rattle.statepoint_tool.specs.Complete.{IsTold, AllTold, IsWhole, IsShort, Is
 use Rattle.statepoint_tool.specs.Steps.{Step, Go, Stop}
 use Rattle.statepoint_tool.specs.Taken.{Taken, Bytes, Longer, Faulty, FilesSeen, MayGive}
 use Rattle.statepoint_tool.specs.Words.{command_of}
-use Rattle.statepoint_tool.specs.Work.{Output, Given, MayGiveNamed, command_work, show_work, run_work, work}
+use Rattle.statepoint_tool.specs.Work.{Output, Given, MayGiveAll, MayGiveNamed, command_work, show_work, run_work, work}
 use Rattle.statepoint_tool.specs.declared.refusal.Refusal.{Refusal}
 use Rattle.statepoint_tool.specs.declared.refusal.Refusal.TheVariants.{Defined, WriteFault, Memory}
 use Rattle.statepoint_tool.specs.declared.request.Command.{Command}
-use Rattle.statepoint_tool.specs.declared.request.Command.TheVariants.{Show, Run}
+use Rattle.statepoint_tool.specs.declared.request.Command.TheVariants.{Show, Source, Run}
 use Rattle.statepoint_tool.specs.declared.status.Status.{Status}
 use Rattle.statepoint_tool.proofs.StepLaws.{not_both}
 use Rattle.statepoint_tool.proofs.CauseLaws.{Once-work, work-ends}
@@ -25,6 +25,18 @@ same_taken files name Longer told may is =
     let longer : FILE_BYTES < length is.bytes = rw is.told at may in let within : length is.bytes ≤ FILE_BYTES = is.within in absurd (omega arith)
 same_taken files name Faulty told may is = absurd (is.sure may)
 
+-- told files leave one run
+same_run : (files : FilesSeen) (module_file input plan : List ℕ) (steps : ℕ) (given told : Given) → MayGiveAll files module_file input plan given →
+    IsTold files module_file told.module_file × IsTold files input told.input × IsTold files plan told.plan →
+    (step : Step Output) → run_work module_file input plan steps told step → run_work module_file input plan steps given step
+same_run files module_file input plan steps given told may is step due =
+    let code : given.module_file ≡ told.module_file = same_taken files module_file given.module_file told.module_file may.0 is.0 in
+    let numbers : given.input ≡ told.input = same_taken files input given.input told.input may.1.0 is.1 in
+    let moves : given.plan ≡ told.plan = same_taken files plan given.plan told.plan may.1.1 is.2 in
+    subst (λ (taken : Taken). run_work module_file input plan steps (record { module_file = taken; input = given.input; plan = given.plan }) step) (sym code)
+    (subst (λ (taken : Taken). run_work module_file input plan steps (record { module_file = told.module_file; input = taken; plan = given.plan }) step) (sym numbers)
+    (subst (λ (taken : Taken). run_work module_file input plan steps (record { module_file = told.module_file; input = told.input; plan = taken }) step) (sym moves) due))
+
 -- told files leave one work
 same_work : (files : FilesSeen) (command : Option Command) (given told : Given) → MayGiveNamed files command given → AllTold files command told →
     (step : Step Output) → command_work command told step → command_work command given step
@@ -32,13 +44,8 @@ same_work files None given told may is step due = due
 same_work files (Some (Show module_file)) given told may is step due =
     let code : given.module_file ≡ told.module_file = same_taken files module_file given.module_file told.module_file may is in
     subst (λ (taken : Taken). show_work module_file (record { module_file = taken; input = told.input; plan = told.plan }) step) (sym code) due
-same_work files (Some (Run module_file input plan steps)) given told may is step due =
-    let code : given.module_file ≡ told.module_file = same_taken files module_file given.module_file told.module_file may.0 is.0 in
-    let numbers : given.input ≡ told.input = same_taken files input given.input told.input may.1.0 is.1 in
-    let moves : given.plan ≡ told.plan = same_taken files plan given.plan told.plan may.1.1 is.2 in
-    subst (λ (taken : Taken). run_work module_file input plan steps (record { module_file = taken; input = given.input; plan = given.plan }) step) (sym code)
-    (subst (λ (taken : Taken). run_work module_file input plan steps (record { module_file = told.module_file; input = taken; plan = given.plan }) step) (sym numbers)
-    (subst (λ (taken : Taken). run_work module_file input plan steps (record { module_file = told.module_file; input = told.input; plan = taken }) step) (sym moves) due))
+same_work files (Some (Source module_file input plan steps)) given told may is step due = same_run files module_file input plan steps given told may is step due
+same_work files (Some (Run module_file input plan steps)) given told may is step due = same_run files module_file input plan steps given told may is step due
 
 same_output : (one other : Output) → Go one ≡ Go other → one ≡ other
 same_output one other same = cc

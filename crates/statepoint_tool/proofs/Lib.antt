@@ -8,6 +8,6 @@ pub mod NamedLaws
 pub mod CauseLaws
 pub mod AnswerLaws
 pub mod CompleteLaws
-pub mod SourceRuns
+pub mod RunLaws
 pub mod NotYetLaws
-pub mod NameLaws
+pub mod NotYetLaw

@@ -9,7 +9,7 @@ use Rattle.statepoint_tool.specs.Work.{Output, Given, MayGiveNamed, command_work
 use Rattle.statepoint_tool.specs.declared.refusal.Cause.TheVariants.{Words}
 use Rattle.statepoint_tool.specs.declared.refusal.Refusal.TheVariants.{Defined, Memory}
 use Rattle.statepoint_tool.specs.declared.request.Command.{Command}
-use Rattle.statepoint_tool.specs.declared.request.Command.TheVariants.{Show, Run}
+use Rattle.statepoint_tool.specs.declared.request.Command.TheVariants.{Show, Source, Run}
 use Rattle.statepoint_tool.proofs.GivenLaws.{as_told, MayGive-as_told}
 
 -- what told files give
@@ -17,12 +17,16 @@ abbrev pub all_as_told : FilesSeen → Option Command → Given
 all_as_told files None = record { module_file = Bytes []; input = Bytes []; plan = Bytes [] }
 all_as_told files (Some (Show module_file)) =
     record { module_file = as_told files module_file; input = Bytes []; plan = Bytes [] }
+all_as_told files (Some (Source module_file input plan steps)) =
+    record { module_file = as_told files module_file; input = as_told files input; plan = as_told files plan }
 all_as_told files (Some (Run module_file input plan steps)) =
     record { module_file = as_told files module_file; input = as_told files input; plan = as_told files plan }
 
 pub MayGiveNamed-as_told : (files : FilesSeen) (command : Option Command) → MayGiveNamed files command (all_as_told files command)
 MayGiveNamed-as_told files None = tt
 MayGiveNamed-as_told files (Some (Show module_file)) = MayGive-as_told files module_file
+MayGiveNamed-as_told files (Some (Source module_file input plan steps)) =
+    (MayGive-as_told files module_file, (MayGive-as_told files input, MayGive-as_told files plan))
 MayGiveNamed-as_told files (Some (Run module_file input plan steps)) =
     (MayGive-as_told files module_file, (MayGive-as_told files input, MayGive-as_told files plan))
 

@@ -1,105 +1,121 @@
 -- The first line that can't be run yet, line by line.
-use Rattle.std.proofs.Common.{◌≡◌, ◌≢◌, ◌∙◌, ℕ, ◌+◌, ◌<◌, suc, Bool, true, false, not, cond, List, [], ◌∷◌, ◌++◌, length, map, drop, get_or, Option, Some, None, refl, sym, ap, add-one}
+use Rattle.std.proofs.Common.{◌≡◌, ◌∙◌, ℕ, ◌+◌, ◌<◌, suc, Bool, true, false, not, cond, ◌&&◌, List, [], ◌∷◌, ◌++◌, length, drop, get_or, Option, Some, None, refl, sym, ap, add-one}
 use Rattle.std.proofs.Math.Seq.{drop-cons}
-use Rattle.std.specs.Prelude.{take_while}
+use Rattle.std.specs.Prelude.{take_while, find, flat_map, filter_map, map, option_map, ◌||◌}
+use Rattle.std.specs.Option.{option_or}
+use Rattle.std.specs.List.{list_any}
 use Rattle.std.proofs.lemmas.List.Sums.{take_while-cons}
 use Rattle.ir_reader.specs.declared.raw.NumberedReading.{NumberedReading}
-use Rattle.ir_lines.specs.Statements.{Line, Statement, label, close}
-use Rattle.ir_lines.specs.Sections.{Definition, is_close, is_label, definition_said, definitions_of}
-use Rattle.ir_lines.specs.Views.{said, seen_line, seen_lines}
-use Rattle.statepoint_tool.specs.NotYet.{first_among, or_else, first_in_function, first_behind, begins_with_label, first_in_body, behind_label, first_not_yet, runs_behind, with_given, name_given}
+use Rattle.ir_reader.specs.declared.readings.Passed.{Passed}
+use Rattle.ir_reader.specs.declared.readings.Passed.TheVariants.{Value, Function}
+use Rattle.ir_reader.specs.Seen.{seen_passed, seen_value}
+use Rattle.ir_lines.specs.Parts.{passed_value}
+use Rattle.ir_lines.specs.Statements.{Line, Statement, define, close}
+use Rattle.ir_lines.specs.Sections.{is_close, definitions_of}
+use Rattle.statepoint_tool.specs.NotYet.{is_pointer, has_pointer, is_inside, lines_in, first_not_yet}
 
 pub cut : (xs : List NumberedReading) (i : ℕ) (x : NumberedReading) → i < length xs → x ≡ get_or xs i x → drop i xs ≡ x ∷ drop (i + 1) xs
 cut xs i x below is = drop-cons xs i x below ∙ ap (λ y. y ∷ drop (suc i) xs) (sym is) ∙ ap (λ n. x ∷ drop n xs) (sym (add-one i))
 
--- the lines before the closing brace
-abbrev pub body : List NumberedReading → List Line
-body xs = take_while (λ l. not (is_close l.says)) (seen_lines xs)
+-- the first such line among those that stand in a definition
+abbrev pub scan : Bool → List Line → Option ℕ
+scan inside [] = None
+scan inside (l ∷ ls) =
+    cond (is_inside inside l.says && has_pointer l.says) (Some l.number) (scan (is_inside inside l.says) ls)
 
-pub body-closed : (x : NumberedReading) (xs : List NumberedReading) → is_close (said x.reading) ≡ true → body (x ∷ xs) ≡ []
-body-closed x xs e =
-    take_while-cons (λ l. not (is_close l.says)) (seen_line x) (seen_lines xs) ∙ ap (λ b. cond (not b) (seen_line x ∷ body xs) []) e
+-- the first among these
+abbrev found : List Line → Option ℕ
+found [] = None
+found (l ∷ ls) = cond (has_pointer l.says) (Some l.number) (found ls)
 
-pub body-more : (x : NumberedReading) (xs : List NumberedReading) → is_close (said x.reading) ≡ false → body (x ∷ xs) ≡ seen_line x ∷ body xs
-body-more x xs e =
-    take_while-cons (λ l. not (is_close l.says)) (seen_line x) (seen_lines xs) ∙ ap (λ b. cond (not b) (seen_line x ∷ body xs) []) e
-
-pub behind-more : (names : List (List ℕ)) (l : Line) (ls : List Line) → runs_behind names l.says ≡ true →
-    first_behind names (l ∷ ls) ≡ first_behind (with_given names (name_given l.says)) ls
-unfolding first_behind
-behind-more names l ls e = rw e refl
-
-pub behind-stops : (names : List (List ℕ)) (l : Line) (ls : List Line) → runs_behind names l.says ≡ false → first_behind names (l ∷ ls) ≡ Some l.number
-unfolding first_behind
-behind-stops names l ls e = rw e refl
-
-pub behind-none : (names : List (List ℕ)) → first_behind names [] ≡ None
-unfolding first_behind
-behind-none names = refl
-
-or_else-none : (found : Option ℕ) → or_else found None ≡ found
-or_else-none None = refl
-or_else-none (Some line) = refl
-
-or_else-or_else : (one two three : Option ℕ) → or_else (or_else one two) three ≡ or_else one (or_else two three)
-or_else-or_else None two three = refl
-or_else-or_else (Some line) two three = refl
-
-pub among-append : (xs ys : List Definition) → first_among (xs ++ ys) ≡ or_else (first_among xs) (first_among ys)
-among-append [] ys = refl
-among-append (x ∷ xs) ys =
-    ap (or_else (first_in_function x)) (among-append xs ys)
-    ∙ sym (or_else-or_else (first_in_function x) (first_among xs) (first_among ys))
-
--- that of lines is that of the definition at the first, or else of the rest
-pub among-cons : (x : NumberedReading) (xs : List NumberedReading) →
-    first_among (definitions_of (seen_lines (x ∷ xs)))
-    ≡ or_else (first_among (definition_said x.line (said x.reading) (seen_lines xs))) (first_among (definitions_of (seen_lines xs)))
-among-cons x xs = among-append (definition_said x.line (said x.reading) (seen_lines xs)) (definitions_of (seen_lines xs))
-
-pub one-among : (func : Definition) → first_among (func ∷ []) ≡ first_in_function func
-one-among func = or_else-none (first_in_function func)
+abbrev of_definitions : List Line → List Line
+of_definitions ls = flat_map lines_in (definitions_of ls)
 
 abbrev before_close : List Line → List Line
 before_close ls = take_while (λ l. not (is_close l.says)) ls
 
-labelled_by : (number : ℕ) (what : Statement) (rest : List Line) → is_label what ≡ true →
-    first_in_body (cond (not (is_close what)) (record { number = number; says = what } ∷ before_close rest) []) ≡ first_behind [] (before_close rest)
-labelled_by number (label name) rest e = refl
-labelled_by number _ rest e = absurd (let bad : false ≡ true = e in cc)
+found-is : (ls : List Line) → found ls ≡ option_map (λ l. l.number) (find (λ l. has_pointer l.says) ls)
+found-is [] = refl
+found-is (l ∷ ls) = by (has_pointer l.says) (found-is ls)
+  where
+    by : (b : Bool) → found ls ≡ option_map (λ l. l.number) (find (λ l. has_pointer l.says) ls)
+        → cond b (Some l.number) (found ls) ≡ option_map (λ l. l.number) (cond b (Some l) (find (λ l. has_pointer l.says) ls))
+    by true rest = refl
+    by false rest = rest
 
-unlabelled_by : (number : ℕ) (what : Statement) (rest : List Line) → is_label what ≡ false →
-    first_in_body (cond (not (is_close what)) (record { number = number; says = what } ∷ before_close rest) [])
-    ≡ first_behind [] (cond (not (is_close what)) (record { number = number; says = what } ∷ before_close rest) [])
-unlabelled_by number (label name) rest e = absurd (let bad : true ≡ false = e in cc)
-unlabelled_by number close rest e = sym (behind-none [])
-unlabelled_by number _ rest e = refl
+found-append : (xs ys : List Line) → found (xs ++ ys) ≡ option_or (found xs) (found ys)
+found-append [] ys = refl
+found-append (x ∷ xs) ys = by (has_pointer x.says) (found-append xs ys)
+  where
+    by : (b : Bool) → found (xs ++ ys) ≡ option_or (found xs) (found ys)
+        → cond b (Some x.number) (found (xs ++ ys)) ≡ option_or (cond b (Some x.number) (found xs)) (found ys)
+    by true rest = refl
+    by false rest = rest
 
-opened : (number : ℕ) (what : Statement) (rest : List Line) →
-    before_close (record { number = number; says = what } ∷ rest) ≡ cond (not (is_close what)) (record { number = number; says = what } ∷ before_close rest) []
-opened number what rest = take_while-cons (λ l. not (is_close l.says)) (record { number = number; says = what }) rest
+or-again : (one other : Option ℕ) → option_or one (option_or one other) ≡ option_or one other
+or-again None other = refl
+or-again (Some line) other = refl
 
-labelled : (number : ℕ) (what : Statement) (rest : List Line) → is_label what ≡ true →
-    first_in_body (before_close (record { number = number; says = what } ∷ rest)) ≡ first_behind [] (before_close rest)
-labelled number what rest e = ap first_in_body (opened number what rest) ∙ labelled_by number what rest e
+-- lines that come again tell nothing new
+again : (l : Line) (xs ys : List Line) → found ((l ∷ xs) ++ ((l ∷ xs) ++ ys)) ≡ found ((l ∷ xs) ++ ys)
+again l xs ys =
+    found-append (l ∷ xs) ((l ∷ xs) ++ ys)
+    ∙ (ap (option_or (found (l ∷ xs))) (found-append (l ∷ xs) ys)
+    ∙ (or-again (found (l ∷ xs)) (found ys) ∙ sym (found-append (l ∷ xs) ys)))
 
-unlabelled : (number : ℕ) (what : Statement) (rest : List Line) → is_label what ≡ false →
-    first_in_body (before_close (record { number = number; says = what } ∷ rest)) ≡ first_behind [] (before_close (record { number = number; says = what } ∷ rest))
-unlabelled number what rest e =
-    ap first_in_body (opened number what rest) ∙ (unlabelled_by number what rest e ∙ sym (ap (first_behind []) (opened number what rest)))
+opened : (l : Line) (ls : List Line) → before_close (l ∷ ls) ≡ cond (not (is_close l.says)) (l ∷ before_close ls) []
+opened l ls = take_while-cons (λ l. not (is_close l.says)) l ls
 
-pub in_body-labelled : (x : NumberedReading) (xs : List NumberedReading) → is_label (said x.reading) ≡ true →
-    first_in_body (body (x ∷ xs)) ≡ first_behind [] (body xs)
-in_body-labelled x xs e = labelled x.line (said x.reading) (seen_lines xs) e
+abbrev Within : List Line → Type 0
+Within ls = scan true ls ≡ found (before_close ls ++ of_definitions ls)
 
-pub in_body-unlabelled : (x : NumberedReading) (xs : List NumberedReading) → is_label (said x.reading) ≡ false →
-    first_in_body (body (x ∷ xs)) ≡ first_behind [] (body (x ∷ xs))
-in_body-unlabelled x xs e = unlabelled x.line (said x.reading) (seen_lines xs) e
+abbrev Outside : List Line → Type 0
+Outside ls = scan false ls ≡ found (of_definitions ls)
 
-pub labelled_lines : (xs : List NumberedReading) → begins_with_label (seen_lines xs) ≡ true → first_behind [] (body (drop 1 xs)) ≡ first_in_body (body xs)
-labelled_lines [] e = absurd (let bad : false ≡ true = e in cc)
-labelled_lines (x ∷ xs) e = sym (in_body-labelled x xs e)
+abbrev line : ℕ → Statement → Line
+line number what = record { number = number; says = what }
 
-pub unlabelled_lines : (xs : List NumberedReading) → begins_with_label (seen_lines xs) ≡ false → first_behind [] (body xs) ≡ first_in_body (body xs)
-unlabelled_lines [] e = behind-none []
-unlabelled_lines (x ∷ xs) e = sym (in_body-unlabelled x xs e)
+outside-by : (n : ℕ) (s : Statement) (ls : List Line) → Within ls → Outside ls → Outside (line n s ∷ ls)
+outside-by n (define answer name arguments strategy) ls within outside =
+    ap (cond (has_pointer (define answer name arguments strategy)) (Some n)) within
+outside-by n _ ls within outside = outside
+
+within-by : (n : ℕ) (s : Statement) (ls : List Line) → Within ls → Outside ls → Within (line n s ∷ ls)
+within-by n (define answer name arguments strategy) ls within outside =
+    let head = line n (define answer name arguments strategy) in
+    let rest = of_definitions ls in
+    ap (cond (has_pointer head.says) (Some n)) within
+    ∙ (sym (again head (before_close ls) rest)
+    ∙ ap (λ front. found (front ++ ((head ∷ before_close ls) ++ rest))) (sym (opened head ls)))
+within-by n close ls within outside = outside ∙ ap (λ front. found (front ++ of_definitions ls)) (sym (opened (line n close) ls))
+within-by n s ls within outside =
+    ap (cond (has_pointer s) (Some n)) within ∙ ap (λ front. found (front ++ of_definitions ls)) (sym (opened (line n s) ls))
+
+both : (ls : List Line) → Within ls × Outside ls
+both [] = (refl, refl)
+both (l ∷ ls) =
+    let rest = both ls in
+    (within-by l.number l.says ls rest.0 rest.1, outside-by l.number l.says ls rest.0 rest.1)
+
+pub scanned : (ls : List Line) → first_not_yet ls ≡ scan false ls
+unfolding first_not_yet
+scanned ls = sym ((both ls).1 ∙ found-is (of_definitions ls))
+
+pub any-map : {X Y : Type 0} (f : X → Y) (p : Y → Bool) (xs : List X) → list_any p (map f xs) ≡ list_any (λ x. p (f x)) xs
+any-map f p [] = refl
+any-map f p (x ∷ xs) = ap (λ b. p (f x) || b) (any-map f p xs)
+
+-- what a call passes, one by one
+abbrev pub passes_pointer : Passed → Bool
+passes_pointer passed = list_any is_pointer (filter_map passed_value (seen_passed passed ∷ []))
+
+or-none : (b : Bool) → (b || false) ≡ b
+or-none true = refl
+or-none false = refl
+
+pub any-passed : (xs : List Passed) → list_any is_pointer (filter_map passed_value (map seen_passed xs)) ≡ list_any passes_pointer xs
+any-passed [] = refl
+any-passed (Value ty value ∷ xs) =
+    ap (λ b. is_pointer (seen_value value, ty) || b) (any-passed xs)
+    ∙ ap (λ b. b || list_any passes_pointer xs) (sym (or-none (is_pointer (seen_value value, ty))))
+any-passed (Function name ∷ xs) = any-passed xs

@@ -10,6 +10,7 @@ use Rattle.ir_types.specs.declared.faults.TypeFault.{TypeFault as TypingFault}
 use Rattle.ir_types.specs.declared.faults.TypeFault.TheVariants as answers
 use Rattle.ir_lines.specs.Views.{seen_line, seen_lines}
 use Rattle.ir_lines.specs.Statements.{Line, lines_of}
+use Rattle.ir_meaning.specs.Stages.{IsToday}
 use Rattle.ir_lines.specs.PlainFaults.{ComesFirst}
 use Rattle.ir_types.specs.FaultSet.{HasNoFault, IsLeastFault}
 use Rattle.statepoint_tool.specs.Causes.{IsReadAs, IsAccepted, HasTextFault, unread, over_limit, faulty}
@@ -20,6 +21,7 @@ use Rattle.statepoint_tool.specs.declared.refusal.Cause.{Cause}
 use Rattle.statepoint_tool.specs.declared.refusal.Cause.TheVariants.{Module}
 use Rattle.statepoint_tool.specs.declared.refusal.ModuleFault.{ModuleFault}
 use Rattle.statepoint_tool.specs.declared.refusal.ModuleFault.TheVariants.{Syntax, Limit, Typed, NotYet}
+use Rattle.statepoint_tool.proofs.NotYetLaw.{runs_today}
 use Rattle.statepoint_tool.proofs.StepLaws.{Once, stop_in, same-value, not_both, Once-comes_to, Once-Then}
 
 -- ---- one fault is the least
@@ -151,6 +153,15 @@ builds lines content typing none = goes_on content (Go content) typing (sym (ap 
 pub not_built : (lines : List Line) (content : ModuleContent) (line : ℕ) → Typing lines (Go content) → first_not_yet lines ≡ Some line →
     typing_to_run lines (Stop (Module (NotYet line)))
 not_built lines content line typing found = goes_on content (Stop (Module (NotYet line))) typing (sym (ap (built_step content) found))
+
+runs_today_by : (lines : List Line) (step : Step ModuleContent) (content : ModuleContent) → step ≡ Go content → Typing lines step
+    → first_not_yet lines ≡ None → IsToday content
+runs_today_by lines _ content same (faultless clear) none = subst IsToday (same-value (content_of lines) content same) (runs_today lines clear none)
+runs_today_by lines _ content same (typed_faulty fault least) none = absurd (not_both content (Module (Typed fault)) (sym same))
+
+-- the interpreter runs it
+pub runs_today_as : (lines : List Line) (content : ModuleContent) → Typing lines (Go content) → first_not_yet lines ≡ None → IsToday content
+runs_today_as lines content typing none = runs_today_by lines (Go content) content refl typing none
 
 -- a text is accepted, and its module can be run
 pub record AcceptsToRun (text : List ℕ) (content : ModuleContent) : Type 0 where

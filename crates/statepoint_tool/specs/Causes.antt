@@ -1,17 +1,19 @@
 -- What brings each status about, over what the files gave.
-use Rattle.std.specs.Prelude.{◌≡◌, ℕ, List, [], ◌∷◌, Option, Some, None, Result, Ok, Err}
+use Rattle.std.specs.Prelude.{◌≡◌, ◌⊎◌, ℕ, List, [], ◌∷◌, Option, Some, None, Result, Ok, Err}
 use Rattle.ir_reader.specs.Text.{Numbered, Fault, syntax_fault, limit_fault, text_readings}
 use Rattle.ir_lines.specs.declared.faults.Fault.{Fault as TypeFault}
 use Rattle.ir_lines.specs.Statements.{Line, lines_of}
 use Rattle.ir_types.specs.FaultSet.{HasNoFault, IsLeastFault}
-use Rattle.statepoint_tool.specs.Source.{Outcome, source}
+use Rattle.sp_ids.specs.declared.ends.End.{End}
+use Rattle.ir_ast.specs.Modules.{ModuleContent}
+use Rattle.ir_meaning.specs.SourceRuns.{Progress, SourceRun, no_go}
 use Rattle.statepoint_tool.specs.NotYet.{first_not_yet}
 use Rattle.statepoint_tool.specs.Taken.{Taken, Bytes, Longer, Faulty}
 use Rattle.statepoint_tool.specs.Words.{command_of}
 use Rattle.statepoint_tool.specs.Work.{Given, Output, content_of, shown, output_of}
 use Rattle.statepoint_tool.specs.declared.refusal.ModuleFault.{ModuleFault}
 use Rattle.statepoint_tool.specs.declared.refusal.ModuleFault.TheVariants.{Syntax, Limit, Typed, NotYet}
-use Rattle.statepoint_tool.specs.declared.request.Command.TheVariants.{Show, Run}
+use Rattle.statepoint_tool.specs.declared.request.Command.TheVariants.{Show, Source, Run}
 use Rattle.statepoint_tool.specs.declared.status.Status.{Status}
 
 -- ---- texts of modules
@@ -47,7 +49,8 @@ pub record AsksForRun (words : List (List ℕ)) : Type 0 where
   pub input : List ℕ
   pub plan : List ℕ
   pub steps : ℕ
-  pub command : command_of words ≡ Some (Run module_file input plan steps)
+  pub command :
+      (command_of words ≡ Some (Source module_file input plan steps)) ⊎ (command_of words ≡ Some (Run module_file input plan steps))
 
 -- the module to be shown is accepted
 pub record Shows (words : List (List ℕ)) (given : Given) : Type 0 where
@@ -80,16 +83,20 @@ pub record Runs (words : List (List ℕ)) (given : Given) : Type 0 where
   pub reads : ReadsInput words given
   pub empty : given.plan ≡ Bytes []
 
--- what the run does by the source meaning
-abbrev pub meaning : {words : List (List ℕ)} {given : Given} → Runs words given → Outcome
-meaning runs = source (content_of runs.reads.prepares.reads.lines) runs.reads.prepares.reads.asks.steps
+-- the module that runs, and the steps that it may take
+abbrev pub module_run : {words : List (List ℕ)} {given : Given} → Runs words given → ModuleContent
+module_run runs = content_of runs.reads.prepares.reads.lines
+
+abbrev pub steps_asked : {words : List (List ℕ)} {given : Given} → Runs words given → ℕ
+steps_asked runs = runs.reads.prepares.reads.asks.steps
 
 -- ---- the causes
 
--- the work comes to its end, with this output: a module is shown, or runs
+-- the work comes to its end, with this output: a module is shown, or runs, and so ends by the source meaning
 pub data Ends (words : List (List ℕ)) (given : Given) : Output → Type 0 where
   by_showing : (shows : Shows words given) → Ends words given (shown (content_of shows.lines))
-  by_running : (runs : Runs words given) → Ends words given (output_of (meaning runs))
+  by_running : (runs : Runs words given) (end : End) (last : Progress) → SourceRun (module_run runs) [] no_go (steps_asked runs) end last
+      → Ends words given (output_of (module_run runs) end last)
 
 abbrev pub EndsWith : Status → List (List ℕ) → Given → Type 0
 EndsWith status words given = (output : Output) × Ends words given output × (output.status ≡ status)

@@ -8,7 +8,7 @@ use Rattle.statepoint_tool.specs.Taken.{Taken, Bytes, FilesSeen}
 use Rattle.statepoint_tool.specs.Words.{command_of}
 use Rattle.statepoint_tool.specs.Work.{Output, Given}
 use Rattle.statepoint_tool.specs.declared.request.Command.{Command}
-use Rattle.statepoint_tool.specs.declared.request.Command.TheVariants.{Show, Run}
+use Rattle.statepoint_tool.specs.declared.request.Command.TheVariants.{Show, Source, Run}
 use Rattle.statepoint_tool.specs.declared.status.Status.{Status}
 use Rattle.statepoint_tool.specs.declared.status.Status.TheVariants.{WantOfMemory}
 
@@ -24,6 +24,8 @@ pub record IsTold (files : FilesSeen) (name : List ℕ) (given : Taken) : Type 0
 abbrev pub AllTold : FilesSeen → Option Command → Given → Type 0
 AllTold files None given = ⊤
 AllTold files (Some (Show module_file)) given = IsTold files module_file given.module_file
+AllTold files (Some (Source module_file input plan steps)) given =
+    IsTold files module_file given.module_file × IsTold files input given.input × IsTold files plan given.plan
 AllTold files (Some (Run module_file input plan steps)) given =
     IsTold files module_file given.module_file × IsTold files input given.input × IsTold files plan given.plan
 

@@ -2,7 +2,7 @@ pub mod Status
 pub mod Words
 pub mod Steps
 pub mod Taken
-pub mod Source
+pub mod Closings
 pub mod NotYet
 pub mod Work
 pub mod Notes

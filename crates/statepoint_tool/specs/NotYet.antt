@@ -1,89 +1,55 @@
--- What can be run so far: one function `@main` that answers `i64` and has one block of additions and prints of `i64`
--- numbers, and then its return.
-use Rattle.std.specs.Prelude.{ℕ, Bool, true, false, not, ◌==◌, ◌&&◌, List, [], ◌∷◌, ◌++◌, codes, Option, Some, None, if◌then◌else◌}
-use Rattle.std.specs.List.{list_any}
+-- What can't be run yet: a line of a definition that has a managed pointer, makes an object or starts a task.
+use Rattle.std.specs.Prelude.{ℕ, Bool, true, false, ◌||◌, List, ◌∷◌, find, flat_map, codes, nat_eq, Option, Some, None, option_map}
+use Rattle.std.specs.List.{list_any, starts_with}
 use Rattle.std.specs.Str.{bytes_eq}
-use Rattle.ir_reader.specs.declared.words.Binary.{Binary}
-use Rattle.ir_reader.specs.declared.words.Binary.TheVariants.{Add}
 use Rattle.ir_reader.specs.declared.readings.TypeWord.{TypeWord}
-use Rattle.ir_reader.specs.declared.readings.TypeWord.TheVariants.{Int}
+use Rattle.ir_reader.specs.declared.readings.TypeWord.TheVariants.{Managed}
 use Rattle.ir_reader.specs.Parts.{Val}
 use Rattle.ir_reader.specs.Parts as values
-use Rattle.ir_reader.specs.Lists.{Given, given, function}
-use Rattle.ir_lines.specs.Statements.{Line, Statement, label, binary, call, ret}
-use Rattle.ir_lines.specs.Sections.{Definition, is_label, definitions_of}
+use Rattle.ir_lines.specs.Statements.{Line, Statement, define, close, call}
+use Rattle.ir_lines.specs.Parts.{gives, uses}
+use Rattle.ir_lines.specs.Sections.{Definition, definitions_of}
 
--- these names were given, and the value is one of theirs or no name
-abbrev pub is_given : List (List ℕ) → Val → Bool
-is_given names (values.local name) = list_any (bytes_eq name) names
-is_given names _ = true
+abbrev pub is_managed : TypeWord → Bool
+is_managed Managed = true
+is_managed _ = false
 
-abbrev pub is_word : TypeWord → Bool
-is_word (Int width) = width == 64
-is_word _ = false
+abbrev pub is_null : Val → Bool
+is_null values.null = true
+is_null _ = false
 
-abbrev pub is_add : Binary → Bool
-is_add Add = true
-is_add _ = false
+-- a value that is used as a managed pointer, or `null`
+abbrev pub is_pointer : Val × TypeWord → Bool
+is_pointer used = is_managed used.1 || is_null used.0
 
-abbrev pub is_passed : List (List ℕ) → Given → Bool
-is_passed names (given ty value) = is_given names value
-is_passed names (function name) = false
+abbrev pub is_pointer_given : Option (List ℕ × TypeWord) → Bool
+is_pointer_given None = false
+is_pointer_given (Some result) = is_managed result.1
 
-abbrev pub is_printed : List (List ℕ) → List Given → Bool
-is_printed names (one ∷ []) = is_passed names one
-is_printed names _ = false
+-- the external makes an object or starts a task
+abbrev pub is_maker : List ℕ → Bool
+is_maker callee = starts_with nat_eq callee (codes "gc_new.") || bytes_eq callee (codes "task_start")
 
--- what can stand behind lines that gave these names
-abbrev pub runs_behind : List (List ℕ) → Statement → Bool
-runs_behind names (binary result op width left right) = is_add op && (width == 64 && (is_given names left && is_given names right))
-runs_behind names (call None answer callee passed) = bytes_eq callee (codes "print_i64") && is_printed names passed
-runs_behind names (ret ty value) = is_word ty && is_given names value
-runs_behind names _ = false
+-- what a head or a call says of pointers beside the values that it uses and gives
+abbrev pub names_pointer : Statement → Bool
+names_pointer (define answer name arguments strategy) = is_managed answer || list_any (λ one. is_managed one.ty) arguments
+names_pointer (call result answer callee passed) = is_managed answer || is_maker callee
+names_pointer _ = false
 
-abbrev pub with_name : List (List ℕ) → List ℕ → List (List ℕ)
-with_name names name = if not (list_any (bytes_eq name) names) then names ++ name ∷ [] else names
+-- the line has a managed pointer as operand, argument, answer or result, or calls `gc_new` or `task_start`
+abbrev pub has_pointer : Statement → Bool
+has_pointer what = names_pointer what || (is_pointer_given (gives what) || list_any is_pointer (uses what))
 
--- the name that an addition gives
-abbrev pub name_given : Statement → Option (List ℕ)
-name_given (binary result op width left right) = Some result
-name_given _ = None
-
-abbrev pub with_given : List (List ℕ) → Option (List ℕ) → List (List ℕ)
-with_given names None = names
-with_given names (Some name) = with_name names name
-
--- the first line that can't stand behind those before it
-unfoldable pub first_behind : List (List ℕ) → List Line → Option ℕ
-first_behind names [] = None
-first_behind names (l ∷ ls) =
-    if runs_behind names l.says then first_behind (with_given names (name_given l.says)) ls else Some l.number
-
--- a body may begin with a label
-abbrev pub behind_label : Statement → Line → List Line → List Line
-behind_label (label name) first rest = rest
-behind_label _ first rest = first ∷ rest
-
-abbrev pub begins_with_label : List Line → Bool
-begins_with_label [] = false
-begins_with_label (l ∷ ls) = is_label l.says
-
-abbrev pub first_in_body : List Line → Option ℕ
-first_in_body [] = None
-first_in_body (l ∷ ls) = first_behind [] (behind_label l.says l ls)
-
-abbrev pub first_in_function : Definition → Option ℕ
-first_in_function func =
-    if bytes_eq func.name (codes "main") && is_word func.answer then first_in_body func.body else Some func.line
-
-abbrev pub or_else : Option ℕ → Option ℕ → Option ℕ
-or_else None other = other
-or_else (Some line) other = Some line
+-- a definition's head and the lines between it and the closing brace
+abbrev pub lines_in : Definition → List Line
+lines_in func = record { number = func.line; says = define func.answer func.name func.arguments func.strategy } ∷ func.body
 
 -- the first line of a definition that can't be run yet
-abbrev pub first_among : List Definition → Option ℕ
-first_among [] = None
-first_among (func ∷ funcs) = or_else (first_in_function func) (first_among funcs)
-
 unfoldable pub first_not_yet : List Line → Option ℕ
-first_not_yet lines = first_among (definitions_of lines)
+first_not_yet lines = option_map (λ l. l.number) (find (λ l. has_pointer l.says) (flat_map lines_in (definitions_of lines)))
+
+-- whether a line stands in a definition, of which its head is the first line, where the line before it does or not
+abbrev pub is_inside : Bool → Statement → Bool
+is_inside inside (define answer name arguments strategy) = true
+is_inside inside close = false
+is_inside inside _ = inside

@@ -48,6 +48,7 @@ ReadFaultCounted words files =
 -- the cause of each status that comes by the definition of the work
 abbrev pub CauseOf : Status → List (List ℕ) → Given → Type 0
 CauseOf Done = EndsWith Done
+CauseOf Trapped = EndsWith Trapped
 CauseOf OutOfSteps = EndsWith OutOfSteps
 CauseOf ModuleRefused = HasSomeModuleFault
 CauseOf WordsRefused = NoCommand
@@ -65,6 +66,7 @@ WritesFront words files out = Gained out [] ⊎ OverSome words files (λ given. 
 -- memory and where a sink failed, and else nothing
 abbrev pub Writes : Status → List (List ℕ) → FilesSeen → SinkSeen → Type 0
 Writes Done words files out = OverSome words files (λ given. (ends : EndsWith Done words given) × Gained out ends.0.text)
+Writes Trapped words files out = OverSome words files (λ given. (ends : EndsWith Trapped words given) × Gained out ends.0.text)
 Writes OutOfSteps words files out = OverSome words files (λ given. (ends : EndsWith OutOfSteps words given) × Gained out ends.0.text)
 Writes WriteFault words files out = WritesFront words files out
 Writes WantOfMemory words files out = WritesFront words files out
@@ -81,6 +83,7 @@ IsDue refused.Memory phase out = ⊤
 -- the line that was due
 abbrev pub Says : Status → List (List ℕ) → FilesSeen → (out notes : SinkSeen) → Type 0
 Says Done words files out notes = Gained notes []
+Says Trapped words files out notes = Gained notes []
 Says OutOfSteps words files out notes = Gained notes []
 Says WordsRefused words files out notes = Gained notes (refusal_line (refused.Defined cause.Words))
 Says WantOfMemory words files out notes = Gained notes (refusal_line refused.Memory)

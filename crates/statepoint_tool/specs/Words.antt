@@ -6,7 +6,7 @@ use Rattle.std.specs.Str.{bytes_eq}
 use Rattle.std.specs.Str.Parse.{digits_value}
 use Rattle.sp_ids.specs.declared.limits.TheConstants.{STEPS}
 use Rattle.statepoint_tool.specs.declared.request.Command.{Command}
-use Rattle.statepoint_tool.specs.declared.request.Command.TheVariants.{Show, Run}
+use Rattle.statepoint_tool.specs.declared.request.Command.TheVariants.{Show, Source, Run}
 
 -- a word that may name a file: it isn't empty, and begins with `-` only where it is `-`
 abbrev pub names_file : List ℕ → Bool
@@ -21,20 +21,35 @@ steps_of word =
     then Some (digits_value 10 word)
     else None
 
--- the command `run` names three files, in order, and a bound on steps
+-- a command that runs names three files, in order, and a bound on steps
+abbrev pub bound_of : (module_file input plan steps : List ℕ) → Option ℕ
+bound_of module_file input plan steps =
+    if names_file module_file && names_file input && names_file plan then steps_of steps else None
+
+abbrev pub source_of : (module_file input plan steps : List ℕ) → Option Command
+source_of module_file input plan steps =
+    option_map (λ bound. Source module_file input plan bound) (bound_of module_file input plan steps)
+
 abbrev pub run_of : (module_file input plan steps : List ℕ) → Option Command
 run_of module_file input plan steps =
-    if names_file module_file && names_file input && names_file plan
-    then option_map (λ bound. Run module_file input plan bound) (steps_of steps)
-    else None
+    option_map (λ bound. Run module_file input plan bound) (bound_of module_file input plan steps)
 
 -- the command `show` names one
 abbrev pub show_of : List ℕ → Option Command
 show_of module_file = if names_file module_file then Some (Show module_file) else None
 
+-- the commands that take a module, and those that take all that a run needs
+unfoldable pub of_module : (name module_file : List ℕ) → Option Command
+of_module name module_file = if bytes_eq name (codes "show") then show_of module_file else None
+
+unfoldable pub of_run : (name module_file input plan steps : List ℕ) → Option Command
+of_run name module_file input plan steps =
+    if bytes_eq name (codes "source") then source_of module_file input plan steps
+    else if bytes_eq name (codes "run") then run_of module_file input plan steps
+    else None
+
 -- the program's name, the command's name, and what the command takes; nothing else is a command
 abbrev pub command_of : List (List ℕ) → Option Command
-command_of (program ∷ name ∷ module_file ∷ []) = if bytes_eq name (codes "show") then show_of module_file else None
-command_of (program ∷ name ∷ module_file ∷ input ∷ plan ∷ steps ∷ []) =
-    if bytes_eq name (codes "run") then run_of module_file input plan steps else None
+command_of (program ∷ name ∷ module_file ∷ []) = of_module name module_file
+command_of (program ∷ name ∷ module_file ∷ input ∷ plan ∷ steps ∷ []) = of_run name module_file input plan steps
 command_of _ = None

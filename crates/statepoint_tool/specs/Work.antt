@@ -1,6 +1,7 @@
 -- The order of work: the words; then the module is taken, read and typed; to show it, its text is written; to run it,
--- the input and the plan are taken, and it runs.
-use Rattle.std.specs.Prelude.{◌≡◌, ℕ, ⊤, List, [], ◌∷◌, Option, Some, None, Result, Ok, Err}
+-- the input and the plan are taken, and it runs by the source meaning.
+use Rattle.std.specs.Prelude.{◌≡◌, ℕ, ⊤, List, [], ◌∷◌, ◌++◌, Option, Some, None, Result, Ok, Err}
+use Rattle.sp_ids.specs.declared.ends.End.{End}
 use Rattle.ir_ast.specs.Modules.{ModuleContent}
 use Rattle.ir_reader.specs.Text.{Numbered, Fault, syntax_fault, limit_fault, text_readings}
 use Rattle.ir_lines.specs.declared.faults.Fault.{Fault as TypeFault}
@@ -8,7 +9,8 @@ use Rattle.ir_lines.specs.Statements.{Line, lines_of}
 use Rattle.ir_types.specs.FaultSet.{HasNoFault, IsLeastFault}
 use Rattle.ir_lines.specs.Modules.{module_of}
 use Rattle.ir_printer.specs.Texts.{text_of}
-use Rattle.statepoint_tool.specs.Source.{Outcome, source, text_of_lines}
+use Rattle.ir_meaning.specs.SourceRuns.{Progress, SourceRun, no_go, whole_text}
+use Rattle.statepoint_tool.specs.Closings.{closing_line, status_of_end}
 use Rattle.statepoint_tool.specs.NotYet.{first_not_yet}
 use Rattle.statepoint_tool.specs.Steps.{Step, Go, Stop, comes_to, Then}
 use Rattle.statepoint_tool.specs.Taken.{Taken, FilesSeen, MayGive, file_phase}
@@ -16,12 +18,10 @@ use Rattle.statepoint_tool.specs.Words.{command_of}
 use Rattle.statepoint_tool.specs.declared.refusal.Cause.TheVariants.{Words, Module, Input, Plan}
 use Rattle.statepoint_tool.specs.declared.refusal.ModuleFault.TheVariants.{Syntax, Limit, Typed, NotYet as ModuleNotYet}
 use Rattle.statepoint_tool.specs.declared.refusal.PlanFault.TheVariants.{NotYet as PlanNotYet}
-use Rattle.statepoint_tool.specs.declared.evaluate.Ended.{Ended}
-use Rattle.statepoint_tool.specs.declared.evaluate.Ended.TheVariants.{Returned, OutOfSteps as StepsRanOut}
 use Rattle.statepoint_tool.specs.declared.request.Command.{Command}
-use Rattle.statepoint_tool.specs.declared.request.Command.TheVariants.{Show, Run}
+use Rattle.statepoint_tool.specs.declared.request.Command.TheVariants.{Show, Source, Run}
 use Rattle.statepoint_tool.specs.declared.status.Status.{Status}
-use Rattle.statepoint_tool.specs.declared.status.Status.TheVariants.{Done, OutOfSteps}
+use Rattle.statepoint_tool.specs.declared.status.Status.TheVariants.{Done}
 
 -- what the work writes to standard output, and the status that it then ends with
 pub record Output : Type 0 where
@@ -102,22 +102,27 @@ shown content = record { text = text_of content; status = Done }
 abbrev pub show_phase : ModuleContent → Step Output → Type 0
 show_phase content = comes_to (Go (shown content))
 
--- a run writes the lines of the source meaning and ends as it does
-abbrev pub status_of_end : Ended → Status
-status_of_end Returned = Done
-status_of_end StepsRanOut = OutOfSteps
+-- what a run writes that ends so, in this last state, and the status that it ends with
+abbrev pub output_of : ModuleContent → End → Progress → Output
+output_of content end last = record {
+  text =
+      whole_text content end last
+      ++ closing_line content end last.state.running.func last.state.steps last.state.events;
+  status = status_of_end end;
+}
 
-abbrev pub output_of : Outcome → Output
-output_of outcome = record { text = text_of_lines outcome.lines; status = status_of_end outcome.ended }
+-- a run writes what the source meaning says and ends as it does, over no input and under a plan without lines so far
+pub data Running (content : ModuleContent) (steps : ℕ) : Step Output → Type 0 where
+  comes : (end : End) (last : Progress) → SourceRun content [] no_go steps end last → Running content steps (Go (output_of content end last))
 
 abbrev pub run_phase : ModuleContent → ℕ → Step Output → Type 0
-run_phase content steps = comes_to (Go (output_of (source content steps)))
+run_phase content steps = Running content steps
 
 -- the order of work of `show`
 abbrev pub show_work : List ℕ → Given → Step Output → Type 0
 show_work module_file given = Then (file_phase module_file module_phase given.module_file) show_phase
 
--- the order of work of `run`, from its last phase to its first
+-- the order of work of `source` and of `run`, from its last phase to its first
 abbrev pub after_input : (plan : List ℕ) → ModuleContent → ℕ → Taken → Step Output → Type 0
 after_input plan content steps given = Then (file_phase plan plan_phase given) (λ _. run_phase content steps)
 
@@ -134,6 +139,7 @@ run_work module_file input plan steps given =
 abbrev pub command_work : Option Command → Given → Step Output → Type 0
 command_work None given = comes_to (Stop Words)
 command_work (Some (Show module_file)) given = show_work module_file given
+command_work (Some (Source module_file input plan steps)) given = run_work module_file input plan steps given
 command_work (Some (Run module_file input plan steps)) given = run_work module_file input plan steps given
 
 abbrev pub work : List (List ℕ) → Given → Step Output → Type 0
@@ -143,4 +149,5 @@ work words given = command_work (command_of words) given
 abbrev pub MayGiveNamed : FilesSeen → Option Command → Given → Type 0
 MayGiveNamed files None given = ⊤
 MayGiveNamed files (Some (Show module_file)) given = MayGiveShown files module_file given
+MayGiveNamed files (Some (Source module_file input plan _)) given = MayGiveAll files module_file input plan given
 MayGiveNamed files (Some (Run module_file input plan _)) given = MayGiveAll files module_file input plan given

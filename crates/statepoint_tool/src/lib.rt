@@ -1,8 +1,7 @@
 //! The top call of `statepoint`: words to a command, files to a run, and a status for each way to end.
 #![tactic(auto)]
 
-mod evaluate;
-mod names;
+mod closing;
 mod not_yet;
 mod notes;
 mod phases;

@@ -1,169 +1,171 @@
 //! The first line of a definition that can't be run yet.
-ghost use Rattle.std.specs.Prelude.{◌≡◌, ◌≤◌, ◌+◌, IsTrue, [], drop, length, not, map, take_while, IfOk, OnOk};
-ghost use Rattle.ir_reader.specs.Seen.{seen_value, seen_passed};
-ghost use Rattle.ir_lines.specs.Sections.{is_close as closes, is_label, definition_said};
+ghost use Rattle.std.specs.Prelude.{◌≡◌, ◌||◌, [], ◌∷◌, map, filter_map};
+ghost use Rattle.std.specs.List.{list_any};
+ghost use Rattle.ir_reader.specs.Seen.{seen_argument, seen_entry, seen_passed, seen_value};
+ghost use Rattle.ir_lines.specs.Parts.{entry_use, passed_value};
 ghost use Rattle.ir_lines.specs.Views.{said, seen_lines};
-ghost use Rattle.statepoint_tool.specs.NotYet.{begins_with_label, first_not_yet, first_among, first_in_body, first_behind, is_given, is_passed, is_printed, is_word, name_given, runs_behind, with_given};
+ghost use Rattle.statepoint_tool.specs.NotYet.{first_not_yet, has_pointer, is_inside, is_maker, is_managed, is_null, is_pointer};
 
-use crate::names::Names;
-use ir_reader::{Binary, NumberedReading, Passed, Reading, TypeWord, Value};
-use sp_ids::Memory;
-use std::alloc::Global;
+use ir_reader::{Argument, Entry, NumberedReading, Passed, Reading, TypeWord, Value};
 
-/// The first line of a definition that can't be run yet.
-pub(crate) fn first_not_yet(alloc: Global, lines: &[NumberedReading]) -> Result<Option<u32>, Memory>
-    ensures { IfOk result (λ found. found ≡ first_not_yet (seen_lines lines.now)) }
+/// The first line of a definition, from its head on, that has a managed pointer as operand, argument, answer or
+/// result, or that calls `gc_new` or `task_start`.
+pub(crate) fn first_not_yet(lines: &[NumberedReading]) -> Option<u32>
+    ensures { result ≡ first_not_yet (seen_lines lines.now) }
 {
-    for (i, line) in lines.iter().enumerate() {
-        let found = in_definition(alloc, line, &lines[i + 1..])?;
-        if found.is_some() {
-            return Ok(found);
-        }
-    }
-    Ok(None)
-}
-
-// That of the definition whose head this line is, where it is one.
-fn in_definition(
-    alloc: Global,
-    line: &NumberedReading,
-    behind: &[NumberedReading],
-) -> Result<Option<u32>, Memory>
-    ensures { IfOk result (λ found. found ≡ first_among (definition_said line.now.line (said line.now.reading) (seen_lines behind.now))) }
-{
-    let Reading::Define { answer, name, .. } = &line.reading else {
-        return Ok(None);
-    };
-    if *name == b"main".as_slice() && is_word(*answer) {
-        in_body(alloc, behind)
-    } else {
-        Ok(Some(line.line))
-    }
-}
-
-// That of the lines before the closing brace.
-fn in_body(alloc: Global, behind: &[NumberedReading]) -> Result<Option<u32>, Memory>
-    ensures { IfOk result (λ found. found ≡ first_in_body (take_while (λ l. not (closes l.says)) (seen_lines behind.now))) }
-{
-    in_lines(alloc, without_label(behind))
-}
-
-// The lines without a label at their front.
-fn without_label<'t, 'a>(behind: &'t [NumberedReading<'a>]) -> &'t [NumberedReading<'a>]
-    ensures { first_behind [] (take_while (λ l. not (closes l.says)) (seen_lines result.now))
-        ≡ first_in_body (take_while (λ l. not (closes l.says)) (seen_lines behind.now)) }
-{
-    if begins_with_label(behind) {
-        after_first(behind)
-    } else {
-        behind
-    }
-}
-
-fn after_first<'t, 'a>(lines: &'t [NumberedReading<'a>]) -> &'t [NumberedReading<'a>]
-    requires { 1 ≤ length lines.now }
-    ensures { result.now ≡ drop 1 lines.now }
-{
-    &lines[1..]
-}
-
-fn begins_with_label(lines: &[NumberedReading]) -> bool
-    ensures label { result ≡ begins_with_label (seen_lines lines.now) }
-    ensures some { IsTrue result → 1 ≤ length lines.now }
-{
-    match lines.first() {
-        Some(first) => is_label(&first.reading),
-        None => false,
-    }
-}
-
-fn in_lines(alloc: Global, lines: &[NumberedReading]) -> Result<Option<u32>, Memory>
-    ensures { IfOk result (λ found. found ≡ first_behind [] (take_while (λ l. not (closes l.says)) (seen_lines lines.now))) }
-{
-    let mut names = Names::new(alloc);
+    let mut inside = false;
     for line in lines {
-        if is_close(&line.reading) {
-            return Ok(None);
+        inside = is_inside(inside, &line.reading);
+        if inside && has_pointer(&line.reading) {
+            return Some(line.line);
         }
-        if !runs_behind(&names, &line.reading) {
-            return Ok(Some(line.line));
-        }
-        add_given(&mut names, &line.reading)?;
     }
-    Ok(None)
+    None
 }
 
-// Adds the name that a line gives to those before it.
-fn add_given<'a>(names: &mut Names<'a>, reading: &Reading<'a>) -> Result<(), Memory>
-    ensures { OnOk result (names.new ≡ with_given names.old (name_given (said reading.now))) }
+// Whether a line stands in a definition, where the line before it does or not.
+fn is_inside(inside: bool, reading: &Reading) -> bool
+    ensures { result ≡ is_inside inside (said reading.now) }
 {
     match reading {
-        Reading::Binary { result, .. } => names.add(result),
-        _ => Ok(()),
+        Reading::Define { .. } => true,
+        Reading::Close => false,
+        _ => inside,
     }
 }
 
-fn is_close(reading: &Reading) -> bool
-    ensures { result ≡ closes (said reading.now) }
+fn has_pointer(reading: &Reading) -> bool
+    ensures { result ≡ has_pointer (said reading.now) }
 {
-    matches!(reading, Reading::Close)
-}
-
-fn is_label(reading: &Reading) -> bool
-    ensures { result ≡ is_label (said reading.now) }
-{
-    matches!(reading, Reading::Label { .. })
-}
-
-fn is_word(ty: TypeWord) -> bool
-    ensures { result ≡ is_word ty }
-{
-    ty == TypeWord::Int(64)
-}
-
-fn is_given(names: &Names, value: &Value) -> bool
-    ensures { result ≡ is_given names.now (seen_value value.now) }
-{
-    match value {
-        Value::Local(name) => names.has(name),
-        _ => true,
+    match reading {
+        Reading::Define {
+            answer,
+            arguments,
+            ..
+        } => is_managed(*answer) || takes_pointer(arguments.as_slice()),
+        Reading::Binary {
+            width,
+            left,
+            right,
+            ..
+        } => is_pointer(left, TypeWord::Int(*width)) || is_pointer(right, TypeWord::Int(*width)),
+        Reading::Compare {
+            ty,
+            left,
+            right,
+            ..
+        } => is_pointer(left, *ty) || is_pointer(right, *ty),
+        Reading::Convert { width, value, .. } => is_pointer(value, TypeWord::Int(*width)),
+        Reading::Select {
+            condition,
+            left_ty,
+            left,
+            right_ty,
+            right,
+            ..
+        } => {
+            is_managed(*left_ty)
+                || is_pointer(condition, TypeWord::Int(1))
+                || is_pointer(left, *left_ty)
+                || is_pointer(right, *right_ty)
+        }
+        Reading::Phi { ty, entries, .. } => {
+            is_managed(*ty) || has_pointer_entry(*ty, entries.as_slice())
+        }
+        Reading::ScalarElement { .. }
+        | Reading::LayoutElement { .. }
+        | Reading::Load { .. }
+        | Reading::Store { .. } => true,
+        Reading::ValueCall {
+            answer,
+            callee,
+            passed,
+            ..
+        } => is_managed(*answer) || is_maker(callee) || passes_pointer(passed.as_slice()),
+        Reading::VoidCall { callee, passed } => {
+            is_maker(callee) || passes_pointer(passed.as_slice())
+        }
+        Reading::Branch { condition, .. } => is_pointer(condition, TypeWord::Int(1)),
+        Reading::Switch { width, value, .. } => is_pointer(value, TypeWord::Int(*width)),
+        Reading::Case { width, value, .. } => is_pointer(value, TypeWord::Int(*width)),
+        Reading::Return { ty, value } => is_pointer(value, *ty),
+        Reading::Cast {
+            from,
+            value,
+            to,
+            ..
+        } => is_managed(*to) || is_pointer(value, *from),
+        _ => false,
     }
 }
 
-fn is_passed(names: &Names, passed: &Passed) -> bool
-    ensures { result ≡ is_passed names.now (seen_passed passed.now) }
+fn is_managed(ty: TypeWord) -> bool
+    ensures { result ≡ is_managed ty }
+{
+    matches!(ty, TypeWord::Managed)
+}
+
+fn is_null(value: &Value) -> bool
+    ensures { result ≡ is_null (seen_value value.now) }
+{
+    matches!(value, Value::Null)
+}
+
+// Whether a line that asks this type of a value uses a managed pointer.
+fn is_pointer(value: &Value, ty: TypeWord) -> bool
+    ensures { result ≡ is_pointer (seen_value value.now, ty) }
+{
+    is_managed(ty) || is_null(value)
+}
+
+fn takes_pointer(arguments: &[Argument]) -> bool
+    ensures { result ≡ list_any (λ one. is_managed one.ty) (map seen_argument arguments.now) }
+{
+    any_managed(arguments)
+}
+
+fn any_managed(arguments: &[Argument]) -> bool
+    ensures { result ≡ list_any (λ one. is_managed one.ty) arguments.now }
+{
+    arguments.iter().any(|one| is_managed(one.ty))
+}
+
+fn has_pointer_entry(ty: TypeWord, entries: &[Entry]) -> bool
+    ensures { result ≡ list_any is_pointer (map (entry_use ty) (map seen_entry entries.now)) }
+{
+    any_entry(ty, entries)
+}
+
+fn any_entry(ty: TypeWord, entries: &[Entry]) -> bool
+    ensures { result ≡ list_any (λ entry. is_pointer (seen_value entry.value, ty)) entries.now }
+{
+    entries.iter().any(|entry| is_pointer(&entry.value, ty))
+}
+
+fn passes_pointer(passed: &[Passed]) -> bool
+    ensures { result ≡ list_any is_pointer (filter_map passed_value (map seen_passed passed.now)) }
+{
+    any_passed(passed)
+}
+
+fn any_passed(passed: &[Passed]) -> bool
+    ensures { result ≡ list_any (λ one. list_any is_pointer (filter_map passed_value (seen_passed one ∷ []))) passed.now }
+{
+    passed.iter().any(|one| is_passed_pointer(one))
+}
+
+fn is_passed_pointer(passed: &Passed) -> bool
+    ensures { result ≡ list_any is_pointer (filter_map passed_value (seen_passed passed.now ∷ [])) }
 {
     match passed {
-        Passed::Value(_, value) => is_given(names, value),
+        Passed::Value(ty, value) => is_pointer(value, *ty),
         Passed::Function(_) => false,
     }
 }
 
-fn is_printed(names: &Names, passed: &[Passed]) -> bool
-    ensures { result ≡ is_printed names.now (map seen_passed passed.now) }
+// Whether the external makes an object or starts a task.
+fn is_maker(callee: &[u8]) -> bool
+    ensures { result ≡ is_maker callee.now }
 {
-    match passed.first() {
-        Some(one) => passed.len() == 1 && is_passed(names, one),
-        None => false,
-    }
-}
-
-// Whether the line can stand behind lines that gave these names.
-fn runs_behind(names: &Names, reading: &Reading) -> bool
-    ensures { result ≡ runs_behind names.now (said reading.now) }
-{
-    match reading {
-        Reading::Binary {
-            op: Binary::Add,
-            width: 64,
-            left,
-            right,
-            ..
-        } => is_given(names, left) && is_given(names, right),
-        Reading::VoidCall { callee, passed } => {
-            *callee == b"print_i64".as_slice() && is_printed(names, passed.as_slice())
-        }
-        Reading::Return { ty, value } => is_word(*ty) && is_given(names, value),
-        _ => false,
-    }
+    callee.starts_with(b"gc_new.") || callee == b"task_start".as_slice()
 }

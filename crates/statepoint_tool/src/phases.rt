@@ -3,6 +3,8 @@ ghost use Rattle.std.specs.Prelude.{◌≡◌, ◌≤◌, ℕ, List, length, vec
 ghost use Rattle.sp_ids.specs.declared.limits.TheConstants.{FILE_BYTES};
 ghost use Rattle.tool_io.specs.Counts.{NoneFell};
 ghost use Rattle.ir_ast.specs.Formed.{IsFormedModule};
+ghost use Rattle.ir_cfg.specs.SourceModules.{IsSourceModule};
+ghost use Rattle.ir_meaning.specs.Stages.{IsToday};
 ghost use Rattle.ir_lines.specs.Views.{seen_lines};
 ghost use Rattle.statepoint_tool.specs.Answers.{Agrees, Reads};
 ghost use Rattle.statepoint_tool.specs.Steps.{Step, Go, comes_to};
@@ -55,7 +57,7 @@ pub(crate) fn take_module<F: Files>(
     module_in(alloc, &text)
 }
 
-/// The module in the file of this name, which can be run so far.
+/// The module in the file of this name, which the interpreter can run so far.
 pub(crate) fn take_runnable<F: Files>(
     alloc: Global,
     files: &mut F,
@@ -63,6 +65,8 @@ pub(crate) fn take_runnable<F: Files>(
 ) -> Result<Module, Refusal>
     ensures read { Reads (files_seen (F.contents files.old) (F.faults files.old) (F.faults files.new)) name
         runnable_phase (λ read. read.content) result }
+    ensures source { IfOk result (λ read. IsSourceModule read.content) }
+    ensures today { IfOk result (λ read. IsToday read.content) }
     ensures kept { F.contents files.new ≡ F.contents files.old }
     ensures counted { NoneFell (F.faults files.old) (F.faults files.new) }
 {
@@ -121,6 +125,7 @@ fn read_in(alloc: Global, text: &[u8]) -> Result<Raw<'_>, Refusal>
 fn type_in(alloc: Global, raw: Raw) -> Result<Module, Refusal>
     ensures typed { Agrees (λ read. read.content) result (Typing (seen_lines raw.entry.lines)) }
     ensures formed { IfOk result (λ read. IsFormedModule read.content) }
+    ensures source { IfOk result (λ read. IsSourceModule read.content) }
 {
     match typed(alloc, raw) {
         Ok(read) => Ok(read),
@@ -142,7 +147,9 @@ fn module_in(alloc: Global, text: &[u8]) -> Result<Module, Refusal>
 
 fn runnable_in(alloc: Global, text: &[u8]) -> Result<Module, Refusal>
     requires { length text.now ≤ FILE_BYTES }
-    ensures { Agrees (λ read. read.content) result (runnable_phase text.now) }
+    ensures read { Agrees (λ read. read.content) result (runnable_phase text.now) }
+    ensures source { IfOk result (λ read. IsSourceModule read.content) }
+    ensures today { IfOk result (λ read. IsToday read.content) }
 {
     let raw = read_in(alloc, text)?;
     type_to_run(alloc, raw)
@@ -150,9 +157,11 @@ fn runnable_in(alloc: Global, text: &[u8]) -> Result<Module, Refusal>
 
 // The module that readings stand for, where it can be run so far.
 fn type_to_run(alloc: Global, raw: Raw) -> Result<Module, Refusal>
-    ensures { Agrees (λ read. read.content) result (typing_to_run (seen_lines raw.entry.lines)) }
+    ensures read { Agrees (λ read. read.content) result (typing_to_run (seen_lines raw.entry.lines)) }
+    ensures source { IfOk result (λ read. IsSourceModule read.content) }
+    ensures today { IfOk result (λ read. IsToday read.content) }
 {
-    let not_yet = first_not_yet(alloc, raw.lines())?;
+    let not_yet = first_not_yet(raw.lines());
     let read = type_in(alloc, raw)?;
     match not_yet {
         None => Ok(read),

@@ -50,7 +50,14 @@ pub(crate) enum Command {
     Show {
         module: FileName,
     },
-    /// Run the module with the input under the plan, for at most so many steps.
+    /// Run the module by the source meaning, over the input and under the plan, for at most so many steps.
+    Source {
+        module: FileName,
+        input: FileName,
+        plan: FileName,
+        steps: u64,
+    },
+    /// The same, of the rewritten module. No module is rewritten yet, so that this is the run of the source meaning.
     Run {
         module: FileName,
         input: FileName,

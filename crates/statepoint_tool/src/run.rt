@@ -1,16 +1,21 @@
-//! The command `run`: the module, the input and the plan are taken in this order, then the module runs.
-ghost use Rattle.std.specs.Prelude.{◌≡◌, ◌≤◌, ℕ};
+//! The commands `source` and `run`: the module, the input and the plan are taken in this order, then the module runs.
+ghost use Rattle.std.specs.Prelude.{◌≡◌, ◌≤◌, ℕ, IfOk, OnErr, IsErrOf};
+ghost use Rattle.ir_cfg.specs.SourceModules.{IsSourceModule};
+ghost use Rattle.ir_meaning.specs.Stages.{IsToday};
+ghost use Rattle.tool_io.specs.Counts.{Rose};
 ghost use Rattle.tool_io.specs.Counts.{NoneFell};
-ghost use Rattle.statepoint_tool.specs.Answers.{Came, Works, sink_seen};
+ghost use Rattle.statepoint_tool.specs.Answers.{Came, IsBegun, IsDone, Works, sink_seen};
+ghost use Rattle.statepoint_tool.specs.Steps.{Go};
 ghost use Rattle.statepoint_tool.specs.Taken.{files_seen, MayGive};
 ghost use Rattle.statepoint_tool.specs.Work.{MayGiveAll, MayGiveBoth, after_input, after_module, run_phase, run_work};
 
-use crate::evaluate::{Ended, RunFault, evaluate};
+use crate::closing::close;
 use crate::phases::{take_input, take_plan, take_runnable};
 use crate::refusal::Refusal;
 use crate::request::FileName;
 use crate::status::Status;
 use ir_ast::Module;
+use ir_meaning::{RefFault, reference};
 use std::alloc::Global;
 use tool_io::{Files, Sink};
 
@@ -22,7 +27,7 @@ pub(crate) struct RunFiles {
     pub(crate) plan: FileName,
 }
 
-/// Runs the module of the first file for at most `steps` steps.
+/// Runs the module of the first file for at most `steps` steps, by the source meaning.
 pub(crate) fn run<F: Files, O: Sink>(
     alloc: Global,
     names: RunFiles,
@@ -52,6 +57,8 @@ fn run_module<F: Files, O: Sink>(
     files: &mut F,
     out: &mut O,
 ) -> Result<Status, Refusal>
+    requires source { IsSourceModule read.now.content }
+    requires today { IsToday read.now.content }
     ensures works { Works (MayGiveBoth (files_seen (F.contents files.old) (F.faults files.old) (F.faults files.new)) input plan)
         (after_module input plan read.now.content steps) result
         (sink_seen (O.written out.old) (O.written out.new) (O.faults out.old) (O.faults out.new)) }
@@ -72,6 +79,8 @@ fn run_with_input<F: Files, O: Sink>(
     files: &mut F,
     out: &mut O,
 ) -> Result<Status, Refusal>
+    requires source { IsSourceModule read.now.content }
+    requires today { IsToday read.now.content }
     ensures works { Works (MayGive (files_seen (F.contents files.old) (F.faults files.old) (F.faults files.new)) plan)
         (after_input plan read.now.content steps) result
         (sink_seen (O.written out.old) (O.written out.new) (O.faults out.old) (O.faults out.new)) }
@@ -90,14 +99,35 @@ fn run_under_plan<O: Sink>(
     steps: u64,
     out: &mut O,
 ) -> Result<Status, Refusal>
+    requires source { IsSourceModule read.now.content }
+    requires today { IsToday read.now.content }
     ensures came { Came result (run_phase read.now.content steps)
         (sink_seen (O.written out.old) (O.written out.new) (O.faults out.old) (O.faults out.new)) }
     ensures out_counted { O.faults out.old ≤ O.faults out.new }
 {
-    match evaluate(alloc, read, steps, out) {
-        Ok(Ended::Returned) => Ok(Status::Done),
-        Ok(Ended::OutOfSteps) => Ok(Status::OutOfSteps),
-        Err(RunFault::Memory) => Err(Refusal::Memory),
-        Err(RunFault::Write) => Err(Refusal::WriteFault),
+    match write_run(alloc, read, steps, out) {
+        Ok(status) => Ok(status),
+        Err(RefFault::Memory) => Err(Refusal::Memory),
+        Err(RefFault::Write) => Err(Refusal::WriteFault),
     }
+}
+
+// Writes the lines of the run, and then the one that closes it.
+fn write_run<O: Sink>(
+    alloc: Global,
+    read: &Module,
+    steps: u64,
+    out: &mut O,
+) -> Result<Status, RefFault>
+    requires source { IsSourceModule read.now.content }
+    requires today { IsToday read.now.content }
+    ensures done { IfOk result (λ status. IsDone status (run_phase read.now.content steps)
+        (sink_seen (O.written out.old) (O.written out.new) (O.faults out.old) (O.faults out.new))) }
+    ensures begun { OnErr result (IsBegun (λ output. run_phase read.now.content steps (Go output))
+        (sink_seen (O.written out.old) (O.written out.new) (O.faults out.old) (O.faults out.new))) }
+    ensures failed { IsErrOf result RefFault.Write → Rose (O.faults out.old) (O.faults out.new) }
+    ensures out_counted { O.faults out.old ≤ O.faults out.new }
+{
+    let ran = reference(alloc, read, &[], steps, out)?;
+    close(alloc, read, ran, out)
 }

@@ -19,9 +19,53 @@ entry:
 // The lines of the run above, each written by one call.
 const LINES: [&str; 2] = ["5\n", "= return 0 steps 1 events 1\n"];
 
+// The sum of the numbers up to 3, by a function that calls itself.
+const SUMS: &str = "define i64 @main() gc \"statepoint-example\" {
+entry:
+  %r = call i64 @d(i64 3)
+  ret i64 %r
+}
+
+define i64 @d(i64 %n) gc \"statepoint-example\" {
+entry:
+  %c = icmp eq i64 %n, 0
+  br i1 %c, label %z, label %s
+z:
+  ret i64 0
+s:
+  %m = sub i64 %n, 1
+  %r = call i64 @d(i64 %m)
+  %t = add i64 %r, %n
+  ret i64 %t
+}
+";
+
+// A division by zero in a function that is called after a line is printed.
+const TRAPS: &str = "declare void @print_i64(i64)
+
+define i64 @main() gc \"statepoint-example\" {
+entry:
+  call void @print_i64(i64 -7)
+  %r = call i64 @f(i64 0)
+  ret i64 %r
+}
+
+define i64 @f(i64 %n) gc \"statepoint-example\" {
+entry:
+  %q = udiv i64 1, %n
+  ret i64 %q
+}
+";
+
+const TRAP_LINES: [&str; 2] = ["-7\n", "= trap div in @f steps 1 events 2\n"];
+
 fn words(alloc: Global, steps: &str) -> Result<Vec<String>, AllocError> {
+    run_words(alloc, "run", steps)
+}
+
+fn run_words(alloc: Global, command: &str, steps: &str) -> Result<Vec<String>, AllocError> {
     let mut words = Vec::new(alloc);
-    for word in ["statepoint", "run", "m.ll", "in", "plan", steps] {
+    for word in ["statepoint", command, "m.ll", "in", "plan", steps] {
         words.push(String::from_str(alloc, word)?)?;
     }
     Ok(words)
@@ -69,6 +113,50 @@ fn runs_out_of_steps(rt: HostRuntime) -> Result<(), Fail> {
     assert_eq!(rt;
         out.bytes(),
         b"5\n= out of steps steps 0 events 1\n".as_slice()
+    );
+    assert_eq!(rt; notes.bytes(), b"".as_slice());
+    Ok(())
+}
+
+// Both commands go over the source module so far.
+#[test]
+fn sums_by_a_function_that_calls_itself(rt: HostRuntime) -> Result<(), Fail> {
+    let alloc = rt.alloc();
+    for command in ["source", "run"] {
+        for (steps, status, line) in [
+            ("1000", Status::Done, "= return 6 steps 13 events 5\n"),
+            ("13", Status::Done, "= return 6 steps 13 events 5\n"),
+            (
+                "12",
+                Status::OutOfSteps,
+                "= out of steps steps 12 events 5\n",
+            ),
+        ] {
+            let words = run_words(alloc, command, steps)?;
+            let mut files = files(alloc, SUMS)?;
+            let mut out = MemSink::new(alloc, 100)?;
+            let mut notes = MemSink::new(alloc, 100)?;
+            let ended = statepoint(alloc, &words, &mut files, &mut out, &mut notes);
+            assert_eq!(rt; ended, status, "{command} {steps}");
+            assert_eq!(rt; out.bytes(), line.as_bytes(), "{command} {steps}");
+            assert_eq!(rt; notes.bytes(), b"".as_slice());
+        }
+    }
+    Ok(())
+}
+
+#[test]
+fn traps(rt: HostRuntime) -> Result<(), Fail> {
+    let alloc = rt.alloc();
+    let words = run_words(alloc, "source", "1000")?;
+    let mut files = files(alloc, TRAPS)?;
+    let mut out = MemSink::new(alloc, 100)?;
+    let mut notes = MemSink::new(alloc, 100)?;
+    let status = statepoint(alloc, &words, &mut files, &mut out, &mut notes);
+    assert_eq!(rt; status, Status::Trapped);
+    assert_eq!(rt;
+        out.bytes(),
+        b"-7\n= trap div in @f steps 1 events 2\n".as_slice()
     );
     assert_eq!(rt; notes.bytes(), b"".as_slice());
     Ok(())
@@ -161,30 +249,32 @@ fn cannot_read_an_unknown_file(rt: HostRuntime) -> Result<(), Fail> {
 #[test]
 fn writes_a_front(rt: HostRuntime) -> Result<(), Fail> {
     let alloc = rt.alloc();
-    let words = words(alloc, "1000")?;
-    let mut before = String::new(alloc);
-    for (place, line) in LINES.iter().enumerate() {
-        for adds in 0..line.len() {
-            let mut files = files(alloc, MODULE)?;
-            let mut out = MemSink::new(alloc, 100)?;
-            out.fail_put(place as u64 + 1, adds)?;
-            let mut notes = MemSink::new(alloc, 100)?;
-            let status = statepoint(alloc, &words, &mut files, &mut out, &mut notes);
-            assert_eq!(rt;
-                status,
-                Status::WriteFault,
-                "line {place} after {adds} bytes"
-            );
-            let mut front = before.clone()?;
-            front.push_str(line.get(..adds).unwrap_or(""))?;
-            assert_eq!(rt;
-                out.bytes(),
-                front.as_bytes(),
-                "line {place} after {adds} bytes"
-            );
-            assert_eq!(rt; notes.bytes(), b"write fault\n".as_slice());
+    for (text, lines) in [(MODULE, LINES), (TRAPS, TRAP_LINES)] {
+        let words = words(alloc, "1000")?;
+        let mut before = String::new(alloc);
+        for (place, line) in lines.iter().enumerate() {
+            for adds in 0..line.len() {
+                let mut files = files(alloc, text)?;
+                let mut out = MemSink::new(alloc, 100)?;
+                out.fail_put(place as u64 + 1, adds)?;
+                let mut notes = MemSink::new(alloc, 100)?;
+                let status = statepoint(alloc, &words, &mut files, &mut out, &mut notes);
+                assert_eq!(rt;
+                    status,
+                    Status::WriteFault,
+                    "line {place} after {adds} bytes"
+                );
+                let mut front = before.clone()?;
+                front.push_str(line.get(..adds).unwrap_or(""))?;
+                assert_eq!(rt;
+                    out.bytes(),
+                    front.as_bytes(),
+                    "line {place} after {adds} bytes"
+                );
+                assert_eq!(rt; notes.bytes(), b"write fault\n".as_slice());
+            }
+            before.push_str(line)?;
         }
-        before.push_str(line)?;
     }
     Ok(())
 }

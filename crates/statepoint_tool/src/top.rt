@@ -21,8 +21,11 @@ use tool_io::{Failed, Files, Sink};
 
 /// Does what the words ask for, and says how it ended. The first word is the program's name.
 ///
-/// The work goes in this order: the words; the module is taken, read and typed; for `run` the input, the plan, and
-/// the run. A run writes each line by one `put`. A refusal puts one line on `notes`.
+/// `show` writes the text of the module. `source` and `run` write the lines of the source meaning, over an empty input
+/// and under an empty plan so far, and then the line that closes the run.
+///
+/// The work goes in this order: the words; the module is taken, read and typed; for `source` and `run` the input, the
+/// plan, and the run. A run writes each line by one `put`, as it comes. A refusal puts one line on `notes`.
 ///
 /// What the files gave is what is told of them, or anything where nothing is told; a file could not be
 /// read only where a fault was counted for its name. Each status comes exactly where its cause holds over
@@ -34,7 +37,8 @@ pub fn statepoint<F: Files, O: Sink, E: Sink>(
     out: &mut O,
     notes: &mut E,
 ) -> Status
-    // Told files without fault, and no fault counted: the source meaning's bytes and its status.
+    // Told files without fault, and no fault counted: the whole text that is defined, the module's or the run's, with its
+    // status and nothing said; or want of memory after a front of that text.
     ensures complete { IsComplete (map string_bytes words.now)
         (files_seen (F.contents files.old) (F.faults files.old) (F.faults files.new))
         (sink_seen (O.written out.old) (O.written out.new) (O.faults out.old) (O.faults out.new))
@@ -52,6 +56,11 @@ pub fn statepoint<F: Files, O: Sink, E: Sink>(
         (sink_seen (O.written out.old) (O.written out.new) (O.faults out.old) (O.faults out.new))
         (sink_seen (E.written notes.old) (E.written notes.new) (E.faults notes.old) (E.faults notes.new))
         result Status.OutOfSteps (EndsWith Status.OutOfSteps) }
+    ensures trapped { Exactly (map string_bytes words.now)
+        (files_seen (F.contents files.old) (F.faults files.old) (F.faults files.new))
+        (sink_seen (O.written out.old) (O.written out.new) (O.faults out.old) (O.faults out.new))
+        (sink_seen (E.written notes.old) (E.written notes.new) (E.faults notes.old) (E.faults notes.new))
+        result Status.Trapped (EndsWith Status.Trapped) }
     ensures words_refused { Exactly (map string_bytes words.now)
         (files_seen (F.contents files.old) (F.faults files.old) (F.faults files.new))
         (sink_seen (O.written out.old) (O.written out.new) (O.faults out.old) (O.faults out.new))
@@ -87,7 +96,6 @@ pub fn statepoint<F: Files, O: Sink, E: Sink>(
     ensures write_fault_counted { result ≡ Status.WriteFault →
         SinkFailed (sink_seen (O.written out.old) (O.written out.new) (O.faults out.old) (O.faults out.new)) ⊎
         SinkFailed (sink_seen (E.written notes.old) (E.written notes.new) (E.faults notes.old) (E.faults notes.new)) }
-    ensures never_trapped { result ≢ Status.Trapped }
     ensures never_said_no { result ≢ Status.CheckSaidNo }
     ensures never_map_refused { result ≢ Status.MapRefused }
     ensures never_stray { result ≢ Status.Stray }
@@ -143,6 +151,21 @@ fn work<F: Files, O: Sink>(
 {
     match command(alloc, words) {
         Ok(Command::Show { module }) => show(alloc, module, files, out),
+        Ok(
+            Command::Source {
+                module,
+                input,
+                plan,
+                steps,
+            },
+        ) => {
+            let names = RunFiles {
+                code: module,
+                input,
+                plan,
+            };
+            run(alloc, names, steps, files, out)
+        }
         Ok(
             Command::Run {
                 module,

@@ -1,7 +1,7 @@
 ghost use Rattle.std.specs.Prelude.{◌≡◌, Some, None, map, string_bytes, IfOk, IsErrOf};
 ghost use Rattle.std.specs.Char.{is_ascii_digit};
 ghost use Rattle.std.specs.List.{list_all};
-ghost use Rattle.statepoint_tool.specs.Words.{command_of, names_file, run_of, show_of, steps_of};
+ghost use Rattle.statepoint_tool.specs.Words.{bound_of, command_of, names_file, of_module, of_run, run_of, show_of, source_of, steps_of};
 
 use crate::request::{Command, FileName};
 use sp_ids::{Memory, limits};
@@ -32,27 +32,51 @@ pub(crate) fn command(alloc: Global, words: &[String]) -> Result<Command, WordsF
     ensures none { IsErrOf result WordsFault.Words → command_of (map string_bytes words.now) ≡ None }
 {
     match words {
-        [_program, name, module_name] => {
-            if name.as_str() == "show" {
-                show_command(alloc, module_name.as_str())
-            } else {
-                Err(WordsFault::Words)
-            }
-        }
-        [_program, name, module_name, input, plan, steps] => {
-            if name.as_str() == "run" {
-                run_command(
-                    alloc,
-                    module_name.as_str(),
-                    input.as_str(),
-                    plan.as_str(),
-                    steps.as_str(),
-                )
-            } else {
-                Err(WordsFault::Words)
-            }
-        }
+        [_program, name, module_name] => of_module(alloc, name.as_str(), module_name.as_str()),
+        [_program, name, module_name, input, plan, steps] => of_run(
+            alloc,
+            name.as_str(),
+            module_name.as_str(),
+            input.as_str(),
+            plan.as_str(),
+            steps.as_str(),
+        ),
         _ => Err(WordsFault::Words),
+    }
+}
+
+// The command of this name over a module.
+#[tactic(auto, unfolding(crate::specs::Words::of_module))]
+fn of_module(alloc: Global, name: &str, module_name: &str) -> Result<Command, WordsFault>
+    ensures gives { IfOk result (λ command. of_module name.now module_name.now ≡ Some command) }
+    ensures none { IsErrOf result WordsFault.Words → of_module name.now module_name.now ≡ None }
+{
+    if name == "show" {
+        show_command(alloc, module_name)
+    } else {
+        Err(WordsFault::Words)
+    }
+}
+
+// The command of this name over all that a run needs.
+#[tactic(auto, unfolding(crate::specs::Words::of_run))]
+fn of_run(
+    alloc: Global,
+    name: &str,
+    module_name: &str,
+    input: &str,
+    plan: &str,
+    steps: &str,
+) -> Result<Command, WordsFault>
+    ensures gives { IfOk result (λ command. of_run name.now module_name.now input.now plan.now steps.now ≡ Some command) }
+    ensures none { IsErrOf result WordsFault.Words → of_run name.now module_name.now input.now plan.now steps.now ≡ None }
+{
+    if name == "source" {
+        source_command(alloc, module_name, input, plan, steps)
+    } else if name == "run" {
+        run_command(alloc, module_name, input, plan, steps)
+    } else {
+        Err(WordsFault::Words)
     }
 }
 
@@ -69,6 +93,28 @@ fn show_command(alloc: Global, module_name: &str) -> Result<Command, WordsFault>
     })
 }
 
+// The command `source` over these words.
+fn source_command(
+    alloc: Global,
+    module_name: &str,
+    input: &str,
+    plan: &str,
+    steps: &str,
+) -> Result<Command, WordsFault>
+    ensures gives { IfOk result (λ command. source_of module_name.now input.now plan.now steps.now ≡ Some command) }
+    ensures none { IsErrOf result WordsFault.Words → source_of module_name.now input.now plan.now steps.now ≡ None }
+{
+    let Some(steps) = run_bound(module_name, input, plan, steps) else {
+        return Err(WordsFault::Words);
+    };
+    Ok(Command::Source {
+        module: FileName::of(alloc, module_name)?,
+        input: FileName::of(alloc, input)?,
+        plan: FileName::of(alloc, plan)?,
+        steps,
+    })
+}
+
 // The command `run` over these words.
 fn run_command(
     alloc: Global,
@@ -80,10 +126,7 @@ fn run_command(
     ensures gives { IfOk result (λ command. run_of module_name.now input.now plan.now steps.now ≡ Some command) }
     ensures none { IsErrOf result WordsFault.Words → run_of module_name.now input.now plan.now steps.now ≡ None }
 {
-    if !(may_name_file(module_name) && may_name_file(input) && may_name_file(plan)) {
-        return Err(WordsFault::Words);
-    }
-    let Some(steps) = step_bound(steps) else {
+    let Some(steps) = run_bound(module_name, input, plan, steps) else {
         return Err(WordsFault::Words);
     };
     Ok(Command::Run {
@@ -92,6 +135,17 @@ fn run_command(
         plan: FileName::of(alloc, plan)?,
         steps,
     })
+}
+
+// The bound on steps, where the words before it name files.
+fn run_bound(module_name: &str, input: &str, plan: &str, steps: &str) -> Option<u64>
+    ensures { result ≡ bound_of module_name.now input.now plan.now steps.now }
+{
+    if may_name_file(module_name) && may_name_file(input) && may_name_file(plan) {
+        step_bound(steps)
+    } else {
+        None
+    }
 }
 
 fn may_name_file(word: &str) -> bool

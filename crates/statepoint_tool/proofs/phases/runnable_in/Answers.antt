@@ -6,12 +6,12 @@ use Rattle.statepoint_tool.specs.Work.{reading, typing_to_run}
 use Rattle.statepoint_tool.proofs.WorksLaws.{Agrees-stops, Agrees-goes_on}
 use Rattle.statepoint_tool.proofs.phases.runnable_in.Goals as goal
 
-pub returns-in_err-raw : goal.returns-in_err-raw
-returns-in_err-raw c =
+pub returns-in_err-raw-clause-read : goal.returns-in_err-raw-clause-read
+returns-in_err-raw-clause-read c =
     let exit = err_from_is_err_and c.from_residual.result c.from_residual.ensures.1 in
     rw (exit.1, exit.2) (Agrees-stops (reading c.args.text.now) (λ (raw : Readings). seen_lines raw.lines) c.in_err-raw.field-0.0 typing_to_run (λ (read : LinedModule). read.content) c.in_err-raw.ensures.read)
 
-pub returns : goal.returns
-returns c =
+pub returns-clause-read : goal.returns-clause-read
+returns-clause-read c =
     Agrees-goes_on (reading c.args.text.now) (λ (raw : Readings). seen_lines raw.lines) c.in_ok-raw.raw c.type_to_run.result typing_to_run (λ (read : LinedModule). read.content)
-    c.in_ok-raw.ensures.read c.type_to_run.ensures
+    c.in_ok-raw.ensures.read c.type_to_run.ensures.read

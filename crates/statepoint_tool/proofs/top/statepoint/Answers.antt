@@ -31,6 +31,14 @@ returns-clause-out_of_steps g c =
     let notes = sink_seen (g.E.Sink.written c.args.notes.now) (g.E.Sink.written c.answer.new.notes) (g.E.Sink.faults c.args.notes.now) (g.E.Sink.faults c.answer.new.notes) in
     Exactly-answer words files out notes c.answer.result c.answer.ensures.answer status.OutOfSteps (λ clash. cc) (λ clash. cc) (λ given. comes-EndsWith words given status.OutOfSteps)
 
+pub returns-clause-trapped : goal.returns-clause-trapped
+returns-clause-trapped g c =
+    let words = map string_bytes c.args.words.now in
+    let files = files_seen (g.F.Files.contents c.args.files.now) (g.F.Files.faults c.args.files.now) (g.F.Files.faults c.answer.new.files) in
+    let out = sink_seen (g.O.Sink.written c.args.out.now) (g.O.Sink.written c.answer.new.out) (g.O.Sink.faults c.args.out.now) (g.O.Sink.faults c.answer.new.out) in
+    let notes = sink_seen (g.E.Sink.written c.args.notes.now) (g.E.Sink.written c.answer.new.notes) (g.E.Sink.faults c.args.notes.now) (g.E.Sink.faults c.answer.new.notes) in
+    Exactly-answer words files out notes c.answer.result c.answer.ensures.answer status.Trapped (λ clash. cc) (λ clash. cc) (λ given. comes-EndsWith words given status.Trapped)
+
 pub returns-clause-words_refused : goal.returns-clause-words_refused
 returns-clause-words_refused g c =
     let words = map string_bytes c.args.words.now in
@@ -94,14 +102,6 @@ returns-clause-write_fault_counted g c =
     let out = sink_seen (g.O.Sink.written c.args.out.now) (g.O.Sink.written c.answer.new.out) (g.O.Sink.faults c.args.out.now) (g.O.Sink.faults c.answer.new.out) in
     let notes = sink_seen (g.E.Sink.written c.args.notes.now) (g.E.Sink.written c.answer.new.notes) (g.E.Sink.faults c.args.notes.now) (g.E.Sink.faults c.answer.new.notes) in
     write_fault-answer words files out notes c.answer.result c.answer.ensures.answer
-
-pub returns-clause-never_trapped : goal.returns-clause-never_trapped
-returns-clause-never_trapped g c =
-    let words = map string_bytes c.args.words.now in
-    let files = files_seen (g.F.Files.contents c.args.files.now) (g.F.Files.faults c.args.files.now) (g.F.Files.faults c.answer.new.files) in
-    let out = sink_seen (g.O.Sink.written c.args.out.now) (g.O.Sink.written c.answer.new.out) (g.O.Sink.faults c.args.out.now) (g.O.Sink.faults c.answer.new.out) in
-    let notes = sink_seen (g.E.Sink.written c.args.notes.now) (g.E.Sink.written c.answer.new.notes) (g.E.Sink.faults c.args.notes.now) (g.E.Sink.faults c.answer.new.notes) in
-    never-answer words files out notes c.answer.result c.answer.ensures.answer status.Trapped (λ clash. cc) (λ clash. cc) (λ given none. none)
 
 pub returns-clause-never_said_no : goal.returns-clause-never_said_no
 returns-clause-never_said_no g c =
