@@ -6,6 +6,8 @@ use std::alloc::{AllocError, Global};
 use std::test::Fail;
 use tool_io::{MemFiles, MemSink};
 
+mod trap_kinds;
+
 const MODULE: &str = "declare void @print_i64(i64)
 
 define i64 @main() gc \"statepoint-example\" {
