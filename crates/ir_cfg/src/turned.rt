@@ -94,7 +94,7 @@ fn add_up(counts: &mut Vec<usize>)
     }
 }
 
-// Enters each edge in the row of the block where it leads, the last edge first.
+// Enters each edge in the row of the block where it leads, those of the last block first.
 fn fill(succs: &Rows, filling: &mut Filling)
     requires inside { LeadsInside succs.now }
     requires few { length succs.now < 2 ^ 32 }

@@ -17,4 +17,4 @@ formed_at content funcs place func formed same below read =
 
 pub judged_often-requires : goal.judged_often-requires
 judged_often-requires c =
-    formed_at c.args.whole.now.content c.funcs.result.now c.loop-func.func-index c.func-item.result c.requires c.funcs.ensures.content (omega arith) c.func-item.is
+    formed_at c.args.whole.now.content c.funcs-func-items.result.now c.loop-func.func-index c.func-item.result c.requires c.funcs-func-items.ensures.content (omega arith) c.func-item.is
