@@ -13,6 +13,6 @@ returns c =
     three-noted c.args.line 3 12 14 c.has.result (not c.is_external.result) c.is_of_rewritten.result
     (Contains c.args.top.now.functions c.args.name.now) (¬ known)
     (Contains helpers c.args.name.now ⊎ HasFront (codes "llvm.") c.args.name.now)
-    c.args.first.now.found c.note_if.new.top.found c.note_if-2.new.top.found c.note_if-3.new.top.found
+    c.args.first.now.found c.note_if.new.self.found c.note_if-2.new.self.found c.note_if-3.new.self.found
     c.has.ensures (not-iff known c.is_external.result c.is_external.ensures) c.is_of_rewritten.ensures
     c.note_if.ensures c.note_if-2.ensures c.note_if-3.ensures
