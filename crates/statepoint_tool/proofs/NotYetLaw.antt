@@ -29,7 +29,7 @@ use Rattle.ir_lines.specs.Externals.{External, external, gc_new, makers_of, own_
 use Rattle.ir_lines.specs.Modules.{Known, known_of, type_of, binary_of, conversion_of, operand_in, operand_of, entry_operand, passed_operand, given_type, external_callee, callee_at, callee_of, case_value, case_values, instruction_said, function_of, module_of}
 use Rattle.ir_lines.specs.Faults.UnknownName.{names_unknown}
 use Rattle.ir_lines.specs.PlainFaults.{HasNoPlainFault, unknown_name}
-use Rattle.ir_types.specs.FaultSet.{HasNoFault, plain}
+use Rattle.ir_types.specs.FaultSet.{HasNoFault, plain as of_plain}
 use Rattle.ir_lines.proofs.LawNames.{stands, contains_get, contains_cons, contains_middle, contains_map}
 use Rattle.module_laws.proofs.LawFacts.{or-left, or-right, true-false, body_clear}
 use Rattle.module_laws.proofs.LawHeads.{HeadFrom, from_definition, from_declaration, heads-from}
@@ -362,7 +362,7 @@ none-any (l ∷ ls) e = by (has_pointer l.says) refl (none-any ls)
 pub runs_today : (lines : List Line) → HasNoFault lines → first_not_yet lines ≡ None → IsToday (module_of lines).content
 unfolding first_not_yet
 runs_today lines faultless e =
-    let none : HasNoPlainFault lines = λ line code has. faultless line code (plain code has) in
+    let none : HasNoPlainFault lines = λ line code has. faultless line code (of_plain code has) in
     let funcs = definitions_of lines in
     let clear = each-clear funcs (none-any (flat_map lines_in funcs) e) in
     All-map FunctionIsToday (λ func. function_of (known_of lines func) func) funcs
