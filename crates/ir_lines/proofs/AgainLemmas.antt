@@ -4,6 +4,8 @@ use Rattle.std.specs.Prelude.{map, Option, is_none, not, IsTrue, ◌↔◌}
 use Rattle.std.specs.List.{Contains}
 use Rattle.std.proofs.lemmas.List.{append-nil, map-append}
 use Rattle.ir_lines.specs.declared.faults.Fault.{Fault}
+use Rattle.ir_ast.specs.declared.modules.Form.{Form}
+use Rattle.ir_ast.specs.declared.modules.Form.TheVariants.{Source}
 use Rattle.ir_ast.specs.Faults.Reserved.{IsInsertedName}
 use Rattle.ir_lines.specs.Notes.{Notes, Is}
 use Rattle.ir_lines.specs.Places.{place_in}
@@ -162,41 +164,42 @@ again-notes names name line is_new old new known n =
     (ap not (known ∙ contains-place names name g.1.1), (g.0, g.1.0)))
     n
 
-abbrev pub NameNoted : ℕ → List ℕ → Bool → ℕ → ℕ → Type 0
-NameNoted line name is_new at code = (at ≡ line) × (((code ≡ 3) × (is_new ≡ false)) ⊎ ((code ≡ 14) × IsInsertedName name))
+abbrev pub NameNoted : Form → ℕ → List ℕ → Bool → ℕ → ℕ → Type 0
+NameNoted form line name is_new at code =
+    (at ≡ line) × (((code ≡ 3) × (is_new ≡ false)) ⊎ ((code ≡ 14) × (form ≡ Source) × IsInsertedName name))
 
-pub name-notes : (line : ℕ) (name : List ℕ) (is_new inserted : Bool) (old between new : Option Fault)
-    → (IsTrue inserted ↔ IsInsertedName name)
-    → Notes old between (λ l c. IsTrue (not is_new) × Is line 3 l c) → Notes between new (λ l c. IsTrue inserted × Is line 14 l c)
-    → Notes old new (NameNoted line name is_new)
-name-notes line name is_new inserted old between new known m n =
-    notes-same old new (Either (λ l c. IsTrue (not is_new) × Is line 3 l c) (λ l c. IsTrue inserted × Is line 14 l c)) (NameNoted line name is_new)
-    to from (notes-then old between new (λ l c. IsTrue (not is_new) × Is line 3 l c) (λ l c. IsTrue inserted × Is line 14 l c) m n)
+pub name-notes : (form : Form) (line : ℕ) (name : List ℕ) (is_new reserved : Bool) (old between new : Option Fault)
+    → (IsTrue reserved ↔ ((form ≡ Source) × IsInsertedName name))
+    → Notes old between (λ l c. IsTrue (not is_new) × Is line 3 l c) → Notes between new (λ l c. IsTrue reserved × Is line 14 l c)
+    → Notes old new (NameNoted form line name is_new)
+name-notes form line name is_new reserved old between new known m n =
+    notes-same old new (Either (λ l c. IsTrue (not is_new) × Is line 3 l c) (λ l c. IsTrue reserved × Is line 14 l c)) (NameNoted form line name is_new)
+    to from (notes-then old between new (λ l c. IsTrue (not is_new) × Is line 3 l c) (λ l c. IsTrue reserved × Is line 14 l c) m n)
   where
-    to : (l c : ℕ) → Either (λ l c. IsTrue (not is_new) × Is line 3 l c) (λ l c. IsTrue inserted × Is line 14 l c) l c → NameNoted line name is_new l c
+    to : (l c : ℕ) → Either (λ l c. IsTrue (not is_new) × Is line 3 l c) (λ l c. IsTrue reserved × Is line 14 l c) l c → NameNoted form line name is_new l c
     to l c (inl f) = (f.1.0, inl (f.1.1, not-true is_new f.0))
-    to l c (inr f) = (f.1.0, inr (f.1.1, known.0 f.0))
+    to l c (inr f) = let k = known.0 f.0 in (f.1.0, inr (f.1.1, k.0, k.1))
 
-    from : (l c : ℕ) → NameNoted line name is_new l c → Either (λ l c. IsTrue (not is_new) × Is line 3 l c) (λ l c. IsTrue inserted × Is line 14 l c) l c
+    from : (l c : ℕ) → NameNoted form line name is_new l c → Either (λ l c. IsTrue (not is_new) × Is line 3 l c) (λ l c. IsTrue reserved × Is line 14 l c) l c
     from l c (e, inl f) = inl (ap not f.1, (e, f.0))
-    from l c (e, inr f) = inr (known.1 f.1, (e, f.0))
+    from l c (e, inr f) = inr (known.1 (f.1, f.2), (e, f.0))
 
-pub bad-notes : (names : List (List ℕ)) (name : List ℕ) (line : ℕ) (is_new : Bool) (old new : Option Fault)
-    → is_new ≡ is_none (place_in names name) → Notes old new (NameNoted line name is_new)
-    → Notes old new (FoundAfter IsBadName names ((line, name) ∷ []))
-bad-notes names name line is_new old new known n =
-    notes-same old new (NameNoted line name is_new) (FoundAfter IsBadName names ((line, name) ∷ [])) to from n
+pub bad-notes : (form : Form) (names : List (List ℕ)) (name : List ℕ) (line : ℕ) (is_new : Bool) (old new : Option Fault)
+    → is_new ≡ is_none (place_in names name) → Notes old new (NameNoted form line name is_new)
+    → Notes old new (FoundAfter (IsBadName form) names ((line, name) ∷ []))
+bad-notes form names name line is_new old new known n =
+    notes-same old new (NameNoted form line name is_new) (FoundAfter (IsBadName form) names ((line, name) ∷ [])) to from n
   where
-    to : (l c : ℕ) → NameNoted line name is_new l c → FoundAfter IsBadName names ((line, name) ∷ []) l c
-    to l c (e, inl f) = one-found IsBadName names line name l c e (inl (f.0, place-contains names name (sym known ∙ f.1)))
-    to l c (e, inr f) = one-found IsBadName names line name l c e (inr f)
+    to : (l c : ℕ) → NameNoted form line name is_new l c → FoundAfter (IsBadName form) names ((line, name) ∷ []) l c
+    to l c (e, inl f) = one-found (IsBadName form) names line name l c e (inl (f.0, place-contains names name (sym known ∙ f.1)))
+    to l c (e, inr f) = one-found (IsBadName form) names line name l c e (inr f)
 
-    by : (l c : ℕ) → (l ≡ line) × IsBadName names name c → NameNoted line name is_new l c
+    by : (l c : ℕ) → (l ≡ line) × IsBadName form names name c → NameNoted form line name is_new l c
     by l c (e, inl f) = (e, inl (f.0, known ∙ contains-place names name f.1))
     by l c (e, inr f) = (e, inr f)
 
-    from : (l c : ℕ) → FoundAfter IsBadName names ((line, name) ∷ []) l c → NameNoted line name is_new l c
-    from l c f = by l c (found-one IsBadName names line name l c f)
+    from : (l c : ℕ) → FoundAfter (IsBadName form) names ((line, name) ∷ []) l c → NameNoted form line name is_new l c
+    from l c f = by l c (found-one (IsBadName form) names line name l c f)
 
 -- ---- as repeats
 
@@ -212,15 +215,15 @@ contains-at : (before : List Given) (one : Given) (after given : List Given) →
 contains-at before one after given e =
     subst (λ (xs : List Given). Contains xs one) (sym e) (Contains-append_right before (one ∷ after) one (contains-here one after))
 
-pub names-found : (given : List Given) (line code : ℕ) → FoundAfter IsBadName [] given line code → NamesFound given line code
-names-found given line code f = of f.before f.name f.after f.whole f.faulty
+pub names-found : (form : Form) (given : List Given) (line code : ℕ) → FoundAfter (IsBadName form) [] given line code → NamesFound form given line code
+names-found form given line code f = of f.before f.name f.after f.whole f.faulty
   where
     of : (before : List Given) (name : List ℕ) (after : List Given) → given ≡ before ++ (line, name) ∷ after
-        → IsBadName (names_of before) name code → NamesFound given line code
+        → IsBadName form (names_of before) name code → NamesFound form given line code
     of before name after whole (inl b) =
         inl (b.0, record { before = before; what = name; after = after; whole = whole; again = b.1 })
     of before name after whole (inr b) =
-        inr (b.0, record { name = name; given = contains-at before (line, name) after given whole; inserted = b.1 })
+        inr (b.0, b.1, record { name = name; given = contains-at before (line, name) after given whole; inserted = b.2 })
 
 -- an element with what stands before and after it
 pub record IsSplit {X : Type 0} (xs : List X) (x : X) : Type 0 where
@@ -237,9 +240,9 @@ pub split-at : {X : Type 0} (xs : List X) (x : X) → Contains xs x → IsSplit 
 split-at [] x c = absurd (contains-none x c)
 split-at (y ∷ ys) x c = split-more y ys x (contains-cases y ys x c) (split-at ys x)
 
-pub found-names : (given : List Given) (line code : ℕ) → NamesFound given line code → FoundAfter IsBadName [] given line code
-found-names given line code (inl (e, r)) =
+pub found-names : (form : Form) (given : List Given) (line code : ℕ) → NamesFound form given line code → FoundAfter (IsBadName form) [] given line code
+found-names form given line code (inl (e, r)) =
     record { before = r.before; name = r.what; after = r.after; whole = r.whole; faulty = inl (e, r.again) }
-found-names given line code (inr (e, n)) =
-    let s = split-at given (line, n.name) n.given in
-    record { before = s.before; name = n.name; after = s.after; whole = s.whole; faulty = inr (e, n.inserted) }
+found-names form given line code (inr (e, s, n)) =
+    let at = split-at given (line, n.name) n.given in
+    record { before = at.before; name = n.name; after = at.after; whole = at.whole; faulty = inr (e, s, n.inserted) }

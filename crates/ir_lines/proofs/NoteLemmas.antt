@@ -1,6 +1,7 @@
 -- One pass after another keeps the first of the faults of both; at the end it is the least fault.
 use Rattle.std.proofs.Common.{◌≡◌, ◌∙◌, ℕ, ◌⊎◌, inl, inr, Bool, true, false, List, refl, ap, sym, subst, arith}
 use Rattle.std.specs.Prelude.{Option, Some, None, not, IsTrue, ◌↔◌}
+use Rattle.ir_ast.specs.declared.modules.Form.{Form}
 use Rattle.ir_lines.specs.declared.faults.Fault.{Fault}
 use Rattle.ir_lines.specs.Statements.{Line}
 use Rattle.ir_lines.specs.PlainFaults.{ComesFirst, HasPlainFault, IsLeastPlainFault, HasNoPlainFault}
@@ -58,16 +59,16 @@ first-of : (fault kept : Fault) (line code : ℕ) → Some fault ≡ Some kept �
 first-of fault kept line code e f = let same : kept ≡ fault = cc in subst (λ (one : Fault). ComesFirst one.line one.code line code) same f
 
 -- nothing was kept before: what is kept is the least fault
-pub notes-least : (lines : List Line) (fault : Fault) → Notes None (Some fault) (λ line code. HasPlainFault lines line code)
-    → IsLeastPlainFault lines fault.line fault.code
-notes-least lines fault n = record {
-  is = found-in fault (λ line code. HasPlainFault lines line code) n.source;
+pub notes-least : (form : Form) (lines : List Line) (fault : Fault) → Notes None (Some fault) (λ line code. HasPlainFault form lines line code)
+    → IsLeastPlainFault form lines fault.line fault.code
+notes-least form lines fault n = record {
+  is = found-in fault (λ line code. HasPlainFault form lines line code) n.source;
   least = λ line code f. let u = n.least line code f in first-of fault u.fault line code u.is u.first;
 }
 
 -- nothing is kept: there is no fault
-pub notes-none : (lines : List Line) → Notes None None (λ line code. HasPlainFault lines line code) → HasNoPlainFault lines
-notes-none lines n = λ line code f. let u = n.least line code f in let bad : None ≡ Some u.fault = u.is in cc
+pub notes-none : (form : Form) (lines : List Line) → Notes None None (λ line code. HasPlainFault form lines line code) → HasNoPlainFault form lines
+notes-none form lines n = λ line code f. let u = n.least line code f in let bad : None ≡ Some u.fault = u.is in cc
 
 -- ---- sets of faults that are the same
 

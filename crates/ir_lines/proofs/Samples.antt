@@ -58,10 +58,10 @@ value number = operands.Value (record { 0 = number })
 abbrev pub block : ℕ → BlockId
 block number = record { 0 = number }
 
-pub reads_lines : (module_of text).lines ≡ (4 ∷ 8 ∷ 9 ∷ 10 ∷ 11 ∷ 13 ∷ []) ∷ []
+pub reads_lines : (module_of Source text).lines ≡ (4 ∷ 8 ∷ 9 ∷ 10 ∷ 11 ∷ 13 ∷ []) ∷ []
 reads_lines = refl
 
-pub reads_module : (module_of text).content ≡ record {
+pub reads_module : (module_of Source text).content ≡ record {
   layouts = [];
   funcs = record {
     name = codes "main";
@@ -114,7 +114,7 @@ pub finds_unknown_names : found_by names_unknown whats
     ≡ false ∷ false ∷ false ∷ false ∷ true ∷ false ∷ true ∷ false ∷ false ∷ true ∷ []
 finds_unknown_names = refl
 
-pub finds_clashes : found_by clashes whats
+pub finds_clashes : found_by (clashes Source) whats
     ≡ false ∷ true ∷ false ∷ true ∷ false ∷ false ∷ false ∷ true ∷ true ∷ false ∷ []
 finds_clashes = refl
 

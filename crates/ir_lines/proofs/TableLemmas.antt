@@ -5,6 +5,7 @@ use Rattle.std.proofs.lemmas.List.{append-nil, map-append, length-map, take_more
 use Rattle.std.proofs.lemmas.List.Elements.{filter-append}
 use Rattle.ir_reader.specs.declared.readings.TypeWord.{TypeWord}
 use Rattle.ir_reader.specs.Lists.{Named}
+use Rattle.ir_ast.specs.declared.modules.Form.{Form}
 use Rattle.ir_lines.specs.declared.faults.Fault.{Fault}
 use Rattle.ir_lines.specs.declared.scope.Top.{Top}
 use Rattle.ir_lines.specs.declared.scope.Local.{Local}
@@ -61,49 +62,49 @@ notes-behind {X} line name F old between xs more f g h e m n =
     (notes-added F old (map {B = ℕ × List ℕ} (λ x. (line x, name x)) xs) (map {B = ℕ × List ℕ} (λ x. (line x, name x)) more) f g h m
     (subst (λ (names : List (List ℕ)). Notes g h (FoundAfter F names (map {B = ℕ × List ℕ} (λ x. (line x, name x)) more))) same n))
 
-pub record Values (old new : Local) (f g : Option Fault) (xs : List Naming) : Type 0 where
+pub record Values (form : Form) (old new : Local) (f g : Option Fault) (xs : List Naming) : Type 0 where
   pub added : AddsValues old new xs
-  pub noted : Notes f g (FoundAfter IsBadName old.values (named_values xs))
+  pub noted : Notes f g (FoundAfter (IsBadName form) old.values (named_values xs))
 
-pub values-none : (t : Local) (f : Option Fault) → Values t t f f []
-values-none t f = record {
+pub values-none : (form : Form) (t : Local) (f : Option Fault) → Values form t t f f []
+values-none form t f = record {
   added = adds_values-none t;
-  noted = notes-nothing f (FoundAfter IsBadName t.values []) (found-none IsBadName t.values);
+  noted = notes-nothing f (FoundAfter (IsBadName form) t.values []) (found-none (IsBadName form) t.values);
 }
 
-pub values-more : (old between new : Local) (f g h : Option Fault) (xs more ys : List Naming) → ys ≡ xs ++ more
-    → Values old between f g xs → AddsValues between new more → Notes g h (FoundAfter IsBadName between.values (named_values more))
-    → Values old new f h ys
-values-more old between new f g h xs more ys e v a n =
-    subst (λ (zs : List Naming). Values old new f h zs) (sym e) (record {
+pub values-more : (form : Form) (old between new : Local) (f g h : Option Fault) (xs more ys : List Naming) → ys ≡ xs ++ more
+    → Values form old between f g xs → AddsValues between new more → Notes g h (FoundAfter (IsBadName form) between.values (named_values more))
+    → Values form old new f h ys
+values-more form old between new f g h xs more ys e v a n =
+    subst (λ (zs : List Naming). Values form old new f h zs) (sym e) (record {
       added = adds_values-more old between new xs more v.added a;
-      noted = notes-behind (λ (one : Naming). one.line) (λ (one : Naming). one.name) IsBadName old.values between.values xs more f g h v.added.values v.noted n;
+      noted = notes-behind (λ (one : Naming). one.line) (λ (one : Naming). one.name) (IsBadName form) old.values between.values xs more f g h v.added.values v.noted n;
     })
 
-pub record Blocks (old new : Local) (f g : Option Fault) (xs : List BlockLines) : Type 0 where
+pub record Blocks (form : Form) (old new : Local) (f g : Option Fault) (xs : List BlockLines) : Type 0 where
   pub added : AddsBlocks old new xs
-  pub noted : Notes f g (FoundAfter IsBadName old.blocks (named_blocks xs))
+  pub noted : Notes f g (FoundAfter (IsBadName form) old.blocks (named_blocks xs))
 
-pub blocks-none : (t : Local) (f : Option Fault) → Blocks t t f f []
-blocks-none t f = record {
+pub blocks-none : (form : Form) (t : Local) (f : Option Fault) → Blocks form t t f f []
+blocks-none form t f = record {
   added = record { values = refl; types = refl; blocks = sym (append-nil t.blocks); answer = refl };
-  noted = notes-nothing f (FoundAfter IsBadName t.blocks []) (found-none IsBadName t.blocks);
+  noted = notes-nothing f (FoundAfter (IsBadName form) t.blocks []) (found-none (IsBadName form) t.blocks);
 }
 
-pub blocks-more : (old between new : Local) (f g h : Option Fault) (xs ys : List BlockLines) (one : BlockLines) → ys ≡ xs ++ one ∷ []
-    → Blocks old between f g xs → new.values ≡ between.values → new.types.items ≡ between.types.items
+pub blocks-more : (form : Form) (old between new : Local) (f g h : Option Fault) (xs ys : List BlockLines) (one : BlockLines) → ys ≡ xs ++ one ∷ []
+    → Blocks form old between f g xs → new.values ≡ between.values → new.types.items ≡ between.types.items
     → new.blocks ≡ between.blocks ++ one.name ∷ [] → new.answer ≡ between.answer
-    → Notes g h (FoundAfter IsBadName between.blocks ((one.line, one.name) ∷ []))
-    → Blocks old new f h ys
-blocks-more old between new f g h xs ys one e b values types blocks answer n =
-    subst (λ (zs : List BlockLines). Blocks old new f h zs) (sym e) (record {
+    → Notes g h (FoundAfter (IsBadName form) between.blocks ((one.line, one.name) ∷ []))
+    → Blocks form old new f h ys
+blocks-more form old between new f g h xs ys one e b values types blocks answer n =
+    subst (λ (zs : List BlockLines). Blocks form old new f h zs) (sym e) (record {
       added = record {
         values = values ∙ b.added.values;
         types = types ∙ b.added.types;
         blocks = appended (λ (one : BlockLines). one.name) old.blocks between.blocks new.blocks xs (one ∷ []) b.added.blocks blocks;
         answer = answer ∙ b.added.answer;
       };
-      noted = notes-behind (λ (one : BlockLines). one.line) (λ (one : BlockLines). one.name) IsBadName old.blocks between.blocks xs (one ∷ []) f g h b.added.blocks b.noted n;
+      noted = notes-behind (λ (one : BlockLines). one.line) (λ (one : BlockLines). one.name) (IsBadName form) old.blocks between.blocks xs (one ∷ []) f g h b.added.blocks b.noted n;
     })
 
 -- the arguments of a head by their places
@@ -136,28 +137,28 @@ pub same-length : {X Y Z : Type 0} (f : X → Z) (g : Y → Z) (xs : List X) (ys
 same-length f g xs ys e = sym (length-map xs f) ∙ ap length e ∙ length-map ys g
 
 -- both lists of names of a function
-pub names-noted : (func : Definition) (args results : List Naming) (f g h i : Option Fault) (values : List (List ℕ))
+pub names-noted : (form : Form) (func : Definition) (args results : List Naming) (f g h i : Option Fault) (values : List (List ℕ))
     → values_of func ≡ args ++ results → values ≡ map (λ (one : Naming). one.name) args
-    → Notes f g (FoundAfter IsBadName [] (named_values args)) → Notes g h (FoundAfter IsBadName values (named_values results))
-    → Notes h i (FoundAfter IsBadName [] (named_blocks (blocks_of func)))
-    → Notes f i (FoundByNames func)
-names-noted func args results f g h i values e known m n o =
-    notes-same f i (Either (FoundAfter IsBadName [] (named_values (values_of func))) (FoundAfter IsBadName [] (named_blocks (blocks_of func)))) (FoundByNames func)
+    → Notes f g (FoundAfter (IsBadName form) [] (named_values args)) → Notes g h (FoundAfter (IsBadName form) values (named_values results))
+    → Notes h i (FoundAfter (IsBadName form) [] (named_blocks (blocks_of func)))
+    → Notes f i (FoundByNames form func)
+names-noted form func args results f g h i values e known m n o =
+    notes-same f i (Either (FoundAfter (IsBadName form) [] (named_values (values_of func))) (FoundAfter (IsBadName form) [] (named_blocks (blocks_of func)))) (FoundByNames form func)
     to from
-    (notes-then f h i (FoundAfter IsBadName [] (named_values (values_of func))) (FoundAfter IsBadName [] (named_blocks (blocks_of func))) both o)
+    (notes-then f h i (FoundAfter (IsBadName form) [] (named_values (values_of func))) (FoundAfter (IsBadName form) [] (named_blocks (blocks_of func))) both o)
   where
-    both : Notes f h (FoundAfter IsBadName [] (named_values (values_of func)))
+    both : Notes f h (FoundAfter (IsBadName form) [] (named_values (values_of func)))
     both =
-        subst (λ (all : List Naming). Notes f h (FoundAfter IsBadName [] (named_values all))) (sym e)
-        (notes-behind (λ (one : Naming). one.line) (λ (one : Naming). one.name) IsBadName [] values args results f g h known m n)
+        subst (λ (all : List Naming). Notes f h (FoundAfter (IsBadName form) [] (named_values all))) (sym e)
+        (notes-behind (λ (one : Naming). one.line) (λ (one : Naming). one.name) (IsBadName form) [] values args results f g h known m n)
 
-    to : (l c : ℕ) → Either (FoundAfter IsBadName [] (named_values (values_of func))) (FoundAfter IsBadName [] (named_blocks (blocks_of func))) l c → FoundByNames func l c
-    to l c (inl v) = inl (names-found (named_values (values_of func)) l c v)
-    to l c (inr b) = inr (names-found (named_blocks (blocks_of func)) l c b)
+    to : (l c : ℕ) → Either (FoundAfter (IsBadName form) [] (named_values (values_of func))) (FoundAfter (IsBadName form) [] (named_blocks (blocks_of func))) l c → FoundByNames form func l c
+    to l c (inl v) = inl (names-found form (named_values (values_of func)) l c v)
+    to l c (inr b) = inr (names-found form (named_blocks (blocks_of func)) l c b)
 
-    from : (l c : ℕ) → FoundByNames func l c → Either (FoundAfter IsBadName [] (named_values (values_of func))) (FoundAfter IsBadName [] (named_blocks (blocks_of func))) l c
-    from l c (inl v) = inl (found-names (named_values (values_of func)) l c v)
-    from l c (inr b) = inr (found-names (named_blocks (blocks_of func)) l c b)
+    from : (l c : ℕ) → FoundByNames form func l c → Either (FoundAfter (IsBadName form) [] (named_values (values_of func))) (FoundAfter (IsBadName form) [] (named_blocks (blocks_of func))) l c
+    from l c (inl v) = inl (found-names form (named_values (values_of func)) l c v)
+    from l c (inr b) = inr (found-names form (named_blocks (blocks_of func)) l c b)
 
 -- ---- layouts and heads
 

@@ -3,6 +3,8 @@ use Rattle.std.specs.Prelude.{◌≡◌, ℕ, ◌⊎◌, List, ◌∷◌, ◌++�
 use Rattle.std.specs.List.{Contains}
 use Rattle.std.specs.Option.{option_and_then}
 use Rattle.ir_reader.specs.declared.readings.TypeWord.{TypeWord}
+use Rattle.ir_ast.specs.declared.modules.Form.{Form}
+use Rattle.ir_ast.specs.declared.modules.Form.TheVariants.{Source}
 use Rattle.ir_ast.specs.Faults.Reserved.{IsInsertedName}
 use Rattle.ir_lines.specs.Parts.{gives}
 use Rattle.ir_lines.specs.InBody.{Repeats}
@@ -46,9 +48,9 @@ pub record FoundAfter (fault : List (List ℕ) → List ℕ → ℕ → Type 0) 
 abbrev pub IsAgain : List (List ℕ) → List ℕ → ℕ → Type 0
 IsAgain names name code = (code ≡ 3) × Contains names name
 
--- and code 14: the name of an inserted value or label
-abbrev pub IsBadName : List (List ℕ) → List ℕ → ℕ → Type 0
-IsBadName names name code = IsAgain names name code ⊎ ((code ≡ 14) × IsInsertedName name)
+-- and code 14, in the source form: the name of an inserted value or label
+abbrev pub IsBadName : Form → List (List ℕ) → List ℕ → ℕ → Type 0
+IsBadName form names name code = IsAgain names name code ⊎ ((code ≡ 14) × (form ≡ Source) × IsInsertedName name)
 
 -- the line gives a name of an inserted value or label
 pub record NamesInserted (added : List (ℕ × List ℕ)) (line : ℕ) : Type 0 where
@@ -57,8 +59,8 @@ pub record NamesInserted (added : List (ℕ × List ℕ)) (line : ℕ) : Type 0 
   pub inserted : IsInsertedName name
 
 -- what these names of values or of labels have
-abbrev pub NamesFound : List (ℕ × List ℕ) → ℕ → ℕ → Type 0
-NamesFound given line code = ((code ≡ 3) × Repeats given line) ⊎ ((code ≡ 14) × NamesInserted given line)
+abbrev pub NamesFound : Form → List (ℕ × List ℕ) → ℕ → ℕ → Type 0
+NamesFound form given line code = ((code ≡ 3) × Repeats given line) ⊎ ((code ≡ 14) × (form ≡ Source) × NamesInserted given line)
 
 -- a layout or a head whose name an earlier one has
 abbrev pub TopAgain : List Line → ℕ → ℕ → Type 0
@@ -66,6 +68,6 @@ TopAgain lines line code =
     (code ≡ 3) × (Repeats (named_layouts (layouts_of lines)) line ⊎ Repeats (named_heads (heads_of lines)) line)
 
 -- what the names of the values and of the labels of a definition have
-abbrev pub FoundByNames : Definition → ℕ → ℕ → Type 0
-FoundByNames func line code =
-    NamesFound (named_values (values_of func)) line code ⊎ NamesFound (named_blocks (blocks_of func)) line code
+abbrev pub FoundByNames : Form → Definition → ℕ → ℕ → Type 0
+FoundByNames form func line code =
+    NamesFound form (named_values (values_of func)) line code ⊎ NamesFound form (named_blocks (blocks_of func)) line code

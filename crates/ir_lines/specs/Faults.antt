@@ -12,3 +12,4 @@ pub mod BadLayout
 pub mod Reserved
 pub mod PointerOrder
 pub mod PointerCast
+pub mod GroupShape

@@ -1,4 +1,5 @@
 pub mod Statements
+pub mod TextForms
 pub mod Parts
 pub mod Sections
 pub mod Places

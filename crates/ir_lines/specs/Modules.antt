@@ -9,7 +9,7 @@ use Rattle.ir_ast.specs.declared.types.Ty.TheVariants as tys
 use Rattle.ir_ast.specs.declared.cells.Cell.{Cell}
 use Rattle.ir_ast.specs.declared.cells.Cell.TheVariants as cells
 use Rattle.ir_ast.specs.declared.funcs.Arg.{Arg}
-use Rattle.ir_ast.specs.declared.modules.Form.TheVariants.{Source}
+use Rattle.ir_ast.specs.declared.modules.Form.{Form}
 use Rattle.ir_ast.specs.declared.ops.Op.{Op}
 use Rattle.ir_ast.specs.declared.ops.Op.TheVariants as ops
 use Rattle.ir_ast.specs.declared.ops.Operand.{Operand}
@@ -33,7 +33,8 @@ use Rattle.ir_reader.specs.declared.words.Conversion.TheVariants as conversions
 use Rattle.ir_reader.specs.Parts.{Val}
 use Rattle.ir_reader.specs.Parts as values
 use Rattle.ir_reader.specs.Lists.{Given, given, function}
-use Rattle.ir_lines.specs.Statements.{Statement, Line, binary, compare, convert, select, phi, scalar_step, layout_step, load, store, call, jump, branch, switch, switch_case, ret_void, ret, unreachable}
+use Rattle.ir_lines.specs.Statements.{Statement, Line, binary, compare, convert, select, phi, scalar_step, layout_step, load, store, call, jump, branch, switch, switch_case, ret_void, ret, unreachable, statepoint, gc_result, gc_relocate}
+use Rattle.ir_lines.specs.Parts.{live_use, token_use, index_use}
 use Rattle.ir_lines.specs.Sections.{LayoutLine, Definition, Naming, BlockLines, layouts_of, definitions_of, arguments_named, values_of, blocks_of, cases_of}
 use Rattle.ir_lines.specs.Places.{place_in, number_of, number_in}
 
@@ -134,6 +135,10 @@ passed_type (function name) = types.Plain
 abbrev pub given_type : Given → Ty
 given_type one = type_of (passed_type one)
 
+-- the operand that a use of a value stands for
+abbrev pub used_operand : Known → Val × TypeWord → Operand
+used_operand known used = operand_of known used.1 used.0
+
 -- the external of a name; other names than the first six are those of `gc_new`
 abbrev pub external_callee : Known → List ℕ → Callee
 external_callee known name =
@@ -217,6 +222,15 @@ instruction_said known behind (switch width value default) =
 instruction_said known behind ret_void = Some (instruction None ops.Ret tys.Void [] [])
 instruction_said known behind (ret ty value) = Some (instruction None ops.Ret (type_of ty) (operand_of known ty value ∷ []) [])
 instruction_said known behind unreachable = Some (instruction None ops.Unreachable tys.Void [] [])
+-- a statepoint has its arguments first and then its live entries
+instruction_said known behind (statepoint result made live) =
+    Some (instruction (Some result) (ops.Statepoint (wrapped 64 made.id) (callee_of known made.callee) (map given_type made.passed))
+    (type_of made.signature.answer) (map (passed_operand known) made.passed ++ map (used_operand known) (map live_use live)) [])
+instruction_said known behind (gc_result result ty token) =
+    Some (instruction (Some result) ops.GcResult (type_of ty) (used_operand known (token_use token) ∷ []) [])
+instruction_said known behind (gc_relocate result token base derived) =
+    Some (instruction (Some result) ops.GcRelocate tys.Ptr
+    (used_operand known (token_use token) ∷ used_operand known (index_use base) ∷ used_operand known (index_use derived) ∷ []) [])
 instruction_said known behind _ = None
 
 -- each with its line
@@ -257,12 +271,12 @@ abbrev pub instruction_lines : Known → Definition → List ℕ
 instruction_lines known func =
     flat_map (λ block. numbers_of known block.lines) (blocks_of func)
 
-abbrev pub module_of : List Line → LinedModule
-module_of lines = record {
+abbrev pub module_of : Form → List Line → LinedModule
+module_of form lines = record {
   content = record {
     layouts = map layout_of (layouts_of lines);
     funcs = map (λ func. function_of (known_of lines func) func) (definitions_of lines);
-    form = Source;
+    form = form;
   };
   lines = map (λ func. instruction_lines (known_of lines func) func) (definitions_of lines);
 }

@@ -1,11 +1,16 @@
 -- What a line of a function gives, uses and names.
-use Rattle.std.specs.Prelude.{ℕ, Bool, true, false, List, [], ◌∷◌, map, Option, Some, None, filter_map}
+use Rattle.std.specs.Prelude.{ℕ, Bool, true, false, List, [], ◌∷◌, ◌++◌, map, Option, Some, None, filter_map}
 use Rattle.ir_reader.specs.declared.readings.TypeWord.{TypeWord}
-use Rattle.ir_reader.specs.declared.readings.TypeWord.TheVariants.{Int, Managed, Plain}
+use Rattle.ir_reader.specs.declared.readings.TypeWord.TheVariants.{Void, Int, Managed, Plain}
+use Rattle.ir_reader.specs.declared.readings.Literal.{Literal}
 use Rattle.ir_reader.specs.Parts.{Val}
 use Rattle.ir_reader.specs.Parts as values
 use Rattle.ir_reader.specs.Lists.{Given, given, function}
-use Rattle.ir_lines.specs.Statements.{Statement, label, binary, compare, convert, select, phi, scalar_step, layout_step, load, store, call, jump, branch, switch, switch_case, ret_void, ret, unreachable, cast}
+use Rattle.ir_lines.specs.Statements.{Statement, label, binary, compare, convert, select, phi, scalar_step, layout_step, load, store, call, jump, branch, switch, switch_case, ret_void, ret, unreachable, cast, statepoint, gc_result, gc_relocate}
+
+-- the type of a statepoint's result, a token; no other value has the type word `void`
+abbrev pub token_type : TypeWord
+token_type = Void
 
 abbrev pub given_by_call : Option (List ℕ) → TypeWord → Option (List ℕ × TypeWord)
 given_by_call None answer = None
@@ -23,6 +28,9 @@ gives (layout_step result named address width index place) = Some (result, Manag
 gives (load result ty address) = Some (result, ty)
 gives (call result answer callee passed) = given_by_call result answer
 gives (cast result op from value to) = Some (result, to)
+gives (statepoint result made live) = Some (result, token_type)
+gives (gc_result result ty token) = Some (result, ty)
+gives (gc_relocate result token base derived) = Some (result, Managed)
 gives _ = None
 
 abbrev pub passed_value : Given → Option (Val × TypeWord)
@@ -31,6 +39,16 @@ passed_value (function name) = None
 
 abbrev pub entry_use : TypeWord → Val × List ℕ → Val × TypeWord
 entry_use ty entry = (entry.0, ty)
+
+abbrev pub live_use : Val → Val × TypeWord
+live_use entry = (entry, Managed)
+
+abbrev pub token_use : List ℕ → Val × TypeWord
+token_use token = (values.local token, token_type)
+
+-- the place of a live entry, a number of `i32`
+abbrev pub index_use : Literal → Val × TypeWord
+index_use place = (values.number place, Int 32)
 
 -- the values that it uses, each with the type that the line asks of it
 abbrev pub uses : Statement → List (Val × TypeWord)
@@ -49,6 +67,9 @@ uses (switch width value default) = (value, Int width) ∷ []
 uses (switch_case width value to) = (value, Int width) ∷ []
 uses (ret ty value) = (value, ty) ∷ []
 uses (cast result op from value to) = (value, from) ∷ []
+uses (statepoint result made live) = filter_map passed_value made.passed ++ map live_use live
+uses (gc_result result ty token) = token_use token ∷ []
+uses (gc_relocate result token base derived) = token_use token ∷ index_use base ∷ index_use derived ∷ []
 uses _ = []
 
 -- the labels that a terminator or a case names: an edge each
@@ -70,6 +91,7 @@ passed_function (function name) = Some name
 -- the functions that it names: what it calls, and what it passes
 abbrev pub functions_named : Statement → List (List ℕ)
 functions_named (call result answer callee passed) = callee ∷ filter_map passed_function passed
+functions_named (statepoint result made live) = made.callee ∷ filter_map passed_function made.passed
 functions_named _ = []
 
 abbrev pub layouts_named : Statement → List (List ℕ)
@@ -100,7 +122,14 @@ is_merge (phi result ty entries) = true
 is_merge (select result condition left_ty left right_ty right) = true
 is_merge _ = false
 
--- what is stored, passed or returned
+-- a line of a statepoint group
+abbrev pub is_of_group : Statement → Bool
+is_of_group (statepoint result made live) = true
+is_of_group (gc_result result ty token) = true
+is_of_group (gc_relocate result token base derived) = true
+is_of_group _ = false
+
+-- what a line of the source form stores, passes or returns
 abbrev pub leaving : Statement → List Val
 leaving (store ty value address) = value ∷ []
 leaving (call result answer callee passed) = map (λ used. used.0) (filter_map passed_value passed)

@@ -1,14 +1,18 @@
 -- Lines as a reader gives them: with names that are names, widths from 1 to 64, the types that each form may have,
 -- in their places and within the limits.
-use Rattle.std.specs.Prelude.{◌≡◌, ℕ, ◌+◌, ◌≤◌, ◌<◌, ◌^◌, ⊤, Bool, true, false, List, [], ◌∷◌, length, count_by, Option, Some, None}
+use Rattle.std.specs.Prelude.{◌≡◌, ℕ, ◌+◌, ◌≤◌, ◌<◌, ◌^◌, ⊤, Bool, true, false, List, [], ◌∷◌, ◌++◌, length, take_while, count_by, Option, Some, None}
 use Rattle.std.specs.List.{All, sum_by}
+use Rattle.ir_ast.specs.declared.modules.Form.{Form}
+use Rattle.ir_ast.specs.declared.modules.Form.TheVariants.{Source}
 use Rattle.ir_ast.specs.Widths.{IsWidth}
 use Rattle.ir_cfg.specs.Limits.{IsName}
 use Rattle.ir_reader.specs.declared.readings.TypeWord.{TypeWord}
 use Rattle.ir_reader.specs.declared.readings.TypeWord.TheVariants.{Void, Int, Managed}
-use Rattle.ir_reader.specs.Parts.{is_case_value, is_scalar_type}
+use Rattle.ir_reader.specs.Parts.{Val, is_case_value, is_scalar_type}
 use Rattle.ir_reader.specs.Lists.{Named, Given, given, function}
-use Rattle.ir_lines.specs.Statements.{Statement, Line, layout, define, label, binary, compare, convert, select, phi, scalar_step, layout_step, load, call, switch, switch_case, ret, cast, jump, branch, store, ret_void, unreachable}
+use Rattle.ir_reader.specs.Statepoints.{Guarded}
+use Rattle.ir_lines.specs.Statements.{Statement, Line, layout, define, label, binary, compare, convert, select, phi, scalar_step, layout_step, load, call, switch, switch_case, ret, cast, jump, branch, store, ret_void, unreachable, statepoint, gc_result, gc_relocate}
+use Rattle.ir_lines.specs.Parts.{is_of_group}
 use Rattle.ir_lines.specs.Sections.{Definition, layouts_of, definitions_of, blocks_of, is_case}
 
 -- `iN` of a width, or `ptr addrspace(1)`
@@ -44,6 +48,12 @@ pub record IsReadHead (answer : TypeWord) (name : List ℕ) (arguments : List Na
   pub few : length arguments ≤ 64
   pub each : All IsReadArgument arguments
 
+pub record IsReadStatepoint (result : List ℕ) (made : Guarded) (live : List Val) : Type 0 where
+  pub named : IsName result
+  pub answered : IsAnswerType made.signature.answer
+  pub passed : All IsReadPassed made.passed
+  pub few : length live ≤ 16384
+
 abbrev pub SaysRead : Statement → Type 0
 SaysRead (layout name fields) = IsName name × (length name ≤ 4096) × (length fields ≤ 64)
 SaysRead (define answer name arguments strategy) = IsReadHead answer name arguments
@@ -61,6 +71,9 @@ SaysRead (call result answer callee passed) = IsReadCall result answer × All Is
 SaysRead (switch width value default) = IsWidth width
 SaysRead (switch_case width value to) = is_case_value value ≡ true
 SaysRead (ret ty value) = IsValueType ty
+SaysRead (statepoint result made live) = IsReadStatepoint result made live
+SaysRead (gc_result result ty token) = IsName result × IsValueType ty
+SaysRead (gc_relocate result token base derived) = IsName result
 SaysRead _ = ⊤
 
 -- the head of a `switch`, or one of its cases
@@ -93,20 +106,42 @@ is_instruction ret_void = true
 is_instruction (ret ty value) = true
 is_instruction unreachable = true
 is_instruction (cast result op from value to) = true
+is_instruction (statepoint result made live) = true
+is_instruction (gc_result result ty token) = true
+is_instruction (gc_relocate result token base derived) = true
 is_instruction _ = false
 
 abbrev pub instruction_count : List Line → ℕ
 instruction_count lines = count_by (λ l. is_instruction l.says) lines
 
-pub record IsReadFunction (func : Definition) : Type 0 where
+abbrev pub is_relocate : Statement → Bool
+is_relocate (gc_relocate result token base derived) = true
+is_relocate _ = false
+
+-- how many relocates stand first among these lines
+abbrev pub relocates_first : List Line → ℕ
+relocates_first lines = length (take_while (λ l. is_relocate l.says) lines)
+
+-- at most 16,384 relocates stand in a row
+abbrev pub RelocatesAreFew : List Line → Type 0
+RelocatesAreFew lines = (before after : List Line) → lines ≡ before ++ after → relocates_first after ≤ 16384
+
+pub record IsReadFunction (form : Form) (func : Definition) : Type 0 where
   pub has_line : 0 < length func.body
   pub cases : CasesStand false func.body
-  pub values : length func.arguments + instruction_count func.body ≤ 4096
+  -- the rewritten form has no limit on instructions but that of the file
+  pub values : form ≡ Source → length func.arguments + instruction_count func.body ≤ 4096
+  pub few_instructions : instruction_count func.body < 2 ^ 24
+  pub few_relocates : RelocatesAreFew func.body
   pub few_blocks : length (blocks_of func) < 2 ^ 30
 
-pub record IsReadLines (lines : List Line) : Type 0 where
+pub record IsReadLines (form : Form) (lines : List Line) : Type 0 where
   pub says : All (λ l. SaysRead l.says) lines
-  pub functions : All IsReadFunction (definitions_of lines)
+  -- only the rewritten form has statepoint groups
+  pub own : form ≡ Source → All (λ l. is_of_group l.says ≡ false) lines
+  pub functions : All (IsReadFunction form) (definitions_of lines)
   pub few_layouts : length (layouts_of lines) ≤ 4096
   pub few_functions : length (definitions_of lines) ≤ 4096
-  pub few_instructions : sum_by (λ func. instruction_count func.body) (definitions_of lines) ≤ 65536
+  pub few_instructions : form ≡ Source → sum_by (λ func. instruction_count func.body) (definitions_of lines) ≤ 65536
+  -- a text within the file limit has no more lines than bytes and one
+  pub few_lines : length lines ≤ 16777217

@@ -106,9 +106,13 @@ abbrev pub result_named : ℕ → Option (List ℕ × TypeWord) → List Naming
 result_named line None = []
 result_named line (Some (name, ty)) = record { line = line; name = name; ty = ty } ∷ []
 
+-- the arguments of a function, and the results of these lines of it
+abbrev pub values_before : Definition → List Line → List Naming
+values_before func lines =
+    arguments_named func.line [] func.arguments ++ flat_map (λ l. result_named l.number (gives l.says)) lines
+
 abbrev pub values_of : Definition → List Naming
-values_of func =
-    arguments_named func.line [] func.arguments ++ flat_map (λ l. result_named l.number (gives l.says)) func.body
+values_of func = values_before func func.body
 
 -- ---- blocks
 

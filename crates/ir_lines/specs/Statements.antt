@@ -12,6 +12,7 @@ use Rattle.ir_reader.specs.declared.readings.TypeWord.TheVariants as types
 use Rattle.ir_reader.specs.declared.readings.Literal.{Literal}
 use Rattle.ir_reader.specs.Parts.{Val, null}
 use Rattle.ir_reader.specs.Lists.{Named, Given}
+use Rattle.ir_reader.specs.Statepoints.{Signature, Guarded}
 use Rattle.ir_reader.specs.Slots.{Item}
 use Rattle.ir_reader.specs.Slots as items
 use Rattle.ir_reader.specs.Seen.{Said}
@@ -52,6 +53,13 @@ pub data Statement : Type 0 where
   unreachable : Statement
   -- `%x = CAST T V to U`
   cast : (result : List ℕ) → (op : Cast) → (from : TypeWord) → (value : Val) → (to : TypeWord) → Statement
+  -- `%t = call token (..) @llvm.experimental.gc.statepoint.p0(.. @f, .. T V, .. ) [ "gc-live"(P V, ..) ]`, what it
+  -- calls and its live entries; this and the next two stand in the rewritten form alone
+  statepoint : (result : List ℕ) → (made : Guarded) → (live : List Val) → Statement
+  -- `%x = call T @llvm.experimental.gc.result.S(token %t)`
+  gc_result : (result : List ℕ) → (ty : TypeWord) → (token : List ℕ) → Statement
+  -- `%x = call P @llvm.experimental.gc.relocate.p1(token %t, i32 B, i32 D)`
+  gc_relocate : (result token : List ℕ) → (base derived : Literal) → Statement
 
 -- a line of a text: its number and what it says
 pub record Line : Type 0 where
@@ -104,6 +112,24 @@ abbrev pub called_of : Option Item → List ℕ × List Given
 called_of (Some (items.called n ps)) = (n, ps)
 called_of _ = ([], [])
 
+abbrev pub literal_of : Option Item → Literal
+literal_of (Some (items.literal n)) = n
+literal_of _ = record { negative = false; magnitude = 0 }
+
+abbrev pub no_signature : Signature
+no_signature = record { answer = types.Void; parameters = [] }
+
+abbrev pub no_call : Guarded
+no_call = record { id = literal_of None; signature = no_signature; callee = []; count = literal_of None; passed = [] }
+
+abbrev pub guarded_of : Option Item → Guarded
+guarded_of (Some (items.guarded c)) = c
+guarded_of _ = no_call
+
+abbrev pub live_of : Option Item → List Val
+live_of (Some (items.live vs)) = vs
+live_of _ = []
+
 abbrev pub strategy_of : Option Item → Option (List ℕ)
 strategy_of (Some (items.strategy s)) = s
 strategy_of _ = None
@@ -135,6 +161,9 @@ of_form forms.ReturnVoid at = ret_void
 of_form forms.Return at = ret (type_of (at 0)) (value_of (at 1))
 of_form forms.Unreachable at = unreachable
 of_form (forms.Cast op) at = cast (name_of (at 0)) op (type_of (at 1)) (value_of (at 2)) (type_of (at 3))
+of_form forms.Statepoint at = statepoint (name_of (at 0)) (guarded_of (at 1)) (live_of (at 2))
+of_form forms.GcResult at = gc_result (name_of (at 0)) (type_of (at 1)) (name_of (at 2))
+of_form forms.GcRelocate at = gc_relocate (name_of (at 0)) (name_of (at 1)) (literal_of (at 2)) (literal_of (at 3))
 
 -- what a reading says
 abbrev pub stated : Said → Statement

@@ -1,12 +1,17 @@
 -- What the lines of a text that was read are like: each stands where it may, is formed as its form asks, and passes no limit of a line.
-use Rattle.std.specs.Prelude.{◌≡◌, ℕ, ◌≤◌, Bool, true, false, ◌&&◌, nat_le, List, [], ◌∷◌, length, Option, Some, None}
+use Rattle.std.specs.Prelude.{◌≡◌, ℕ, ◌≤◌, Bool, true, false, not, ◌&&◌, nat_le, List, [], ◌∷◌, length, Option, Some, None}
 use Rattle.std.specs.List.{All, list_all}
+use Rattle.ir_ast.specs.declared.modules.Form.{Form}
+use Rattle.ir_ast.specs.declared.modules.Form.TheVariants.{Source, Rewritten}
+use Rattle.ir_reader.specs.Statepoints.{Guarded}
 use Rattle.ir_reader.specs.declared.forms.Place.{Place}
 use Rattle.ir_reader.specs.declared.forms.Place.TheVariants as places
 use Rattle.ir_reader.specs.Parts.{is_value_type, is_answer_type, is_cast_type, is_scalar_type, is_case_value}
 use Rattle.ir_reader.specs.Lists.{Given, given, function, is_argument_type, is_task_start}
-use Rattle.ir_reader.specs.Limits.{width_fits, type_fits, value_fits, place_fits, argument_fits, given_fits, entry_value_fits, name_fits}
-use Rattle.ir_lines.specs.Statements.{Statement, Line, layout, declare, define, close, label, binary, compare, convert, select, phi, scalar_step, layout_step, load, store, call, jump, branch, switch, switch_case, switch_end, ret_void, ret, unreachable, cast}
+use Rattle.ir_reader.specs.Limits.{width_fits, type_fits, value_fits, place_fits, argument_fits, given_fits, entry_value_fits, name_fits, literal_fits, guarded_fits, live_fits}
+use Rattle.ir_lines.specs.Statements.{Statement, Line, layout, declare, define, close, label, binary, compare, convert, select, phi, scalar_step, layout_step, load, store, call, jump, branch, switch, switch_case, switch_end, ret_void, ret, unreachable, cast, statepoint, gc_result, gc_relocate}
+use Rattle.ir_lines.specs.Parts.{is_of_group}
+use Rattle.ir_lines.specs.ReadLines.{RelocatesAreFew}
 
 -- ---- places
 
@@ -29,6 +34,9 @@ behind_instruction (load result ty address) = Some places.Block
 behind_instruction (store ty value address) = Some places.Block
 behind_instruction (call result answer callee passed) = Some places.Block
 behind_instruction (cast result op from value to) = Some places.Block
+behind_instruction (statepoint result made live) = Some places.Block
+behind_instruction (gc_result result ty token) = Some places.Block
+behind_instruction (gc_relocate result token base derived) = Some places.Block
 behind_instruction (jump to) = Some places.Closed
 behind_instruction (branch condition on_true on_false) = Some places.Closed
 behind_instruction ret_void = Some places.Closed
@@ -95,6 +103,9 @@ statement_fits (switch width value default) = width_fits width && value_fits val
 statement_fits (switch_case width value to) = width_fits width && value_fits value
 statement_fits (ret ty value) = type_fits ty && value_fits value
 statement_fits (cast result op from value to) = type_fits from && (value_fits value && type_fits to)
+statement_fits (statepoint result made live) = guarded_fits made && live_fits live
+statement_fits (gc_result result ty token) = type_fits ty
+statement_fits (gc_relocate result token base derived) = literal_fits base && literal_fits derived
 statement_fits _ = true
 
 -- ---- what the forms ask
@@ -103,6 +114,13 @@ statement_fits _ = true
 abbrev pub given_is_formed : List ℕ → Given → Bool
 given_is_formed callee (given ty value) = is_value_type ty
 given_is_formed callee (function name) = is_task_start callee
+
+-- likewise only its type has `ptr`
+abbrev pub call_is_formed : Guarded → Bool
+call_is_formed made =
+    is_answer_type made.signature.answer
+    && (list_all (is_argument_type (is_task_start made.callee)) made.signature.parameters
+    && list_all (given_is_formed made.callee) made.passed)
 
 -- its types are of the classes that its form asks, and a phi has an entry
 abbrev pub is_formed : Statement → Bool
@@ -121,13 +139,24 @@ is_formed (call (Some result) answer callee passed) = is_value_type answer && li
 is_formed (switch_case width value to) = is_case_value value
 is_formed (ret ty value) = is_value_type ty
 is_formed (cast result op from value to) = is_cast_type from && is_cast_type to
+is_formed (statepoint result made live) = call_is_formed made
+is_formed (gc_result result ty token) = is_value_type ty
 is_formed _ = true
+
+-- ---- what only one of the two forms has or asks
+
+-- only the rewritten form has statepoint groups
+abbrev pub stands_in : Form → Statement → Bool
+stands_in Source what = not (is_of_group what)
+stands_in Rewritten what = true
 
 -- ---- the lines of a text
 
-pub record IsTextLines (lines : List Line) : Type 0 where
+pub record IsTextLines (form : Form) (lines : List Line) : Type 0 where
   pub placed : Stand places.Top lines
   pub fit : All (λ l. statement_fits l.says ≡ true) lines
   pub formed : All (λ l. is_formed l.says ≡ true) lines
+  pub own : All (λ l. stands_in form l.says ≡ true) lines
+  pub few_relocates : RelocatesAreFew lines
   -- a text within the file limit has no more lines than bytes and one
   pub few : length lines ≤ 16777217

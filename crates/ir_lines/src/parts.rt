@@ -1,14 +1,17 @@
 //! What a line of a function gives, uses and names.
 
-ghost use Rattle.std.specs.Prelude.{◌≡◌, [], ◌∷◌, option_map, map, filter_map, IfOk};
+ghost use Rattle.std.specs.Prelude.{◌≡◌, [], ◌∷◌, ◌++◌, option_map, map, filter_map, IfOk};
 ghost use Rattle.std.specs.Option.{option_copied};
-ghost use Rattle.ir_lines.specs.Parts.{gives, passed_value, entry_use, uses, targets, is_step, is_merge};
+ghost use Rattle.ir_lines.specs.Parts.{gives, passed_value, entry_use, live_use, token_type, token_use, index_use, uses, targets, is_step, is_merge};
 ghost use Rattle.ir_lines.specs.Views.{said};
 ghost use Rattle.ir_reader.specs.Seen.{seen_value, seen_passed, seen_entry};
 
-use ir_reader::{Entry, Passed, Reading, TypeWord, Value};
+use ir_reader::{Entry, Literal, Passed, Reading, TypeWord, Value};
 use smallvec::SmallVec;
 use std::alloc::{AllocError, Global};
+
+/// The type of a statepoint's result, a token; no other value has the type word `void`.
+pub const TOKEN: TypeWord = TypeWord::Void;
 
 /// The name and the type of the result of a line.
 pub fn given<'a>(reading: &Reading<'a>) -> Option<(&'a [u8], TypeWord)>
@@ -29,6 +32,9 @@ pub fn given<'a>(reading: &Reading<'a>) -> Option<(&'a [u8], TypeWord)>
         Reading::Load { result, ty, .. } => Some((*result, *ty)),
         Reading::ValueCall { result, answer, .. } => Some((*result, *answer)),
         Reading::Cast { result, to, .. } => Some((*result, *to)),
+        Reading::Statepoint { result, .. } => Some((*result, TOKEN)),
+        Reading::GcResult { result, answer, .. } => Some((*result, *answer)),
+        Reading::GcRelocate { result, .. } => Some((*result, TypeWord::Managed)),
         _ => None,
     }
 }
@@ -60,6 +66,36 @@ fn uses_of_phi<'a>(
         uses.push((entry.value, ty))?;
     }
     Ok(uses)
+}
+
+// What a statepoint passes, and its live entries.
+fn uses_of_statepoint<'a>(
+    alloc: Global,
+    passed: &[Passed<'a>],
+    live: &[Value<'a>],
+) -> Result<Uses<'a>, AllocError>
+    ensures { IfOk result (λ found. map (λ one. (seen_value one.0, one.1)) found.items
+        ≡ filter_map passed_value (map seen_passed passed.now) ++ map live_use (map seen_value live.now)) }
+{
+    let mut uses = uses_of_call(alloc, passed)?;
+    for entry in live {
+        uses.push((*entry, TypeWord::Managed))?;
+    }
+    Ok(uses)
+}
+
+// The use of a token.
+fn token_use(token: &[u8]) -> (Value<'_>, TypeWord)
+    ensures { (seen_value result.0, result.1) ≡ token_use token.now }
+{
+    (Value::Local(token), TOKEN)
+}
+
+// The use of the place of a live entry.
+fn index_use<'a>(place: Literal) -> (Value<'a>, TypeWord)
+    ensures { (seen_value result.0, result.1) ≡ index_use place }
+{
+    (Value::Number(place), TypeWord::Int(32))
 }
 
 /// The values that a line uses.
@@ -147,6 +183,19 @@ pub fn uses<'a>(alloc: Global, reading: &Reading<'a>) -> Result<Uses<'a>, AllocE
         }
         Reading::Return { ty, value } => SmallVec::from_slice(alloc, &[(*value, *ty)]),
         Reading::Cast { from, value, .. } => SmallVec::from_slice(alloc, &[(*value, *from)]),
+        Reading::Statepoint { call, live, .. } => {
+            uses_of_statepoint(alloc, call.passed.as_slice(), live.as_slice())
+        }
+        Reading::GcResult { token, .. } => SmallVec::from_slice(alloc, &[token_use(token)]),
+        Reading::GcRelocate {
+            token,
+            base,
+            derived,
+            ..
+        } => SmallVec::from_slice(
+            alloc,
+            &[token_use(token), index_use(*base), index_use(*derived)],
+        ),
         _ => Ok(SmallVec::new(alloc)),
     }
 }

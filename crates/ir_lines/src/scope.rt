@@ -14,6 +14,7 @@ use crate::best::First;
 use crate::names::Names;
 use crate::parts::given;
 use crate::sections::{BlockLines, Definition, HeadNames};
+use ir_ast::Form;
 use ir_reader::{Argument, NumberedReading, Reading, TypeWord};
 use std::alloc::{AllocError, Global};
 
@@ -206,13 +207,23 @@ fn is_inserted(name: &[u8]) -> bool
     name.starts_with(b"sp.")
 }
 
+// Whether no value and no label of a text in this form may have the name.
+fn is_reserved(form: Form, name: &[u8]) -> bool
+    ensures { IsTrue result ↔ ((form ≡ Form.Source) × IsInsertedName name.now) }
+{
+    match form {
+        Form::Source => is_inserted(name),
+        Form::Rewritten => false,
+    }
+}
+
 // Notes the faults of a name of a value or a label, which an earlier one may have.
-fn note_name(is_new: bool, line: u32, name: &[u8], first: &mut First)
+fn note_name(form: Form, is_new: bool, line: u32, name: &[u8], first: &mut First)
     ensures { Notes first.old.found first.new.found (λ at code. (at ≡ line)
-        × (((code ≡ 3) × (is_new ≡ false)) ⊎ ((code ≡ 14) × IsInsertedName name.now))) }
+        × (((code ≡ 3) × (is_new ≡ false)) ⊎ ((code ≡ 14) × (form ≡ Form.Source) × IsInsertedName name.now))) }
 {
     first.note_if(!is_new, line, 3);
-    first.note_if(is_inserted(name), line, 14);
+    first.note_if(is_reserved(form, name), line, 14);
 }
 
 impl<'n> Local<'n> {
@@ -220,6 +231,7 @@ impl<'n> Local<'n> {
     /// named as an inserted one.
     pub fn of<'t, 'a: 'n>(
         alloc: Global,
+        form: Form,
         func: &Definition<'t, 'a>,
         names: &'n HeadNames,
         blocks: &[BlockLines<'t, 'a, 'n>],
@@ -229,7 +241,7 @@ impl<'n> Local<'n> {
             ≡ map (λ one. one.name) (arguments_named func.now.line [] (map seen_argument func.now.arguments.now)) }
         requires blocks { map seen_block blocks.now ≡ blocks_of (seen_definition func.now) }
         ensures is { IfOk result (λ local. IsLocal (seen_definition func.now) local) }
-        ensures noted { OnOk result (Notes first.old.found first.new.found (FoundByNames (seen_definition func.now))) }
+        ensures noted { OnOk result (Notes first.old.found first.new.found (FoundByNames form (seen_definition func.now))) }
     {
         let mut local = Local {
             values: Names::new(alloc),
@@ -237,15 +249,22 @@ impl<'n> Local<'n> {
             blocks: Names::new(alloc),
             answer: func.answer,
         };
-        local.add_arguments(func.line, func.arguments, names.arguments.as_slice(), first)?;
-        local.add_results(func.body, first)?;
-        local.add_blocks(blocks, first)?;
+        local.add_arguments(
+            form,
+            func.line,
+            func.arguments,
+            names.arguments.as_slice(),
+            first,
+        )?;
+        local.add_results(form, func.body, first)?;
+        local.add_blocks(form, blocks, first)?;
         Ok(local)
     }
 
     // The arguments, which have these names.
     fn add_arguments(
         &mut self,
+        form: Form,
         line: u32,
         arguments: &[Argument],
         names: &'n [Vec<u8>],
@@ -254,10 +273,10 @@ impl<'n> Local<'n> {
         requires { map (λ n. n.items) names.now ≡ map (λ one. one.name) (arguments_named line [] (map seen_argument arguments.now)) }
         ensures added { OnOk result (AddsValues self.old self.new (arguments_named line [] (map seen_argument arguments.now))) }
         ensures noted { OnOk result (Notes first.old.found first.new.found
-            (FoundAfter IsBadName self.old.values (named_values (arguments_named line [] (map seen_argument arguments.now))))) }
+            (FoundAfter (IsBadName form) self.old.values (named_values (arguments_named line [] (map seen_argument arguments.now))))) }
     {
         for (i, argument) in arguments.iter().enumerate() {
-            self.add_value(line, names[i].as_slice(), argument.ty, first)?;
+            self.add_value(form, line, names[i].as_slice(), argument.ty, first)?;
         }
         Ok(())
     }
@@ -265,74 +284,84 @@ impl<'n> Local<'n> {
     // The results of lines.
     fn add_results<'a: 'n>(
         &mut self,
+        form: Form,
         lines: &[NumberedReading<'a>],
         first: &mut First,
     ) -> Result<(), AllocError>
         ensures added { OnOk result (AddsValues self.old self.new (results_of (seen_lines lines.now))) }
         ensures noted { OnOk result (Notes first.old.found first.new.found
-            (FoundAfter IsBadName self.old.values (named_values (results_of (seen_lines lines.now))))) }
+            (FoundAfter (IsBadName form) self.old.values (named_values (results_of (seen_lines lines.now))))) }
     {
         for line in lines {
-            self.add_result(line, first)?;
+            self.add_result(form, line, first)?;
         }
         Ok(())
     }
 
     fn add_result<'a: 'n>(
         &mut self,
+        form: Form,
         line: &NumberedReading<'a>,
         first: &mut First,
     ) -> Result<(), AllocError>
         ensures added { OnOk result (AddsValues self.old self.new (result_named line.now.line (gives (said line.now.reading)))) }
         ensures noted { OnOk result (Notes first.old.found first.new.found
-            (FoundAfter IsBadName self.old.values (named_values (result_named line.now.line (gives (said line.now.reading)))))) }
+            (FoundAfter (IsBadName form) self.old.values (named_values (result_named line.now.line (gives (said line.now.reading)))))) }
     {
         match given(&line.reading) {
-            Some((name, ty)) => self.add_value(line.line, name, ty, first),
+            Some((name, ty)) => self.add_value(form, line.line, name, ty, first),
             None => Ok(()),
         }
     }
 
     fn add_blocks<'t, 'a>(
         &mut self,
+        form: Form,
         blocks: &[BlockLines<'t, 'a, 'n>],
         first: &mut First,
     ) -> Result<(), AllocError>
         ensures added { OnOk result (AddsBlocks self.old self.new (map seen_block blocks.now)) }
         ensures noted { OnOk result (Notes first.old.found first.new.found
-            (FoundAfter IsBadName self.old.blocks (named_blocks (map seen_block blocks.now)))) }
+            (FoundAfter (IsBadName form) self.old.blocks (named_blocks (map seen_block blocks.now)))) }
     {
         for block in blocks {
-            self.add_block(block.line, block.name, first)?;
+            self.add_block(form, block.line, block.name, first)?;
         }
         Ok(())
     }
 
     fn add_value(
         &mut self,
+        form: Form,
         line: u32,
         name: &'n [u8],
         ty: TypeWord,
         first: &mut First,
     ) -> Result<(), AllocError>
         ensures added { OnOk result (AddsValues self.old self.new (record { line = line; name = name.now; ty = ty } ∷ [])) }
-        ensures noted { OnOk result (Notes first.old.found first.new.found (FoundAfter IsBadName self.old.values ((line, name.now) ∷ []))) }
+        ensures noted { OnOk result (Notes first.old.found first.new.found (FoundAfter (IsBadName form) self.old.values ((line, name.now) ∷ []))) }
     {
         let is_new = self.values.add(name)?;
         self.types.push(ty)?;
-        note_name(is_new, line, name, first);
+        note_name(form, is_new, line, name, first);
         Ok(())
     }
 
-    fn add_block(&mut self, line: u32, name: &'n [u8], first: &mut First) -> Result<(), AllocError>
+    fn add_block(
+        &mut self,
+        form: Form,
+        line: u32,
+        name: &'n [u8],
+        first: &mut First,
+    ) -> Result<(), AllocError>
         ensures values { OnOk result (self.new.values ≡ self.old.values) }
         ensures types { OnOk result (self.new.types.items ≡ self.old.types.items) }
         ensures blocks { OnOk result (self.new.blocks ≡ self.old.blocks ++ name.now ∷ []) }
         ensures answer { OnOk result (self.new.answer ≡ self.old.answer) }
-        ensures noted { OnOk result (Notes first.old.found first.new.found (FoundAfter IsBadName self.old.blocks ((line, name.now) ∷ []))) }
+        ensures noted { OnOk result (Notes first.old.found first.new.found (FoundAfter (IsBadName form) self.old.blocks ((line, name.now) ∷ []))) }
     {
         let is_new = self.blocks.add(name)?;
-        note_name(is_new, line, name, first);
+        note_name(form, is_new, line, name, first);
         Ok(())
     }
 

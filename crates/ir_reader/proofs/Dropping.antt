@@ -7,7 +7,7 @@ use Rattle.sp_text.specs.declared.tokens.Kind.TheVariants as kinds
 use Rattle.ir_reader.specs.declared.words.Dropped.{Dropped}
 use Rattle.ir_reader.specs.declared.words.Dropped.TheVariants as drops
 use Rattle.ir_reader.specs.Marks.{is_word, is_mark, is_number, is_quoted, begins}
-use Rattle.ir_reader.specs.Drops.{after_bracket, past_bracketing, past, past_quoted_value, past_word, past_group, past_head_attachment, past_attachment, past_alignment, past_one_of, past_dropped, past_at_most, past_all, is_one_of, is_attribute_word, is_bang_name, is_bang_number, flag_words}
+use Rattle.ir_reader.specs.Drops.{after_bracket, past_bracketing, past, past_quoted_value, past_word, past_group, past_head_attachment, past_attachment, past_alignment, past_one_of, past_group_beside, past_dropped, past_at_most, past_all, is_one_of, is_attribute_word, is_bang_name, is_bang_number, flag_words}
 
 if_some : {A : Type 0} (b : Bool) (x y : A) → cond b (Some x) None ≡ Some y → x ≡ y
 if_some true x y e = cc
@@ -69,6 +69,9 @@ past_group-shorter (tok kinds.Quoted bytes ∷ ts) = omega (arith, past_quoted_v
 past_group-shorter (tok kinds.Hash bytes ∷ ts) = omega arith
 past_group-shorter _ = tt
 
+past_group_beside-shorter : (ts : List Tok) → Shorter (length ts) (past_group_beside ts)
+past_group_beside-shorter ts = choose _ (begins (is_word (codes "elementtype")) ts) _ _ tt (past_group-shorter ts)
+
 past_head_attachment-shorter : (ts : List Tok) → Shorter (length ts) (past_head_attachment ts)
 past_head_attachment-shorter [] = tt
 past_head_attachment-shorter (t ∷ []) = tt
@@ -92,6 +95,7 @@ past_one_of-shorter words _ = tt
 
 past_dropped-shorter : (what : Dropped) (ts : List Tok) → Shorter (length ts) (past_dropped what ts)
 past_dropped-shorter drops.Groups ts = past_group-shorter ts
+past_dropped-shorter drops.BesideElementType ts = past_group_beside-shorter ts
 past_dropped-shorter drops.Attachments ts = past_attachment-shorter ts
 past_dropped-shorter drops.HeadAttachments ts = past_head_attachment-shorter ts
 past_dropped-shorter drops.Alignments ts = past_alignment-shorter ts

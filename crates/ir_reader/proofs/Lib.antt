@@ -6,4 +6,5 @@ pub mod Stopping
 pub mod AllOf
 pub mod LineByLine
 pub mod Openings
+pub mod FamilyLines
 pub mod FittingLines

@@ -11,9 +11,10 @@ use Rattle.ir_reader.specs.declared.readings.TypeWord.TheVariants as types
 use Rattle.ir_reader.specs.Gives.{Found, Stops, after, one_at, with_rest}
 use Rattle.ir_reader.specs.Marks.{is_word, is_mark, begins}
 use Rattle.ir_reader.specs.Drops.{past, past_all}
-use Rattle.ir_reader.specs.Parts.{Val, mark_at, word_at, local_at, global_at, value_at, addrspace_at, pointer_at, type_behind, other_type_at, spelled_type_at, allowed_type_at, name_if_any}
+use Rattle.ir_reader.specs.Parts.{Val, mark_at, word_at, local_at, global_at, value_at, addrspace_at, pointer_at, type_behind, other_type_at, spelled_type_at, allowed_type_at, is_managed, name_if_any}
 use Rattle.ir_reader.specs.Numbers.{width_of}
 use Rattle.ir_reader.specs.Lists.{Named, Given, given, function, at_most_at, listed_at, is_argument_type, argument_at, given_behind, passed_at, entry_at}
+use Rattle.ir_reader.specs.Statepoints.{live_entry_at}
 use Rattle.ir_reader.proofs.Dropping.{past-le, past_all-le}
 
 -- ---- what is read takes at least one token
@@ -125,6 +126,10 @@ unfolding entry_at
 entry_at-shorter ts = after-shorter (length ts) _ _ (one_at-shorter (length ts) _ ts (omega arith)) (λ _ r1 l1. after-shorter (length ts) _ _ (one_next (length ts) _ r1 l1)
     (λ value r2 l2. after-shorter (length ts) _ _ (one_next (length ts) _ r2 l2) (λ _ r3 l3. after-shorter (length ts) _ _ (one_next (length ts) _ r3 l3)
     (λ label r4 l4. after-shorter (length ts) _ _ (one_next (length ts) _ r4 l4) (λ _ r5 l5. l5)))))
+
+pub live_entry_at-shorter : (ts : List Tok) → Shorter (length ts) (live_entry_at ts)
+unfolding live_entry_at
+live_entry_at-shorter ts = after-shorter (length ts) _ _ (allowed_type_at-shorter is_managed ts) (λ _ r lt. one_next (length ts) _ r lt)
 
 -- ---- a loop over the elements
 

@@ -50,16 +50,16 @@ first_slot s f ts e =
     let b = first_found (parse f a.1) (λ items end. Some (a.0 ++ items, end)) a.3 in
     (a.0, a.1, a.2, found_is (parse f a.1) (b.0, b.1) b.2)
 
-abbrev told : {A : Type 0} → A × List Tok → Found A
+abbrev pub told : {A : Type 0} → A × List Tok → Found A
 told x = Some x
 
 pair_is : {A : Type 0} (x y : A × List Tok) → told x ≡ told y → x ≡ y
 pair_is x y e = cc
 
-rest_is : {A : Type 0} (x y : A × List Tok) → told x ≡ told y → x.1 ≡ y.1
+pub rest_is : {A : Type 0} (x y : A × List Tok) → told x ≡ told y → x.1 ≡ y.1
 rest_is {A = A} x y e = ap (λ (p : A × List Tok). p.1) (pair_is x y e)
 
-said_is : {A : Type 0} (x y : A × List Tok) → told x ≡ told y → x.0 ≡ y.0
+pub said_is : {A : Type 0} (x y : A × List Tok) → told x ≡ told y → x.0 ≡ y.0
 said_is {A = A} x y e = ap (λ (p : A × List Tok). p.0) (pair_is x y e)
 
 -- ---- words, marks, names
@@ -73,7 +73,7 @@ word_is text bytes ts here rest true same e =
     rw (text_is, same_rest) refl
 word_is text bytes ts here rest false same e = absurd cc
 
-word_found : (text : List ℕ) (ts : List Tok) (here : List Item) (rest : List Tok) → part (w text) ts ≡ Some (here, rest) → ts ≡ tok kinds.Word text ∷ rest
+pub word_found : (text : List ℕ) (ts : List Tok) (here : List Item) (rest : List Tok) → part (w text) ts ≡ Some (here, rest) → ts ≡ tok kinds.Word text ∷ rest
 unfolding part after one_at
 word_found text [] here rest e = absurd cc
 word_found text (tok kinds.Word bytes ∷ ts) here rest e = word_is text bytes ts here rest (bytes_eq bytes text) refl e
@@ -88,14 +88,14 @@ mark_is text bytes ts here rest true same e =
     rw (text_is, same_rest) refl
 mark_is text bytes ts here rest false same e = absurd cc
 
-mark_found : (text : List ℕ) (ts : List Tok) (here : List Item) (rest : List Tok) → part (m text) ts ≡ Some (here, rest) → ts ≡ tok kinds.Punct text ∷ rest
+pub mark_found : (text : List ℕ) (ts : List Tok) (here : List Item) (rest : List Tok) → part (m text) ts ≡ Some (here, rest) → ts ≡ tok kinds.Punct text ∷ rest
 unfolding part after one_at
 mark_found text [] here rest e = absurd cc
 mark_found text (tok kinds.Punct bytes ∷ ts) here rest e = mark_is text bytes ts here rest (bytes_eq bytes text) refl e
 mark_found text (t ∷ ts) here rest e = absurd cc
 
 -- a name begins with a local
-local_found : (ts : List Tok) (here : List Item) (rest : List Tok) → part a_local ts ≡ Some (here, rest) → (bytes : List ℕ) × (ts ≡ tok kinds.Local bytes ∷ rest)
+pub local_found : (ts : List Tok) (here : List Item) (rest : List Tok) → part a_local ts ≡ Some (here, rest) → (bytes : List ℕ) × (ts ≡ tok kinds.Local bytes ∷ rest)
 unfolding part after one_at
 local_found [] here rest e = absurd cc
 local_found (tok kinds.Local bytes ∷ ts) here rest e = let same_rest : ts ≡ rest = rest_is (_, ts) (here, rest) e in (bytes, rw same_rest refl)
@@ -335,12 +335,24 @@ layout_opens f ts e =
 
 -- ---- each form
 
-pub opens : (form : Form) (ts : List Tok) → IsFound (parse (slots form) ts) → form_of ts ≡ Some form
+-- the form of the source that a form begins like
+abbrev pub like : Form → Form
+like forms.Statepoint = forms.ValueCall
+like forms.GcResult = forms.ValueCall
+like forms.GcRelocate = forms.ValueCall
+like (forms.Dropped drop_lines.Family) = forms.Declare
+like form = form
+
+pub opens : (form : Form) (ts : List Tok) → IsFound (parse (slots form) ts) → form_of ts ≡ Some (like form)
 unfolding word_form named_form
 opens (forms.Dropped drop_lines.SourceFilename) = by_word (codes "source_filename") _ _ (λ rest e. refl)
 opens (forms.Dropped drop_lines.DataLayout) = by_words (codes "target") (codes "datalayout") _ _ (λ rest. refl)
 opens (forms.Dropped drop_lines.Triple) = by_words (codes "target") (codes "triple") _ _ (λ rest. refl)
 opens (forms.Dropped drop_lines.Attributes) = by_word (codes "attributes") _ _ (λ rest e. refl)
+opens (forms.Dropped drop_lines.Family) = by_word (codes "declare") _ forms.Declare (λ rest e. refl)
+opens forms.Statepoint = by_equals _ forms.ValueCall (value_call _)
+opens forms.GcResult = by_equals _ forms.ValueCall (value_call _)
+opens forms.GcRelocate = by_equals _ forms.ValueCall (value_call _)
 opens forms.Layout = layout_opens _
 opens forms.Declare = by_word (codes "declare") _ _ (λ rest e. refl)
 opens forms.Define = by_word (codes "define") _ _ (λ rest e. refl)
@@ -365,17 +377,3 @@ opens forms.ReturnVoid = by_words (codes "ret") (codes "void") _ _ (λ rest. ref
 opens forms.Return = by_word (codes "ret") _ _ (returned _)
 opens forms.Unreachable = by_word (codes "unreachable") _ _ (λ rest e. refl)
 opens (forms.Cast op) = by_result (cast_word op) _ _ (λ rest e. cast_named op rest)
-
--- ---- one reading
-
-one_said : (says also : List Item) (found : Found (List Item)) → found ≡ Some (says, []) → found ≡ Some (also, []) → says ≡ also
-one_said says also found e d = said_is (says, []) (also, []) (sym e ∙ d)
-
-some_same : (form other : Form) (found : Option Form) → found ≡ Some form → found ≡ Some other → form ≡ other
-some_same form other found e d = cc
-
-pub same_reading : (form other : Form) (says also : List Item) (line : List Tok) → parse (slots form) line ≡ Some (says, []) → parse (slots other) line ≡ Some (also, []) → (form ≡ other) × (says ≡ also)
-same_reading form other says also line e d =
-    let same : form ≡ other = some_same form other (form_of line) (opens form line (found_is (parse (slots form) line) (says, []) e)) (opens other line (found_is (parse (slots other) line) (also, []) d)) in
-    let d-form : parse (slots form) line ≡ Some (also, []) = rw same d in
-    (same, one_said says also (parse (slots form) line) e d-form)

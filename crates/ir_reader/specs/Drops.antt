@@ -80,6 +80,10 @@ abbrev pub past_alignment : List Tok → Option (List Tok)
 past_alignment (t ∷ u ∷ v ∷ ts) = if is_mark (codes ",") t && is_word (codes "align") u && is_number v then Some ts else None
 past_alignment _ = None
 
+-- beside `elementtype`, which is a part of its form and no group
+abbrev pub past_group_beside : List Tok → Option (List Tok)
+past_group_beside ts = if begins (is_word (codes "elementtype")) ts then None else past_group ts
+
 abbrev pub past_one_of : List (List ℕ) → List Tok → Option (List Tok)
 past_one_of words (tok kinds.Word bytes ∷ ts) = if is_one_of words bytes then Some ts else None
 past_one_of words _ = None
@@ -100,6 +104,7 @@ flag_words flags.Nothing = []
 -- the tokens after one thing that is dropped, where one stands first
 abbrev pub past_dropped : Dropped → List Tok → Option (List Tok)
 past_dropped drops.Groups ts = past_group ts
+past_dropped drops.BesideElementType ts = past_group_beside ts
 past_dropped drops.Attachments ts = past_attachment ts
 past_dropped drops.HeadAttachments ts = past_head_attachment ts
 past_dropped drops.Alignments ts = past_alignment ts

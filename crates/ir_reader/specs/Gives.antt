@@ -34,6 +34,11 @@ abbrev pub Gives : {X Y : Type 0} → (X → Y) → Result X Stop → List Tok �
 Gives view (Ok x) rest found = found ≡ Some (view x, rest)
 Gives view (Err stop) rest found = Stops stop found
 
+-- The test whether something stands there was true, and these tokens are left; or it was false.
+abbrev pub Takes : Bool → List Tok → Found (Unit {0}) → Type 0
+Takes true rest found = found ≡ Some (tt, rest)
+Takes false rest found = found ≡ None
+
 abbrev pub is_nil : List Tok → Bool
 is_nil [] = true
 is_nil (t ∷ ts) = false

@@ -1,4 +1,5 @@
 pub mod Drops
+pub mod Families
 pub mod Forms
 pub mod Gives
 pub mod Limits
@@ -11,6 +12,7 @@ pub mod Parts
 pub mod Places
 pub mod Seen
 pub mod Slots
+pub mod Statepoints
 pub mod Text
 pub mod Raws
 pub mod Reads

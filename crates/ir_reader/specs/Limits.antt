@@ -11,7 +11,10 @@ use Rattle.ir_reader.specs.declared.readings.TypeWord.TheVariants as types
 use Rattle.ir_reader.specs.declared.readings.Literal.{Literal}
 use Rattle.ir_reader.specs.Parts.{Val, local, number, truth, null}
 use Rattle.ir_reader.specs.Lists.{Named, Given, given, function}
-use Rattle.ir_reader.specs.Slots.{Item, name, layout_name, width, ty, value, pred, scalar, layout, place, fields, entries, declared, defined, called, strategy}
+use Rattle.ir_ast.specs.declared.modules.Form.{Form as TextForm}
+use Rattle.ir_ast.specs.declared.modules.Form.TheVariants as text_forms
+use Rattle.ir_reader.specs.Statepoints.{Signature, Guarded}
+use Rattle.ir_reader.specs.Slots.{Item, name, layout_name, width, ty, value, pred, scalar, layout, place, fields, entries, declared, defined, called, strategy, guarded, live, literal}
 use Rattle.ir_reader.specs.Seen.{Line, Said, label, line}
 
 -- ---- what one line says
@@ -50,6 +53,16 @@ entry_value_fits e = value_fits e.0
 abbrev pub name_fits : List ℕ → Bool
 name_fits bytes = nat_le (length bytes) 4096
 
+abbrev pub signature_fits : Signature → Bool
+signature_fits s = type_fits s.answer && list_all type_fits s.parameters
+
+abbrev pub guarded_fits : Guarded → Bool
+guarded_fits c = literal_fits c.id && signature_fits c.signature && literal_fits c.count && list_all given_fits c.passed
+
+-- the live entries of a statepoint
+abbrev pub live_fits : List Val → Bool
+live_fits vs = nat_le (length vs) 16384 && list_all value_fits vs
+
 abbrev pub item_fits : Item → Bool
 item_fits (width bits) = width_fits bits
 item_fits (ty t) = type_fits t
@@ -61,6 +74,9 @@ item_fits (entries es) = list_all entry_value_fits es
 item_fits (declared n ps) = list_all argument_fits ps
 item_fits (defined n ps) = name_fits n && nat_le (length ps) 64 && list_all argument_fits ps
 item_fits (called n ps) = list_all given_fits ps
+item_fits (guarded c) = guarded_fits c
+item_fits (live vs) = live_fits vs
+item_fits (literal n) = literal_fits n
 item_fits _ = true
 
 abbrev pub said_fits : Said → Bool
@@ -83,19 +99,26 @@ counts_as forms.Declare is = kinds.Nothing
 counts_as forms.Close is = kinds.Nothing
 counts_as forms.Case is = kinds.Nothing
 counts_as forms.SwitchEnd is = kinds.Nothing
+counts_as forms.GcRelocate is = kinds.Relocate
 counts_as _ is = kinds.Instruction
 
 abbrev pub said_counts_as : Said → Counted
 said_counts_as (label n) = kinds.Nothing
 said_counts_as (line l) = counts_as l.form l.items
 
--- with one more line
-abbrev pub counted : Counted → Counts → Counts
-counted kinds.Layout c = record c { layouts = c.layouts + 1 }
-counted (kinds.Function arguments) c = record c { functions = c.functions + 1; values = arguments }
-counted kinds.Instruction c = record c { values = c.values + 1; instructions = c.instructions + 1 }
-counted kinds.Nothing c = c
+-- instructions are counted in the source form
+abbrev pub counted_in : TextForm → Counted → Counted
+counted_in text_forms.Rewritten kinds.Instruction = kinds.Nothing
+counted_in form kind = kind
 
--- layouts, functions, arguments and instructions of the function, instructions of the module
+-- with one more line; another line than a relocate ends the relocates that stand in a row
+abbrev pub counted : Counted → Counts → Counts
+counted kinds.Layout c = record c { layouts = c.layouts + 1; relocates = 0 }
+counted (kinds.Function arguments) c = record c { functions = c.functions + 1; values = arguments; relocates = 0 }
+counted kinds.Instruction c = record c { values = c.values + 1; instructions = c.instructions + 1; relocates = 0 }
+counted kinds.Relocate c = record c { relocates = c.relocates + 1 }
+counted kinds.Nothing c = record c { relocates = 0 }
+
+-- layouts, functions, arguments and instructions of the function, instructions of the module, relocates in a row
 abbrev pub counts_fit : Counts → Bool
-counts_fit c = nat_le c.layouts 4096 && nat_le c.functions 4096 && nat_le c.values 4096 && nat_le c.instructions 65536
+counts_fit c = nat_le c.layouts 4096 && nat_le c.functions 4096 && nat_le c.values 4096 && nat_le c.instructions 65536 && nat_le c.relocates 16384

@@ -39,6 +39,11 @@ abbrev pub global_of : Tok → Option (List ℕ)
 global_of (tok kinds.Global bytes) = Some (drop 1 bytes)
 global_of _ = None
 
+-- this name behind `@`
+abbrev pub is_global : List ℕ → Tok → Bool
+is_global text (tok kinds.Global bytes) = bytes_eq (drop 1 bytes) text
+is_global text _ = false
+
 -- the bytes between the quotes
 abbrev pub quoted_of : Tok → Option (List ℕ)
 quoted_of (tok kinds.Quoted bytes) = Some (take (length bytes - 2) (drop 1 bytes))

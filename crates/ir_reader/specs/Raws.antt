@@ -2,9 +2,8 @@
 use Rattle.std.specs.Prelude.{◌≡◌, ℕ, ◌≤◌, List, length, map, Result, Ok, Err}
 use Rattle.ir_reader.specs.declared.raw.NumberedReading.{NumberedReading}
 use Rattle.ir_ast.specs.declared.modules.Form.{Form}
-use Rattle.ir_ast.specs.declared.modules.Form.TheVariants as text_forms
 use Rattle.ir_reader.specs.Seen.{seen}
-use Rattle.ir_reader.specs.Text.{Numbered, Fault, text_readings}
+use Rattle.ir_reader.specs.Text.{Numbered, Fault, readings_in}
 
 -- a text, its form and the readings of its lines
 pub record Readings : Type 0 where
@@ -15,8 +14,7 @@ pub record Readings : Type 0 where
 abbrev pub seen_numbered : NumberedReading → Numbered
 seen_numbered n = record { line = n.line; said = seen n.reading }
 
--- the text is in the source form and within the file limit, and these are the readings of its lines
+-- the text is within the file limit, and these are the readings of its lines in its form
 pub record IsRead (r : Readings) : Type 0 where
-  pub source : r.form ≡ text_forms.Source
   pub small : length r.text ≤ 16777216
-  pub lines : text_readings r.text ≡ Ok (map seen_numbered r.lines)
+  pub lines : readings_in r.form r.text ≡ Ok (map seen_numbered r.lines)

@@ -10,6 +10,8 @@ use Rattle.ir_reader.specs.declared.readings.Argument.{Argument}
 use Rattle.ir_reader.specs.declared.readings.Passed.{Passed}
 use Rattle.ir_reader.specs.declared.readings.Passed.TheVariants as all_passed
 use Rattle.ir_reader.specs.declared.readings.Entry.{Entry}
+use Rattle.ir_reader.specs.declared.readings.FunctionType.{FunctionType}
+use Rattle.ir_reader.specs.declared.readings.StatepointCall.{StatepointCall}
 use Rattle.ir_reader.specs.declared.readings.TypeWord.{TypeWord}
 use Rattle.ir_reader.specs.declared.readings.Literal.{Literal}
 use Rattle.ir_reader.specs.declared.readings.TypeWord.TheVariants as types
@@ -19,7 +21,8 @@ use Rattle.ir_reader.specs.Gives.{Found, after}
 use Rattle.ir_reader.specs.Forms.{slots}
 use Rattle.ir_reader.specs.Parts.{Val, local, number, truth, null}
 use Rattle.ir_reader.specs.Lists.{Named, Given, given, function}
-use Rattle.ir_reader.specs.Slots.{Item, parse, name, layout_name, width, ty, value, pred, scalar, layout, place, fields, entries, declared, defined, called, strategy}
+use Rattle.ir_reader.specs.Statepoints.{Signature, Guarded}
+use Rattle.ir_reader.specs.Slots.{Item, parse, name, layout_name, width, ty, value, pred, scalar, layout, place, fields, entries, declared, defined, called, strategy, guarded, live, literal}
 
 abbrev pub seen_value : Value → Val
 seen_value (values.Local bytes) = local bytes.now
@@ -36,6 +39,12 @@ seen_passed (all_passed.Function bytes) = function bytes.now
 
 abbrev pub seen_entry : Entry → Val × List ℕ
 seen_entry e = (seen_value e.value, e.label.now)
+
+abbrev pub seen_type : FunctionType → Signature
+seen_type t = record { answer = t.answer; parameters = t.parameters.items }
+
+abbrev pub seen_guarded : StatepointCall → Guarded
+seen_guarded c = record { id = c.id; signature = seen_type c.function_type; callee = c.callee.now; count = c.count; passed = map seen_passed c.passed.items }
 
 -- a line that is made of tokens: its form, and what it says at the form's slots
 pub record Line : Type 0 where
@@ -76,6 +85,9 @@ seen readings.ReturnVoid = of_form forms.ReturnVoid []
 seen (readings.Return t v) = of_form forms.Return (ty t ∷ value (seen_value v) ∷ [])
 seen readings.Unreachable = of_form forms.Unreachable []
 seen (readings.Cast x op t v u) = of_form (forms.Cast op) (name x.now ∷ ty t ∷ value (seen_value v) ∷ ty u ∷ [])
+seen (readings.Statepoint x c vs) = of_form forms.Statepoint (name x.now ∷ guarded (seen_guarded c) ∷ live (map seen_value vs.items) ∷ [])
+seen (readings.GcResult x t token) = of_form forms.GcResult (name x.now ∷ ty t ∷ name token.now ∷ [])
+seen (readings.GcRelocate x token b d) = of_form forms.GcRelocate (name x.now ∷ name token.now ∷ literal b ∷ literal d ∷ [])
 
 -- a front of this form
 unfoldable pub line_at : Form → List Tok → Found Said

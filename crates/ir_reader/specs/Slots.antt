@@ -7,11 +7,12 @@ use Rattle.ir_reader.specs.declared.readings.Literal.{Literal}
 use Rattle.ir_ast.specs.declared.ops.Pred.{Pred}
 use Rattle.ir_reader.specs.declared.words.Dropped.{Dropped}
 use Rattle.ir_reader.specs.Gives.{Found, after, one_at}
-use Rattle.ir_reader.specs.Marks.{is_quoted, is_hash, stands}
+use Rattle.ir_reader.specs.Marks.{is_quoted, is_hash, is_global, stands}
 use Rattle.ir_reader.specs.Numbers.{width_of, literal_of}
 use Rattle.ir_reader.specs.Drops.{past_all}
 use Rattle.ir_reader.specs.Parts.{Val, word_at, mark_at, local_at, value_at, case_value_at, allowed_type_at, is_value_type, is_answer_type, is_cast_type, is_scalar_type, is_managed, pred_of, place_at, strategy_at, to_brace_at}
 use Rattle.ir_reader.specs.Lists.{Named, Given, fields_at, entries_at, head_at, called_at}
+use Rattle.ir_reader.specs.Statepoints.{Guarded, statepoint_type_at, number_at, token_at, guarded_at, live_at, result_at, declares_family, family_answer_at, bracketing_at}
 
 -- what a form says at a slot
 pub data Item : Type 0 where
@@ -30,6 +31,9 @@ pub data Item : Type 0 where
   defined : List ℕ → List Named → Item
   called : List ℕ → List Given → Item
   strategy : Option (List ℕ) → Item
+  guarded : Guarded → Item
+  live : List Val → Item
+  literal : Literal → Item
 
 pub data Slot : Type 0 where
   -- nothing to the reader, a space to the printer
@@ -37,6 +41,8 @@ pub data Slot : Type 0 where
   -- this mark, this word
   m : List ℕ → Slot
   w : List ℕ → Slot
+  -- the function of this name
+  g : List ℕ → Slot
   -- read as often as one stands there, and not printed
   dropped : Dropped → Slot
   -- parts that say nothing
@@ -44,6 +50,10 @@ pub data Slot : Type 0 where
   a_quoted : Slot
   a_hash : Slot
   to_brace : Slot
+  a_statepoint_type : Slot
+  a_family_answer : Slot
+  a_family : Slot
+  a_bracketing : Slot
   -- parts that say something
   a_local : Slot
   a_layout_name : Slot
@@ -63,11 +73,17 @@ pub data Slot : Type 0 where
   a_defined : Slot
   a_called : Slot
   a_strategy : Slot
+  a_token : Slot
+  a_guarded : Slot
+  a_live : Slot
+  a_result : Slot
+  -- a number of this type
+  a_number : List ℕ → Slot
 
-abbrev says_nothing : {A : Type 0} → Found A → Found (List Item)
+abbrev pub says_nothing : {A : Type 0} → Found A → Found (List Item)
 says_nothing found = after found (λ _ rest. Some ([], rest))
 
-abbrev says : {A : Type 0} → (A → Item) → Found A → Found (List Item)
+abbrev pub says : {A : Type 0} → (A → Item) → Found A → Found (List Item)
 says item found = after found (λ x rest. Some (item x ∷ [], rest))
 
 -- what stands at a slot
@@ -80,6 +96,11 @@ part a_managed ts = says_nothing (allowed_type_at is_managed ts)
 part a_quoted ts = says_nothing (one_at (stands is_quoted) ts)
 part a_hash ts = says_nothing (one_at (stands is_hash) ts)
 part to_brace ts = says_nothing (to_brace_at ts)
+part (g text) ts = says_nothing (one_at (stands (is_global text)) ts)
+part a_statepoint_type ts = says_nothing (statepoint_type_at ts)
+part a_family_answer ts = says_nothing (family_answer_at ts)
+part a_family ts = says_nothing (one_at (stands declares_family) ts)
+part a_bracketing ts = says_nothing (bracketing_at ts)
 part a_local ts = says name (local_at ts)
 part a_layout_name ts = says layout_name (local_at ts)
 part a_width ts = says width (one_at width_of ts)
@@ -98,6 +119,11 @@ part a_declared ts = says (λ head. declared head.0 head.1) (head_at true ts)
 part a_defined ts = says (λ head. defined head.0 head.1) (head_at false ts)
 part a_called ts = says (λ call. called call.0 call.1) (called_at ts)
 part a_strategy ts = says strategy (strategy_at ts)
+part a_token ts = says name (token_at ts)
+part a_guarded ts = says guarded (guarded_at ts)
+part a_live ts = says live (live_at ts)
+part a_result ts = says ty (result_at ts)
+part (a_number of_type) ts = says literal (number_at of_type ts)
 
 -- what stands at the slots of a form, one after the other
 unfoldable pub parse : List Slot → List Tok → Found (List Item)

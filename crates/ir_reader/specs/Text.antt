@@ -3,15 +3,18 @@ use Rattle.std.specs.Prelude.{◌≡◌, ℕ, ◌+◌, Bool, true, false, ◌&&�
 use Rattle.sp_text.specs.Tokens.{Tok, tokens}
 use Rattle.sp_text.specs.Lines.{NumberedLine, lines_of}
 use Rattle.sp_text.specs.Labels.{label_of, is_metadata}
+use Rattle.ir_ast.specs.declared.modules.Form.{Form as TextForm}
+use Rattle.ir_ast.specs.declared.modules.Form.TheVariants as text_forms
+use Rattle.ir_reader.specs.declared.forms.Counted.TheVariants as kinds
 use Rattle.ir_reader.specs.declared.forms.Form.{Form}
 use Rattle.ir_reader.specs.declared.forms.Place.{Place}
 use Rattle.ir_reader.specs.declared.forms.Place.TheVariants as places
 use Rattle.ir_reader.specs.declared.forms.State.{State}
 use Rattle.ir_reader.specs.Gives.{Found, is_nil}
-use Rattle.ir_reader.specs.Forms.{form_of}
+use Rattle.ir_reader.specs.Forms.{form_in}
 use Rattle.ir_reader.specs.Places.{is_dropped_form, behind, behind_label}
 use Rattle.ir_reader.specs.Seen.{Line, Said, label, line, line_at}
-use Rattle.ir_reader.specs.Limits.{said_fits, said_counts_as, counted, counts_fit}
+use Rattle.ir_reader.specs.Limits.{said_fits, said_counts_as, counted, counted_in, counts_fit}
 
 -- what a line comes to
 pub data Outcome : Type 0 where
@@ -28,7 +31,7 @@ is_top _ = false
 
 -- what is known behind a line
 abbrev pub next_state : State → Place → Said → State
-next_state s place what = record { place = place; counts = counted (said_counts_as what) s.counts }
+next_state s place what = record { form = s.form; place = place; counts = counted (counted_in s.form (said_counts_as what)) s.counts }
 
 -- a reading, if it passes no limit
 abbrev pub within : State → Place → Said → Outcome
@@ -54,11 +57,11 @@ by_form s ts (Some form) = formed s form ts (behind s.place form)
 
 -- a line of tokens
 unfoldable pub tokens_outcome : State → List Tok → Outcome
-tokens_outcome s ts = if is_nil ts then nothing else by_form s ts (form_of ts)
+tokens_outcome s ts = if is_nil ts then nothing else by_form s ts (form_in s.form ts)
 
 abbrev pub label_outcome : State → List ℕ → Option Place → Outcome
 label_outcome s name None = no_reading
-label_outcome s name (Some place) = said (label name) (record { place = place; counts = s.counts })
+label_outcome s name (Some place) = said (label name) (record { form = s.form; place = place; counts = counted kinds.Nothing s.counts })
 
 abbrev pub labelled : State → List ℕ → Option (List ℕ) → Outcome
 labelled s bytes None = tokens_outcome s (tokens bytes)
@@ -95,9 +98,13 @@ unfoldable pub readings : State → ℕ → List NumberedLine → Result (List N
 readings s number [] = if is_top s.place then Ok [] else Err (syntax_fault number)
 readings s number (l ∷ ls) = readings_by (outcome s l.bytes) l.number (λ next. readings next (l.number + 1) ls) s
 
--- nothing was read yet
-abbrev pub opening : State
-opening = record { place = places.Top; counts = record { layouts = 0; functions = 0; values = 0; instructions = 0 } }
+-- nothing was read yet of a text in this form
+abbrev pub opening : TextForm → State
+opening form = record { form = form; place = places.Top; counts = record { layouts = 0; functions = 0; values = 0; instructions = 0; relocates = 0 } }
 
-unfoldable pub text_readings : List ℕ → Result (List Numbered) Fault
-text_readings text = readings opening 1 (lines_of text)
+unfoldable pub readings_in : TextForm → List ℕ → Result (List Numbered) Fault
+readings_in form text = readings (opening form) 1 (lines_of text)
+
+-- of a text in the source form
+abbrev pub text_readings : List ℕ → Result (List Numbered) Fault
+text_readings text = readings_in text_forms.Source text

@@ -3,7 +3,7 @@
 ghost use Rattle.std.specs.Prelude.{◌≡◌, codes};
 ghost use Rattle.sp_text.specs.Tokens.{tok};
 ghost use Rattle.ir_reader.specs.Marks.{is_number, is_quoted, begins};
-ghost use Rattle.ir_reader.specs.Drops.{reserved, is_attribute_word, past_word, past_group, past_quoted_value, past_bracketing, after_bracket, past, past_attachment, past_head_attachment, past_alignment, past_one_of, past_dropped, past_all, is_bang_name, is_bang_number, is_one_of, flag_words};
+ghost use Rattle.ir_reader.specs.Drops.{reserved, is_attribute_word, past_word, past_group, past_quoted_value, past_bracketing, after_bracket, past, past_attachment, past_head_attachment, past_alignment, past_one_of, past_group_beside, past_dropped, past_all, is_bang_name, is_bang_number, is_one_of, flag_words};
 
 use crate::cursor::Cursor;
 use crate::numbers::is_integer_word;
@@ -103,6 +103,16 @@ impl<'a> Cursor<'a> {
         }
     }
 
+    fn past_group_beside(&self) -> Option<Cursor<'a>>
+        ensures { result ≡ past_group_beside self.now }
+    {
+        if self.begins_word(b"elementtype") {
+            None
+        } else {
+            self.past_group()
+        }
+    }
+
     // The place after what belongs to the word that begins a group.
     fn past_word(&self, word: &[u8]) -> Cursor<'a>
         ensures { result ≡ past_word word.now self.now }
@@ -158,9 +168,9 @@ impl<'a> Cursor<'a> {
         }
     }
 
-    // The place after the bracket that closes the open one.
+    /// The place after the bracket that closes the open one.
     #[tactic(auto, unfolding(crate::specs::Drops::after_bracket))]
-    fn after_bracket(&self) -> Option<Cursor<'a>>
+    pub fn after_bracket(&self) -> Option<Cursor<'a>>
         ensures { result ≡ after_bracket 0 self.now }
     {
         let mut rest = self.copied();
@@ -257,6 +267,7 @@ impl<'a> Cursor<'a> {
     {
         match what {
             Dropped::Groups => self.past_group(),
+            Dropped::BesideElementType => self.past_group_beside(),
             Dropped::Attachments => self.past_attachment(),
             Dropped::HeadAttachments => self.past_head_attachment(),
             Dropped::Alignments => self.past_alignment(),

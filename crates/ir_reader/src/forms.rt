@@ -1,6 +1,7 @@
 //! The forms of lines, and the places where they may stand.
 
 use crate::words::{Binary, Cast, Conversion};
+use ir_ast::Form as TextForm;
 
 /// A line outside functions that is read and says nothing.
 #[derive(Clone, Copy, Debug, PartialEq, Eq)]
@@ -9,6 +10,8 @@ pub enum DroppedLine {
     DataLayout,
     Triple,
     Attributes,
+    /// A declaration of a statepoint, a result or a relocate.
+    Family,
 }
 
 /// A form of a line that is made of tokens.
@@ -41,6 +44,9 @@ pub enum Form {
     Return,
     Unreachable,
     Cast(Cast),
+    Statepoint,
+    GcResult,
+    GcRelocate,
 }
 
 /// Where a line stands.
@@ -65,6 +71,7 @@ pub enum Counted {
     /// A definition, with its number of arguments.
     Function(usize),
     Instruction,
+    Relocate,
     Nothing,
 }
 
@@ -76,11 +83,14 @@ pub struct Counts {
     /// Arguments and instructions of the function.
     pub values: usize,
     pub instructions: u32,
+    /// Relocates in a row.
+    pub relocates: u32,
 }
 
 /// What is known behind a line.
 #[derive(Clone, Copy, Debug, PartialEq, Eq)]
 pub struct State {
+    pub form: TextForm,
     pub place: Place,
     pub counts: Counts,
 }

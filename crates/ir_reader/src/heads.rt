@@ -78,6 +78,7 @@ impl<'a> Cursor<'a> {
             DroppedLine::DataLayout => self.data_layout(),
             DroppedLine::Triple => self.triple(),
             DroppedLine::Attributes => self.attributes(),
+            DroppedLine::Family => self.family_declaration(),
         }
     }
 

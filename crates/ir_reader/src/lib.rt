@@ -8,6 +8,7 @@ mod computing;
 mod control;
 mod cursor;
 mod drops;
+mod families;
 mod faults;
 mod forms;
 mod heads;
@@ -21,19 +22,20 @@ mod parts;
 mod places;
 mod raw;
 mod readings;
+mod statepoints;
 mod text;
 mod tokens;
 mod types;
 mod words;
 
 pub use faults::ReadFault;
-pub use laws::{fitting_line, one_form, one_reading};
+pub use laws::{fitting_line, one_form, one_reading, own_form};
 pub use raw::{NumberedReading, Raw};
 pub use readings::{
-    AllPassed, Argument, Arguments, Entries, Entry, Fields, Literal, Passed, Reading, TypeWord,
-    Value,
+    AllPassed, Argument, Arguments, Entries, Entry, Fields, FunctionType, Literal, Passed, Reading,
+    StatepointCall, TypeWord, Value,
 };
-pub use text::read;
+pub use text::{read, read_rewritten};
 pub use words::{Binary, Cast, Conversion};
 
 #[cfg(test)]

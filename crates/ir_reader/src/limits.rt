@@ -2,14 +2,18 @@
 
 ghost use Rattle.std.specs.Prelude.{◌≡◌, IsTrue, map, length, nat_le, ◌&&◌};
 ghost use Rattle.std.specs.List.{list_all};
-ghost use Rattle.ir_reader.specs.Limits.{width_fits, type_fits, literal_fits, value_fits, place_fits, argument_fits, given_fits, entry_value_fits, name_fits, item_fits, said_fits, said_counts_as, counts_fit, counted};
+ghost use Rattle.ir_reader.specs.Limits.{width_fits, type_fits, literal_fits, value_fits, place_fits, argument_fits, given_fits, entry_value_fits, name_fits, item_fits, signature_fits, guarded_fits, live_fits, said_fits, said_counts_as, counts_fit, counted, counted_in};
 ghost use Rattle.ir_reader.specs.Slots.{defined};
-ghost use Rattle.ir_reader.specs.Seen.{seen, seen_value, seen_argument, seen_passed, seen_entry};
+ghost use Rattle.ir_reader.specs.Seen.{seen, seen_value, seen_argument, seen_passed, seen_entry, seen_type, seen_guarded};
 
 use crate::forms::{Counted, Counts};
-use crate::readings::{Argument, Entry, Literal, Passed, Reading, TypeWord, Value};
+use crate::readings::{
+    Argument, Entry, FunctionType, Literal, Passed, Reading, StatepointCall, TypeWord, Value,
+};
+use ir_ast::Form as TextForm;
 use sp_ids::limits::{
-    ARGUMENTS, FIELDS, FUNCTION_VALUES, FUNCTIONS, LAYOUTS, MODULE_INSTRUCTIONS, NAME_BYTES,
+    ARGUMENTS, FIELDS, FUNCTION_VALUES, FUNCTIONS, LAYOUTS, LIVE_ENTRIES, MODULE_INSTRUCTIONS,
+    NAME_BYTES,
 };
 
 fn width_fits(bits: u32) -> bool
@@ -130,6 +134,39 @@ fn entries_fit(entries: &[Entry]) -> bool
     true
 }
 
+fn type_of_function_fits(ty: &FunctionType) -> bool
+    ensures { result ≡ signature_fits (seen_type ty.now) }
+{
+    type_fits(ty.answer) && types_fit(ty.parameters.as_slice())
+}
+
+fn call_fits(call: &StatepointCall) -> bool
+    ensures { result ≡ guarded_fits (seen_guarded call.now) }
+{
+    literal_fits(call.id)
+        && type_of_function_fits(&call.function_type)
+        && literal_fits(call.count)
+        && passed_fit(call.passed.as_slice())
+}
+
+fn values_fit(values: &[Value]) -> bool
+    ensures { result ≡ list_all value_fits (map seen_value values.now) }
+{
+    for value in values {
+        if !value_fits(value) {
+            return false;
+        }
+    }
+    true
+}
+
+// The live entries of a statepoint.
+fn live_fit(live: &[Value]) -> bool
+    ensures { result ≡ live_fits (map seen_value live.now) }
+{
+    live.len() <= LIVE_ENTRIES as usize && values_fit(live)
+}
+
 impl Reading<'_> {
     /// Whether all that the line says is within the limits.
     pub(crate) fn fits(&self) -> bool
@@ -216,6 +253,13 @@ impl Reading<'_> {
                 to,
                 ..
             } => type_fits(*from) && value_fits(value) && type_fits(*to),
+            Reading::Statepoint { call, live, .. } => {
+                call_fits(call) && live_fit(live.as_slice())
+            }
+            Reading::GcResult { answer, .. } => type_fits(*answer),
+            Reading::GcRelocate { base, derived, .. } => {
+                literal_fits(*base) && literal_fits(*derived)
+            }
             Reading::Close => true,
             Reading::Label { .. } => true,
             Reading::Jump { .. } => true,
@@ -225,8 +269,8 @@ impl Reading<'_> {
         }
     }
 
-    // What the line counts as.
-    fn counts_as(&self) -> Counted
+    /// What the line counts as.
+    pub(crate) fn counts_as(&self) -> Counted
         ensures { result ≡ said_counts_as (seen self.now) }
     {
         match self {
@@ -255,32 +299,57 @@ impl Reading<'_> {
             Reading::Return { .. } => Counted::Instruction,
             Reading::Unreachable => Counted::Instruction,
             Reading::Cast { .. } => Counted::Instruction,
+            Reading::Statepoint { .. } => Counted::Instruction,
+            Reading::GcResult { .. } => Counted::Instruction,
+            Reading::GcRelocate { .. } => Counted::Relocate,
+        }
+    }
+}
+
+impl Counted {
+    /// What a line counts as in a text of this form: instructions are counted in the source form.
+    pub fn in_form(self, form: TextForm) -> Counted
+        ensures { result ≡ counted_in form self }
+    {
+        match (form, self) {
+            (TextForm::Rewritten, Counted::Instruction) => Counted::Nothing,
+            (_, counted) => counted,
         }
     }
 }
 
 impl Counts {
     /// With one more line.
-    pub fn with(self, reading: &Reading) -> Counts
+    pub fn with(self, line: Counted) -> Counts
         requires { IsTrue (counts_fit self) }
-        ensures { result ≡ counted (said_counts_as (seen reading.now)) self }
+        ensures { result ≡ counted line self }
     {
-        match reading.counts_as() {
+        match line {
             Counted::Layout => Counts {
                 layouts: self.layouts + 1,
+                relocates: 0,
                 ..self
             },
             Counted::Function(arguments) => Counts {
                 functions: self.functions + 1,
                 values: arguments,
+                relocates: 0,
                 ..self
             },
             Counted::Instruction => Counts {
                 values: self.values + 1,
                 instructions: self.instructions + 1,
+                relocates: 0,
                 ..self
             },
-            Counted::Nothing => self,
+            Counted::Relocate => Counts {
+                relocates: self.relocates + 1,
+                ..self
+            },
+            Counted::Nothing => Counts {
+                relocates: 0,
+                ..self
+            },
         }
     }
 
@@ -292,5 +361,6 @@ impl Counts {
             && self.functions <= FUNCTIONS
             && self.values <= FUNCTION_VALUES as usize
             && self.instructions <= MODULE_INSTRUCTIONS
+            && self.relocates <= LIVE_ENTRIES
     }
 }

@@ -10,7 +10,7 @@ ghost use Rattle.ir_reader.specs.Text.{is_top, ended, within, tokens_outcome, ou
 
 use crate::cursor::Cursor;
 use crate::faults::{LineFault, Stop};
-use crate::forms::{DroppedLine, Form, Place, State};
+use crate::forms::{Counted, DroppedLine, Form, Place, State};
 use crate::readings::Reading;
 use sp_text::Line;
 use std::alloc::Global;
@@ -66,6 +66,9 @@ impl<'a> Cursor<'a> {
             Form::ReturnVoid => self.return_void(),
             Form::Return => self.return_value(),
             Form::Unreachable => self.unreachable(),
+            Form::Statepoint => self.statepoint(alloc),
+            Form::GcResult => self.gc_result(),
+            Form::GcRelocate => self.gc_relocate(),
             Form::Dropped(_) => Err(Stop::NoReading),
         }
     }
@@ -109,11 +112,15 @@ impl<'a> Step<'a> {
         ensures came { Came result (within state place (seen reading.entry)) }
         ensures counts { IfOk result (λ found. IfSome found (λ step. IsTrue (counts_fit step.state.counts))) }
     {
-        let counts = state.counts.with(&reading);
+        let counts = state.counts.with(reading.counts_as().in_form(state.form));
         if reading.fits() && counts.fit() {
             Ok(Some(Step {
                 reading,
-                state: State { place, counts },
+                state: State {
+                    form: state.form,
+                    place,
+                    counts,
+                },
             }))
         } else {
             Err(LineFault::OverLimit)
@@ -131,7 +138,7 @@ impl<'a> Step<'a> {
         if cursor.is_at_end() {
             return Ok(None);
         }
-        let Some(form) = cursor.form() else {
+        let Some(form) = cursor.form_in(state.form) else {
             return Err(LineFault::NoReading);
         };
         let Some(place) = state.place.behind(form) else {
@@ -166,8 +173,9 @@ impl<'a> Step<'a> {
             Some(place) => Ok(Some(Step {
                 reading: Reading::Label { name },
                 state: State {
+                    form: state.form,
                     place,
-                    counts: state.counts,
+                    counts: state.counts.with(Counted::Nothing),
                 },
             })),
             None => Err(LineFault::NoReading),

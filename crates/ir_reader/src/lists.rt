@@ -17,8 +17,8 @@ use smallvec::SmallVec;
 use std::alloc::Global;
 
 impl<'a> Cursor<'a> {
-    // Passes a comma, where one stands.
-    fn pass_comma(&mut self)
+    /// Passes a comma, where one stands.
+    pub fn pass_comma(&mut self)
         ensures { self.new ≡ past (is_mark (codes ",")) self.old }
     {
         if self.begins_mark(b",") {
@@ -104,8 +104,9 @@ impl<'a> Cursor<'a> {
 
     // ---- what a call passes
 
+    /// What a call passes at one place.
     #[tactic(auto, unfolding(crate::specs::Lists::passed_at, crate::specs::Gives::after))]
-    fn passed(&mut self, plain: bool) -> Result<Passed<'a>, Stop>
+    pub fn passed(&mut self, plain: bool) -> Result<Passed<'a>, Stop>
         ensures { Gives seen_passed result self.new (passed_at plain self.old) }
     {
         let ty = self.argument_type(plain)?;

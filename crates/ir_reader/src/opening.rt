@@ -1,15 +1,19 @@
 //! Which form a line can have, by the tokens that it begins with.
 
 ghost use Rattle.std.specs.Prelude.{◌≡◌};
+ghost use Rattle.std.specs.Option.{option_copied};
 ghost use Rattle.sp_text.specs.Tokens.{tok};
-ghost use Rattle.ir_reader.specs.Marks.{begins, is_local};
-ghost use Rattle.ir_reader.specs.Forms.{is_calling_word, element_form, single_result_form, named_form, result_form, local_form, target_form, top_form, case_form, branch_form, return_form, instruction_form, word_form, mark_form, form_of};
+ghost use Rattle.ir_reader.specs.Marks.{begins, is_local, is_word};
+ghost use Rattle.ir_reader.specs.Drops.{past};
+ghost use Rattle.ir_reader.specs.Forms.{is_calling_word, element_form, single_result_form, named_form, result_form, local_form, target_form, top_form, case_form, branch_form, return_form, instruction_form, word_form, mark_form, form_of, first_global, callee_of, declared_of, behind_result, called_form, plain_form, declared_form, group_form, form_in};
 
 use crate::cursor::Cursor;
+use crate::families::{is_family_name, is_result_name, relocate_name, statepoint_name};
 use crate::forms::{DroppedLine, Form};
 use crate::numbers::width_in;
-use crate::tokens::{is_mark, is_text};
+use crate::tokens::{global, is_mark, is_text};
 use crate::words::{Binary, Cast, Conversion, Dropped, Flags};
+use ir_ast::Form as TextForm;
 use sp_text::Kind;
 
 fn is_calling_word(bytes: &[u8]) -> bool
@@ -39,10 +43,137 @@ fn case_form(bytes: &[u8]) -> Option<Form>
     }
 }
 
+// A call with a result, by the function that it names.
+fn called_form(name: Option<&[u8]>) -> Form
+    ensures { result ≡ called_form (option_copied name.entry) }
+{
+    let Some(name) = name else {
+        return Form::ValueCall;
+    };
+    if is_result_name(name) {
+        Form::GcResult
+    } else if is_text(name, statepoint_name()) {
+        Form::Statepoint
+    } else if is_text(name, relocate_name()) {
+        Form::GcRelocate
+    } else {
+        Form::ValueCall
+    }
+}
+
+// A call without a result, by the function that it names.
+fn plain_form(name: Option<&[u8]>) -> Option<Form>
+    ensures { result ≡ plain_form (option_copied name.entry) }
+{
+    match name {
+        Some(name) if is_family_name(name) => None,
+        _ => Some(Form::VoidCall),
+    }
+}
+
+fn declared_form(name: Option<&[u8]>) -> Form
+    ensures { result ≡ declared_form (option_copied name.entry) }
+{
+    match name {
+        Some(name) if is_family_name(name) => Form::Dropped(DroppedLine::Family),
+        _ => Form::Declare,
+    }
+}
+
 impl<'a> Cursor<'a> {
-    /// The form of the line: no other form can fit it.
+    /// The form of a line of a text in this form: no other form can fit it.
+    #[tactic(auto, unfolding(crate::specs::Forms::form_in))]
+    pub fn form_in(&self, text: TextForm) -> Option<Form>
+        ensures { result ≡ form_in text self.now }
+    {
+        let form = self.form()?;
+        match text {
+            TextForm::Source => Some(form),
+            TextForm::Rewritten => self.group_form(form),
+        }
+    }
+
+    // What a line of the source form is in the rewritten form.
+    #[tactic(auto, unfolding(crate::specs::Forms::group_form))]
+    fn group_form(&self, form: Form) -> Option<Form>
+        ensures { result ≡ group_form self.now form }
+    {
+        match form {
+            Form::ValueCall => Some(called_form(self.result_callee())),
+            Form::VoidCall => plain_form(self.callee()),
+            Form::Declare => Some(declared_form(self.declared())),
+            _ => Some(form),
+        }
+    }
+
+    // The first function that is named from here on.
+    #[tactic(auto, unfolding(crate::specs::Forms::first_global))]
+    fn first_global(&self) -> Option<&'a [u8]>
+        ensures { option_copied result ≡ first_global self.now }
+    {
+        let mut rest = self.copied();
+        while let Some(token) = rest.token() {
+            if let Some(name) = global(&token) {
+                return Some(name);
+            }
+        }
+        None
+    }
+
+    // The function that a call with a result names. A byte that begins no token ends what is looked at.
+    #[tactic(auto, unfolding(crate::specs::Forms::callee_of, crate::specs::Forms::first_global, crate::specs::Drops::past_all, crate::specs::Drops::past_at_most))]
+    fn result_callee(&self) -> Option<&'a [u8]>
+        ensures { option_copied result ≡ callee_of (behind_result self.now) }
+    {
+        let mut rest = self.copied();
+        if rest.token().is_none() {
+            return self.callee();
+        }
+        if rest.is_at_end() {
+            return self.callee();
+        }
+        if rest.token().is_none() {
+            return None;
+        }
+        rest.callee()
+    }
+
+    // Passes a word, where it stands.
+    fn pass_word(&mut self, text: &[u8])
+        ensures { self.new ≡ past (is_word text.now) self.old }
+    {
+        if self.begins_word(text) {
+            let _ = self.token();
+        }
+    }
+
+    // The function that a call names.
+    #[tactic(auto, unfolding(crate::specs::Forms::callee_of))]
+    fn callee(&self) -> Option<&'a [u8]>
+        ensures { option_copied result ≡ callee_of self.now }
+    {
+        let mut rest = self.copied();
+        rest.skip(Dropped::Words(Flags::Calling));
+        rest.pass_word(b"call");
+        rest.skip(Dropped::Groups);
+        rest.first_global()
+    }
+
+    // The function that a declaration names.
+    #[tactic(auto, unfolding(crate::specs::Forms::declared_of))]
+    fn declared(&self) -> Option<&'a [u8]>
+        ensures { option_copied result ≡ declared_of self.now }
+    {
+        let mut rest = self.copied();
+        rest.pass_word(b"declare");
+        rest.skip(Dropped::HeadAttachments);
+        rest.skip(Dropped::Groups);
+        rest.first_global()
+    }
+
+    // The form of a line of the source form.
     #[tactic(auto, unfolding(crate::specs::Forms::form_of))]
-    pub fn form(&self) -> Option<Form>
+    fn form(&self) -> Option<Form>
         ensures { result ≡ form_of self.now }
     {
         let mut rest = self.copied();

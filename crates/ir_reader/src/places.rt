@@ -61,7 +61,10 @@ fn behind_instruction(form: Form) -> Option<Place>
         | Form::Load
         | Form::Store
         | Form::ValueCall
-        | Form::VoidCall => Some(Place::Block),
+        | Form::VoidCall
+        | Form::Statepoint
+        | Form::GcResult
+        | Form::GcRelocate => Some(Place::Block),
         Form::Jump | Form::Branch | Form::ReturnVoid | Form::Return | Form::Unreachable => {
             Some(Place::Closed)
         }

@@ -35,13 +35,13 @@ impl<'a> Model for Raw<'a> {
 impl<'a> Raw<'a> {
     ghost use Rattle.ir_reader.specs.Raws.{Readings, IsRead};
 
-    pub(crate) fn of(text: &'a [u8], readings: Vec<NumberedReading<'a>>) -> Raw<'a>
-        requires { IsRead (record { text = text.now; form = Form.Source; lines = readings.items }) }
-        ensures { result ≡ record { text = text.entry.now; form = Form.Source; lines = readings.entry.items } }
+    pub(crate) fn of(text: &'a [u8], form: Form, readings: Vec<NumberedReading<'a>>) -> Raw<'a>
+        requires { IsRead (record { text = text.now; form = form; lines = readings.items }) }
+        ensures { result ≡ record { text = text.entry.now; form = form; lines = readings.entry.items } }
     {
         Raw {
             text,
-            form: Form::Source,
+            form,
             readings,
         }
     }

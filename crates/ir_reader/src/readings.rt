@@ -78,6 +78,25 @@ pub type AllPassed<'a> = SmallVec<Passed<'a>, 2>;
 /// The entries of a phi.
 pub type Entries<'a> = SmallVec<Entry<'a>, 2>;
 
+/// The type of a function, `R (A, ..)`.
+#[derive(Drop)]
+pub struct FunctionType {
+    pub answer: TypeWord,
+    pub parameters: Vec<TypeWord>,
+}
+
+/// The call that a statepoint makes (Garbage Collection Safepoints in LLVM, "llvm.experimental.gc.statepoint").
+#[derive(Drop)]
+pub struct StatepointCall<'a> {
+    pub id: Literal,
+    /// The type that the line gives the callee.
+    pub function_type: FunctionType,
+    pub callee: &'a [u8],
+    /// How many arguments the line says that there are.
+    pub count: Literal,
+    pub passed: AllPassed<'a>,
+}
+
 /// What a line says. Names stand without their mark, and are slices of the text.
 #[derive(Drop)]
 pub enum Reading<'a> {
@@ -225,5 +244,25 @@ pub enum Reading<'a> {
         from: TypeWord,
         value: Value<'a>,
         to: TypeWord,
+    },
+    /// `%t = call token (..) @llvm.experimental.gc.statepoint.p0(i64 ID, i32 0, ptr elementtype(R (A, ..)) @f, i32 C,
+    /// i32 0, T V, .., i32 0, i32 0) [ "gc-live"(P V, ..) ]`, with the live entries, in the rewritten form
+    Statepoint {
+        result: &'a [u8],
+        call: StatepointCall<'a>,
+        live: Vec<Value<'a>>,
+    },
+    /// `%x = call T @llvm.experimental.gc.result.S(token %t)`, in the rewritten form
+    GcResult {
+        result: &'a [u8],
+        answer: TypeWord,
+        token: &'a [u8],
+    },
+    /// `%x = call P @llvm.experimental.gc.relocate.p1(token %t, i32 B, i32 D)`, in the rewritten form
+    GcRelocate {
+        result: &'a [u8],
+        token: &'a [u8],
+        base: Literal,
+        derived: Literal,
     },
 }

@@ -8,6 +8,7 @@ use std::test::Fail;
 mod blocks;
 mod calls;
 mod computing;
+mod groups;
 mod heads;
 mod memory;
 mod texts;

@@ -1,7 +1,7 @@
 //! The readings of a text.
 
 ghost use Rattle.std.specs.Prelude.{◌≡◌, ◌≤◌, length, map, IfOk, IfErr, OnOk, IsTrue};
-ghost use Rattle.ir_reader.specs.Text.{text_readings, outcome};
+ghost use Rattle.ir_reader.specs.Text.{opening, readings_in, text_readings, outcome};
 ghost use Rattle.ir_reader.specs.Limits.{counts_fit};
 ghost use Rattle.ir_reader.specs.Raws.{seen_numbered};
 ghost use Rattle.ir_reader.specs.Reads.{TextGives, AfterLine, FaultOfLine};
@@ -10,19 +10,29 @@ use crate::faults::{LineFault, ReadFault};
 use crate::forms::{Counts, Place, State};
 use crate::line::Step;
 use crate::raw::{NumberedReading, Raw};
+use ir_ast::Form;
 use sp_ids::limits::FILE_BYTES;
 use sp_text::{Line, Lines};
 use std::alloc::Global;
 
-const OPENING: State = State {
-    place: Place::Top,
-    counts: Counts {
-        layouts: 0,
-        functions: 0,
-        values: 0,
-        instructions: 0,
-    },
-};
+impl State {
+    // Nothing was read yet of a text in this form.
+    fn opening(form: Form) -> State
+        ensures { result ≡ opening form }
+    {
+        State {
+            form,
+            place: Place::Top,
+            counts: Counts {
+                layouts: 0,
+                functions: 0,
+                values: 0,
+                instructions: 0,
+                relocates: 0,
+            },
+        }
+    }
+}
 
 /// The readings of a text in the source form: of all its lines that are neither empty nor dropped, each with its
 /// number; or the first line that has no reading in its place or passes a limit. A text that ends inside a function
@@ -31,17 +41,34 @@ pub fn read(alloc: Global, text: &[u8]) -> Result<Raw<'_>, ReadFault>
     requires { length text.now ≤ FILE_BYTES }
     ensures exact { TextGives (λ raw. map seen_numbered raw.lines) result (text_readings text.now) }
     ensures text { IfOk result (λ raw. raw.text ≡ text.now) }
+    ensures form { IfOk result (λ raw. raw.form ≡ Form.Source) }
 {
-    let readings = all_readings(alloc, text)?;
-    Ok(Raw::of(text, readings))
+    let readings = all_readings(alloc, Form::Source, text)?;
+    Ok(Raw::of(text, Form::Source, readings))
 }
 
-fn all_readings(alloc: Global, text: &[u8]) -> Result<Vec<NumberedReading<'_>>, ReadFault>
+/// The readings of a text in the rewritten form, which has all lines of the source form and those of statepoint
+/// groups; or its first fault, as [`read`] tells it.
+pub fn read_rewritten(alloc: Global, text: &[u8]) -> Result<Raw<'_>, ReadFault>
     requires { length text.now ≤ FILE_BYTES }
-    ensures { TextGives (λ readings. map seen_numbered readings.items) result (text_readings text.now) }
+    ensures exact { TextGives (λ raw. map seen_numbered raw.lines) result (readings_in Form.Rewritten text.now) }
+    ensures text { IfOk result (λ raw. raw.text ≡ text.now) }
+    ensures form { IfOk result (λ raw. raw.form ≡ Form.Rewritten) }
+{
+    let readings = all_readings(alloc, Form::Rewritten, text)?;
+    Ok(Raw::of(text, Form::Rewritten, readings))
+}
+
+fn all_readings(
+    alloc: Global,
+    form: Form,
+    text: &[u8],
+) -> Result<Vec<NumberedReading<'_>>, ReadFault>
+    requires { length text.now ≤ FILE_BYTES }
+    ensures { TextGives (λ readings. map seen_numbered readings.items) result (readings_in form text.now) }
 {
     let mut lines = Lines::of(text);
-    let mut state = OPENING;
+    let mut state = State::opening(form);
     let mut number = 1;
     let mut readings = Vec::new(alloc);
     while let Some(line) = lines.next_line() {

@@ -45,6 +45,8 @@ pub enum Cast {
 pub enum Dropped {
     /// Attribute groups.
     Groups,
+    /// Attribute groups beside `elementtype`, which is none of them.
+    BesideElementType,
     /// Attachments, `, !NAME !N`.
     Attachments,
     /// Attachments of a head, `!NAME !N`.

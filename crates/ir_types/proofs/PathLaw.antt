@@ -4,6 +4,7 @@ use Rattle.std.proofs.Common.{◌≡◌, ℕ, ◌≤◌, ◌<◌, inl, inr, sym,
 use Rattle.std.specs.List.{All}
 use Rattle.std.specs.Prelude.{slice_get}
 use Rattle.std.proofs.lemmas.Bool.{cases_order}
+use Rattle.ir_ast.specs.declared.modules.Form.{Form}
 use Rattle.ir_ast.specs.Funcs.{Function, instructions_of}
 use Rattle.ir_ast.specs.Modules.{line_at}
 use Rattle.ir_cfg.specs.DefiniteUses.{UsesAreDefinite}
@@ -23,13 +24,13 @@ use Rattle.module_laws.proofs.InOrder.{InOrder, lines_at, module-rises, later-fu
 
 -- ---- where a fault stands without looking at paths
 
-pub plain-least : (lines : List Line) (line code : ℕ) → IsLeastPlainFault lines line code → IsLeastFault lines line code
-plain-least lines line code least = record {
+pub plain-least : (form : Form) (lines : List Line) (line code : ℕ) → IsLeastPlainFault form lines line code → IsLeastFault form lines line code
+plain-least form lines line code least = record {
   is = plain code least.is;
   least = λ other_line other_code fault. first other_line other_code fault;
 }
   where
-    first : (other_line other_code : ℕ) → HasFault lines other_line other_code → ComesFirst line code other_line other_code
+    first : (other_line other_code : ℕ) → HasFault form lines other_line other_code → ComesFirst line code other_line other_code
     first other_line other_code (plain _ fault) = least.least other_line other_code fault
     first other_line other_code (not_definite none missed) = absurd (none line code least.is)
 
@@ -39,74 +40,74 @@ not_missed : (func : Function) (place : ℕ) → LineIsDefinite func place → H
 not_missed func place definite missed =
     missed.missed.misses (definite missed.value missed.block missed.place missed.uses missed.missed.path missed.missed.leads)
 
-none_missed : (lines : List Line) (line : ℕ) → All UsesAreDefinite (module_of lines).content.funcs → NotDefinite lines line → ⊥
-none_missed lines line all fault =
+none_missed : (form : Form) (lines : List Line) (line : ℕ) → All UsesAreDefinite (module_of form lines).content.funcs → NotDefinite form lines line → ⊥
+none_missed form lines line all fault =
     not_missed fault.func fault.place
-    (λ value block place used. all_at UsesAreDefinite (module_of lines).content.funcs fault.number fault.func all fault.stands fault.place value block place used) fault.missed
+    (λ value block place used. all_at UsesAreDefinite (module_of form lines).content.funcs fault.number fault.func all fault.stands fault.place value block place used) fault.missed
 
-pub definite-faultless : (lines : List Line) → HasNoPlainFault lines → All UsesAreDefinite (module_of lines).content.funcs → HasNoFault lines
-definite-faultless lines none all line _ (plain code fault) = none line code fault
-definite-faultless lines none all line _ (not_definite also missed) = none_missed lines line all missed
+pub definite-faultless : (form : Form) (lines : List Line) → HasNoPlainFault form lines → All UsesAreDefinite (module_of form lines).content.funcs → HasNoFault form lines
+definite-faultless form lines none all line _ (plain code fault) = none line code fault
+definite-faultless form lines none all line _ (not_definite also missed) = none_missed form lines line all missed
 
 -- ---- the first line with a use that isn't definite is the least
 
 missed_within : (func : Function) (place : ℕ) → HasMissedUse func place → place < length (instructions_of func.blocks)
 missed_within func place missed = use_within func place missed.value missed.block missed.place missed.uses
 
-in_lines : (lines : List Line) (number place : ℕ) (func : Function) → slice_get (module_of lines).content.funcs number ≡ Some func → HasMissedUse func place
-    → place < length (lines_at (module_of lines).lines number)
-in_lines lines number place func stands missed =
+in_lines : (form : Form) (lines : List Line) (number place : ℕ) (func : Function) → slice_get (module_of form lines).content.funcs number ≡ Some func → HasMissedUse func place
+    → place < length (lines_at (module_of form lines).lines number)
+in_lines form lines number place func stands missed =
     let below = missed_within func place missed in
-    let long = each-lined lines number func stands in omega (arith, below, long)
+    let long = each-lined form lines number func stands in omega (arith, below, long)
 
 -- in one function
-one_function : (lines : List Line) (to number place there : ℕ) (func : Function) → InOrder 1 (module_of lines).lines to
+one_function : (form : Form) (lines : List Line) (to number place there : ℕ) (func : Function) → InOrder 1 (module_of form lines).lines to
     → ((earlier : ℕ) → earlier < place → LineIsDefinite func earlier) → HasMissedUse func there
-    → slice_get (module_of lines).content.funcs number ≡ Some func
-    → line_at (module_of lines).lines number place ≤ line_at (module_of lines).lines number there
-one_function lines to number place there func order definite missed stands =
+    → slice_get (module_of form lines).content.funcs number ≡ Some func
+    → line_at (module_of form lines).lines number place ≤ line_at (module_of form lines).lines number there
+one_function form lines to number place there func order definite missed stands =
     elim (cases_order place there) [
-      | inl e ↦ later-place (module_of lines).lines 1 to number place there order (omega (arith, e)) (in_lines lines number there func stands missed)
+      | inl e ↦ later-place (module_of form lines).lines 1 to number place there order (omega (arith, e)) (in_lines form lines number there func stands missed)
       | inr apart ↦ elim apart [
-        | inl before ↦ later-place (module_of lines).lines 1 to number place there order (omega (arith, before)) (in_lines lines number there func stands missed)
+        | inl before ↦ later-place (module_of form lines).lines 1 to number place there order (omega (arith, before)) (in_lines form lines number there func stands missed)
         | inr after ↦ absurd (not_missed func there (definite there after) missed)
       ]
     ]
 
-same_function : (lines : List Line) (to line other : ℕ) (first : IsFirstMissed (module_of lines) line) (fault : NotDefinite lines other)
-    → InOrder 1 (module_of lines).lines to → first.number ≡ fault.number → line ≤ other
-same_function lines to line other first fault order same =
-    let moved : slice_get (module_of lines).content.funcs first.number ≡ Some fault.func =
-    subst (λ (n : ℕ). slice_get (module_of lines).content.funcs n ≡ Some fault.func) (sym same) fault.stands in
-    let func : fault.func ≡ first.func = same_func (module_of lines).content.funcs first.number fault.func first.func moved first.stands in
+same_function : (form : Form) (lines : List Line) (to line other : ℕ) (first : IsFirstMissed (module_of form lines) line) (fault : NotDefinite form lines other)
+    → InOrder 1 (module_of form lines).lines to → first.number ≡ fault.number → line ≤ other
+same_function form lines to line other first fault order same =
+    let moved : slice_get (module_of form lines).content.funcs first.number ≡ Some fault.func =
+    subst (λ (n : ℕ). slice_get (module_of form lines).content.funcs n ≡ Some fault.func) (sym same) fault.stands in
+    let func : fault.func ≡ first.func = same_func (module_of form lines).content.funcs first.number fault.func first.func moved first.stands in
     let missed : HasMissedUse first.func fault.place = subst (λ (f : Function). HasMissedUse f fault.place) func fault.missed in
-    let below = one_function lines to first.number first.place fault.place first.func order first.first_place missed first.stands in
-    let at : other ≡ line_at (module_of lines).lines first.number fault.place =
-    subst (λ (n : ℕ). other ≡ line_at (module_of lines).lines n fault.place) (sym same) fault.at in
+    let below = one_function form lines to first.number first.place fault.place first.func order first.first_place missed first.stands in
+    let at : other ≡ line_at (module_of form lines).lines first.number fault.place =
+    subst (λ (n : ℕ). other ≡ line_at (module_of form lines).lines n fault.place) (sym same) fault.at in
     omega (arith, below, at, first.at)
 
-other_function : (lines : List Line) (to line other : ℕ) (first : IsFirstMissed (module_of lines) line) (fault : NotDefinite lines other)
-    → InOrder 1 (module_of lines).lines to → first.number < fault.number → line ≤ other
-other_function lines to line other first fault order before =
-    let below = later-function (module_of lines).lines 1 to first.number fault.number first.place fault.place order before
-    (in_lines lines first.number first.place first.func first.stands first.missed)
-    (in_lines lines fault.number fault.place fault.func fault.stands fault.missed) in
+other_function : (form : Form) (lines : List Line) (to line other : ℕ) (first : IsFirstMissed (module_of form lines) line) (fault : NotDefinite form lines other)
+    → InOrder 1 (module_of form lines).lines to → first.number < fault.number → line ≤ other
+other_function form lines to line other first fault order before =
+    let below = later-function (module_of form lines).lines 1 to first.number fault.number first.place fault.place order before
+    (in_lines form lines first.number first.place first.func first.stands first.missed)
+    (in_lines form lines fault.number fault.place fault.func fault.stands fault.missed) in
     omega (arith, below, first.at, fault.at)
 
-not_earlier : (lines : List Line) (line other : ℕ) (first : IsFirstMissed (module_of lines) line) (fault : NotDefinite lines other)
+not_earlier : (form : Form) (lines : List Line) (line other : ℕ) (first : IsFirstMissed (module_of form lines) line) (fault : NotDefinite form lines other)
     → fault.number < first.number → ⊥
-not_earlier lines line other first fault before =
+not_earlier form lines line other first fault before =
     not_missed fault.func fault.place
     (λ value block place used. first.first_function fault.number fault.func before fault.stands fault.place value block place used) fault.missed
 
-missed-first : (lines : List Line) (to line other : ℕ) → InOrder 1 (module_of lines).lines to → IsFirstMissed (module_of lines) line → NotDefinite lines other
+missed-first : (form : Form) (lines : List Line) (to line other : ℕ) → InOrder 1 (module_of form lines).lines to → IsFirstMissed (module_of form lines) line → NotDefinite form lines other
     → line ≤ other
-missed-first lines to line other order first fault =
+missed-first form lines to line other order first fault =
     elim (cases_order first.number fault.number) [
-      | inl e ↦ same_function lines to line other first fault order e
+      | inl e ↦ same_function form lines to line other first fault order e
       | inr apart ↦ elim apart [
-        | inl before ↦ other_function lines to line other first fault order before
-        | inr after ↦ absurd (not_earlier lines line other first fault after)
+        | inl before ↦ other_function form lines to line other first fault order before
+        | inr after ↦ absurd (not_earlier form lines line other first fault after)
       ]
     ]
 
@@ -120,9 +121,9 @@ not_later line other before =
       ]
     ]
 
-pub missed-least : (lines : List Line) (to line : ℕ) → HasNoPlainFault lines → Stand places.Top lines → Within 1 (numbers lines) to
-    → IsFirstMissed (module_of lines) line → IsLeastFault lines line 8
-missed-least lines to line none stand within missed = record {
+pub missed-least : (form : Form) (lines : List Line) (to line : ℕ) → HasNoPlainFault form lines → Stand places.Top lines → Within 1 (numbers lines) to
+    → IsFirstMissed (module_of form lines) line → IsLeastFault form lines line 8
+missed-least form lines to line none stand within missed = record {
   is = not_definite none (record {
     number = missed.number;
     func = missed.func;
@@ -134,7 +135,7 @@ missed-least lines to line none stand within missed = record {
   least = λ other_line other_code fault. first other_line other_code fault;
 }
   where
-    first : (other_line other_code : ℕ) → HasFault lines other_line other_code → ComesFirst line 8 other_line other_code
+    first : (other_line other_code : ℕ) → HasFault form lines other_line other_code → ComesFirst line 8 other_line other_code
     first other_line _ (plain code fault) = absurd (none other_line code fault)
     first other_line _ (not_definite _ fault) =
-        not_later line other_line (missed-first lines to line other_line (module-rises lines 1 to stand within) missed fault)
+        not_later line other_line (missed-first form lines to line other_line (module-rises form lines 1 to stand within) missed fault)

@@ -2,3 +2,4 @@ pub mod Faults
 pub mod FaultSet
 pub mod FirstMissed
 pub mod Answers
+pub mod Forms

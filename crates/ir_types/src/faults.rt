@@ -1,4 +1,4 @@
-//! Why readings stand for no source module.
+//! Why readings stand for no module.
 
 ghost use Rattle.std.specs.Prelude.{◌≡◌};
 ghost use Rattle.ir_types.specs.declared.faults.TypeFault.TheVariants.{Memory};
@@ -8,7 +8,7 @@ use std::alloc::{AllocError, AllocFailed};
 use std::error::Error;
 use std::fmt;
 
-/// Why readings stand for no source module.
+/// Why readings stand for no module.
 #[derive(Clone, Copy, Debug, PartialEq, Eq)]
 pub enum TypeFault {
     /// The first fault: the least line, and of that the least code.

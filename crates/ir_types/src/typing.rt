@@ -3,42 +3,64 @@
 ghost use Rattle.std.specs.Prelude.{◌≡◌, IfOk, None, Some};
 ghost use Rattle.ir_ast.specs.Formed.{IsFormedModule};
 ghost use Rattle.ir_cfg.specs.SourceModules.{IsSourceModule};
+ghost use Rattle.ir_cfg.specs.TargetModules.{IsTargetModule};
 ghost use Rattle.ir_reader.specs.Raws.{IsRead};
 ghost use Rattle.ir_types.specs.Answers.{Answers};
+ghost use Rattle.ir_types.specs.Forms.{IsModuleOf};
 ghost use Rattle.ir_lines.specs.Modules.{module_of};
 ghost use Rattle.ir_lines.specs.PlainFaults.{HasNoPlainFault};
-ghost use Rattle.module_laws.specs.TypedModules.{IsTypedModule};
+ghost use Rattle.module_laws.specs.TypedModules.{IsTypedIn};
 ghost use Rattle.ir_lines.specs.Views.{seen_lines};
 
 use crate::faults::TypeFault;
 use crate::paths::first_missed;
-use ir_ast::Module;
+use ir_ast::{Form, Module};
 use ir_lines::faults::Fault;
 use ir_reader::Raw;
 use module_build::module_of;
 use std::alloc::{AllocError, Global};
 use type_checks::first_fault;
 
-/// The source module that the readings of a text stand for, with the lines of its instructions; or the first of its
-/// faults, the least line and of that the least code. Whether uses are definite is judged over the paths of a module
-/// without another fault. [`TypeFault::Memory`] says nothing of the text.
+/// The source module that the readings of a text in the source form stand for, with the lines of its instructions; or
+/// the first of its faults, the least line and of that the least code. Whether uses are definite is judged over the
+/// paths of a module without another fault. [`TypeFault::Memory`] says nothing of the text.
 pub fn typed(alloc: Global, raw: Raw) -> Result<Module, TypeFault>
-    ensures answers { Answers (seen_lines raw.entry.lines) result }
+    requires { raw.form ≡ Form.Source }
+    ensures answers { Answers Form.Source (seen_lines raw.entry.lines) result }
     ensures source { IfOk result (λ whole. IsSourceModule whole.content) }
     ensures formed { IfOk result (λ whole. IsFormedModule whole.content) }
 {
-    match first_fault(alloc, raw.lines())? {
+    checked(alloc, &raw)
+}
+
+/// The target module that the readings of a text in the rewritten form stand for, likewise, or the first of its faults.
+pub fn typed_rewritten(alloc: Global, raw: Raw) -> Result<Module, TypeFault>
+    requires { raw.form ≡ Form.Rewritten }
+    ensures answers { Answers Form.Rewritten (seen_lines raw.entry.lines) result }
+    ensures target { IfOk result (λ whole. IsTargetModule whole.content) }
+    ensures formed { IfOk result (λ whole. IsFormedModule whole.content) }
+{
+    checked(alloc, &raw)
+}
+
+// The module of readings in their form, or the first fault.
+fn checked(alloc: Global, raw: &Raw) -> Result<Module, TypeFault>
+    ensures answers { Answers raw.now.form (seen_lines raw.now.lines) result }
+    ensures module { IfOk result (λ whole. IsModuleOf raw.now.form whole.content) }
+    ensures formed { IfOk result (λ whole. IsFormedModule whole.content) }
+{
+    match first_fault(alloc, raw.form(), raw.lines())? {
         Some(fault) => Err(TypeFault::Fault(fault)),
-        None => with_paths(alloc, &raw),
+        None => with_paths(alloc, raw),
     }
 }
 
 // The module of readings without a fault but those of paths, or the first of these.
 fn with_paths(alloc: Global, raw: &Raw) -> Result<Module, TypeFault>
-    requires plain { HasNoPlainFault (seen_lines raw.now.lines) }
+    requires plain { HasNoPlainFault raw.now.form (seen_lines raw.now.lines) }
     requires read { IsRead raw.now }
-    ensures answers { Answers (seen_lines raw.now.lines) result }
-    ensures source { IfOk result (λ whole. IsSourceModule whole.content) }
+    ensures answers { Answers raw.now.form (seen_lines raw.now.lines) result }
+    ensures module { IfOk result (λ whole. IsModuleOf raw.now.form whole.content) }
     ensures formed { IfOk result (λ whole. IsFormedModule whole.content) }
 {
     let whole = plain_module(alloc, raw)?;
@@ -50,11 +72,13 @@ fn with_paths(alloc: Global, raw: &Raw) -> Result<Module, TypeFault>
 
 // The module of readings without a fault but those of paths.
 fn plain_module(alloc: Global, raw: &Raw) -> Result<Module, AllocError>
-    requires { HasNoPlainFault (seen_lines raw.now.lines) }
-    ensures is { IfOk result (λ whole. whole ≡ module_of (seen_lines raw.now.lines)) }
-    ensures typed { IfOk result (λ whole. IsTypedModule whole.content) }
+    requires { HasNoPlainFault raw.now.form (seen_lines raw.now.lines) }
+    ensures is { IfOk result (λ whole. whole ≡ module_of raw.now.form (seen_lines raw.now.lines)) }
+    ensures typed { IfOk result (λ whole. IsTypedIn raw.now.form whole.content) }
     ensures formed { IfOk result (λ whole. IsFormedModule whole.content) }
 {
-    let whole = module_of(alloc, raw.lines())?;
+    let form = raw.form();
+    let lines = raw.lines();
+    let whole = module_of(alloc, form, lines)?;
     Ok(whole)
 }

@@ -13,7 +13,7 @@ use Rattle.ir_reader.specs.declared.words.Conversion.TheVariants as conversions
 use Rattle.ir_ast.specs.Insts.{Instruction}
 use Rattle.ir_ast.specs.Ops.{is_terminator}
 use Rattle.ir_ast.specs.Blocks.{EndsAtTerminator}
-use Rattle.ir_lines.specs.Statements.{Statement, Line, close, label, binary, compare, convert, select, phi, scalar_step, layout_step, load, store, call, jump, branch, switch, switch_case, switch_end, ret_void, ret, unreachable}
+use Rattle.ir_lines.specs.Statements.{Statement, Line, close, label, binary, compare, convert, select, phi, scalar_step, layout_step, load, store, call, jump, branch, switch, switch_case, switch_end, ret_void, ret, unreachable, statepoint, gc_result, gc_relocate}
 use Rattle.ir_lines.specs.Sections.{Definition, BlockLines, is_close, is_label, label_said, until_label, block_at, labelled_blocks, first_block, blocks_of, count_numbered}
 use Rattle.ir_lines.specs.Modules.{Known, binary_of, conversion_of, instruction_said, with_line, instructions_of, insts_of}
 use Rattle.ir_lines.specs.TextLines.{behind_instruction, behind_head, behind_closed, behind_case, place_behind, Goes, Stand}
@@ -122,6 +122,9 @@ leads-any known behind (layout_step result named address width index place) = re
 leads-any known behind (load result ty address) = refl
 leads-any known behind (store ty value address) = refl
 leads-any known behind (call result answer callee passed) = refl
+leads-any known behind (statepoint result made live) = refl
+leads-any known behind (gc_result result ty token) = refl
+leads-any known behind (gc_relocate result token base derived) = refl
 leads-any known behind (jump to) = refl
 leads-any known behind (branch condition on_true on_false) = refl
 leads-any known behind ret_void = refl

@@ -4,7 +4,7 @@ use Rattle.std.specs.Prelude.{map, flat_map}
 use Rattle.std.proofs.lemmas.List.{length-map, length-append}
 use Rattle.std.specs.List.{All}
 use Rattle.std.proofs.lemmas.List.Elements.{All-weaker, All-same}
-use Rattle.ir_ast.specs.declared.modules.Form.TheVariants.{Source}
+use Rattle.ir_ast.specs.declared.modules.Form.{Form}
 use Rattle.ir_ast.specs.Insts.{Instruction}
 use Rattle.ir_ast.specs.Blocks.{BasicBlock}
 use Rattle.ir_ast.specs.Layouts.{ObjectLayout}
@@ -49,8 +49,8 @@ known-local top func values blocks v b =
 abbrev pub lined_with : Top → Definition → LinedFunction
 lined_with top func = lined_function (known_with top func) func
 
-abbrev content_with : List ObjectLayout → List Function → ModuleContent
-content_with layouts funcs = record { layouts = layouts; funcs = funcs; form = Source }
+abbrev content_with : Form → List ObjectLayout → List Function → ModuleContent
+content_with form layouts funcs = record { layouts = layouts; funcs = funcs; form = form }
 
 abbrev module_with : ModuleContent → List (List ℕ) → LinedModule
 module_with content numbers = record { content = content; lines = numbers }
@@ -69,19 +69,19 @@ built-lines lines top h (func ∷ funcs) =
     ap (λ (known : Known). instruction_lines known func ∷ map lines_of (map (lined_with top) funcs)) (known-top lines top func h)
     ∙ ap (λ (more : List (List ℕ)). instruction_lines (known_of lines func) func ∷ more) (built-lines lines top h funcs)
 
-pub built-module : (lines : List Line) (top : Top) → IsTop lines top → (whole : LinedModule) (layouts : List ObjectLayout) (funcs : List LinedFunction)
+pub built-module : (form : Form) (lines : List Line) (top : Top) → IsTop lines top → (whole : LinedModule) (layouts : List ObjectLayout) (funcs : List LinedFunction)
     → layouts ≡ map layout_of (layouts_of lines) → funcs ≡ map (lined_with top) (definitions_of lines)
-    → whole.content ≡ record { layouts = layouts; funcs = map content_of funcs; form = Source } → whole.lines ≡ map lines_of funcs
-    → whole ≡ module_of lines
-built-module lines top h whole layouts funcs l f content numbers =
-    let contents : map content_of funcs ≡ (module_of lines).content.funcs =
+    → whole.content ≡ record { layouts = layouts; funcs = map content_of funcs; form = form } → whole.lines ≡ map lines_of funcs
+    → whole ≡ module_of form lines
+built-module form lines top h whole layouts funcs l f content numbers =
+    let contents : map content_of funcs ≡ (module_of form lines).content.funcs =
     ap (λ (fs : List LinedFunction). map content_of fs) f ∙ built-contents lines top h (definitions_of lines) in
-    let same : whole.content ≡ (module_of lines).content =
-    content ∙ ap (λ (ls : List ObjectLayout). content_with ls (map content_of funcs)) l
-    ∙ ap (λ (fs : List Function). content_with (map layout_of (layouts_of lines)) fs) contents in
-    let lined : whole.lines ≡ (module_of lines).lines =
+    let same : whole.content ≡ (module_of form lines).content =
+    content ∙ ap (λ (ls : List ObjectLayout). content_with form ls (map content_of funcs)) l
+    ∙ ap (λ (fs : List Function). content_with form (map layout_of (layouts_of lines)) fs) contents in
+    let lined : whole.lines ≡ (module_of form lines).lines =
     numbers ∙ ap (λ (fs : List LinedFunction). map lines_of fs) f ∙ built-lines lines top h (definitions_of lines) in
-    ap (λ (one : ModuleContent). module_with one whole.lines) same ∙ ap (λ (ns : List (List ℕ)). module_with (module_of lines).content ns) lined
+    ap (λ (one : ModuleContent). module_with one whole.lines) same ∙ ap (λ (ns : List (List ℕ)). module_with (module_of form lines).content ns) lined
 
 -- ---- a function
 

@@ -4,7 +4,10 @@ ghost use Rattle.std.specs.Prelude.{◌≡◌, [], ◌∷◌, ◌++◌, ◌+◌,
 ghost use Rattle.std.specs.List.{All};
 ghost use Rattle.ir_ast.specs.Blocks.{EndsAtTerminator};
 ghost use Rattle.std.specs.Option.{option_copied};
-ghost use Rattle.ir_reader.specs.Seen.{seen_value, seen_argument, seen_entry, seen_passed};
+ghost use Rattle.ir_reader.specs.Parts as values;
+ghost use Rattle.ir_reader.specs.Seen.{seen_value, seen_argument, seen_entry, seen_passed, seen_guarded};
+ghost use Rattle.ir_lines.specs.Parts.{live_use, token_type};
+ghost use Rattle.ir_lines.specs.Statements.{statepoint};
 ghost use Rattle.ir_lines.specs.Places.{number_in};
 ghost use Rattle.ir_lines.specs.Views.{said, seen_lines};
 ghost use Rattle.module_build.specs.Known.{known_in};
@@ -12,19 +15,22 @@ ghost use Rattle.module_build.specs.Placed.{IsPlacedFunction, IsPlaced};
 ghost use Rattle.ir_lines.specs.Tables.{seen_definition, seen_block};
 ghost use Rattle.ir_lines.specs.Sections.{arguments_named, blocks_of, layout_said, layouts_of};
 ghost use Rattle.module_build.specs.Built.{known_with, lined_function};
-ghost use Rattle.ir_lines.specs.Modules.{module_of, instruction, instruction_said, with_line, insts_of, numbers_of, external_callee, callee_of, passed_operand, given_type, case_values, case_labels, element_of, entry_operand, entry_label, operand_in, label_in, type_of, block_of, argument_of, layout_of, binary_of, conversion_of, cell_of, place_of};
+ghost use Rattle.ir_lines.specs.Modules.{module_of, wrapped, used_operand, instruction, instruction_said, with_line, insts_of, numbers_of, external_callee, callee_of, passed_operand, given_type, case_values, case_labels, element_of, entry_operand, entry_label, operand_in, label_in, type_of, block_of, argument_of, layout_of, binary_of, conversion_of, cell_of, place_of};
 
 use ir_ast::{
     Arg, Block, Callee, Cell, Elem, Form, Func, Inst, Layout, Module, Name, Op, Operand, Operands,
     Pred, Ty, Types,
 };
 use ir_lines::best::First;
+use ir_lines::literals::wrapped;
 use ir_lines::names::{NOWHERE, is_text, number_of};
 use ir_lines::operands::{binary_of, conversion_of, element_of, passed_type, type_of};
+use ir_lines::parts::TOKEN;
 use ir_lines::scope::{Local, Top};
 use ir_lines::sections::{BlockLines, Definition, HeadNames, blocks, definitions};
 use ir_reader::{
-    Argument, Binary, Conversion, Entry, Literal, NumberedReading, Passed, Reading, TypeWord, Value,
+    Argument, Binary, Conversion, Entry, Literal, NumberedReading, Passed, Reading, StatepointCall,
+    TypeWord, Value,
 };
 use smallvec::SmallVec;
 use sp_ids::{BlockId, FuncId};
@@ -97,6 +103,17 @@ fn inst(
     let operands = SmallVec::from_slice(alloc, operands)?;
     let labels = Vec::from_slice(alloc, labels)?;
     Ok(Some(Inst::of(name, op, ty, operands, labels, Vec::new(alloc))))
+}
+
+// The types of what is passed.
+fn types_of(alloc: Global, passed: &[Passed]) -> Result<Types, AllocError>
+    ensures { IfOk result (λ types. types ≡ map given_type (map seen_passed passed.now)) }
+{
+    let mut types = Vec::new(alloc);
+    for one in passed {
+        types.push(type_of(passed_type(one)))?;
+    }
+    Ok(Types::of(types))
 }
 
 fn binary(
@@ -319,6 +336,49 @@ fn ret(
     inst(alloc, None, Op::Ret, type_of(ty), &operands, &[])
 }
 
+fn gc_result(
+    local: &Local,
+    alloc: Global,
+    name: &[u8],
+    answer: TypeWord,
+    token: &[u8],
+) -> Result<Option<Inst>, AllocError>
+    ensures { IfOk result (λ made. made ≡ Some (instruction (Some name.now) Op.GcResult (type_of answer)
+        (operand_in local.now.values token_type (values.local token.now) ∷ []) [])) }
+{
+    let operands = [local.operand(TOKEN, &Value::Local(token))];
+    inst(
+        alloc,
+        Some(name),
+        Op::GcResult,
+        type_of(answer),
+        &operands,
+        &[],
+    )
+}
+
+fn gc_relocate(
+    local: &Local,
+    alloc: Global,
+    name: &[u8],
+    token: &[u8],
+    base: Literal,
+    derived: Literal,
+) -> Result<Option<Inst>, AllocError>
+    ensures { IfOk result (λ made. made ≡ Some (instruction (Some name.now) Op.GcRelocate Ty.Ptr
+        (operand_in local.now.values token_type (values.local token.now)
+        ∷ operand_in local.now.values (TypeWord.Int 32) (values.number base)
+        ∷ operand_in local.now.values (TypeWord.Int 32) (values.number derived) ∷ []) [])) }
+{
+    let index = TypeWord::Int(32);
+    let operands = [
+        local.operand(TOKEN, &Value::Local(token)),
+        local.operand(index, &Value::Number(base)),
+        local.operand(index, &Value::Number(derived)),
+    ];
+    inst(alloc, Some(name), Op::GcRelocate, Ty::Ptr, &operands, &[])
+}
+
 // A `switch` with the cases that stand behind it.
 fn switch(
     local: &Local,
@@ -450,6 +510,72 @@ impl Scope<'_, '_, '_, '_> {
         step(self.local, alloc, name, op, address, width, index)
     }
 
+    // The operands of what is passed.
+    fn passed_operands(&self, alloc: Global, passed: &[Passed]) -> Result<Operands, AllocError>
+        ensures { IfOk result (λ made. made.items ≡ map (passed_operand (known_in self.now)) (map seen_passed passed.now)) }
+    {
+        let mut operands: Operands = SmallVec::new(alloc);
+        for one in passed {
+            operands.push(self.passed_operand(one))?;
+        }
+        Ok(operands)
+    }
+
+    // The operands of a statepoint: its arguments first and then its live entries.
+    fn statepoint_operands(
+        &self,
+        alloc: Global,
+        passed: &[Passed],
+        live: &[Value],
+    ) -> Result<Operands, AllocError>
+        ensures { IfOk result (λ made. made.items ≡ map (passed_operand (known_in self.now)) (map seen_passed passed.now)
+            ++ map (used_operand (known_in self.now)) (map live_use (map seen_value live.now))) }
+    {
+        let mut operands = self.passed_operands(alloc, passed)?;
+        for entry in live {
+            operands.push(self.local.operand(TypeWord::Managed, entry))?;
+        }
+        Ok(operands)
+    }
+
+    // The statepoint with these operands.
+    fn guarded(
+        &self,
+        alloc: Global,
+        name: &[u8],
+        call: &StatepointCall,
+        operands: Operands,
+    ) -> Result<Option<Inst>, AllocError>
+        ensures { IfOk result (λ made. made ≡ Some (instruction (Some name.now)
+            (Op.Statepoint (wrapped 64 (seen_guarded call.now).id) (callee_of (known_in self.now) (seen_guarded call.now).callee)
+            (map given_type (seen_guarded call.now).passed)) (type_of (seen_guarded call.now).signature.answer) operands.items [])) }
+    {
+        let op = Op::Statepoint {
+            id: wrapped(64, call.id),
+            callee: self.callee(call.callee),
+            types: types_of(alloc, call.passed.as_slice())?,
+        };
+        let ty = type_of(call.function_type.answer);
+        let name = owned(alloc, name)?;
+        let labels = Vec::new(alloc);
+        let none = Vec::new(alloc);
+        Ok(Some(Inst::of(Some(name), op, ty, operands, labels, none)))
+    }
+
+    fn statepoint(
+        &self,
+        alloc: Global,
+        name: &[u8],
+        call: &StatepointCall,
+        live: &[Value],
+    ) -> Result<Option<Inst>, AllocError>
+        ensures { IfOk result (λ made. made
+            ≡ instruction_said (known_in self.now) [] (statepoint name.now (seen_guarded call.now) (map seen_value live.now))) }
+    {
+        let operands = self.statepoint_operands(alloc, call.passed.as_slice(), live)?;
+        self.guarded(alloc, name, call, operands)
+    }
+
     // The instruction of a line, where it is one; a `switch` has the cases that stand behind it.
     fn instruction(
         &self,
@@ -541,6 +667,20 @@ impl Scope<'_, '_, '_, '_> {
             Reading::ReturnVoid => inst(alloc, None, Op::Ret, Ty::Void, &[], &[]),
             Reading::Return { ty, value } => ret(local, alloc, *ty, value),
             Reading::Unreachable => inst(alloc, None, Op::Unreachable, Ty::Void, &[], &[]),
+            Reading::Statepoint { result, call, live } => {
+                self.statepoint(alloc, result, call, live.as_slice())
+            }
+            Reading::GcResult {
+                result,
+                answer,
+                token,
+            } => gc_result(local, alloc, result, *answer, token),
+            Reading::GcRelocate {
+                result,
+                token,
+                base,
+                derived,
+            } => gc_relocate(local, alloc, result, token, *base, *derived),
             _ => Ok(None),
         }
     }
@@ -675,26 +815,31 @@ fn arguments_of(
 }
 
 // The function that a definition stands for, with the lines of its instructions.
-fn function_of(alloc: Global, top: &Top, func: &Definition) -> Result<Func, AllocError>
+fn function_of(alloc: Global, form: Form, top: &Top, func: &Definition) -> Result<Func, AllocError>
     requires { IsPlacedFunction (known_with top.now (seen_definition func.now)) (seen_definition func.now) }
     ensures { IfOk result (λ made. made ≡ lined_function (known_with top.now (seen_definition func.now)) (seen_definition func.now)) }
 {
     let names = HeadNames::of(alloc, func.arguments)?;
     let sections = blocks(alloc, func, names.entry.as_slice())?;
     let mut unused = First::NONE;
-    let local = Local::of(alloc, func, &names, sections.as_slice(), &mut unused)?;
+    let local = Local::of(alloc, form, func, &names, sections.as_slice(), &mut unused)?;
     let scope = Scope { top, local: &local };
     scope.function(alloc, func, &names, sections.as_slice())
 }
 
 // The functions that definitions stand for, in their order.
-fn functions_of(alloc: Global, top: &Top, funcs: &[Definition]) -> Result<Vec<Func>, AllocError>
+fn functions_of(
+    alloc: Global,
+    form: Form,
+    top: &Top,
+    funcs: &[Definition],
+) -> Result<Vec<Func>, AllocError>
     requires { All (λ func. IsPlacedFunction (known_with top.now func) func) (map seen_definition funcs.now) }
     ensures { IfOk result (λ made. made.items ≡ map (λ func. lined_function (known_with top.now func) func) (map seen_definition funcs.now)) }
 {
     let mut made = Vec::new(alloc);
     for func in funcs {
-        let one = function_of(alloc, top, func)?;
+        let one = function_of(alloc, form, top, func)?;
         made.push(one)?;
     }
     Ok(made)
@@ -743,15 +888,15 @@ fn layouts_of(alloc: Global, lines: &[NumberedReading]) -> Result<Vec<Layout>, A
     Ok(layouts)
 }
 
-/// The module that these lines stand for, with the lines of its instructions.
-pub fn module_of(alloc: Global, lines: &[NumberedReading]) -> Result<Module, AllocError>
+/// The module that these lines of a text in this form stand for, with the lines of its instructions.
+pub fn module_of(alloc: Global, form: Form, lines: &[NumberedReading]) -> Result<Module, AllocError>
     requires { IsPlaced (seen_lines lines.now) }
-    ensures { IfOk result (λ whole. whole ≡ module_of (seen_lines lines.now)) }
+    ensures { IfOk result (λ whole. whole ≡ module_of form (seen_lines lines.now)) }
 {
     let mut unused = First::NONE;
     let top = Top::of(alloc, lines, &mut unused)?;
     let layouts = layouts_of(alloc, lines)?;
     let found = definitions(alloc, lines)?;
-    let funcs = functions_of(alloc, &top, found.as_slice())?;
-    Ok(Module::of(layouts, funcs, Form::Source))
+    let funcs = functions_of(alloc, form, &top, found.as_slice())?;
+    Ok(Module::of(layouts, funcs, form))
 }

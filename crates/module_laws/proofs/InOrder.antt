@@ -6,6 +6,7 @@ use Rattle.ir_reader.specs.declared.forms.Place.{Place}
 use Rattle.ir_reader.specs.declared.forms.Place.TheVariants as places
 use Rattle.ir_reader.specs.declared.readings.TypeWord.{TypeWord}
 use Rattle.ir_reader.specs.Lists.{Named}
+use Rattle.ir_ast.specs.declared.modules.Form.{Form}
 use Rattle.ir_ast.specs.Insts.{Instruction}
 use Rattle.ir_ast.specs.Funcs.{Function, instructions_of}
 use Rattle.ir_ast.specs.Modules.{line_at}
@@ -162,8 +163,8 @@ both-rise lines own (l ∷ ls) place from to stand within =
     }
 
 -- the lines of the module of lines that stand in their places
-pub module-rises : (lines : List Line) (from to : ℕ) → Stand places.Top lines → Within from (numbers lines) to → InOrder from (module_of lines).lines to
-module-rises lines from to stand within =
+pub module-rises : (form : Form) (lines : List Line) (from to : ℕ) → Stand places.Top lines → Within from (numbers lines) to → InOrder from (module_of form lines).lines to
+module-rises form lines from to stand within =
     (both-rise (λ func. instruction_lines (known_of lines func) func) (λ func first last h. body-rises (known_of lines func) func first last h)
     lines places.Top from to stand within).outside
 
@@ -206,8 +207,8 @@ lined G F each (d ∷ ds) zero func stands =
     let same : G d ≡ func = cc in each d ∙ ap (λ (f : Function). length (instructions_of f.blocks)) same
 lined G F each (d ∷ ds) (suc number) func stands = lined G F each ds number func stands
 
-pub each-lined : (lines : List Line) (number : ℕ) (func : Function) → slice_get (module_of lines).content.funcs number ≡ Some func
-    → length (lines_at (module_of lines).lines number) ≡ length (instructions_of func.blocks)
-each-lined lines number func stands =
+pub each-lined : (form : Form) (lines : List Line) (number : ℕ) (func : Function) → slice_get (module_of form lines).content.funcs number ≡ Some func
+    → length (lines_at (module_of form lines).lines number) ≡ length (instructions_of func.blocks)
+each-lined form lines number func stands =
     lined (λ func. function_of (known_of lines func) func) (λ func. instruction_lines (known_of lines func) func)
     (λ func. one-line_each (known_of lines func) (blocks_of func)) (definitions_of lines) number func stands

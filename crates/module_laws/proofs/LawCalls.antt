@@ -23,6 +23,8 @@ use Rattle.ir_ast.specs.Lines.{is_argument, Arguments}
 use Rattle.ir_ast.specs.Operands.{is_value, functions_named as functions_in, layouts_named as layouts_in}
 use Rattle.ir_ast.specs.Scope.{Signature, signature_of, called_in, scope_of as module_scope}
 use Rattle.ir_ast.specs.Faults.TypeClash.{TakesOperands}
+use Rattle.ir_ast.specs.declared.modules.Form.{Form}
+use Rattle.ir_ast.specs.declared.modules.Form.TheVariants.{Source}
 use Rattle.ir_reader.specs.declared.readings.TypeWord.{TypeWord}
 use Rattle.ir_reader.specs.declared.readings.TypeWord.TheVariants.{Void, Int, Managed, Plain}
 use Rattle.ir_reader.specs.Parts.{Val}
@@ -103,10 +105,10 @@ pub record Called (lines : List Line) (name : List ℕ) (d : Definition) : Type 
   pub signature : called_in (funcs_of lines) (callees.Fun (record { 0 = number_of (Some place) }))
       ≡ Some (record { answer = type_of d.answer; params = map type_of (types_of d.arguments) })
 
-pub called : (lines : List Line) → IsReadLines lines → HasNoPlainFault lines → (d : Definition) (name : List ℕ) → Contains (definitions_of lines) d → d.name ≡ name → Called lines name d
-called lines read none d name c e =
+pub called : (form : Form) (lines : List Line) → IsReadLines form lines → HasNoPlainFault form lines → (d : Definition) (name : List ℕ) → Contains (definitions_of lines) d → d.name ≡ name → Called lines name d
+called form lines read none d name c e =
     let s = stands (λ (one : Definition). one.name) (definitions_of lines) name (found_by_name (λ (one : Definition). one.name) (definitions_of lines) d name c e) in
-    let is : s.one ≡ d = same_by_name (λ (one : Definition). one.name) (definitions_of lines) s.one d (definitions-distinct lines none)
+    let is : s.one ≡ d = same_by_name (λ (one : Definition). one.name) (definitions_of lines) s.one d (definitions-distinct form lines none)
     (contains_get (definitions_of lines) s.place s.one s.there) c (s.same ∙ sym e) in
     let within = slice_get_within (definitions_of lines) s.place s.one s.there in
     let few = read.few_functions in
@@ -179,14 +181,14 @@ abbrev pub call_made : Callee → TypeWord → List Given → Known → Instruct
 call_made callee answer passed known =
     instruction None (ops.Call callee (map given_type passed)) (type_of answer) (map (passed_operand known) passed) []
 
-pub record IsGoodCall (lines : List Line) (func : Definition) (name : List ℕ) (answer : TypeWord) (passed : List Given) : Type 0 where
+pub record IsGoodCall (form : Form) (lines : List Line) (func : Definition) (name : List ℕ) (answer : TypeWord) (passed : List Given) : Type 0 where
   pub callee : Callee
   pub is : callee_of (known_of lines func) name ≡ callee
   pub signature : called_in (funcs_of lines) callee ≡ Some (record { answer = type_of answer; params = map given_type passed })
-  pub takes : TakesOperands (module_scope (module_of lines).content (made lines func)) callee (map (passed_operand (known_of lines func)) passed)
-  pub helper : is_helper callee ≡ false
+  pub takes : TakesOperands (module_scope (module_of form lines).content (made lines func)) callee (map (passed_operand (known_of lines func)) passed)
+  pub helper : form ≡ Source → is_helper callee ≡ false
   pub arguments : Arguments callee (map (passed_operand (known_of lines func)) passed) (map given_type passed)
-  pub layouts : All (λ layout. layout < length (module_of lines).content.layouts) (layouts_in (call_made callee answer passed (known_of lines func)))
+  pub layouts : All (λ layout. layout < length (module_of form lines).content.layouts) (layouts_in (call_made callee answer passed (known_of lines func)))
   pub functions : All (λ named. named < length (funcs_of lines)) (functions_in (call_made callee answer passed (known_of lines func)))
 
 -- by what a head says of the call
@@ -201,16 +203,16 @@ types_read : (arguments : List Named) → AllByRecursion IsReadArgument argument
 types_read [] all = tt
 types_read (one ∷ more) all = (all.0.0, types_read more all.1)
 
-pub head_read : (lines : List Line) → IsReadLines lines → (d : Definition) → Contains (definitions_of lines) d → IsReadHead d.answer d.name d.arguments
-head_read lines read d c = (All-contains (SaysOf SaysRead) (definitions_of lines) d (says-defined SaysRead lines read.says) c).head
+pub head_read : (form : Form) (lines : List Line) → IsReadLines form lines → (d : Definition) → Contains (definitions_of lines) d → IsReadHead d.answer d.name d.arguments
+head_read form lines read d c = (All-contains (SaysOf SaysRead) (definitions_of lines) d (says-defined SaysRead lines read.says) c).head
 
-pub calls_definition : (lines : List Line) (func : Definition) → InLaw lines func → (name : List ℕ) (answer : TypeWord) (passed : List Given)
+pub calls_definition : (form : Form) (lines : List Line) (func : Definition) → InLaw form lines func → (name : List ℕ) (answer : TypeWord) (passed : List Given)
     (d : Definition) → Contains (definitions_of lines) d → d.name ≡ name → answer ≡ d.answer → map passed_type passed ≡ types_of d.arguments
-    → IsGoodCall lines func name answer passed
-calls_definition lines func law name answer passed d c e same_answer same_params =
+    → IsGoodCall form lines func name answer passed
+calls_definition form lines func law name answer passed d c e same_answer same_params =
     let known = known_of lines func in
-    let at = called lines law.read law.none d name c e in
-    let head = head_read lines law.read d c in
+    let at = called form lines law.read law.none d name c e in
+    let head = head_read form lines law.read d c in
     let value_types : AllByRecursion IsValueType (map passed_type passed) =
     subst (AllByRecursion IsValueType) (sym same_params) (types_read d.arguments (recursion_from_All IsReadArgument d.arguments head.each)) in
     let all_given = given_from_types passed value_types in
@@ -221,9 +223,9 @@ calls_definition lines func law name answer passed d c e same_answer same_params
       is = ap (callee_at known name) at.placed;
       signature = at.signature ∙ ap Some (signed d.answer answer (types_of d.arguments) passed same_answer same_params);
       takes = tt;
-      helper = refl;
+      helper = λ is. refl;
       arguments = args_fit known (callees.Fun (record { 0 = number_of (Some at.place) })) passed all_given;
-      layouts = All-nil (λ layout. layout < length (module_of lines).content.layouts);
+      layouts = All-nil (λ layout. layout < length (module_of form lines).content.layouts);
       functions = All-cons (λ named. named < length (funcs_of lines)) (number_of (Some at.place)) (functions_in (over (map (passed_operand known) passed))) within
           (All-from_recursion (λ named. named < length (funcs_of lines)) (functions_in (over (map (passed_operand known) passed)))
           (no_functions (λ named. named < length (funcs_of lines)) known passed all_given));

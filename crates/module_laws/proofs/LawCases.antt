@@ -7,6 +7,7 @@ use Rattle.std.proofs.lemmas.List.{length-map}
 use Rattle.ir_ast.specs.Lists.{Distinct}
 use Rattle.ir_ast.specs.declared.ops.Operand.{Operand}
 use Rattle.ir_ast.specs.declared.ops.Operand.TheVariants as operands
+use Rattle.ir_ast.specs.declared.modules.Form.{Form}
 use Rattle.ir_reader.specs.declared.readings.TypeWord.TheVariants.{Int}
 use Rattle.ir_reader.specs.Parts.{Val, is_case_value}
 use Rattle.ir_reader.specs.Parts as values
@@ -140,11 +141,11 @@ case_at width [] k m e = absurd (let bad : None ≡ Some m = e in cc)
 case_at width (l ∷ ls) k m e = one_at width l.number l.says ls (case_at width ls) k m e
 
 -- a `switch` of faultless lines
-pub numbers-distinct : (lines : List Line) → HasNoPlainFault lines → (func : Definition) → Contains (definitions_of lines) func
+pub numbers-distinct : (form : Form) (lines : List Line) → HasNoPlainFault form lines → (func : Definition) → Contains (definitions_of lines) func
     → (before : List Line) (number width : ℕ) (value : Val) (default : List ℕ) (behind : List Line)
     → func.body ≡ before ++ (record { number = number; says = switch width value default }) ∷ behind
     → Distinct (case_numbers width (cases_of behind))
-numbers-distinct lines none func defined before number width value default behind whole = λ j k below within same.
+numbers-distinct form lines none func defined before number width value default behind whole = λ j k below within same.
     let numbers = case_numbers width (cases_of behind) in
     let at_k = get_some numbers k within in
     let at = case_at width (cases_of behind) k at_k.0 at_k.1 in
@@ -179,10 +180,10 @@ distinct-map ns distinct = λ j k below within e.
     let g : at_j.0 ≡ at_k.0 = cc in
     distinct j k below inside (at_j.1 ∙ ap Some g ∙ sym at_k.1)
 
-pub values-distinct_in : (lines : List Line) → HasNoPlainFault lines → (func : Definition) → Contains (definitions_of lines) func
+pub values-distinct_in : (form : Form) (lines : List Line) → HasNoPlainFault form lines → (func : Definition) → Contains (definitions_of lines) func
     → (names : List (List ℕ)) (before : List Line) (number width : ℕ) (value : Val) (default : List ℕ) (behind : List Line)
     → func.body ≡ before ++ (record { number = number; says = switch width value default }) ∷ behind
     → AllByRecursion (λ l. SaysRead l.says) behind → Distinct (case_values names width behind)
-values-distinct_in lines none func defined names before number width value default behind whole read =
+values-distinct_in form lines none func defined names before number width value default behind whole read =
     subst (λ (ops : List Operand). Distinct ops) (sym (values-numbers names width behind read))
-    (distinct-map (case_numbers width (cases_of behind)) (numbers-distinct lines none func defined before number width value default behind whole))
+    (distinct-map (case_numbers width (cases_of behind)) (numbers-distinct form lines none func defined before number width value default behind whole))

@@ -13,6 +13,8 @@ use Rattle.ir_ast.specs.Operands.{value_in, values_used}
 use Rattle.ir_ast.specs.Derived as made_derived
 use Rattle.ir_ast.specs.Faults.DerivedEscapes.{values_leaving, KeepsDerived, DerivedStay}
 use Rattle.ir_ast.specs.Faults.DerivedEscapes as stays
+use Rattle.ir_ast.specs.declared.modules.Form.{Form}
+use Rattle.ir_ast.specs.declared.modules.Form.TheVariants.{Source}
 use Rattle.ir_reader.specs.declared.readings.TypeWord.{TypeWord}
 use Rattle.ir_reader.specs.declared.readings.TypeWord.TheVariants.{Int}
 use Rattle.ir_reader.specs.declared.words.Binary.{Binary}
@@ -35,7 +37,8 @@ use Rattle.module_laws.proofs.LawFacts.{IsGoodUse, IsKnownUse, true-false}
 use Rattle.module_laws.proofs.LawValues.{is_cast_line, one_result, has_result, given_by}
 use Rattle.ir_lines.proofs.LawNames.{stands, number-is, get_contained, contains_first, contains_later, contains_cons, contains_middle}
 use Rattle.module_laws.proofs.LawHeads.{values-distinct}
-use Rattle.module_laws.proofs.LawLines.{InLaw, made, few_numbers, no_casts, names-are, line_facts}
+use Rattle.ir_lines.specs.ReadLines.{SaysRead}
+use Rattle.module_laws.proofs.LawLines.{InLaw, made, few_numbers, says_read, no_casts, names-are, line_facts}
 use Rattle.module_laws.proofs.LawFunctions.{contained}
 
 -- ---- the line that gives a value
@@ -75,13 +78,13 @@ further known l ls k m inst e at = record {
 same_outcome : (i inst : Instruction) → Some (defs.outcome i) ≡ Some (defs.outcome inst) → i ≡ inst
 same_outcome i inst e = cc
 
-result_at : (known : Known) (ls : List Line) → AllByRecursion (λ l. is_cast_line l.says ≡ false) ls → (k : ℕ) (inst : Instruction)
+result_at : (known : Known) (ls : List Line) → AllByRecursion (λ l. SaysRead l.says) ls → AllByRecursion (λ l. is_cast_line l.says ≡ false) ls → (k : ℕ) (inst : Instruction)
     → slice_get (results known ls) k ≡ Some (defs.outcome inst) → ResultAt known ls k inst
-result_at known [] plain k inst e = absurd (let bad : None ≡ Some (defs.outcome inst) = e in cc)
-result_at known (l ∷ ls) plain k inst e =
+result_at known [] read plain k inst e = absurd (let bad : None ≡ Some (defs.outcome inst) = e in cc)
+result_at known (l ∷ ls) read plain k inst e =
     by (instruction_said known ls l.says) refl k
     (sym (ap (λ (ds : List defs.Definition). slice_get ds k) (results-cons known l ls)) ∙ e)
-    (one_result (λ name ty. name) known ls l.number l.says plain.0) (result_at known ls plain.1)
+    (one_result (λ name ty. name) known ls l.number l.says read.0 plain.0) (result_at known ls read.1 plain.1)
   where
     names : List (List ℕ)
     names = map (λ (one : Naming). one.name) (result_named l.number (gives l.says))
@@ -172,16 +175,16 @@ pub record GivenBy (lines : List Line) (func : Definition) (value : ℕ) (inst :
   pub named : slice_get (names_given func) value ≡ Some name
   pub stands_for : StandsFor func name line.says
 
-pub given_by_line : (lines : List Line) (func : Definition) → InLaw lines func → (value : ℕ) (inst : Instruction) → defs.Gives (made lines func) value inst → GivenBy lines func value inst
-given_by_line lines func law value inst e =
+pub given_by_line : (form : Form) (lines : List Line) (func : Definition) → InLaw form lines func → (value : ℕ) (inst : Instruction) → defs.Gives (made lines func) value inst → GivenBy lines func value inst
+given_by_line form lines func law value inst e =
     let known = known_of lines func in
     let args = arguments_named func.line [] func.arguments in
     let cut = behind_arguments args (results known func.body) value inst
     (sym (ap (λ (is : List Instruction). slice_get (map defs.argument (map argument_of args) ++ map defs.outcome (filter has_result is)) value) (body_insts known func)) ∙ e) in
-    let at = result_at known func.body (no_casts lines func law) cut.0 inst cut.2 in
+    let at = result_at known func.body (says_read form lines func law) (no_casts form lines func law) cut.0 inst cut.2 in
     let name = unwrap_or inst.result [] in
     let named : slice_get (names_given func) value ≡ Some name =
-    sym (ap (λ (ns : List (List ℕ)). slice_get ns value) (names-are lines func law))
+    sym (ap (λ (ns : List (List ℕ)). slice_get ns value) (names-are form lines func law))
     ∙ slice_get-map defs.definition_name (defs.definitions_of (made lines func)) value ∙ ap (option_map defs.definition_name) e in
     let front = map (λ (one : Naming). one.name) (args ++ given_by at.before) in
     let rest = map (λ (one : Naming). one.name) (given_by (at.line ∷ at.after)) in
@@ -209,7 +212,7 @@ given_by_line lines func law value inst e =
             let v_below = slice_get_within (names_given func) value name named in
             let there : slice_get (names_given func) g.0 ≡ Some name =
             subst (λ (ns : List (List ℕ)). slice_get ns g.0 ≡ Some name) (sym split) (get_front front rest g.0 name g.1) in
-            values-distinct lines law.none func law.defined g.0 value (omega arith) v_below (there ∙ sym named);
+            values-distinct form lines law.none func law.defined g.0 value (omega arith) v_below (there ∙ sym named);
       };
     }
 
@@ -259,11 +262,11 @@ pub record UsedAs (func : Definition) (named : List (List ℕ)) (n : ℕ) : Type
   pub there : Contains named name
   pub at : slice_get (names_given func) n ≡ Some name
 
-first_used : (lines : List Line) (func : Definition) → InLaw lines func → (named : List (List ℕ)) (n : ℕ) (name : List ℕ) → IsKnownUse (scope_of lines func) (values.local name)
+first_used : (form : Form) (lines : List Line) (func : Definition) → InLaw form lines func → (named : List (List ℕ)) (n : ℕ) (name : List ℕ) → IsKnownUse (scope_of lines func) (values.local name)
     → number_in (value_names (scope_of lines func)) name ≡ n → UsedAs func (name ∷ named) n
-first_used lines func law named n name known e =
+first_used form lines func law named n name known e =
     let s = stands (λ (one : Naming). one.name) (values_of func) name known in
-    let few = few_numbers lines func law in
+    let few = few_numbers form lines func law in
     record {
       name = name;
       there = contains_first name named;
@@ -275,27 +278,27 @@ later_used : (func : Definition) (named : List (List ℕ)) (n : ℕ) (v : Val) �
 later_used func named n (values.local name) at = record { name = at.name; there = contains_later name at.name named at.there; at = at.at }
 later_used func named n _ at = at
 
-local_used : (lines : List Line) (func : Definition) → InLaw lines func → (named : List (List ℕ)) (more : List ℕ) (n : ℕ) (name : List ℕ) → IsKnownUse (scope_of lines func) (values.local name)
+local_used : (form : Form) (lines : List Line) (func : Definition) → InLaw form lines func → (named : List (List ℕ)) (more : List ℕ) (n : ℕ) (name : List ℕ) → IsKnownUse (scope_of lines func) (values.local name)
     → (number_in (value_names (scope_of lines func)) name ≡ n) ⊎ Contains more n → (Contains more n → UsedAs func named n) → UsedAs func (name ∷ named) n
-local_used lines func law named more n name known (inl e) ih = first_used lines func law named n name known e
-local_used lines func law named more n name known (inr c) ih = later_used func named n (values.local name) (ih c)
+local_used form lines func law named more n name known (inl e) ih = first_used form lines func law named n name known e
+local_used form lines func law named more n name known (inr c) ih = later_used func named n (values.local name) (ih c)
 
-one_used : (lines : List Line) (func : Definition) → InLaw lines func → (named : List (List ℕ)) (more : List ℕ) (n : ℕ) (v : Val) (ty : TypeWord) → IsKnownUse (scope_of lines func) v
+one_used : (form : Form) (lines : List Line) (func : Definition) → InLaw form lines func → (named : List (List ℕ)) (more : List ℕ) (n : ℕ) (v : Val) (ty : TypeWord) → IsKnownUse (scope_of lines func) v
     → Contains (cons_option (value_in (operand_in (value_names (scope_of lines func)) ty v)) more) n → (Contains more n → UsedAs func named n)
     → UsedAs func (cons_option (local_name v) named) n
-one_used lines func law named more n (values.local name) ty known c ih =
-    local_used lines func law named more n name known (contains_cons (number_in (value_names (scope_of lines func)) name) n more c) ih
-one_used lines func law named more n (values.number literal) ty known c ih = ih c
-one_used lines func law named more n (values.truth said) ty known c ih = ih c
-one_used lines func law named more n values.null ty known c ih = ih c
+one_used form lines func law named more n (values.local name) ty known c ih =
+    local_used form lines func law named more n name known (contains_cons (number_in (value_names (scope_of lines func)) name) n more c) ih
+one_used form lines func law named more n (values.number literal) ty known c ih = ih c
+one_used form lines func law named more n (values.truth said) ty known c ih = ih c
+one_used form lines func law named more n values.null ty known c ih = ih c
 
-pub used_names : (lines : List Line) (func : Definition) → InLaw lines func → (us : List (Val × TypeWord)) → AllByRecursion (IsGoodUse (scope_of lines func)) us
+pub used_names : (form : Form) (lines : List Line) (func : Definition) → InLaw form lines func → (us : List (Val × TypeWord)) → AllByRecursion (IsGoodUse (scope_of lines func)) us
     → (n : ℕ) → Contains (filter_map value_in (map (used_operand (value_names (scope_of lines func))) us)) n
     → UsedAs func (filter_map (λ used. local_name used.0) us) n
-used_names lines func law [] good n c = absurd (let g = get_contained [] n c in let bad : None ≡ Some n = g.1 in cc)
-used_names lines func law (u ∷ us) good n c =
-    one_used lines func law (filter_map (λ used. local_name used.0) us) (filter_map value_in (map (used_operand (value_names (scope_of lines func))) us)) n u.0 u.1 good.0.1 c
-    (used_names lines func law us good.1 n)
+used_names form lines func law [] good n c = absurd (let g = get_contained [] n c in let bad : None ≡ Some n = g.1 in cc)
+used_names form lines func law (u ∷ us) good n c =
+    one_used form lines func law (filter_map (λ used. local_name used.0) us) (filter_map value_in (map (used_operand (value_names (scope_of lines func))) us)) n u.0 u.1 good.0.1 c
+    (used_names form lines func law us good.1 n)
 
 -- ---- merges
 
@@ -306,46 +309,46 @@ entry_uses names ty (e ∷ es) = ap (λ (os : List Operand). entry_operand names
 abbrev MergeOr : Definition → Statement → Instruction → Type 0
 MergeOr func s inst = made_derived.is_merge inst.op ≡ true → (is_merge s ≡ true) × ((n : ℕ) → Contains (values_used inst) n → UsedAs func (values_named s) n)
 
-merge_if : (lines : List Line) (func : Definition) → InLaw lines func → (rest : List Line) (s : Statement) → AllByRecursion (IsGoodUse (scope_of lines func)) (uses s)
+merge_if : (form : Form) (lines : List Line) (func : Definition) → InLaw form lines func → (rest : List Line) (s : Statement) → AllByRecursion (IsGoodUse (scope_of lines func)) (uses s)
     → IfSome (instruction_said (known_of lines func) rest s) (MergeOr func s)
-merge_if lines func law rest (phi result ty entries) good = λ e. (
+merge_if form lines func law rest (phi result ty entries) good = λ e. (
   refl,
-  λ n c. used_names lines func law (map (entry_use ty) entries) good n
+  λ n c. used_names form lines func law (map (entry_use ty) entries) good n
       (subst (λ (os : List Operand). Contains (filter_map value_in os) n) (entry_uses (known_of lines func).values ty entries) c),
 )
-merge_if lines func law rest (select result condition left_ty left right_ty right) good = λ e.
-    (refl, λ n c. used_names lines func law ((condition, Int 1) ∷ (left, left_ty) ∷ (right, right_ty) ∷ []) good n c)
-merge_if lines func law rest (binary result op width left right) good = λ e. absurd (true-false (made_derived.is_merge (binary_of op)) e (binary_no_merge op))
-merge_if lines func law rest (convert result op width value to) good = λ e. absurd (true-false (made_derived.is_merge (conversion_of op to)) e (conversion_no_merge op to))
-merge_if lines func law rest (layout name fields) good = tt
-merge_if lines func law rest (declare answer name parameters) good = tt
-merge_if lines func law rest (define answer name arguments strategy) good = tt
-merge_if lines func law rest close good = tt
-merge_if lines func law rest (label name) good = tt
-merge_if lines func law rest (switch_case width value to) good = tt
-merge_if lines func law rest switch_end good = tt
-merge_if lines func law rest (cast result op from value to) good = tt
-merge_if lines func law rest _ good = λ e. absurd (let bad : false ≡ true = e in cc)
+merge_if form lines func law rest (select result condition left_ty left right_ty right) good = λ e.
+    (refl, λ n c. used_names form lines func law ((condition, Int 1) ∷ (left, left_ty) ∷ (right, right_ty) ∷ []) good n c)
+merge_if form lines func law rest (binary result op width left right) good = λ e. absurd (true-false (made_derived.is_merge (binary_of op)) e (binary_no_merge op))
+merge_if form lines func law rest (convert result op width value to) good = λ e. absurd (true-false (made_derived.is_merge (conversion_of op to)) e (conversion_no_merge op to))
+merge_if form lines func law rest (layout name fields) good = tt
+merge_if form lines func law rest (declare answer name parameters) good = tt
+merge_if form lines func law rest (define answer name arguments strategy) good = tt
+merge_if form lines func law rest close good = tt
+merge_if form lines func law rest (label name) good = tt
+merge_if form lines func law rest (switch_case width value to) good = tt
+merge_if form lines func law rest switch_end good = tt
+merge_if form lines func law rest (cast result op from value to) good = tt
+merge_if form lines func law rest _ good = λ e. absurd (let bad : false ≡ true = e in cc)
 
 inside_body : (func : Definition) (before : List Line) (l : Line) (after : List Line) → func.body ≡ before ++ l ∷ after → Contains func.body l
 inside_body func before l after whole = subst (λ (body : List Line). Contains body l) (sym whole) (contains_middle before l after)
 
 -- a derived value of the function is one of the definition, by its name
-pub derived_named : (lines : List Line) (func : Definition) → InLaw lines func → (value : ℕ) → made_derived.Derived (made lines func) value
+pub derived_named : (form : Form) (lines : List Line) (func : Definition) → InLaw form lines func → (value : ℕ) → made_derived.Derived (made lines func) value
     → (name : List ℕ) → slice_get (names_given func) value ≡ Some name → Derived func name
-derived_named lines func law v (made_derived.by_step value inst given_there step) name e =
-    let g = given_by_line lines func law value inst given_there in
+derived_named form lines func law v (made_derived.by_step value inst given_there step) name e =
+    let g = given_by_line form lines func law value inst given_there in
     let same : g.name ≡ name = same_Some g.name name (sym g.named ∙ e) in
     let is = (subst (λ (o : Option Instruction). IfSome o (StepOr g.line.says)) g.said (step_if (known_of lines func) g.after g.line.says)) step in
     subst (Derived func) same (by_step g.name g.line.says g.stands_for is)
-derived_named lines func law v (made_derived.by_merge value operand inst given_there merge used derived) name e =
-    let g = given_by_line lines func law value inst given_there in
+derived_named form lines func law v (made_derived.by_merge value operand inst given_there merge used derived) name e =
+    let g = given_by_line form lines func law value inst given_there in
     let same : g.name ≡ name = same_Some g.name name (sym g.named ∙ e) in
-    let facts = line_facts lines func law g.line (inside_body func g.before g.line g.after g.whole) in
-    let is = (subst (λ (o : Option Instruction). IfSome o (MergeOr func g.line.says)) g.said (merge_if lines func law g.after g.line.says facts.uses)) merge in
+    let facts = line_facts form lines func law g.line (inside_body func g.before g.line g.after g.whole) in
+    let is = (subst (λ (o : Option Instruction). IfSome o (MergeOr func g.line.says)) g.said (merge_if form lines func law g.after g.line.says facts.uses)) merge in
     let as_named = is.1 operand used in
     subst (Derived func) same (by_merge g.name as_named.name g.line.says g.stands_for is.0 as_named.there
-    (derived_named lines func law operand derived as_named.name as_named.at))
+    (derived_named form lines func law operand derived as_named.name as_named.at))
 
 -- ---- what leaves
 
@@ -373,35 +376,35 @@ none_leave func named n os e c =
 abbrev Leaves : Definition → Statement → Instruction → Type 0
 Leaves func s inst = (n : ℕ) → Contains (values_leaving inst) n → UsedAs func (filter_map local_name (leaving s)) n
 
-leaves_if : (lines : List Line) (func : Definition) → InLaw lines func → (rest : List Line) (s : Statement) → AllByRecursion (IsGoodUse (scope_of lines func)) (uses s)
+leaves_if : (form : Form) (lines : List Line) (func : Definition) → InLaw form lines func → (rest : List Line) (s : Statement) → AllByRecursion (IsGoodUse (scope_of lines func)) (uses s)
     → IfSome (instruction_said (known_of lines func) rest s) (Leaves func s)
-leaves_if lines func law rest (store ty value address) good = λ n c. used_names lines func law ((value, ty) ∷ []) (good.0, tt) n c
-leaves_if lines func law rest (ret ty value) good = λ n c. used_names lines func law ((value, ty) ∷ []) good n c
-leaves_if lines func law rest (call result answer callee passed) good = λ n c.
+leaves_if form lines func law rest (store ty value address) good = λ n c. used_names form lines func law ((value, ty) ∷ []) (good.0, tt) n c
+leaves_if form lines func law rest (ret ty value) good = λ n c. used_names form lines func law ((value, ty) ∷ []) good n c
+leaves_if form lines func law rest (call result answer callee passed) good = λ n c.
     subst (λ (ns : List (List ℕ)). UsedAs func ns n) (leaving_names (filter_map passed_value passed))
-    (used_names lines func law (filter_map passed_value passed) good n (subst (λ (vs : List ℕ). Contains vs n) (passed_values (known_of lines func) passed) c))
-leaves_if lines func law rest (binary result op width left right) good = λ n c.
+    (used_names form lines func law (filter_map passed_value passed) good n (subst (λ (vs : List ℕ). Contains vs n) (passed_values (known_of lines func) passed) c))
+leaves_if form lines func law rest (binary result op width left right) good = λ n c.
     none_leave func [] n (stays.leaving (binary_of op) (operand_in (known_of lines func).values (Int width) left ∷ operand_in (known_of lines func).values (Int width) right ∷ []))
     (binary_none_leave op (operand_in (known_of lines func).values (Int width) left ∷ operand_in (known_of lines func).values (Int width) right ∷ [])) c
-leaves_if lines func law rest (convert result op width value to) good = λ n c.
+leaves_if form lines func law rest (convert result op width value to) good = λ n c.
     none_leave func [] n (stays.leaving (conversion_of op to) (operand_in (known_of lines func).values (Int width) value ∷ []))
     (conversion_none_leave op to (operand_in (known_of lines func).values (Int width) value ∷ [])) c
-leaves_if lines func law rest (layout name fields) good = tt
-leaves_if lines func law rest (declare answer name parameters) good = tt
-leaves_if lines func law rest (define answer name arguments strategy) good = tt
-leaves_if lines func law rest close good = tt
-leaves_if lines func law rest (label name) good = tt
-leaves_if lines func law rest (switch_case width value to) good = tt
-leaves_if lines func law rest switch_end good = tt
-leaves_if lines func law rest (cast result op from value to) good = tt
-leaves_if lines func law rest _ good = λ n c. none_leave func [] n [] refl c
+leaves_if form lines func law rest (layout name fields) good = tt
+leaves_if form lines func law rest (declare answer name parameters) good = tt
+leaves_if form lines func law rest (define answer name arguments strategy) good = tt
+leaves_if form lines func law rest close good = tt
+leaves_if form lines func law rest (label name) good = tt
+leaves_if form lines func law rest (switch_case width value to) good = tt
+leaves_if form lines func law rest switch_end good = tt
+leaves_if form lines func law rest (cast result op from value to) good = tt
+leaves_if form lines func law rest _ good = λ n c. none_leave func [] n [] refl c
 
-pub derived_stay : (lines : List Line) (func : Definition) → InLaw lines func → DerivedStay (made lines func)
+pub derived_stay : (lines : List Line) (func : Definition) → InLaw Source lines func → DerivedStay (made lines func)
 derived_stay lines func law =
     func_insts (known_of lines func) (KeepsDerived (made lines func)) func (λ before l after whole inst said.
     let inside = inside_body func before l after whole in
-    let facts = line_facts lines func law l inside in
-    let leaves = subst (λ (o : Option Instruction). IfSome o (Leaves func l.says)) said (leaves_if lines func law after l.says facts.uses) in
+    let facts = line_facts Source lines func law l inside in
+    let leaves = subst (λ (o : Option Instruction). IfSome o (Leaves func l.says)) said (leaves_if Source lines func law after l.says facts.uses) in
     contained (λ (value : ℕ). ¬ (made_derived.Derived (made lines func) value)) (values_leaving inst) (λ value c derived.
     let used = leaves value c in
     let told : DerivedEscapes lines l.number = record {
@@ -412,5 +415,5 @@ derived_stay lines func law =
       number = refl;
       name = used.name;
       leaves = used.there;
-      derived = derived_named lines func law value derived used.name used.at;
-    } in law.none l.number 9 (derived_escapes told)))
+      derived = derived_named Source lines func law value derived used.name used.at;
+    } in law.none l.number 9 (derived_escapes refl told)))

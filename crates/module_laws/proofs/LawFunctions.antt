@@ -28,27 +28,31 @@ use Rattle.ir_ast.specs.Faults.PointerOrder.{orders_pointers, PointersAreUnorder
 use Rattle.ir_ast.specs.Faults.PointerOrder as order
 use Rattle.ir_ast.specs.Faults.UnknownName.{NamesOfFunction, NamesOfModule, LocalNamesAreKnown, GlobalNamesAreKnown}
 use Rattle.ir_ast.specs.Faults.Reserved.{IsInsertedName, IsSource}
-use Rattle.ir_cfg.specs.Limits.{IsName}
+use Rattle.ir_ast.specs.declared.modules.Form.{Form}
+use Rattle.ir_ast.specs.declared.modules.Form.TheVariants.{Source}
+use Rattle.ir_ast.specs.Bundles.{HasNoBundle}
+use Rattle.ir_cfg.specs.Limits.{IsName, HasNames}
 use Rattle.std.specs.Fmt.{digits}
 use Rattle.sp_text.specs.Tokens.{is_name}
 use Rattle.ir_reader.specs.declared.readings.TypeWord.{TypeWord}
 use Rattle.ir_reader.specs.declared.readings.TypeWord.TheVariants.{Void, Int, Managed, Plain}
 use Rattle.ir_reader.specs.Lists.{Named}
-use Rattle.ir_lines.specs.Statements.{Line, Statement, label, binary, compare, convert, select, phi, scalar_step, layout_step, load, store, call, jump, branch, switch, ret_void, ret, unreachable, cast}
-use Rattle.ir_lines.specs.Parts.{gives}
+use Rattle.ir_lines.specs.Statements.{Line, Statement, label, binary, compare, convert, select, phi, scalar_step, layout_step, load, store, call, jump, branch, switch, ret_void, ret, unreachable, cast, statepoint, gc_result, gc_relocate}
+use Rattle.ir_lines.specs.Parts.{gives, token_type}
 use Rattle.ir_lines.specs.Sections.{Definition, Naming, BlockLines, arguments_named, result_named, values_of, blocks_of, labelled_blocks, first_block, block_at, label_said, is_label, until_label, count_numbered, is_numbered}
 use Rattle.ir_lines.specs.Scope.{scope_of, block_number}
 use Rattle.ir_lines.specs.Modules.{known_of, type_of, operand_of, label_of, argument_of, block_of, instruction_said}
 use Rattle.ir_lines.specs.Faults.PointerOrder as words
 use Rattle.ir_lines.specs.Faults.Reserved.{names_value, names_label}
 use Rattle.ir_lines.specs.PlainFaults.{reserved}
-use Rattle.ir_lines.specs.ReadLines.{SaysRead, IsReadArgument, IsNameIfAny, IsValueType, IsReadCall}
+use Rattle.ir_lines.specs.ReadLines.{SaysRead, IsReadArgument, IsNameIfAny, IsValueType, IsReadCall, instruction_count}
 use Rattle.module_laws.specs.TypedModules.{IsTypedFunction}
 use Rattle.module_laws.proofs.LawBodies.{body_insts, func_insts}
 use Rattle.module_laws.proofs.LawFacts.{or-left, or-right, same_type-is}
 use Rattle.module_laws.proofs.LawValues.{few_insts, length-named}
 use Rattle.module_laws.proofs.LawLines.{InLaw, LineFacts, line_facts, all_lines, made, read_function, said_function, is_value_in, fit, names-are}
 use Rattle.module_laws.proofs.LawTyped.{GoodInst, content, scope_made, two_values, one_value, both, type_width, answer_width, answers, good_binary, good_compare, good_convert, good_select, good_scalar, good_load, good_store, good_ret_void, good_ret, good_unreachable, is_first}
+use Rattle.module_laws.proofs.LawGroups.{good_statepoint, good_gc_result, good_gc_relocate}
 use Rattle.module_laws.proofs.LawInsts.{IsGoodLabel, good_label, good_phi, good_call_line, good_jump, good_branch, good_switch_line, good_layout_line}
 
 -- ---- the instruction of a line
@@ -64,37 +68,37 @@ unordered_by pred Void e = refl
 unordered_by pred (Int width) e = refl
 unordered_by pred Plain e = refl
 
-label_of_use : (lines : List Line) (func : Definition) → InLaw lines func → (name : List ℕ) (more : List (List ℕ)) (rest : List (List ℕ))
+label_of_use : (form : Form) (lines : List Line) (func : Definition) → InLaw form lines func → (name : List ℕ) (more : List (List ℕ)) (rest : List (List ℕ))
     → Rattle.std.specs.List.list_any (λ n. Rattle.std.specs.Prelude.is_none (Rattle.ir_lines.specs.Scope.block_named (scope_of lines func) n)) (name ∷ more) ≡ false
     → Rattle.std.specs.List.list_any (λ n. Rattle.std.specs.Prelude.◌==◌ (block_number (scope_of lines func) n) 0) (name ∷ rest) ≡ false
     → IsGoodLabel lines func (label_of (known_of lines func) name)
-label_of_use lines func law name more rest e f =
-    good_label lines func law name
+label_of_use form lines func law name more rest e f =
+    good_label form lines func law name
     (or-left (Rattle.std.specs.Prelude.is_none (Rattle.ir_lines.specs.Scope.block_named (scope_of lines func) name))
     (Rattle.std.specs.List.list_any (λ n. Rattle.std.specs.Prelude.is_none (Rattle.ir_lines.specs.Scope.block_named (scope_of lines func) n)) more) e)
     (or-left (Rattle.std.specs.Prelude.◌==◌ (block_number (scope_of lines func) name) 0)
     (Rattle.std.specs.List.list_any (λ n. Rattle.std.specs.Prelude.◌==◌ (block_number (scope_of lines func) n) 0) rest) f)
 
-good_said : (lines : List Line) (func : Definition) → InLaw lines func → (before : List Line) (n : ℕ) (s : Statement) (after : List Line)
-    → func.body ≡ before ++ (record { number = n; says = s }) ∷ after → LineFacts (scope_of lines func) s
-    → AllByRecursion (λ l. LineFacts (scope_of lines func) l.says) after
-    → IfSome (instruction_said (known_of lines func) after s) (GoodInst lines func)
-good_said lines func law before n (binary result op width left right) after whole facts behind =
+good_said : (form : Form) (lines : List Line) (func : Definition) → InLaw form lines func → (before : List Line) (n : ℕ) (s : Statement) (after : List Line)
+    → func.body ≡ before ++ (record { number = n; says = s }) ∷ after → LineFacts form (scope_of lines func) s
+    → AllByRecursion (λ l. LineFacts form (scope_of lines func) l.says) after
+    → IfSome (instruction_said (known_of lines func) after s) (GoodInst form lines func)
+good_said form lines func law before n (binary result op width left right) after whole facts behind =
     let names = (known_of lines func).values in
-    good_binary lines func result op width (operand_of (known_of lines func) (Int width) left) (operand_of (known_of lines func) (Int width) right)
+    good_binary form lines func result op width (operand_of (known_of lines func) (Int width) left) (operand_of (known_of lines func) (Int width) right)
     (two_values (operand_of (known_of lines func) (Int width) left) (operand_of (known_of lines func) (Int width) right) (is_value_in names (Int width) left) (is_value_in names (Int width) right))
-    (fit lines func law (Int width) left facts.read.1 facts.uses.0, (fit lines func law (Int width) right facts.read.1 facts.uses.1.0, tt)) facts.read.1
-good_said lines func law before n (compare result pred ty left right) after whole facts behind =
+    (fit form lines func law (Int width) left facts.read.1 facts.uses.0, (fit form lines func law (Int width) right facts.read.1 facts.uses.1.0, tt)) facts.read.1
+good_said form lines func law before n (compare result pred ty left right) after whole facts behind =
     let names = (known_of lines func).values in
-    good_compare lines func result pred ty (operand_of (known_of lines func) ty left) (operand_of (known_of lines func) ty right)
+    good_compare form lines func result pred ty (operand_of (known_of lines func) ty left) (operand_of (known_of lines func) ty right)
     (two_values (operand_of (known_of lines func) ty left) (operand_of (known_of lines func) ty right) (is_value_in names ty left) (is_value_in names ty right))
-    (fit lines func law ty left facts.read.1 facts.uses.0, (fit lines func law ty right facts.read.1 facts.uses.1.0, tt)) facts.read.1 (unordered_by pred ty facts.pointers)
-good_said lines func law before n (convert result op width value to) after whole facts behind =
+    (fit form lines func law ty left facts.read.1 facts.uses.0, (fit form lines func law ty right facts.read.1 facts.uses.1.0, tt)) facts.read.1 (unordered_by pred ty facts.pointers)
+good_said form lines func law before n (convert result op width value to) after whole facts behind =
     let names = (known_of lines func).values in
-    good_convert lines func result op width to (operand_of (known_of lines func) (Int width) value)
+    good_convert form lines func result op width to (operand_of (known_of lines func) (Int width) value)
     (one_value (operand_of (known_of lines func) (Int width) value) (is_value_in names (Int width) value))
-    (fit lines func law (Int width) value facts.read.1 facts.uses.0, tt) facts.read.1 facts.read.2 facts.rule
-good_said lines func law before n (select result condition left_ty left right_ty right) after whole facts behind =
+    (fit form lines func law (Int width) value facts.read.1 facts.uses.0, tt) facts.read.1 facts.read.2 facts.rule
+good_said form lines func law before n (select result condition left_ty left right_ty right) after whole facts behind =
     let known = known_of lines func in
     let names = known.values in
     let same : left_ty ≡ right_ty = same_type-is left_ty right_ty facts.rule in
@@ -102,85 +106,89 @@ good_said lines func law before n (select result condition left_ty left right_ty
     let a = operand_of known left_ty left in
     let b = operand_of known right_ty right in
     let read_right : IsValueType right_ty = subst IsValueType same facts.read.1 in
-    let fits_right = fit lines func law right_ty right read_right facts.uses.1.1.0 in
-    good_select lines func result left_ty c a b
+    let fits_right = fit form lines func law right_ty right read_right facts.uses.1.1.0 in
+    good_select form lines func result left_ty c a b
     (both (Rattle.ir_ast.specs.Operands.is_value c) (Rattle.std.specs.List.list_all Rattle.ir_ast.specs.Operands.is_value (a ∷ b ∷ [])) (is_value_in names (Int 1) condition)
     (two_values a b (is_value_in names left_ty left) (is_value_in names right_ty right))) (
-      fit lines func law (Int 1) condition (omega arith, omega arith) facts.uses.0,
+      fit form lines func law (Int 1) condition (omega arith, omega arith) facts.uses.0,
       (
-        fit lines func law left_ty left facts.read.1 facts.uses.1.0,
+        fit form lines func law left_ty left facts.read.1 facts.uses.1.0,
         (subst (λ (t : TypeWord). Fits (defs.value_types (made lines func)) b (type_of t)) (sym same) fits_right, tt),
       ),
     ) facts.read.1
-good_said lines func law before n (phi result ty entries) after whole facts behind =
-    good_phi lines func law result ty entries facts.read.1 facts.read.2 facts.uses facts.labels
-good_said lines func law before n (scalar_step result element address width index) after whole facts behind =
+good_said form lines func law before n (phi result ty entries) after whole facts behind =
+    good_phi form lines func law result ty entries facts.read.1 facts.read.2 facts.uses facts.labels
+good_said form lines func law before n (scalar_step result element address width index) after whole facts behind =
     let known = known_of lines func in
     let a = operand_of known Managed address in
     let b = operand_of known (Int width) index in
-    good_scalar lines func result element width a b (two_values a b (is_value_in known.values Managed address) (is_value_in known.values (Int width) index))
-    (fit lines func law Managed address tt facts.uses.0, (fit lines func law (Int width) index facts.read.1 facts.uses.1.0, tt)) facts.read.2 facts.read.1
-good_said lines func law before n (layout_step result named address width index place) after whole facts behind =
-    good_layout_line lines func law result named address width index place facts
-good_said lines func law before n (load result ty address) after whole facts behind =
+    good_scalar form lines func result element width a b (two_values a b (is_value_in known.values Managed address) (is_value_in known.values (Int width) index))
+    (fit form lines func law Managed address tt facts.uses.0, (fit form lines func law (Int width) index facts.read.1 facts.uses.1.0, tt)) facts.read.2 facts.read.1
+good_said form lines func law before n (layout_step result named address width index place) after whole facts behind =
+    good_layout_line form lines func law result named address width index place facts
+good_said form lines func law before n (load result ty address) after whole facts behind =
     let known = known_of lines func in
     let a = operand_of known Managed address in
-    good_load lines func result ty a (one_value a (is_value_in known.values Managed address)) (fit lines func law Managed address tt facts.uses.0, tt) facts.read.1 facts.rule
-good_said lines func law before n (store ty value address) after whole facts behind =
+    good_load form lines func result ty a (one_value a (is_value_in known.values Managed address)) (fit form lines func law Managed address tt facts.uses.0, tt) facts.read.1 facts.rule
+good_said form lines func law before n (store ty value address) after whole facts behind =
     let known = known_of lines func in
     let a = operand_of known ty value in
     let b = operand_of known Managed address in
-    good_store lines func ty a b (two_values a b (is_value_in known.values ty value) (is_value_in known.values Managed address))
-    (fit lines func law ty value facts.read facts.uses.0, (fit lines func law Managed address tt facts.uses.1.0, tt)) facts.read facts.rule
-good_said lines func law before n (call result answer callee passed) after whole facts behind = good_call_line lines func law result answer callee passed facts
-good_said lines func law before n (jump to) after whole facts behind =
-    good_jump lines func (label_of (known_of lines func) to) (label_of_use lines func law to [] [] facts.labels facts.entry)
-good_said lines func law before n (branch condition on_true on_false) after whole facts behind =
+    good_store form lines func ty a b (two_values a b (is_value_in known.values ty value) (is_value_in known.values Managed address))
+    (fit form lines func law ty value facts.read facts.uses.0, (fit form lines func law Managed address tt facts.uses.1.0, tt)) facts.read facts.rule
+good_said form lines func law before n (call result answer callee passed) after whole facts behind = good_call_line form lines func law result answer callee passed facts
+good_said form lines func law before n (jump to) after whole facts behind =
+    good_jump form lines func (label_of (known_of lines func) to) (label_of_use form lines func law to [] [] facts.labels facts.entry)
+good_said form lines func law before n (branch condition on_true on_false) after whole facts behind =
     let known = known_of lines func in
     let a = operand_of known (Int 1) condition in
     let unknown : List ℕ → Bool = λ n. Rattle.std.specs.Prelude.is_none (Rattle.ir_lines.specs.Scope.block_named (scope_of lines func) n) in
     let is_entry : List ℕ → Bool = λ n. Rattle.std.specs.Prelude.◌==◌ (block_number (scope_of lines func) n) 0 in
-    good_branch lines func a (label_of known on_true) (label_of known on_false) (one_value a (is_value_in known.values (Int 1) condition))
-    (fit lines func law (Int 1) condition (omega arith, omega arith) facts.uses.0)
-    (label_of_use lines func law on_true (on_false ∷ []) (on_false ∷ []) facts.labels facts.entry)
-    (label_of_use lines func law on_false [] [] (or-right (unknown on_true) (Rattle.std.specs.List.list_any unknown (on_false ∷ [])) facts.labels)
+    good_branch form lines func a (label_of known on_true) (label_of known on_false) (one_value a (is_value_in known.values (Int 1) condition))
+    (fit form lines func law (Int 1) condition (omega arith, omega arith) facts.uses.0)
+    (label_of_use form lines func law on_true (on_false ∷ []) (on_false ∷ []) facts.labels facts.entry)
+    (label_of_use form lines func law on_false [] [] (or-right (unknown on_true) (Rattle.std.specs.List.list_any unknown (on_false ∷ [])) facts.labels)
     (or-right (is_entry on_true) (Rattle.std.specs.List.list_any is_entry (on_false ∷ [])) facts.entry))
-good_said lines func law before n (switch width value default) after whole facts behind =
-    good_switch_line lines func law before n width value default after whole facts behind
-good_said lines func law before n ret_void after whole facts behind = good_ret_void lines func (same_type-is Void func.answer facts.rule)
-good_said lines func law before n (ret ty value) after whole facts behind =
+good_said form lines func law before n (switch width value default) after whole facts behind =
+    good_switch_line form lines func law before n width value default after whole facts behind
+good_said form lines func law before n ret_void after whole facts behind = good_ret_void form lines func (same_type-is Void func.answer facts.rule)
+good_said form lines func law before n (ret ty value) after whole facts behind =
     let known = known_of lines func in
     let a = operand_of known ty value in
-    good_ret lines func ty a (one_value a (is_value_in known.values ty value)) (fit lines func law ty value facts.read facts.uses.0, tt) facts.read
+    good_ret form lines func ty a (one_value a (is_value_in known.values ty value)) (fit form lines func law ty value facts.read facts.uses.0, tt) facts.read
     (same_type-is ty func.answer facts.rule)
-good_said lines func law before n unreachable after whole facts behind = good_unreachable lines func
-good_said lines func law before n _ after whole facts behind = tt
+good_said form lines func law before n unreachable after whole facts behind = good_unreachable form lines func
+good_said form lines func law before n (statepoint result called live) after whole facts behind = good_statepoint form lines func law result called live facts
+good_said form lines func law before n (gc_result result ty token) after whole facts behind = good_gc_result form lines func law result ty token facts
+good_said form lines func law before n (gc_relocate result token base derived) after whole facts behind =
+    good_gc_relocate form lines func law result token base derived facts
+good_said form lines func law before n _ after whole facts behind = tt
 
-if_some : (P : Instruction → Type 0) (o : Option Instruction) → IfSome o P → (inst : Instruction) → o ≡ Some inst → P inst
+pub if_some : (P : Instruction → Type 0) (o : Option Instruction) → IfSome o P → (inst : Instruction) → o ≡ Some inst → P inst
 if_some P o h inst e = subst (λ (x : Option Instruction). IfSome x P) e h
 
 pub behind_of : (P : Line → Type 0) (before : List Line) (l : Line) (after : List Line) → AllByRecursion P (before ++ l ∷ after) → P l × AllByRecursion P after
 behind_of P [] l after all = all
 behind_of P (x ∷ before) l after all = behind_of P before l after all.1
 
-pub facts_of : (lines : List Line) (func : Definition) → InLaw lines func → AllByRecursion (λ l. LineFacts (scope_of lines func) l.says) func.body
-facts_of lines func law =
-    recursion_from_All (λ (l : Line). LineFacts (scope_of lines func) l.says) func.body
-    (all_lines (λ (l : Line). LineFacts (scope_of lines func) l.says) func.body (line_facts lines func law))
+pub facts_of : (form : Form) (lines : List Line) (func : Definition) → InLaw form lines func → AllByRecursion (λ l. LineFacts form (scope_of lines func) l.says) func.body
+facts_of form lines func law =
+    recursion_from_All (λ (l : Line). LineFacts form (scope_of lines func) l.says) func.body
+    (all_lines (λ (l : Line). LineFacts form (scope_of lines func) l.says) func.body (line_facts form lines func law))
 
-pub good_insts : (lines : List Line) (func : Definition) → InLaw lines func → All (GoodInst lines func) (instructions_of (made lines func).blocks)
-good_insts lines func law =
-    func_insts (known_of lines func) (GoodInst lines func) func (λ before l after whole inst is.
-    let split = behind_of (λ (one : Line). LineFacts (scope_of lines func) one.says) before l after
-    (subst (AllByRecursion (λ (one : Line). LineFacts (scope_of lines func) one.says)) whole (facts_of lines func law)) in
-    if_some (GoodInst lines func) (instruction_said (known_of lines func) after l.says)
-    (good_said lines func law before l.number l.says after whole split.0 split.1) inst is)
+pub good_insts : (form : Form) (lines : List Line) (func : Definition) → InLaw form lines func → All (GoodInst form lines func) (instructions_of (made lines func).blocks)
+good_insts form lines func law =
+    func_insts (known_of lines func) (GoodInst form lines func) func (λ before l after whole inst is.
+    let split = behind_of (λ (one : Line). LineFacts form (scope_of lines func) one.says) before l after
+    (subst (AllByRecursion (λ (one : Line). LineFacts form (scope_of lines func) one.says)) whole (facts_of form lines func law)) in
+    if_some (GoodInst form lines func) (instruction_said (known_of lines func) after l.says)
+    (good_said form lines func law before l.number l.says after whole split.0 split.1) inst is)
 
 -- ---- the function
 
-pub each_inst : (lines : List Line) (func : Definition) → InLaw lines func → (P : Instruction → Type 0) → ((inst : Instruction) → GoodInst lines func inst → P inst)
+pub each_inst : (form : Form) (lines : List Line) (func : Definition) → InLaw form lines func → (P : Instruction → Type 0) → ((inst : Instruction) → GoodInst form lines func inst → P inst)
     → All P (instructions_of (made lines func).blocks)
-each_inst lines func law P f = All-weaker (GoodInst lines func) P f (instructions_of (made lines func).blocks) (good_insts lines func law)
+each_inst form lines func law P f = All-weaker (GoodInst form lines func) P f (instructions_of (made lines func).blocks) (good_insts form lines func law)
 
 fits_below : (T : List Ty) (os : List Operand) (ts : List Ty) → AllZip (Fits T) os ts → AllByRecursion (λ v. v < length T) (filter_map value_in (os ++ []))
 fits_below T [] [] zip = tt
@@ -191,8 +199,8 @@ fits_below T (operands.Int number ∷ os) (t ∷ ts) zip = fits_below T os ts zi
 fits_below T (operands.Null ∷ os) (t ∷ ts) zip = fits_below T os ts zip.1
 fits_below T (operands.Fun f ∷ os) (t ∷ ts) zip = fits_below T os ts zip.1
 
-pub knows_local : (lines : List Line) (func : Definition) (inst : Instruction) → GoodInst lines func inst → NamesOfFunction (made lines func) inst
-knows_local lines func inst good =
+pub knows_local : (form : Form) (lines : List Line) (func : Definition) (inst : Instruction) → GoodInst form lines func inst → NamesOfFunction (made lines func) inst
+knows_local form lines func inst good =
     let T = defs.value_types (made lines func) in
     let count : length T ≡ length (defs.definitions_of (made lines func)) = length-map (defs.definitions_of (made lines func)) defs.definition_type in
     let below = fits_below T inst.operands (Rattle.ir_ast.specs.Faults.TypeClash.asked inst.op inst.ty (length inst.operands)) good.typed.operands in
@@ -204,11 +212,11 @@ knows_local lines func inst good =
       blocks = good.labels;
     }
 
-pub local_known : (lines : List Line) (func : Definition) → InLaw lines func → LocalNamesAreKnown (made lines func)
-local_known lines func law = each_inst lines func law (NamesOfFunction (made lines func)) (knows_local lines func)
+pub local_known : (form : Form) (lines : List Line) (func : Definition) → InLaw form lines func → LocalNamesAreKnown (made lines func)
+local_known form lines func law = each_inst form lines func law (NamesOfFunction (made lines func)) (knows_local form lines func)
 
-pub global_known : (lines : List Line) (func : Definition) → InLaw lines func → GlobalNamesAreKnown (content lines) (made lines func)
-global_known lines func law = each_inst lines func law (NamesOfModule (content lines)) (λ inst good. record { layouts = good.layouts; functions = good.functions })
+pub global_known : (form : Form) (lines : List Line) (func : Definition) → InLaw form lines func → GlobalNamesAreKnown (content form lines) (made lines func)
+global_known form lines func law = each_inst form lines func law (NamesOfModule (content form lines)) (λ inst good. record { layouts = good.layouts; functions = good.functions })
 
 -- ---- arguments
 
@@ -224,29 +232,29 @@ arguments_widths line before (one ∷ more) read =
     All-append IsWidth (type_widths (type_of one.ty)) (flat_map (λ (arg : Arg). type_widths arg.ty) (map argument_of (arguments_named line (before ++ one ∷ []) more)))
     (type_width one.ty read.0.0) (arguments_widths line (before ++ one ∷ []) more read.1)
 
-pub function_typed : (lines : List Line) (func : Definition) → InLaw lines func → FunctionIsTyped (scope_made lines func) (made lines func)
-function_typed lines func law =
-    let head = (said_function lines func law).head in
+pub function_typed : (form : Form) (lines : List Line) (func : Definition) → InLaw form lines func → FunctionIsTyped (scope_made form lines func) (made lines func)
+function_typed form lines func law =
+    let head = (said_function form lines func law).head in
     record {
       answer = answers func.answer;
       args = All-from_recursion (λ (arg : Arg). is_first_class arg.ty ≡ true) (made lines func).args
           (arguments_types func.line [] func.arguments (recursion_from_All IsReadArgument func.arguments head.each));
-      lines = each_inst lines func law (IsTyped (scope_made lines func)) (λ inst good. good.typed);
+      lines = each_inst form lines func law (IsTyped (scope_made form lines func)) (λ inst good. good.typed);
     }
 
 insts_widths : (insts : List Instruction) → AllByRecursion (λ inst. All IsWidth (line_widths inst)) insts → All IsWidth (flat_map line_widths insts)
 insts_widths [] all = All-nil IsWidth
 insts_widths (inst ∷ insts) all = All-append IsWidth (line_widths inst) (flat_map line_widths insts) all.0 (insts_widths insts all.1)
 
-pub function_widths : (lines : List Line) (func : Definition) → InLaw lines func → All IsWidth (widths_of (made lines func))
-function_widths lines func law =
-    let head = (said_function lines func law).head in
+pub function_widths : (form : Form) (lines : List Line) (func : Definition) → InLaw form lines func → All IsWidth (widths_of (made lines func))
+function_widths form lines func law =
+    let head = (said_function form lines func law).head in
     let F = made lines func in
     All-append IsWidth (type_widths F.answer ++ flat_map (λ (arg : Arg). type_widths arg.ty) F.args) (flat_map line_widths (instructions_of F.blocks))
     (All-append IsWidth (type_widths F.answer) (flat_map (λ (arg : Arg). type_widths arg.ty) F.args) (answer_width func.answer head.answered)
     (arguments_widths func.line [] func.arguments (recursion_from_All IsReadArgument func.arguments head.each)))
     (insts_widths (instructions_of F.blocks) (recursion_from_All (λ (inst : Instruction). All IsWidth (line_widths inst)) (instructions_of F.blocks)
-    (each_inst lines func law (λ inst. All IsWidth (line_widths inst)) (λ inst good. good.widths))))
+    (each_inst form lines func law (λ inst. All IsWidth (line_widths inst)) (λ inst good. good.widths))))
 
 -- ---- names
 
@@ -285,22 +293,25 @@ result_name n (scalar_step result element address width index) read e = one_name
 result_name n (layout_step result named address width index place) read e = one_name n result Managed read.0
 result_name n (load result ty address) read e = one_name n result ty read.0
 result_name n (call result answer callee passed) read e = call_name n result answer read.0
+result_name n (statepoint result made live) read e = one_name n result token_type read.named
+result_name n (gc_result result ty token) read e = one_name n result ty read.0
+result_name n (gc_relocate result token base derived) read e = one_name n result Managed read
 result_name n (cast result op from value to) read e = absurd (let bad : true ≡ false = e in cc)
 result_name n _ read e = All-nil (λ (one : Naming). IsName one.name)
 
-results_names : (lines : List Line) (func : Definition) (ls : List Line) → AllByRecursion (λ l. LineFacts (scope_of lines func) l.says) ls
+results_names : (form : Form) (lines : List Line) (func : Definition) (ls : List Line) → AllByRecursion (λ l. LineFacts form (scope_of lines func) l.says) ls
     → All (λ one. IsName one.name) (flat_map (λ (l : Line). result_named l.number (gives l.says)) ls)
-results_names lines func [] facts = All-nil (λ (one : Naming). IsName one.name)
-results_names lines func (l ∷ ls) facts =
+results_names form lines func [] facts = All-nil (λ (one : Naming). IsName one.name)
+results_names form lines func (l ∷ ls) facts =
     All-append (λ (one : Naming). IsName one.name) (result_named l.number (gives l.says)) (flat_map (λ (l : Line). result_named l.number (gives l.says)) ls)
-    (result_name l.number l.says facts.0.read facts.0.no_cast) (results_names lines func ls facts.1)
+    (result_name l.number l.says facts.0.read facts.0.no_cast) (results_names form lines func ls facts.1)
 
-pub values_names : (lines : List Line) (func : Definition) → InLaw lines func → All (λ one. IsName one.name) (values_of func)
-values_names lines func law =
-    let head = (said_function lines func law).head in
+pub values_names : (form : Form) (lines : List Line) (func : Definition) → InLaw form lines func → All (λ one. IsName one.name) (values_of func)
+values_names form lines func law =
+    let head = (said_function form lines func law).head in
     All-append (λ (one : Naming). IsName one.name) (arguments_named func.line [] func.arguments) (flat_map (λ (l : Line). result_named l.number (gives l.says)) func.body)
     (arguments_names func.line [] func.arguments (let few = head.few in omega arith) (recursion_from_All IsReadArgument func.arguments head.each))
-    (results_names lines func func.body (facts_of lines func law))
+    (results_names form lines func func.body (facts_of form lines func law))
 
 label_name : (n : ℕ) (s : Statement) (ls : List Line) → SaysRead s → All (λ b. IsName b.name) (labelled_blocks ls)
     → All (λ b. IsName b.name) (block_at n (label_said s) ls ++ labelled_blocks ls)
@@ -308,9 +319,9 @@ label_name n (label name) ls read ih =
     All-cons (λ (b : BlockLines). IsName b.name) (record { line = n; name = name; lines = until_label ls }) (labelled_blocks ls) read ih
 label_name n _ ls read ih = ih
 
-labels_names : (lines : List Line) (func : Definition) (ls : List Line) → AllByRecursion (λ l. LineFacts (scope_of lines func) l.says) ls → All (λ b. IsName b.name) (labelled_blocks ls)
-labels_names lines func [] facts = All-nil (λ (b : BlockLines). IsName b.name)
-labels_names lines func (l ∷ ls) facts = label_name l.number l.says ls facts.0.read (labels_names lines func ls facts.1)
+labels_names : (form : Form) (lines : List Line) (func : Definition) (ls : List Line) → AllByRecursion (λ l. LineFacts form (scope_of lines func) l.says) ls → All (λ b. IsName b.name) (labelled_blocks ls)
+labels_names form lines func [] facts = All-nil (λ (b : BlockLines). IsName b.name)
+labels_names form lines func (l ∷ ls) facts = label_name l.number l.says ls facts.0.read (labels_names form lines func ls facts.1)
 
 first_name : (func : Definition) (body : List Line) → length func.arguments ≤ 64 → All (λ b. IsName b.name) (first_block func body)
 first_name func [] few = All-nil (λ (b : BlockLines). IsName b.name)
@@ -323,23 +334,23 @@ first_name func (l ∷ ls) few = by (is_label l.says)
         All-cons (λ (b : BlockLines). IsName b.name) (record { line = func.line; name = decimal (count_numbered func.arguments); lines = until_label (l ∷ ls) }) []
         (number_name (count_numbered func.arguments) (omega arith)) (All-nil (λ (b : BlockLines). IsName b.name))
 
-pub blocks_names : (lines : List Line) (func : Definition) → InLaw lines func → All (λ b. IsName b.name) (blocks_of func)
-blocks_names lines func law =
-    let head = (said_function lines func law).head in
+pub blocks_names : (form : Form) (lines : List Line) (func : Definition) → InLaw form lines func → All (λ b. IsName b.name) (blocks_of func)
+blocks_names form lines func law =
+    let head = (said_function form lines func law).head in
     All-append (λ (b : BlockLines). IsName b.name) (first_block func func.body) (labelled_blocks func.body) (first_name func func.body head.few)
-    (labels_names lines func func.body (facts_of lines func law))
+    (labels_names form lines func func.body (facts_of form lines func law))
 
 unmapped : {A B : Type 0} (f : A → B) (P : B → Type 0) (xs : List A) → AllByRecursion P (map f xs) → AllByRecursion (λ x. P (f x)) xs
 unmapped f P [] all = tt
 unmapped f P (x ∷ xs) all = (all.0, unmapped f P xs all.1)
 
 -- what holds of the names of a definition's values holds of the names of its function's
-pub values_named : (lines : List Line) (func : Definition) → InLaw lines func → (P : List ℕ → Type 0) → All (λ one. P one.name) (values_of func)
+pub values_named : (form : Form) (lines : List Line) (func : Definition) → InLaw form lines func → (P : List ℕ → Type 0) → All (λ one. P one.name) (values_of func)
     → All (λ given. P (defs.definition_name given)) (defs.definitions_of (made lines func))
-values_named lines func law P all =
+values_named form lines func law P all =
     All-from_recursion (λ given. P (defs.definition_name given)) (defs.definitions_of (made lines func))
     (unmapped defs.definition_name P (defs.definitions_of (made lines func)) (recursion_from_All P (map defs.definition_name (defs.definitions_of (made lines func)))
-    (All-same P (map defs.definition_name (defs.definitions_of (made lines func))) (map (λ (one : Naming). one.name) (values_of func)) (names-are lines func law)
+    (All-same P (map defs.definition_name (defs.definitions_of (made lines func))) (map (λ (one : Naming). one.name) (values_of func)) (names-are form lines func law)
     (All-map P (λ (one : Naming). one.name) (values_of func) all))))
 
 pub blocks_named : (lines : List Line) (func : Definition) (P : List ℕ → Type 0) → All (λ one. P one.name) (blocks_of func) → All (λ block. P block.name) (made lines func).blocks
@@ -348,13 +359,13 @@ blocks_named lines func P all = All-map (λ (block : BasicBlock). P block.name) 
 pub contained : {A : Type 0} (P : A → Type 0) (xs : List A) → ((x : A) → Contains xs x → P x) → All P xs
 contained P xs h = λ k d within. h (Rattle.std.specs.Prelude.slice_index_or xs k d) (Rattle.std.proofs.lemmas.List.Elements.Contains-get_or xs k d within)
 
-pub function_source : (lines : List Line) (func : Definition) → InLaw lines func → IsSource (made lines func)
+pub function_source : (lines : List Line) (func : Definition) → InLaw Source lines func → IsSource (made lines func)
 function_source lines func law = record {
-  values = values_named lines func law (λ name. ¬ (IsInsertedName name))
-      (contained (λ (one : Naming). ¬ (IsInsertedName one.name)) (values_of func) (λ one inside bad. law.none one.line 14 (reserved (names_value func one law.defined inside refl bad))));
+  values = values_named Source lines func law (λ name. ¬ (IsInsertedName name))
+      (contained (λ (one : Naming). ¬ (IsInsertedName one.name)) (values_of func) (λ one inside bad. law.none one.line 14 (reserved (names_value refl func one law.defined inside refl bad))));
   labels = blocks_named lines func (λ name. ¬ (IsInsertedName name))
-      (contained (λ (one : BlockLines). ¬ (IsInsertedName one.name)) (blocks_of func) (λ one inside bad. law.none one.line 14 (reserved (names_label func one law.defined inside refl bad))));
-  lines = each_inst lines func law (λ inst. is_rewritten inst.op ≡ false) (λ inst good. good.plain);
+      (contained (λ (one : BlockLines). ¬ (IsInsertedName one.name)) (blocks_of func) (λ one inside bad. law.none one.line 14 (reserved (names_label refl func one law.defined inside refl bad))));
+  lines = each_inst Source lines func law (λ inst. is_rewritten inst.op ≡ false) (λ inst good. good.plain refl);
 }
 
 block_there : (n : ℕ) (s : Statement) (ls : List Line) → is_label s ≡ true → 0 < length (labelled_blocks (record { number = n; says = s } ∷ ls))
@@ -372,32 +383,46 @@ some_block func (l ∷ ls) some = by (is_label l.says) refl
     by false e = subst (λ (b : Bool). 0 < length ((if b then [] else record { line = func.line; name = decimal (count_numbered func.arguments); lines = until_label (l ∷ ls) } ∷ []) ++ labelled_blocks (l ∷ ls)))
         (sym e) (omega arith)
 
-pub function_formed : (lines : List Line) (func : Definition) → InLaw lines func → IsTypedFunction (made lines func)
-function_formed lines func law =
-    let read = read_function lines func law in
-    let head = (said_function lines func law).head in
-    record {
-      has_block = (let b = some_block func func.body read.has_line in omega (arith, length-map (blocks_of func) (block_of (known_of lines func))));
-      lines = each_inst lines func law IsLine (λ inst good. good.line);
-      names = record {
-        own = head.named;
-        values = values_named lines func law IsName (values_names lines func law);
-        labels = blocks_named lines func IsName (blocks_names lines func law);
-      };
-      widths = function_widths lines func law;
-      values = (let v = read.values in
-          omega (
-            arith,
-            length-map (arguments_named func.line [] func.arguments) argument_of,
-            length-named func.line [] func.arguments,
-            ap length (body_insts (known_of lines func) func),
-            few_insts (known_of lines func) func.body,
-          ));
-      no_bundle = each_inst lines func law (λ inst. inst.bundle ≡ []) (λ inst good. good.bundle);
-    }
+pub has_block : (form : Form) (lines : List Line) (func : Definition) → InLaw form lines func → 0 < length (made lines func).blocks
+has_block form lines func law =
+    let some = some_block func func.body (read_function form lines func law).has_line in
+    omega (arith, some, length-map (blocks_of func) (block_of (known_of lines func)))
 
-pub function_entry : (lines : List Line) (func : Definition) → InLaw lines func → EntryHasNoPred (made lines func)
-function_entry lines func law = each_inst lines func law LeavesEntry (λ inst good. good.entry)
+pub are_lines : (form : Form) (lines : List Line) (func : Definition) → InLaw form lines func → All IsLine (instructions_of (made lines func).blocks)
+are_lines form lines func law = each_inst form lines func law IsLine (λ inst good. good.line)
 
-pub function_pointers : (lines : List Line) (func : Definition) → InLaw lines func → PointersAreUnordered (made lines func)
-function_pointers lines func law = each_inst lines func law (λ inst. orders_pointers inst.op inst.ty ≡ false) (λ inst good. good.unordered)
+pub has_names : (form : Form) (lines : List Line) (func : Definition) → InLaw form lines func → HasNames (made lines func)
+has_names form lines func law = record {
+  own = (said_function form lines func law).head.named;
+  values = values_named form lines func law IsName (values_names form lines func law);
+  labels = blocks_named lines func IsName (blocks_names form lines func law);
+}
+
+pub has_no_bundle : (form : Form) (lines : List Line) (func : Definition) → InLaw form lines func → HasNoBundle (made lines func)
+has_no_bundle form lines func law = each_inst form lines func law (λ inst. inst.bundle ≡ []) (λ inst good. good.bundle)
+
+-- as many as lines that count
+pub few_made : (lines : List Line) (func : Definition) → length (instructions_of (made lines func).blocks) ≤ instruction_count func.body
+few_made lines func = omega (arith, ap length (body_insts (known_of lines func) func), few_insts (known_of lines func) func.body)
+
+pub function_formed : (lines : List Line) (func : Definition) → InLaw Source lines func → IsTypedFunction (made lines func)
+function_formed lines func law = record {
+  has_block = has_block Source lines func law;
+  lines = are_lines Source lines func law;
+  names = has_names Source lines func law;
+  widths = function_widths Source lines func law;
+  values = (let v = (read_function Source lines func law).values refl in
+      let few = few_made lines func in
+      omega (
+        arith,
+        length-map (arguments_named func.line [] func.arguments) argument_of,
+        length-named func.line [] func.arguments,
+      ));
+  no_bundle = has_no_bundle Source lines func law;
+}
+
+pub function_entry : (form : Form) (lines : List Line) (func : Definition) → InLaw form lines func → EntryHasNoPred (made lines func)
+function_entry form lines func law = each_inst form lines func law LeavesEntry (λ inst good. good.entry)
+
+pub function_pointers : (form : Form) (lines : List Line) (func : Definition) → InLaw form lines func → PointersAreUnordered (made lines func)
+function_pointers form lines func law = each_inst form lines func law (λ inst. orders_pointers inst.op inst.ty ≡ false) (λ inst good. good.unordered)

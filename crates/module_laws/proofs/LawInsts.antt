@@ -19,6 +19,7 @@ use Rattle.ir_ast.specs.Operands.{is_value, is_literal}
 use Rattle.ir_ast.specs.Widths.{IsWidth, type_widths}
 use Rattle.ir_ast.specs.Faults.TypeClash.{Fits, HasField}
 use Rattle.ir_ast.specs.declared.ops.Elem.TheVariants as elements
+use Rattle.ir_ast.specs.declared.modules.Form.{Form}
 use Rattle.ir_reader.specs.declared.readings.TypeWord.{TypeWord}
 use Rattle.ir_reader.specs.declared.readings.TypeWord.TheVariants.{Void, Int, Managed, Plain}
 use Rattle.ir_reader.specs.declared.readings.Literal.{Literal}
@@ -46,19 +47,19 @@ use Rattle.module_laws.proofs.LawTyped.{GoodInst, content, scope_made, both, all
 abbrev pub IsGoodLabel : List Line → Definition → BlockId → Type 0
 IsGoodLabel lines func label = (label.0 < length (made lines func).blocks) × (label.0 ≢ 0)
 
-pub label_below : (lines : List Line) (func : Definition) → InLaw lines func → (name : List ℕ) → is_none (block_named (scope_of lines func) name) ≡ false
+pub label_below : (form : Form) (lines : List Line) (func : Definition) → InLaw form lines func → (name : List ℕ) → is_none (block_named (scope_of lines func) name) ≡ false
     → (label_of (known_of lines func) name).0 < length (made lines func).blocks
-label_below lines func law name e =
+label_below form lines func law name e =
     let s = stands (λ (one : BlockLines). one.name) (blocks_of func) name e in
-    let few = (read_function lines func law).few_blocks in
+    let few = (read_function form lines func law).few_blocks in
     let b = stands_below (λ (one : BlockLines). one.name) (blocks_of func) name s in
     let n = number-is (λ (one : BlockLines). one.name) (blocks_of func) name s (omega arith) in
     omega (arith, n, length-map (blocks_of func) (block_of (known_of lines func)))
 
-pub good_label : (lines : List Line) (func : Definition) → InLaw lines func → (name : List ℕ) → is_none (block_named (scope_of lines func) name) ≡ false
+pub good_label : (form : Form) (lines : List Line) (func : Definition) → InLaw form lines func → (name : List ℕ) → is_none (block_named (scope_of lines func) name) ≡ false
     → (block_number (scope_of lines func) name == 0) ≡ false → IsGoodLabel lines func (label_of (known_of lines func) name)
-good_label lines func law name e f = (
-  label_below lines func law name e,
+good_label form lines func law name e f = (
+  label_below form lines func law name e,
   not_from_Decides (block_number (scope_of lines func) name == 0) (Decides-eqb (block_number (scope_of lines func) name) 0) f,
 )
 
@@ -68,17 +69,17 @@ entries_values : (names : List (List ℕ)) (ty : TypeWord) (es : List (Val × Li
 entries_values names ty [] = tt
 entries_values names ty (e ∷ es) = (is_value_in names ty e.0, entries_values names ty es)
 
-entries_labels : (lines : List Line) (func : Definition) → InLaw lines func → (es : List (Val × List ℕ))
+entries_labels : (form : Form) (lines : List Line) (func : Definition) → InLaw form lines func → (es : List (Val × List ℕ))
     → AllByRecursion (λ name. is_none (block_named (scope_of lines func) name) ≡ false) (map (λ (entry : Val × List ℕ). entry.1) es)
     → AllByRecursion (λ label. label.0 < length (made lines func).blocks) (map (entry_label (known_of lines func).blocks) es)
-entries_labels lines func law [] known = tt
-entries_labels lines func law (e ∷ es) known = (label_below lines func law e.1 known.0, entries_labels lines func law es known.1)
+entries_labels form lines func law [] known = tt
+entries_labels form lines func law (e ∷ es) known = (label_below form lines func law e.1 known.0, entries_labels form lines func law es known.1)
 
-pub good_phi : (lines : List Line) (func : Definition) → InLaw lines func → (result : List ℕ) (ty : TypeWord) (es : List (Val × List ℕ))
+pub good_phi : (form : Form) (lines : List Line) (func : Definition) → InLaw form lines func → (result : List ℕ) (ty : TypeWord) (es : List (Val × List ℕ))
     → IsValueType ty → 0 < length es → AllByRecursion (IsGoodUse (scope_of lines func)) (map (entry_use ty) es)
     → list_any (λ name. is_none (block_named (scope_of lines func) name)) (map (λ (entry : Val × List ℕ). entry.1) es) ≡ false
-    → GoodInst lines func (instruction (Some result) ops.Phi (type_of ty) (map (entry_operand (known_of lines func).values ty) es) (map (entry_label (known_of lines func).blocks) es))
-good_phi lines func law result ty es read some uses known =
+    → GoodInst form lines func (instruction (Some result) ops.Phi (type_of ty) (map (entry_operand (known_of lines func).values ty) es) (map (entry_label (known_of lines func).blocks) es))
+good_phi form lines func law result ty es read some uses known =
     let names = (known_of lines func).values in
     let blocks = (known_of lines func).blocks in
     let os = map (entry_operand names ty) es in
@@ -92,31 +93,31 @@ good_phi lines func law result ty es read some uses known =
         (let n : 0 < length os = omega (arith, count) in n),
       );
       typed = record {
-        operands = all_zip_same (defs.value_types (made lines func)) (type_of ty) os (entries_fit lines func law ty read es uses);
-        bundle = All-nil (λ (entry : Ty × Operand). Fits (scope_made lines func).values entry.1 entry.0);
+        operands = all_zip_same (defs.value_types (made lines func)) (type_of ty) os (entries_fit form lines func law ty read es uses);
+        bundle = All-nil (λ (entry : Ty × Operand). Fits (scope_made form lines func).values entry.1 entry.0);
         rule = tt;
       };
       widths = widths_made ops.Phi (Some result) (type_of ty) os labels (All-nil IsWidth) (type_width ty read);
       bundle = refl;
-      plain = refl;
+      plain = λ is. refl;
       unordered = refl;
-      layouts = no_layout lines;
-      functions = no_names lines os vals;
+      layouts = no_layout form lines;
+      functions = no_names form lines os vals;
       labels = All-from_recursion (λ (label : BlockId). label.0 < length (made lines func).blocks) labels
-          (entries_labels lines func law es (none_any (λ name. is_none (block_named (scope_of lines func) name)) (map (λ (entry : Val × List ℕ). entry.1) es) known));
+          (entries_labels form lines func law es (none_any (λ name. is_none (block_named (scope_of lines func) name)) (map (λ (entry : Val × List ℕ). entry.1) es) known));
       entry = λ e. absurd (let bad : false ≡ true = e in cc);
     }
 
 -- ---- calls
 
-passed_fit : (lines : List Line) (func : Definition) → InLaw lines func → (passed : List Given) → AllByRecursion IsReadPassed passed
+pub passed_fit : (form : Form) (lines : List Line) (func : Definition) → InLaw form lines func → (passed : List Given) → AllByRecursion IsReadPassed passed
     → AllByRecursion (IsGoodUse (scope_of lines func)) (filter_map passed_value passed)
     → AllZip (Fits (defs.value_types (made lines func))) (map (passed_operand (known_of lines func)) passed) (map given_type passed)
-passed_fit lines func law [] read good = tt
-passed_fit lines func law (given ty v ∷ passed) read good = (fit lines func law ty v read.0 good.0, passed_fit lines func law passed read.1 good.1)
-passed_fit lines func law (function name ∷ passed) read good = (refl, passed_fit lines func law passed read.1 good)
+passed_fit form lines func law [] read good = tt
+passed_fit form lines func law (given ty v ∷ passed) read good = (fit form lines func law ty v read.0 good.0, passed_fit form lines func law passed read.1 good.1)
+passed_fit form lines func law (function name ∷ passed) read good = (refl, passed_fit form lines func law passed read.1 good)
 
-passed_widths : (passed : List Given) → AllByRecursion IsReadPassed passed → All IsWidth (flat_map type_widths (map given_type passed))
+pub passed_widths : (passed : List Given) → AllByRecursion IsReadPassed passed → All IsWidth (flat_map type_widths (map given_type passed))
 passed_widths [] read = All-nil IsWidth
 passed_widths (given ty v ∷ passed) read =
     All-append IsWidth (type_widths (type_of ty)) (flat_map type_widths (map given_type passed)) (type_width ty read.0) (passed_widths passed read.1)
@@ -133,11 +134,11 @@ call_width : (result : Option (List ℕ)) (answer : TypeWord) → IsReadCall res
 call_width None answer read = subst (λ (t : TypeWord). All IsWidth (type_widths (type_of t))) (sym read) (All-nil IsWidth)
 call_width (Some result) answer read = type_width answer read.1
 
-call_at : (lines : List Line) (func : Definition) → InLaw lines func → (result : Option (List ℕ)) (answer : TypeWord) (name : List ℕ) (passed : List Given)
+call_at : (form : Form) (lines : List Line) (func : Definition) → InLaw form lines func → (result : Option (List ℕ)) (answer : TypeWord) (name : List ℕ) (passed : List Given)
     → IsReadCall result answer → AllByRecursion IsReadPassed passed → AllByRecursion (IsGoodUse (scope_of lines func)) (filter_map passed_value passed)
-    → (g : IsGoodCall lines func name answer passed)
-    → GoodInst lines func (instruction result (ops.Call g.callee (map given_type passed)) (type_of answer) (map (passed_operand (known_of lines func)) passed) [])
-call_at lines func law result answer name passed read read_passed uses g = record {
+    → (g : IsGoodCall form lines func name answer passed)
+    → GoodInst form lines func (instruction result (ops.Call g.callee (map given_type passed)) (type_of answer) (map (passed_operand (known_of lines func)) passed) [])
+call_at form lines func law result answer name passed read read_passed uses g = record {
   line = record {
     result = call_result result answer read;
     type = answers answer;
@@ -147,8 +148,8 @@ call_at lines func law result answer name passed read read_passed uses g = recor
     leaf = λ _. refl;
   };
   typed = record {
-    operands = passed_fit lines func law passed read_passed uses;
-    bundle = All-nil (λ (entry : Ty × Operand). Fits (scope_made lines func).values entry.1 entry.0);
+    operands = passed_fit form lines func law passed read_passed uses;
+    bundle = All-nil (λ (entry : Ty × Operand). Fits (scope_made form lines func).values entry.1 entry.0);
     rule = record { signature = g.signature; operands = g.takes };
   };
   widths = widths_made (ops.Call g.callee (map given_type passed)) result (type_of answer) (map (passed_operand (known_of lines func)) passed) []
@@ -162,13 +163,13 @@ call_at lines func law result answer name passed read read_passed uses g = recor
   entry = λ e. absurd (let bad : false ≡ true = e in cc);
 }
 
-pub good_call_line : (lines : List Line) (func : Definition) → InLaw lines func → (result : Option (List ℕ)) (answer : TypeWord) (name : List ℕ) (passed : List Given)
-    → LineFacts (scope_of lines func) (call result answer name passed)
-    → GoodInst lines func (instruction result (ops.Call (callee_of (known_of lines func) name) (map given_type passed)) (type_of answer) (map (passed_operand (known_of lines func)) passed) [])
-good_call_line lines func law result answer name passed facts =
-    let g = good_call lines func law name answer passed facts.functions facts.rule facts.read.1 in
-    subst (λ (c : Callee). GoodInst lines func (instruction result (ops.Call c (map given_type passed)) (type_of answer) (map (passed_operand (known_of lines func)) passed) []))
-    (sym g.is) (call_at lines func law result answer name passed facts.read.0 (recursion_from_All IsReadPassed passed facts.read.1) facts.uses g)
+pub good_call_line : (form : Form) (lines : List Line) (func : Definition) → InLaw form lines func → (result : Option (List ℕ)) (answer : TypeWord) (name : List ℕ) (passed : List Given)
+    → LineFacts form (scope_of lines func) (call result answer name passed)
+    → GoodInst form lines func (instruction result (ops.Call (callee_of (known_of lines func) name) (map given_type passed)) (type_of answer) (map (passed_operand (known_of lines func)) passed) [])
+good_call_line form lines func law result answer name passed facts =
+    let g = good_call form lines func law name answer passed facts.functions facts.rule facts.read.1 in
+    subst (λ (c : Callee). GoodInst form lines func (instruction result (ops.Call c (map given_type passed)) (type_of answer) (map (passed_operand (known_of lines func)) passed) []))
+    (sym g.is) (call_at form lines func law result answer name passed facts.read.0 (recursion_from_All IsReadPassed passed facts.read.1) facts.uses g)
 
 -- ---- terminators with labels
 
@@ -181,84 +182,84 @@ good_labels lines func (label ∷ labels) all =
       All-cons (λ (label : BlockId). label.0 ≢ 0) label labels all.0.1 more.1,
     )
 
-pub good_jump : (lines : List Line) (func : Definition) (label : BlockId) → IsGoodLabel lines func label
-    → GoodInst lines func (instruction None ops.Br tys.Void [] (label ∷ []))
-good_jump lines func label good =
+pub good_jump : (form : Form) (lines : List Line) (func : Definition) (label : BlockId) → IsGoodLabel lines func label
+    → GoodInst form lines func (instruction None ops.Br tys.Void [] (label ∷ []))
+good_jump form lines func label good =
     let labels = good_labels lines func (label ∷ []) (good, tt) in
     record {
       line = record { result = refl; type = refl; operand_count = refl; values = refl; label_count = refl; no_bundle = refl };
-      typed = record { operands = tt; bundle = All-nil (λ (entry : Ty × Operand). Fits (scope_made lines func).values entry.1 entry.0); rule = tt };
+      typed = record { operands = tt; bundle = All-nil (λ (entry : Ty × Operand). Fits (scope_made form lines func).values entry.1 entry.0); rule = tt };
       widths = All-nil IsWidth;
       bundle = refl;
-      plain = refl;
+      plain = λ is. refl;
       unordered = refl;
-      layouts = no_layout lines;
-      functions = no_names lines [] refl;
+      layouts = no_layout form lines;
+      functions = no_names form lines [] refl;
       labels = labels.0;
       entry = λ _. labels.1;
     }
 
-pub good_branch : (lines : List Line) (func : Definition) (a : Operand) (on_true on_false : BlockId) → list_all is_value (a ∷ []) ≡ true
+pub good_branch : (form : Form) (lines : List Line) (func : Definition) (a : Operand) (on_true on_false : BlockId) → list_all is_value (a ∷ []) ≡ true
     → Fits (defs.value_types (made lines func)) a (tys.Int 1) → IsGoodLabel lines func on_true → IsGoodLabel lines func on_false
-    → GoodInst lines func (instruction None ops.CondBr (tys.Int 1) (a ∷ []) (on_true ∷ on_false ∷ []))
-good_branch lines func a on_true on_false v f good_true good_false =
+    → GoodInst form lines func (instruction None ops.CondBr (tys.Int 1) (a ∷ []) (on_true ∷ on_false ∷ []))
+good_branch form lines func a on_true on_false v f good_true good_false =
     let labels = good_labels lines func (on_true ∷ on_false ∷ []) (good_true, (good_false, tt)) in
     record {
       line = record { result = refl; type = refl; operand_count = refl; values = v; label_count = refl; no_bundle = refl };
-      typed = record { operands = (f, tt); bundle = All-nil (λ (entry : Ty × Operand). Fits (scope_made lines func).values entry.1 entry.0); rule = tt };
+      typed = record { operands = (f, tt); bundle = All-nil (λ (entry : Ty × Operand). Fits (scope_made form lines func).values entry.1 entry.0); rule = tt };
       widths = width_one 1 (omega arith, omega arith);
       bundle = refl;
-      plain = refl;
+      plain = λ is. refl;
       unordered = refl;
-      layouts = no_layout lines;
-      functions = no_names lines (a ∷ []) v;
+      layouts = no_layout form lines;
+      functions = no_names form lines (a ∷ []) v;
       labels = labels.0;
       entry = λ _. labels.1;
     }
 
-pub good_switch : (lines : List Line) (func : Definition) (width : ℕ) (a : Operand) (cases : List Operand) (label : BlockId) (labels : List BlockId)
+pub good_switch : (form : Form) (lines : List Line) (func : Definition) (width : ℕ) (a : Operand) (cases : List Operand) (label : BlockId) (labels : List BlockId)
     → IsWidth width → list_all is_value (a ∷ cases) ≡ true → list_all is_literal cases ≡ true → length labels ≡ length cases
     → AllByRecursion (λ op. Fits (defs.value_types (made lines func)) op (tys.Int width)) (a ∷ cases)
     → Distinct cases → AllByRecursion (IsGoodLabel lines func) (label ∷ labels)
-    → GoodInst lines func (instruction None ops.Switch (tys.Int width) (a ∷ cases) (label ∷ labels))
-good_switch lines func width a cases label labels read v literal count fits distinct good =
+    → GoodInst form lines func (instruction None ops.Switch (tys.Int width) (a ∷ cases) (label ∷ labels))
+good_switch form lines func width a cases label labels read v literal count fits distinct good =
     let both_good = good_labels lines func (label ∷ labels) good in
     record {
       line = (record { result = refl; type = refl; operand_count = refl; values = v; label_count = ap suc count; no_bundle = refl }, omega arith, literal);
       typed = record {
         operands = all_zip_same (defs.value_types (made lines func)) (tys.Int width) (a ∷ cases) fits;
-        bundle = All-nil (λ (entry : Ty × Operand). Fits (scope_made lines func).values entry.1 entry.0);
+        bundle = All-nil (λ (entry : Ty × Operand). Fits (scope_made form lines func).values entry.1 entry.0);
         rule = distinct;
       };
       widths = widths_made ops.Switch None (tys.Int width) (a ∷ cases) (label ∷ labels) (All-nil IsWidth) (width_one width read);
       bundle = refl;
-      plain = refl;
+      plain = λ is. refl;
       unordered = refl;
-      layouts = no_layout lines;
-      functions = no_names lines (a ∷ cases) v;
+      layouts = no_layout form lines;
+      functions = no_names form lines (a ∷ cases) v;
       labels = both_good.0;
       entry = λ _. both_good.1;
     }
 
 -- the labels of the cases behind a line
-one_case_label : (lines : List Line) (func : Definition) → InLaw lines func → (n : ℕ) (s : Statement) (ls : List Line) → LineFacts (scope_of lines func) s
+one_case_label : (form : Form) (lines : List Line) (func : Definition) → InLaw form lines func → (n : ℕ) (s : Statement) (ls : List Line) → LineFacts form (scope_of lines func) s
     → AllByRecursion (IsGoodLabel lines func) (case_labels (known_of lines func).blocks ls)
     → AllByRecursion (IsGoodLabel lines func) (case_labels (known_of lines func).blocks (record { number = n; says = s } ∷ ls))
-one_case_label lines func law n (switch_case width value to) ls facts ih = (
-  good_label lines func law to (or-left (is_none (block_named (scope_of lines func) to)) false facts.labels)
+one_case_label form lines func law n (switch_case width value to) ls facts ih = (
+  good_label form lines func law to (or-left (is_none (block_named (scope_of lines func) to)) false facts.labels)
       (or-left (block_number (scope_of lines func) to == 0) false facts.entry),
   ih,
 )
-one_case_label lines func law n _ ls facts ih = tt
+one_case_label form lines func law n _ ls facts ih = tt
 
-pub good_case_labels : (lines : List Line) (func : Definition) → InLaw lines func → (ls : List Line)
-    → AllByRecursion (λ l. LineFacts (scope_of lines func) l.says) ls → AllByRecursion (IsGoodLabel lines func) (case_labels (known_of lines func).blocks ls)
-good_case_labels lines func law [] facts = tt
-good_case_labels lines func law (l ∷ ls) facts = one_case_label lines func law l.number l.says ls facts.0 (good_case_labels lines func law ls facts.1)
+pub good_case_labels : (form : Form) (lines : List Line) (func : Definition) → InLaw form lines func → (ls : List Line)
+    → AllByRecursion (λ l. LineFacts form (scope_of lines func) l.says) ls → AllByRecursion (IsGoodLabel lines func) (case_labels (known_of lines func).blocks ls)
+good_case_labels form lines func law [] facts = tt
+good_case_labels form lines func law (l ∷ ls) facts = one_case_label form lines func law l.number l.says ls facts.0 (good_case_labels form lines func law ls facts.1)
 
-reads : (lines : List Line) (func : Definition) (ls : List Line) → AllByRecursion (λ l. LineFacts (scope_of lines func) l.says) ls → AllByRecursion (λ l. SaysRead l.says) ls
-reads lines func [] facts = tt
-reads lines func (l ∷ ls) facts = (facts.0.read, reads lines func ls facts.1)
+reads : (form : Form) (lines : List Line) (func : Definition) (ls : List Line) → AllByRecursion (λ l. LineFacts form (scope_of lines func) l.says) ls → AllByRecursion (λ l. SaysRead l.says) ls
+reads form lines func [] facts = tt
+reads form lines func (l ∷ ls) facts = (facts.0.read, reads form lines func ls facts.1)
 
 case_fits : (T : List Ty) (names : List (List ℕ)) (width : ℕ) → IsWidth width → (v : Val) → is_case_value v ≡ true → Fits T (operand_in names (Int width) v) (tys.Int width)
 case_fits T names width read (values.number literal) e = (width, refl, wrapped_below width literal)
@@ -272,30 +273,30 @@ case_literal names width (values.truth said) e = refl
 case_literal names width (values.local name) e = absurd (let bad : false ≡ true = e in cc)
 case_literal names width values.null e = absurd (let bad : false ≡ true = e in cc)
 
-pub good_switch_line : (lines : List Line) (func : Definition) → InLaw lines func → (before : List Line) (n width : ℕ) (value : Val) (default : List ℕ) (after : List Line)
+pub good_switch_line : (form : Form) (lines : List Line) (func : Definition) → InLaw form lines func → (before : List Line) (n width : ℕ) (value : Val) (default : List ℕ) (after : List Line)
     → func.body ≡ before ++ (record { number = n; says = switch width value default }) ∷ after
-    → LineFacts (scope_of lines func) (switch width value default) → AllByRecursion (λ l. LineFacts (scope_of lines func) l.says) after
-    → GoodInst lines func (instruction None ops.Switch (tys.Int width)
+    → LineFacts form (scope_of lines func) (switch width value default) → AllByRecursion (λ l. LineFacts form (scope_of lines func) l.says) after
+    → GoodInst form lines func (instruction None ops.Switch (tys.Int width)
     (operand_of (known_of lines func) (Int width) value ∷ case_values (known_of lines func).values width after)
     (label_of (known_of lines func) default ∷ case_labels (known_of lines func).blocks after))
-good_switch_line lines func law before n width value default after whole facts behind =
+good_switch_line form lines func law before n width value default after whole facts behind =
     let known = known_of lines func in
     let T = defs.value_types (made lines func) in
     let cases = case_values known.values width after in
-    let read = reads lines func after behind in
+    let read = reads form lines func after behind in
     let first = operand_of known (Int width) value in
-    good_switch lines func width first cases (label_of known default) (case_labels known.blocks after) facts.read
+    good_switch form lines func width first cases (label_of known default) (case_labels known.blocks after) facts.read
     (both (is_value first) (list_all is_value cases) (is_value_in known.values (Int width) value)
     (all-list is_value cases (each_case (λ (op : Operand). is_value op ≡ true) known.values width (λ v _. is_value_in known.values (Int width) v) after read)))
     (all-list is_literal cases (each_case (λ (op : Operand). is_literal op ≡ true) known.values width (case_literal known.values width) after read))
     (labels-cases known.values known.blocks width after) (
-      fit lines func law (Int width) value facts.read facts.uses.0,
+      fit form lines func law (Int width) value facts.read facts.uses.0,
       each_case (λ (op : Operand). Fits T op (tys.Int width)) known.values width (case_fits T known.values width facts.read) after read,
     )
-    (values-distinct_in lines law.none func law.defined known.values before n width value default after whole read) (
-      good_label lines func law default (or-left (is_none (block_named (scope_of lines func) default)) false facts.labels)
+    (values-distinct_in form lines law.none func law.defined known.values before n width value default after whole read) (
+      good_label form lines func law default (or-left (is_none (block_named (scope_of lines func) default)) false facts.labels)
           (or-left (block_number (scope_of lines func) default == 0) false facts.entry),
-      good_case_labels lines func law after behind,
+      good_case_labels form lines func law after behind,
     )
 
 -- ---- `getelementptr` over a layout
@@ -312,25 +313,25 @@ field_by fields number one None count e = tt
 field_by fields number one (Some place) count e =
     subst (λ (o : Option ℕ). IfSome o (λ (k : ℕ). place_of place < k)) (sym count) (place_below place (length one.fields) e)
 
-pub good_layout_line : (lines : List Line) (func : Definition) → InLaw lines func → (result named : List ℕ) (address : Val) (width : ℕ) (index : Val) (place : Option Literal)
-    → LineFacts (scope_of lines func) (layout_step result named address width index place)
-    → GoodInst lines func (instruction (Some result) (ops.Gep (elements.Layout (number_in (known_of lines func).layouts named)) width (option_map place_of place)) tys.Ptr
+pub good_layout_line : (form : Form) (lines : List Line) (func : Definition) → InLaw form lines func → (result named : List ℕ) (address : Val) (width : ℕ) (index : Val) (place : Option Literal)
+    → LineFacts form (scope_of lines func) (layout_step result named address width index place)
+    → GoodInst form lines func (instruction (Some result) (ops.Gep (elements.Layout (number_in (known_of lines func).layouts named)) width (option_map place_of place)) tys.Ptr
     (operand_of (known_of lines func) Managed address ∷ operand_of (known_of lines func) (Int width) index ∷ []) [])
-good_layout_line lines func law result named address width index place facts =
+good_layout_line form lines func law result named address width index place facts =
     let known = known_of lines func in
     let a = operand_of known Managed address in
     let b = operand_of known (Int width) index in
     let s = stands (λ (l : LayoutLine). l.name) (layouts_of lines) named (or-left (is_none (layout_named (scope_of lines func) named)) false facts.layouts) in
     let few = law.read.few_layouts in
     let n = number-is (λ (l : LayoutLine). l.name) (layouts_of lines) named s (omega arith) in
-    let fields = (scope_made lines func).fields in
-    let within : number_in known.layouts named < length (content lines).layouts =
+    let fields = (scope_made form lines func).fields in
+    let within : number_in known.layouts named < length (content form lines).layouts =
     (let below = stands_below (λ (l : LayoutLine). l.name) (layouts_of lines) named s in omega (arith, n, length-map (layouts_of lines) layout_of)) in
     let count : slice_get fields (number_in known.layouts named) ≡ Some (length s.one.fields) =
     ap (slice_get fields) n ∙ slice_get-map (λ (layout : Rattle.ir_ast.specs.Layouts.ObjectLayout). length layout.fields) (map layout_of (layouts_of lines)) s.place
     ∙ ap (option_map (λ (layout : Rattle.ir_ast.specs.Layouts.ObjectLayout). length layout.fields)) (slice_get-map layout_of (layouts_of lines) s.place ∙ ap (option_map layout_of) s.there)
     ∙ ap Some (length-map s.one.fields Rattle.ir_lines.specs.Modules.cell_of) in
-    good_layout lines func result (number_in known.layouts named) width (option_map place_of place) a b
+    good_layout form lines func result (number_in known.layouts named) width (option_map place_of place) a b
     (two_values a b (is_value_in known.values Managed address) (is_value_in known.values (Int width) index))
-    (fit lines func law Managed address tt facts.uses.0, (fit lines func law (Int width) index facts.read.1 facts.uses.1.0, tt))
+    (fit form lines func law Managed address tt facts.uses.0, (fit form lines func law (Int width) index facts.read.1 facts.uses.1.0, tt))
     facts.read.1 within (field_by fields (number_in known.layouts named) s.one place count (sym (ap (place_fits place) s.found) ∙ facts.rule))

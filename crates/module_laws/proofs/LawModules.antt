@@ -22,6 +22,8 @@ use Rattle.ir_ast.specs.Faults.UnknownName.{GlobalNamesAreKnown}
 use Rattle.ir_ast.specs.Faults.BadLayout.{LayoutsHaveFields}
 use Rattle.ir_ast.specs.Faults.NoMain.{HasMain}
 use Rattle.ir_ast.specs.Faults.Reserved.{IsExternalName, FunctionNamesAreFree}
+use Rattle.ir_ast.specs.declared.modules.Form.{Form}
+use Rattle.ir_ast.specs.declared.modules.Form.TheVariants.{Source}
 use Rattle.ir_cfg.specs.Limits.{IsName, IsWithinLimits}
 use Rattle.ir_reader.specs.declared.readings.TypeWord.{TypeWord}
 use Rattle.ir_reader.specs.declared.readings.TypeWord.TheVariants.{Void, Int, Managed, Plain}
@@ -41,33 +43,31 @@ use Rattle.module_laws.proofs.LawHeads.{SaysOf, says-defined, says-layouts, layo
 use Rattle.module_laws.proofs.LawValues.{few_insts, length-named}
 use Rattle.module_laws.proofs.LawLines.{InLaw, made, names-are, all_lines}
 use Rattle.module_laws.proofs.LawTyped.{content}
-use Rattle.module_laws.proofs.LawFunctions.{contained, local_known, global_known, function_typed, function_formed, function_entry}
+use Rattle.module_laws.proofs.LawFunctions.{contained, local_known, global_known, function_typed, function_widths, has_block, are_lines, function_entry}
 use Rattle.module_laws.proofs.LawPhis.{phis_right}
 
 -- ---- each function
 
-pub each_function : (lines : List Line) → IsReadLines lines → HasNoPlainFault lines → (P : Function → Type 0)
-    → ((func : Definition) → InLaw lines func → P (made lines func)) → All P (content lines).funcs
-each_function lines read none P f =
+pub each_function : (form : Form) (lines : List Line) → IsReadLines form lines → HasNoPlainFault form lines → (P : Function → Type 0)
+    → ((func : Definition) → InLaw form lines func → P (made lines func)) → All P (content form lines).funcs
+each_function form lines read none P f =
     All-map P (λ (func : Definition). function_of (known_of lines func) func) (definitions_of lines)
     (contained (λ (func : Definition). P (made lines func)) (definitions_of lines) (λ func inside. f func (record { read = read; none = none; defined = inside })))
 
-pub formed_function : (lines : List Line) (func : Definition) → InLaw lines func → IsFormed (made lines func)
-formed_function lines func law =
-    let typed = function_formed lines func law in
-    record {
-      has_block = typed.has_block;
-      widths = typed.widths;
-      lines = typed.lines;
-      known = local_known lines func law;
-      phis = phis_right lines func law;
-      entry = function_entry lines func law;
-    }
+pub formed_function : (form : Form) (lines : List Line) (func : Definition) → InLaw form lines func → IsFormed (made lines func)
+formed_function form lines func law = record {
+  has_block = has_block form lines func law;
+  widths = function_widths form lines func law;
+  lines = are_lines form lines func law;
+  known = local_known form lines func law;
+  phis = phis_right form lines func law;
+  entry = function_entry form lines func law;
+}
 
 -- ---- layouts
 
-pub layouts_filled : (lines : List Line) → HasNoPlainFault lines → LayoutsHaveFields (content lines)
-layouts_filled lines none =
+pub layouts_filled : (form : Form) (lines : List Line) → HasNoPlainFault form lines → LayoutsHaveFields (content form lines)
+layouts_filled form lines none =
     All-map (λ (one : ObjectLayout). 0 < length one.fields) layout_of (layouts_of lines)
     (says-layouts (λ one. 0 < length (map cell_of one.fields)) (λ s. is_bad_layout s ≡ false) (λ n name fields e. filled fields e) lines
     (all_lines (λ (l : Line). is_bad_layout l.says ≡ false) lines (λ l inside.
@@ -79,36 +79,36 @@ layouts_filled lines none =
     filled [] e = absurd (let bad : true ≡ false = e in cc)
     filled (f ∷ fs) e = omega arith
 
-pub layouts_typed : (lines : List Line) → IsReadLines lines → All (λ one. IsName one.name) (content lines).layouts
-layouts_typed lines read =
+pub layouts_typed : (form : Form) (lines : List Line) → IsReadLines form lines → All (λ one. IsName one.name) (content form lines).layouts
+layouts_typed form lines read =
     All-map (λ (one : ObjectLayout). IsName one.name) layout_of (layouts_of lines)
     (says-layouts (λ one. IsName one.name) SaysRead (λ n name fields e. e.0) lines read.says)
 
-pub layouts_short : (lines : List Line) → IsReadLines lines → All (λ one. length one.name ≤ 4096) (content lines).layouts
-layouts_short lines read =
+pub layouts_short : (form : Form) (lines : List Line) → IsReadLines form lines → All (λ one. length one.name ≤ 4096) (content form lines).layouts
+layouts_short form lines read =
     All-map (λ (one : ObjectLayout). length one.name ≤ 4096) layout_of (layouts_of lines)
     (says-layouts (λ one. length one.name ≤ 4096) SaysRead (λ n name fields e. e.1) lines read.says)
 
-pub layouts_few : (lines : List Line) → IsReadLines lines → All (λ one. length one.fields ≤ 64) (content lines).layouts
-layouts_few lines read =
+pub layouts_few : (form : Form) (lines : List Line) → IsReadLines form lines → All (λ one. length one.fields ≤ 64) (content form lines).layouts
+layouts_few form lines read =
     All-map (λ (one : ObjectLayout). length one.fields ≤ 64) layout_of (layouts_of lines)
     (says-layouts (λ one. length (map cell_of one.fields) ≤ 64) SaysRead (λ n name fields e. (let few = e.2 in omega (arith, length-map fields cell_of))) lines read.says)
 
 -- ---- heads
 
-pub head_of_function : (lines : List Line) (func : Definition) → InLaw lines func → IsReadHead func.answer func.name func.arguments
-head_of_function lines func law =
+pub head_of_function : (form : Form) (lines : List Line) (func : Definition) → InLaw form lines func → IsReadHead func.answer func.name func.arguments
+head_of_function form lines func law =
     (All-contains (SaysOf SaysRead) (definitions_of lines) func (says-defined SaysRead lines law.read.says) law.defined).head
 
-pub limits_kept : (lines : List Line) → IsReadLines lines → HasNoPlainFault lines → IsWithinLimits (content lines)
-limits_kept lines read none = record {
+pub limits_kept : (form : Form) (lines : List Line) → IsReadLines form lines → HasNoPlainFault form lines → IsWithinLimits (content form lines)
+limits_kept form lines read none = record {
   layouts = (let few = read.few_layouts in omega (arith, length-map (layouts_of lines) layout_of));
   functions = (let few = read.few_functions in omega (arith, length-map (definitions_of lines) (λ (func : Definition). function_of (known_of lines func) func)));
-  layout_names = layouts_short lines read;
-  function_names = each_function lines read none (λ func. length func.name ≤ 4096) (λ func law. (head_of_function lines func law).short);
-  fields = layouts_few lines read;
-  arguments = each_function lines read none (λ func. length func.args ≤ 64) (λ func law.
-      (let few = (head_of_function lines func law).few in omega (arith, length-map (arguments_named func.line [] func.arguments) argument_of, length-named func.line [] func.arguments)));
+  layout_names = layouts_short form lines read;
+  function_names = each_function form lines read none (λ func. length func.name ≤ 4096) (λ func law. (head_of_function form lines func law).short);
+  fields = layouts_few form lines read;
+  arguments = each_function form lines read none (λ func. length func.args ≤ 64) (λ func law.
+      (let few = (head_of_function form lines func law).few in omega (arith, length-map (arguments_named func.line [] func.arguments) argument_of, length-named func.line [] func.arguments)));
 }
 
 -- ---- names
@@ -118,21 +118,21 @@ names_mapped : {A B : Type 0} (f : A → B) (of_new : B → List ℕ) (of_old : 
 names_mapped f of_new of_old same [] = refl
 names_mapped f of_new of_old same (x ∷ xs) = ap (λ (n : List ℕ). n ∷ map of_new (map f xs)) (same x) ∙ ap (λ (ns : List (List ℕ)). of_old x ∷ ns) (names_mapped f of_new of_old same xs)
 
-pub names_once : (lines : List Line) → IsReadLines lines → HasNoPlainFault lines → NamesAreDistinct (content lines)
-names_once lines read none = record {
-  layouts = subst Distinct (sym (names_mapped layout_of (λ (one : ObjectLayout). one.name) (λ (one : LayoutLine). one.name) (λ x. refl) (layouts_of lines))) (layouts-distinct lines none);
+pub names_once : (form : Form) (lines : List Line) → IsReadLines form lines → HasNoPlainFault form lines → NamesAreDistinct (content form lines)
+names_once form lines read none = record {
+  layouts = subst Distinct (sym (names_mapped layout_of (λ (one : ObjectLayout). one.name) (λ (one : LayoutLine). one.name) (λ x. refl) (layouts_of lines))) (layouts-distinct form lines none);
   functions = subst Distinct (sym (names_mapped (λ (func : Definition). function_of (known_of lines func) func) (λ (one : Function). one.name) (λ (one : Definition). one.name) (λ x. refl) (definitions_of lines)))
-      (definitions-distinct lines none);
-  labels = each_function lines read none (λ func. Distinct (map (λ block. block.name) func.blocks)) (λ func law.
+      (definitions-distinct form lines none);
+  labels = each_function form lines read none (λ func. Distinct (map (λ block. block.name) func.blocks)) (λ func law.
       subst Distinct (sym (names_mapped (block_of (known_of lines func)) (λ (one : BasicBlock). one.name) (λ (one : BlockLines). one.name) (λ x. refl) (blocks_of func)))
-      (blocks-distinct lines none func law.defined));
-  values = each_function lines read none (λ func. Distinct (map defs.definition_name (defs.definitions_of func))) (λ func law.
-      subst Distinct (sym (names-are lines func law)) (values-distinct lines none func law.defined));
+      (blocks-distinct form lines none func law.defined));
+  values = each_function form lines read none (λ func. Distinct (map defs.definition_name (defs.definitions_of func))) (λ func law.
+      subst Distinct (sym (names-are form lines func law)) (values-distinct form lines none func law.defined));
 }
 
-pub names_free : (lines : List Line) → IsReadLines lines → HasNoPlainFault lines → FunctionNamesAreFree (content lines)
-names_free lines read none =
-    each_function lines read none (λ func. ¬ (IsExternalName func.name)) (λ func law bad. none func.line 14 (reserved (defines_external func law.defined refl bad)))
+pub names_free : (form : Form) (lines : List Line) → IsReadLines form lines → HasNoPlainFault form lines → FunctionNamesAreFree (content form lines)
+names_free form lines read none =
+    each_function form lines read none (λ func. ¬ (IsExternalName func.name)) (λ func law bad. none func.line 14 (reserved (defines_external func law.defined refl bad)))
 
 -- ---- the first function
 
@@ -194,8 +194,8 @@ map_names : (lines : List Line) (defs : List Definition) → AllByRecursion (λ 
 map_names lines [] all = tt
 map_names lines (d ∷ ds) all = (all.0, map_names lines ds all.1)
 
-pub has_main : (lines : List Line) → HasNoPlainFault lines → HasMain (content lines)
-has_main lines none =
+pub has_main : (form : Form) (lines : List Line) → HasNoPlainFault form lines → HasMain (content form lines)
+has_main form lines none =
     let F : Definition → Function = λ func. function_of (known_of lines func) func in
     let is : is_main (find (λ func. bytes_eq func.name (codes "main")) (definitions_of lines)) ≡ true =
     found_main (is_main (find (λ func. bytes_eq func.name (codes "main")) (definitions_of lines))) (λ lacks.
@@ -232,22 +232,28 @@ total lines (d ∷ ds) =
       sum_by-cons (λ (func : Definition). instruction_count func.body) d ds,
     )
 
-pub few_in_all : (lines : List Line) → IsReadLines lines → length (flat_map (λ func. instructions_of func.blocks) (content lines).funcs) ≤ 65536
-few_in_all lines read =
-    let most = read.few_instructions in
+pub total_made : (form : Form) (lines : List Line)
+    → length (flat_map (λ func. instructions_of func.blocks) (content form lines).funcs) ≤ sum_by (λ func. instruction_count func.body) (definitions_of lines)
+total_made form lines =
     let all = total lines (definitions_of lines) in
     omega (arith, ap length (flat_map-map (λ (func : Function). instructions_of func.blocks) (λ (func : Definition). function_of (known_of lines func) func) (definitions_of lines)))
 
+pub few_in_all : (lines : List Line) → IsReadLines Source lines → length (flat_map (λ func. instructions_of func.blocks) (content Source lines).funcs) ≤ 65536
+few_in_all lines read =
+    let most = read.few_instructions refl in
+    let all = total_made Source lines in
+    omega arith
+
 -- ---- the module can be printed and analysed
 
-pub module_typed : (lines : List Line) → IsReadLines lines → HasNoPlainFault lines → ModuleIsTyped (content lines)
-module_typed lines read none =
-    each_function lines read none (λ func. FunctionIsTyped (Rattle.ir_ast.specs.Scope.scope_of (content lines) func) func) (λ func law. function_typed lines func law)
+pub module_typed : (form : Form) (lines : List Line) → IsReadLines form lines → HasNoPlainFault form lines → ModuleIsTyped (content form lines)
+module_typed form lines read none =
+    each_function form lines read none (λ func. FunctionIsTyped (Rattle.ir_ast.specs.Scope.scope_of (content form lines) func) func) (λ func law. function_typed form lines func law)
 
-pub module_formed : (lines : List Line) → IsReadLines lines → HasNoPlainFault lines → IsFormedModule (content lines)
-module_formed lines read none = record {
-  formed = each_function lines read none IsFormed (formed_function lines);
-  known = each_function lines read none (GlobalNamesAreKnown (content lines)) (global_known lines);
-  typed = module_typed lines read none;
-  fields = layouts_filled lines none;
+pub module_formed : (form : Form) (lines : List Line) → IsReadLines form lines → HasNoPlainFault form lines → IsFormedModule (content form lines)
+module_formed form lines read none = record {
+  formed = each_function form lines read none IsFormed (formed_function form lines);
+  known = each_function form lines read none (GlobalNamesAreKnown (content form lines)) (global_known form lines);
+  typed = module_typed form lines read none;
+  fields = layouts_filled form lines none;
 }

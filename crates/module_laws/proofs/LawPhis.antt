@@ -19,6 +19,7 @@ use Rattle.ir_ast.specs.Ops.{is_terminator}
 use Rattle.ir_ast.specs.Edges as edged
 use Rattle.ir_ast.specs.Faults.PhiEdges.{PhiIsRight, PhisAreRight}
 use Rattle.ir_ast.specs.Faults.PhiEdges as right
+use Rattle.ir_ast.specs.declared.modules.Form.{Form}
 use Rattle.ir_reader.specs.declared.readings.TypeWord.{TypeWord}
 use Rattle.ir_reader.specs.declared.words.Binary.{Binary}
 use Rattle.ir_reader.specs.declared.words.Binary.TheVariants.{Add}
@@ -214,17 +215,17 @@ first_stands func (l ∷ ls) h = by (is_label l.says)
     by false = All-cons BlockStands (record { line = func.line; name = Rattle.std.specs.Prelude.decimal (count_numbered func.arguments); lines = until_label (l ∷ ls) }) []
         (cases_until false (l ∷ ls) h) (All-nil BlockStands)
 
-all_stand : (lines : List Line) (func : Definition) → InLaw lines func → All BlockStands (blocks_of func)
-all_stand lines func law =
-    let cases = (read_function lines func law).cases in
+all_stand : (form : Form) (lines : List Line) (func : Definition) → InLaw form lines func → All BlockStands (blocks_of func)
+all_stand form lines func law =
+    let cases = (read_function form lines func law).cases in
     All-append BlockStands (first_block func func.body) (labelled_blocks func.body) (first_stands func func.body cases) (blocks_stand false func.body cases)
 
 count_made : (names : List (List ℕ)) (to : ℕ) (ns : List (List ℕ)) → edged.count_of to (map (label_in names) ns) ≡ count_by (λ n. Rattle.ir_lines.specs.Places.number_in names n == to) ns
 count_made names to ns = fold-map (λ (a : ℕ) (x : BlockId). a + cond (x.0 == to) 1 0) (label_in names) 0 ns
 
-pub edges-same : (lines : List Line) (func : Definition) → InLaw lines func → (from to : ℕ)
+pub edges-same : (form : Form) (lines : List Line) (func : Definition) → InLaw form lines func → (from to : ℕ)
     → edged.edges (made lines func) from to ≡ wrong.edges (scope_of lines func) from to
-edges-same lines func law from to = by (slice_get (blocks_of func) from) refl
+edges-same form lines func law from to = by (slice_get (blocks_of func) from) refl
   where
     known : Known
     known = known_of lines func
@@ -234,7 +235,7 @@ edges-same lines func law from to = by (slice_get (blocks_of func) from) refl
         ap (λ (o : Option BasicBlock). option_map_or (λ block. edged.count_of to (edged.targets block)) o 0) (slice_get-map (block_of (known_of lines func)) (blocks_of func) from ∙ ap (option_map (block_of (known_of lines func))) e)
         ∙ sym (ap (λ (o : Option BlockLines). option_map_or (λ block. wrong.count_of (scope_of lines func) to (said_targets block.lines)) o 0) e)
     by (Some bl) e =
-        let there = All-contains BlockStands (blocks_of func) bl (all_stand lines func law) (contains_get (blocks_of func) from bl e) in
+        let there = All-contains BlockStands (blocks_of func) bl (all_stand form lines func law) (contains_get (blocks_of func) from bl e) in
         ap (λ (o : Option BasicBlock). option_map_or (λ block. edged.count_of to (edged.targets block)) o 0) (slice_get-map (block_of (known_of lines func)) (blocks_of func) from ∙ ap (option_map (block_of (known_of lines func))) e)
         ∙ ap (edged.count_of to) ((same_targets (known_of lines func) bl.lines).0 there)
         ∙ count_made (known_of lines func).blocks to (said_targets bl.lines)
@@ -243,8 +244,8 @@ edges-same lines func law from to = by (slice_get (blocks_of func) from) refl
 -- ---- one phi
 
 -- a phi of a block of faultless lines
-record PhiAt (lines : List Line) (func : Definition) (number : ℕ) : Type 0 where
-  law : InLaw lines func
+record PhiAt (form : Form) (lines : List Line) (func : Definition) (number : ℕ) : Type 0 where
+  law : InLaw form lines func
   block : BlockLines
   there : slice_get (blocks_of func) number ≡ Some block
   earlier : List Line
@@ -255,8 +256,8 @@ record PhiAt (lines : List Line) (func : Definition) (number : ℕ) : Type 0 whe
   later : List Line
   whole : block.lines ≡ earlier ++ (record { number = line; says = phi result ty entries }) ∷ later
 
-not_wrong : (lines : List Line) (func : Definition) (number : ℕ) (at : PhiAt lines func number) → ¬ (PhiIsWrong (scope_of lines func) number at.earlier at.ty at.entries)
-not_wrong lines func number at w =
+not_wrong : (form : Form) (lines : List Line) (func : Definition) (number : ℕ) (at : PhiAt form lines func number) → ¬ (PhiIsWrong (scope_of lines func) number at.earlier at.ty at.entries)
+not_wrong form lines func number at w =
     let within = slice_get_within (blocks_of func) number at.block at.there in
     let count : length (take number (blocks_of func)) ≡ number = length-take-le number (blocks_of func) (omega arith) in
     let told : PhiEdges lines at.line = record {
@@ -279,14 +280,14 @@ abbrev phi_made : List Line → Definition → List ℕ → TypeWord → List (V
 phi_made lines func result ty entries =
     instruction (Some result) ops.Phi (type_of ty) (map (entry_operand (known_of lines func).values ty) entries) (map (entry_label (known_of lines func).blocks) entries)
 
-all_phis : (lines : List Line) (func : Definition) (number : ℕ) (at : PhiAt lines func number) → AllByRecursion (λ l. is_phi l.says ≡ true) at.earlier
-all_phis lines func number at =
+all_phis : (form : Form) (lines : List Line) (func : Definition) (number : ℕ) (at : PhiAt form lines func number) → AllByRecursion (λ l. is_phi l.says ≡ true) at.earlier
+all_phis form lines func number at =
     recursion_from_All (λ (l : Line). is_phi l.says ≡ true) at.earlier
     (all_lines (λ (l : Line). is_phi l.says ≡ true) at.earlier (λ l inside. by l inside (is_phi l.says) refl))
   where
     by : (l : Line) → Contains at.earlier l → (b : Bool) → is_phi l.says ≡ b → is_phi l.says ≡ true
     by l inside true e = e
-    by l inside false e = absurd (not_wrong lines func number at (late l inside e))
+    by l inside false e = absurd (not_wrong form lines func number at (late l inside e))
 
 entries_counted : (lines : List Line) (func : Definition) (from : ℕ) (entries : List (Val × List ℕ))
     → edged.count_of from (map (entry_label (known_of lines func).blocks) entries) ≡ wrong.count_of (scope_of lines func) from (map (λ entry. entry.1) entries)
@@ -294,44 +295,44 @@ entries_counted lines func from entries =
     fold-map (λ (a : ℕ) (x : BlockId). a + cond (x.0 == from) 1 0) (entry_label (known_of lines func).blocks) 0 entries
     ∙ sym (fold-map (λ (a : ℕ) (n : List ℕ). a + cond (block_number (scope_of lines func) n == from) 1 0) (λ (entry : Val × List ℕ). entry.1) 0 entries)
 
-phi_agrees : (lines : List Line) (func : Definition) (number : ℕ) (at : PhiAt lines func number) (j k : ℕ) (oj ok : Option (Val × List ℕ))
+phi_agrees : (form : Form) (lines : List Line) (func : Definition) (number : ℕ) (at : PhiAt form lines func number) (j k : ℕ) (oj ok : Option (Val × List ℕ))
     → slice_get at.entries j ≡ oj → slice_get at.entries k ≡ ok
     → option_map (entry_label (known_of lines func).blocks) oj ≡ option_map (entry_label (known_of lines func).blocks) ok
     → option_map (entry_operand (known_of lines func).values at.ty) oj ≡ option_map (entry_operand (known_of lines func).values at.ty) ok
-phi_agrees lines func number at j k None None ej ek e = refl
-phi_agrees lines func number at j k None (Some b) ej ek e = absurd (let bad : None ≡ Some (entry_label (known_of lines func).blocks b) = e in cc)
-phi_agrees lines func number at j k (Some a) None ej ek e = absurd (let bad : Some (entry_label (known_of lines func).blocks a) ≡ None = e in cc)
-phi_agrees lines func number at j k (Some a) (Some b) ej ek e =
+phi_agrees form lines func number at j k None None ej ek e = refl
+phi_agrees form lines func number at j k None (Some b) ej ek e = absurd (let bad : None ≡ Some (entry_label (known_of lines func).blocks b) = e in cc)
+phi_agrees form lines func number at j k (Some a) None ej ek e = absurd (let bad : Some (entry_label (known_of lines func).blocks a) ≡ None = e in cc)
+phi_agrees form lines func number at j k (Some a) (Some b) ej ek e =
     let known = known_of lines func in
     let same : entry_label known.blocks a ≡ entry_label known.blocks b = same_Some (entry_label known.blocks a) (entry_label known.blocks b) e in
     let numbers : block_number (scope_of lines func) a.1 ≡ block_number (scope_of lines func) b.1 = ap (λ (label : BlockId). label.0) same in
     ap Some (stable_operand (entry_operand known.values at.ty a) (entry_operand known.values at.ty b)
-    (λ apart. not_wrong lines func number at (differ a b (contains_get at.entries j a ej) (contains_get at.entries k b ek) numbers apart)))
+    (λ apart. not_wrong form lines func number at (differ a b (contains_get at.entries j a ej) (contains_get at.entries k b ek) numbers apart)))
 
-phi_right : (lines : List Line) (func : Definition) (number : ℕ) (at : PhiAt lines func number) (before : List Instruction)
+phi_right : (form : Form) (lines : List Line) (func : Definition) (number : ℕ) (at : PhiAt form lines func number) (before : List Instruction)
     → list_all (λ i. right.is_phi i.op) before ≡ true → PhiIsRight (made lines func) number before (phi_made lines func at.result at.ty at.entries)
-phi_right lines func number at before first = record {
+phi_right form lines func number at before first = record {
   first = first;
   counted = λ from. entries_counted lines func from at.entries
       ∙ stable (wrong.count_of (scope_of lines func) from (map (λ entry. entry.1) at.entries)) (wrong.edges (scope_of lines func) from number)
-      (λ apart. not_wrong lines func number at (uncounted from apart))
-      ∙ sym (edges-same lines func at.law from number);
+      (λ apart. not_wrong form lines func number at (uncounted from apart))
+      ∙ sym (edges-same form lines func at.law from number);
   agree = λ j k e.
       slice_get-map (entry_operand (known_of lines func).values at.ty) at.entries j
-      ∙ phi_agrees lines func number at j k (slice_get at.entries j) (slice_get at.entries k) refl refl
+      ∙ phi_agrees form lines func number at j k (slice_get at.entries j) (slice_get at.entries k) refl refl
       (sym (slice_get-map (entry_label (known_of lines func).blocks) at.entries j) ∙ e ∙ slice_get-map (entry_label (known_of lines func).blocks) at.entries k)
       ∙ sym (slice_get-map (entry_operand (known_of lines func).values at.ty) at.entries k);
 }
 
-pub phis_right : (lines : List Line) (func : Definition) → InLaw lines func → PhisAreRight (made lines func)
-phis_right lines func law number block before after inst there whole is_phi_op = by (slice_get (blocks_of func) number) refl
+pub phis_right : (form : Form) (lines : List Line) (func : Definition) → InLaw form lines func → PhisAreRight (made lines func)
+phis_right form lines func law number block before after inst there whole is_phi_op = by (slice_get (blocks_of func) number) refl
   where
     in_block : (bl : BlockLines) → slice_get (blocks_of func) number ≡ Some bl → block_of (known_of lines func) bl ≡ block → PhiIsRight (made lines func) number before inst
     in_block bl e same =
         let known = known_of lines func in
         let split = inst_split known bl.lines before inst after (ap (λ (b : BasicBlock). b.insts) same ∙ whole) in
         let said = phi_line known split.later split.line.says inst split.said is_phi_op in
-        let at : PhiAt lines func number = record {
+        let at : PhiAt form lines func number = record {
           law = law;
           block = bl;
           there = e;
@@ -346,7 +347,7 @@ phis_right lines func law number block before after inst there whole is_phi_op =
         let is : phi_made lines func said.result said.ty said.entries ≡ inst =
         same_Some (phi_made lines func said.result said.ty said.entries) inst (sym (ap (instruction_said known split.later) said.is) ∙ split.said) in
         subst (λ (i : Instruction). PhiIsRight (made lines func) number before i) is
-        (phi_right lines func number at before (split.first (all_phis lines func number at)))
+        (phi_right form lines func number at before (split.first (all_phis form lines func number at)))
 
     by : (o : Option BlockLines) → slice_get (blocks_of func) number ≡ o → PhiIsRight (made lines func) number before inst
     by None e =

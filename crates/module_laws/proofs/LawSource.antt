@@ -1,9 +1,10 @@
--- The law: the module of faultless lines that were read is a typed module, and a source module once its uses are definite.
+-- The law of the source form: the module of faultless lines that were read is a typed module, and a source module once its uses are definite.
 use Rattle.std.proofs.Common.{List, refl}
 use Rattle.std.specs.List.{All}
 use Rattle.ir_ast.specs.Modules.{ModuleContent}
 use Rattle.ir_ast.specs.Formed.{IsFormedModule}
 use Rattle.ir_ast.specs.Faultless.{FunctionHasNoFault, HasNoFault}
+use Rattle.ir_ast.specs.declared.modules.Form.TheVariants.{Source}
 use Rattle.ir_cfg.specs.DefiniteUses.{UsesAreDefinite}
 use Rattle.ir_cfg.specs.SourceModules.{IsSourceModule}
 use Rattle.ir_lines.specs.Statements.{Line}
@@ -18,34 +19,34 @@ use Rattle.module_laws.proofs.LawPhis.{phis_right}
 use Rattle.module_laws.proofs.LawDerived.{derived_stay}
 use Rattle.module_laws.proofs.LawModules.{each_function, layouts_filled, layouts_typed, limits_kept, names_once, names_free, has_main, few_in_all, module_typed}
 
-function_faultless : (lines : List Line) (func : Definition) → InLaw lines func → FunctionHasNoFault (content lines) (made lines func)
+function_faultless : (lines : List Line) (func : Definition) → InLaw Source lines func → FunctionHasNoFault (content Source lines) (made lines func)
 function_faultless lines func law = record {
-  local = local_known lines func law;
-  global = global_known lines func law;
-  entry = function_entry lines func law;
-  phis = phis_right lines func law;
-  pointers = function_pointers lines func law;
+  local = local_known Source lines func law;
+  global = global_known Source lines func law;
+  entry = function_entry Source lines func law;
+  phis = phis_right Source lines func law;
+  pointers = function_pointers Source lines func law;
   form = (function_source lines func law, derived_stay lines func law);
 }
 
-pub module_faultless : (lines : List Line) → IsReadLines lines → TextHasNoFault lines → HasNoFault (content lines)
+pub module_faultless : (lines : List Line) → IsReadLines Source lines → TextHasNoFault Source lines → HasNoFault (content Source lines)
 module_faultless lines read none = record {
-  names = names_once lines read none;
-  typed = module_typed lines read none;
-  functions = each_function lines read none (FunctionHasNoFault (content lines)) (function_faultless lines);
-  main = has_main lines none;
-  fields = layouts_filled lines none;
-  free = names_free lines read none;
+  names = names_once Source lines read none;
+  typed = module_typed Source lines read none;
+  functions = each_function Source lines read none (FunctionHasNoFault (content Source lines)) (function_faultless lines);
+  main = has_main Source lines none;
+  fields = layouts_filled Source lines none;
+  free = names_free Source lines read none;
 }
 
--- the law of the typer
-pub typed_module : (lines : List Line) → IsReadLines lines → TextHasNoFault lines → IsTypedModule (content lines)
+-- the law of the typer for the source form
+pub typed_module : (lines : List Line) → IsReadLines Source lines → TextHasNoFault Source lines → IsTypedModule (content Source lines)
 typed_module lines read none = record {
   form = refl;
   no_fault = module_faultless lines read none;
-  functions = each_function lines read none IsTypedFunction (function_formed lines);
-  layout_names = layouts_typed lines read;
-  limits = limits_kept lines read none;
+  functions = each_function Source lines read none IsTypedFunction (function_formed lines);
+  layout_names = layouts_typed Source lines read;
+  limits = limits_kept Source lines read none;
   instructions = few_in_all lines read;
 }
 

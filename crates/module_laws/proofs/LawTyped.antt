@@ -23,6 +23,8 @@ use Rattle.ir_ast.specs.Scope.{scope_of as module_scope}
 use Rattle.ir_ast.specs.Faults.TypeClash.{Fits, IsTyped, IsCallOf, HasField, IsCellType, asked}
 use Rattle.ir_ast.specs.Faults.EntryHasPred.{LeavesEntry}
 use Rattle.ir_ast.specs.Faults.PointerOrder.{orders_pointers}
+use Rattle.ir_ast.specs.declared.modules.Form.{Form}
+use Rattle.ir_ast.specs.declared.modules.Form.TheVariants.{Source}
 use Rattle.ir_reader.specs.declared.readings.TypeWord.{TypeWord}
 use Rattle.ir_reader.specs.declared.readings.TypeWord.TheVariants.{Void, Int, Managed, Plain}
 use Rattle.ir_reader.specs.declared.words.Binary.{Binary}
@@ -39,21 +41,21 @@ use Rattle.ir_lines.specs.ReadLines.{IsValueType, IsAnswerType}
 use Rattle.module_laws.proofs.LawLines.{made}
 use Rattle.module_laws.proofs.LawCalls.{IsGoodCall, funcs_of, over, call_made}
 
-abbrev pub content : List Line → Rattle.ir_ast.specs.Modules.ModuleContent
-content lines = (module_of lines).content
+abbrev pub content : Form → List Line → Rattle.ir_ast.specs.Modules.ModuleContent
+content form lines = (module_of form lines).content
 
-abbrev pub scope_made : List Line → Definition → Rattle.ir_ast.specs.Scope.Scope
-scope_made lines func = module_scope (content lines) (made lines func)
+abbrev pub scope_made : Form → List Line → Definition → Rattle.ir_ast.specs.Scope.Scope
+scope_made form lines func = module_scope (content form lines) (made lines func)
 
-pub record GoodInst (lines : List Line) (func : Definition) (inst : Instruction) : Type 0 where
+pub record GoodInst (form : Form) (lines : List Line) (func : Definition) (inst : Instruction) : Type 0 where
   pub line : IsLine inst
-  pub typed : IsTyped (scope_made lines func) inst
+  pub typed : IsTyped (scope_made form lines func) inst
   pub widths : All IsWidth (line_widths inst)
   pub bundle : inst.bundle ≡ []
-  pub plain : is_rewritten inst.op ≡ false
+  pub plain : form ≡ Source → is_rewritten inst.op ≡ false
   pub unordered : orders_pointers inst.op inst.ty ≡ false
-  pub layouts : All (λ layout. layout < length (content lines).layouts) (layouts_in inst)
-  pub functions : All (λ named. named < length (content lines).funcs) (functions_in inst)
+  pub layouts : All (λ layout. layout < length (content form lines).layouts) (layouts_in inst)
+  pub functions : All (λ named. named < length (content form lines).funcs) (functions_in inst)
   pub labels : All (λ label. label.0 < length (made lines func).blocks) inst.labels
   pub entry : LeavesEntry inst
 
@@ -92,45 +94,45 @@ pub widths_made : (op : Op) (result : Option (List ℕ)) (ty : Ty) (operands : L
 widths_made op result ty operands labels of_op of_type =
     All-append IsWidth (operator_widths op ++ type_widths ty) [] (All-append IsWidth (operator_widths op) (type_widths ty) of_op of_type) (All-nil IsWidth)
 
-values_name_none : (P : ℕ → Type 0) (os : List Operand) → list_all is_value os ≡ true → AllByRecursion P (functions_in (over os))
+pub values_name_none : (P : ℕ → Type 0) (os : List Operand) → list_all is_value os ≡ true → AllByRecursion P (functions_in (over os))
 values_name_none P [] e = tt
 values_name_none P (operands.Value value ∷ os) e = values_name_none P os e
 values_name_none P (operands.Int number ∷ os) e = values_name_none P os e
 values_name_none P (operands.Null ∷ os) e = values_name_none P os e
 values_name_none P (operands.Fun f ∷ os) e = absurd (let bad : false ≡ true = e in cc)
 
-pub no_names : (lines : List Line) (os : List Operand) → list_all is_value os ≡ true
-    → All (λ named. named < length (content lines).funcs) (functions_in (over os))
-no_names lines os e =
-    All-from_recursion (λ named. named < length (content lines).funcs) (functions_in (over os)) (values_name_none (λ named. named < length (content lines).funcs) os e)
+pub no_names : (form : Form) (lines : List Line) (os : List Operand) → list_all is_value os ≡ true
+    → All (λ named. named < length (content form lines).funcs) (functions_in (over os))
+no_names form lines os e =
+    All-from_recursion (λ named. named < length (content form lines).funcs) (functions_in (over os)) (values_name_none (λ named. named < length (content form lines).funcs) os e)
 
 -- a line with a result or none, over operands that are values, with no labels
 abbrev pub Plain_inst : Option (List ℕ) → Op → Ty → List Operand → Instruction
 Plain_inst result op ty operands = instruction result op ty operands []
 
-abbrev pub NoLayout : List Line → Type 0
-NoLayout lines = All (λ layout. layout < length (content lines).layouts) []
+abbrev pub NoLayout : Form → List Line → Type 0
+NoLayout form lines = All (λ layout. layout < length (content form lines).layouts) []
 
-pub no_layout : (lines : List Line) → All (λ layout. layout < length (content lines).layouts) []
-no_layout lines = All-nil (λ layout. layout < length (content lines).layouts)
+pub no_layout : (form : Form) (lines : List Line) → All (λ layout. layout < length (content form lines).layouts) []
+no_layout form lines = All-nil (λ layout. layout < length (content form lines).layouts)
 
-pub good_plain : (lines : List Line) (func : Definition) (result : Option (List ℕ)) (op : Op) (ty : Ty) (os : List Operand)
+pub good_plain : (form : Form) (lines : List Line) (func : Definition) (result : Option (List ℕ)) (op : Op) (ty : Ty) (os : List Operand)
     → IsLine (Plain_inst result op ty os) → AllZip (Fits (defs.value_types (made lines func))) os (asked op ty (length os))
-    → Rattle.ir_ast.specs.Faults.TypeClash.RuleOf (scope_made lines func) op (Plain_inst result op ty os)
+    → Rattle.ir_ast.specs.Faults.TypeClash.RuleOf (scope_made form lines func) op (Plain_inst result op ty os)
     → All IsWidth (operator_widths op) → All IsWidth (type_widths ty) → is_rewritten op ≡ false → orders_pointers op ty ≡ false
-    → All (λ layout. layout < length (content lines).layouts) (layouts_in (Plain_inst result op ty os))
-    → All (λ named. named < length (content lines).funcs) (functions_in (Plain_inst result op ty os))
-    → GoodInst lines func (Plain_inst result op ty os)
-good_plain lines func result op ty os line fits rule of_op of_type plain unordered layouts functions = record {
+    → All (λ layout. layout < length (content form lines).layouts) (layouts_in (Plain_inst result op ty os))
+    → All (λ named. named < length (content form lines).funcs) (functions_in (Plain_inst result op ty os))
+    → GoodInst form lines func (Plain_inst result op ty os)
+good_plain form lines func result op ty os line fits rule of_op of_type plain unordered layouts functions = record {
   line = line;
   typed = record {
     operands = fits;
-    bundle = All-nil (λ (entry : Ty × Operand). Fits (scope_made lines func).values entry.1 entry.0);
+    bundle = All-nil (λ (entry : Ty × Operand). Fits (scope_made form lines func).values entry.1 entry.0);
     rule = rule;
   };
   widths = widths_made op result ty os [] of_op of_type;
   bundle = refl;
-  plain = plain;
+  plain = λ is. plain;
   unordered = unordered;
   layouts = layouts;
   functions = functions;
@@ -149,16 +151,16 @@ one_value a e = both (is_value a) true e refl
 
 -- ---- each form
 
-binary_by : (lines : List Line) (func : Definition) (result : List ℕ) (op : Op) (width : ℕ) (a b : Operand)
+binary_by : (form : Form) (lines : List Line) (func : Definition) (result : List ℕ) (op : Op) (width : ℕ) (a b : Operand)
     → list_all is_value (a ∷ b ∷ []) ≡ true → (IsLine (Plain_inst (Some result) op (tys.Int width) (a ∷ b ∷ [])))
     → AllZip (Fits (defs.value_types (made lines func))) (a ∷ b ∷ []) (asked op (tys.Int width) 2)
-    → Rattle.ir_ast.specs.Faults.TypeClash.RuleOf (scope_made lines func) op (Plain_inst (Some result) op (tys.Int width) (a ∷ b ∷ []))
+    → Rattle.ir_ast.specs.Faults.TypeClash.RuleOf (scope_made form lines func) op (Plain_inst (Some result) op (tys.Int width) (a ∷ b ∷ []))
     → All IsWidth (operator_widths op) → IsWidth width → is_rewritten op ≡ false → orders_pointers op (tys.Int width) ≡ false
-    → All (λ layout. layout < length (content lines).layouts) (layouts_in (Plain_inst (Some result) op (tys.Int width) (a ∷ b ∷ [])))
-    → All (λ named. named < length (content lines).funcs) (functions_in (Plain_inst (Some result) op (tys.Int width) (a ∷ b ∷ [])))
-    → GoodInst lines func (Plain_inst (Some result) op (tys.Int width) (a ∷ b ∷ []))
-binary_by lines func result op width a b vals line fits rule of_op wide plain unordered layouts functions =
-    good_plain lines func (Some result) op (tys.Int width) (a ∷ b ∷ []) line fits rule of_op (All-cons IsWidth width [] wide (All-nil IsWidth)) plain unordered layouts functions
+    → All (λ layout. layout < length (content form lines).layouts) (layouts_in (Plain_inst (Some result) op (tys.Int width) (a ∷ b ∷ [])))
+    → All (λ named. named < length (content form lines).funcs) (functions_in (Plain_inst (Some result) op (tys.Int width) (a ∷ b ∷ [])))
+    → GoodInst form lines func (Plain_inst (Some result) op (tys.Int width) (a ∷ b ∷ []))
+binary_by form lines func result op width a b vals line fits rule of_op wide plain unordered layouts functions =
+    good_plain form lines func (Some result) op (tys.Int width) (a ∷ b ∷ []) line fits rule of_op (All-cons IsWidth width [] wide (All-nil IsWidth)) plain unordered layouts functions
 
 has_two : (result : List ℕ) (op : Op) (width : ℕ) (a b : Operand) → list_all is_value (a ∷ b ∷ []) ≡ true
     → Has true is_integer 2 0 (Plain_inst (Some result) op (tys.Int width) (a ∷ b ∷ []))
@@ -174,32 +176,32 @@ has_two result op width a b vals = record {
 abbrev BinaryFits : List Line → Definition → Operand → Operand → ℕ → Type 0
 BinaryFits lines func a b width = AllZip (Fits (defs.value_types (made lines func))) (a ∷ b ∷ []) (tys.Int width ∷ tys.Int width ∷ [])
 
-pub good_binary : (lines : List Line) (func : Definition) (result : List ℕ) (op : Binary) (width : ℕ) (a b : Operand)
+pub good_binary : (form : Form) (lines : List Line) (func : Definition) (result : List ℕ) (op : Binary) (width : ℕ) (a b : Operand)
     → list_all is_value (a ∷ b ∷ []) ≡ true → BinaryFits lines func a b width → IsWidth width
-    → GoodInst lines func (Plain_inst (Some result) (Rattle.ir_lines.specs.Modules.binary_of op) (tys.Int width) (a ∷ b ∷ []))
-good_binary lines func result Add width a b v f w = binary_by lines func result ops.Add width a b v (has_two result ops.Add width a b v) f tt (All-nil IsWidth) w refl refl (no_layout lines) (no_names lines (a ∷ b ∷ []) v)
-good_binary lines func result Sub width a b v f w = binary_by lines func result ops.Sub width a b v (has_two result ops.Sub width a b v) f tt (All-nil IsWidth) w refl refl (no_layout lines) (no_names lines (a ∷ b ∷ []) v)
-good_binary lines func result Mul width a b v f w = binary_by lines func result ops.Mul width a b v (has_two result ops.Mul width a b v) f tt (All-nil IsWidth) w refl refl (no_layout lines) (no_names lines (a ∷ b ∷ []) v)
-good_binary lines func result Udiv width a b v f w = binary_by lines func result ops.Udiv width a b v (has_two result ops.Udiv width a b v) f tt (All-nil IsWidth) w refl refl (no_layout lines) (no_names lines (a ∷ b ∷ []) v)
-good_binary lines func result Sdiv width a b v f w = binary_by lines func result ops.Sdiv width a b v (has_two result ops.Sdiv width a b v) f tt (All-nil IsWidth) w refl refl (no_layout lines) (no_names lines (a ∷ b ∷ []) v)
-good_binary lines func result Urem width a b v f w = binary_by lines func result ops.Urem width a b v (has_two result ops.Urem width a b v) f tt (All-nil IsWidth) w refl refl (no_layout lines) (no_names lines (a ∷ b ∷ []) v)
-good_binary lines func result Srem width a b v f w = binary_by lines func result ops.Srem width a b v (has_two result ops.Srem width a b v) f tt (All-nil IsWidth) w refl refl (no_layout lines) (no_names lines (a ∷ b ∷ []) v)
-good_binary lines func result And width a b v f w = binary_by lines func result ops.And width a b v (has_two result ops.And width a b v) f tt (All-nil IsWidth) w refl refl (no_layout lines) (no_names lines (a ∷ b ∷ []) v)
-good_binary lines func result Or width a b v f w = binary_by lines func result ops.Or width a b v (has_two result ops.Or width a b v) f tt (All-nil IsWidth) w refl refl (no_layout lines) (no_names lines (a ∷ b ∷ []) v)
-good_binary lines func result Xor width a b v f w = binary_by lines func result ops.Xor width a b v (has_two result ops.Xor width a b v) f tt (All-nil IsWidth) w refl refl (no_layout lines) (no_names lines (a ∷ b ∷ []) v)
-good_binary lines func result Shl width a b v f w = binary_by lines func result ops.Shl width a b v (has_two result ops.Shl width a b v) f tt (All-nil IsWidth) w refl refl (no_layout lines) (no_names lines (a ∷ b ∷ []) v)
-good_binary lines func result Lshr width a b v f w = binary_by lines func result ops.Lshr width a b v (has_two result ops.Lshr width a b v) f tt (All-nil IsWidth) w refl refl (no_layout lines) (no_names lines (a ∷ b ∷ []) v)
-good_binary lines func result Ashr width a b v f w = binary_by lines func result ops.Ashr width a b v (has_two result ops.Ashr width a b v) f tt (All-nil IsWidth) w refl refl (no_layout lines) (no_names lines (a ∷ b ∷ []) v)
+    → GoodInst form lines func (Plain_inst (Some result) (Rattle.ir_lines.specs.Modules.binary_of op) (tys.Int width) (a ∷ b ∷ []))
+good_binary form lines func result Add width a b v f w = binary_by form lines func result ops.Add width a b v (has_two result ops.Add width a b v) f tt (All-nil IsWidth) w refl refl (no_layout form lines) (no_names form lines (a ∷ b ∷ []) v)
+good_binary form lines func result Sub width a b v f w = binary_by form lines func result ops.Sub width a b v (has_two result ops.Sub width a b v) f tt (All-nil IsWidth) w refl refl (no_layout form lines) (no_names form lines (a ∷ b ∷ []) v)
+good_binary form lines func result Mul width a b v f w = binary_by form lines func result ops.Mul width a b v (has_two result ops.Mul width a b v) f tt (All-nil IsWidth) w refl refl (no_layout form lines) (no_names form lines (a ∷ b ∷ []) v)
+good_binary form lines func result Udiv width a b v f w = binary_by form lines func result ops.Udiv width a b v (has_two result ops.Udiv width a b v) f tt (All-nil IsWidth) w refl refl (no_layout form lines) (no_names form lines (a ∷ b ∷ []) v)
+good_binary form lines func result Sdiv width a b v f w = binary_by form lines func result ops.Sdiv width a b v (has_two result ops.Sdiv width a b v) f tt (All-nil IsWidth) w refl refl (no_layout form lines) (no_names form lines (a ∷ b ∷ []) v)
+good_binary form lines func result Urem width a b v f w = binary_by form lines func result ops.Urem width a b v (has_two result ops.Urem width a b v) f tt (All-nil IsWidth) w refl refl (no_layout form lines) (no_names form lines (a ∷ b ∷ []) v)
+good_binary form lines func result Srem width a b v f w = binary_by form lines func result ops.Srem width a b v (has_two result ops.Srem width a b v) f tt (All-nil IsWidth) w refl refl (no_layout form lines) (no_names form lines (a ∷ b ∷ []) v)
+good_binary form lines func result And width a b v f w = binary_by form lines func result ops.And width a b v (has_two result ops.And width a b v) f tt (All-nil IsWidth) w refl refl (no_layout form lines) (no_names form lines (a ∷ b ∷ []) v)
+good_binary form lines func result Or width a b v f w = binary_by form lines func result ops.Or width a b v (has_two result ops.Or width a b v) f tt (All-nil IsWidth) w refl refl (no_layout form lines) (no_names form lines (a ∷ b ∷ []) v)
+good_binary form lines func result Xor width a b v f w = binary_by form lines func result ops.Xor width a b v (has_two result ops.Xor width a b v) f tt (All-nil IsWidth) w refl refl (no_layout form lines) (no_names form lines (a ∷ b ∷ []) v)
+good_binary form lines func result Shl width a b v f w = binary_by form lines func result ops.Shl width a b v (has_two result ops.Shl width a b v) f tt (All-nil IsWidth) w refl refl (no_layout form lines) (no_names form lines (a ∷ b ∷ []) v)
+good_binary form lines func result Lshr width a b v f w = binary_by form lines func result ops.Lshr width a b v (has_two result ops.Lshr width a b v) f tt (All-nil IsWidth) w refl refl (no_layout form lines) (no_names form lines (a ∷ b ∷ []) v)
+good_binary form lines func result Ashr width a b v f w = binary_by form lines func result ops.Ashr width a b v (has_two result ops.Ashr width a b v) f tt (All-nil IsWidth) w refl refl (no_layout form lines) (no_names form lines (a ∷ b ∷ []) v)
 
 -- `icmp`, whose order of pointers has a fault of its own
-pub good_compare : (lines : List Line) (func : Definition) (result : List ℕ) (pred : Rattle.ir_ast.specs.declared.ops.Pred.Pred) (ty : TypeWord) (a b : Operand)
+pub good_compare : (form : Form) (lines : List Line) (func : Definition) (result : List ℕ) (pred : Rattle.ir_ast.specs.declared.ops.Pred.Pred) (ty : TypeWord) (a b : Operand)
     → list_all is_value (a ∷ b ∷ []) ≡ true → AllZip (Fits (defs.value_types (made lines func))) (a ∷ b ∷ []) (type_of ty ∷ type_of ty ∷ []) → IsValueType ty
     → orders_pointers (ops.Icmp pred) (type_of ty) ≡ false
-    → GoodInst lines func (Plain_inst (Some result) (ops.Icmp pred) (type_of ty) (a ∷ b ∷ []))
-good_compare lines func result pred ty a b v f read unordered =
-    good_plain lines func (Some result) (ops.Icmp pred) (type_of ty) (a ∷ b ∷ [])
+    → GoodInst form lines func (Plain_inst (Some result) (ops.Icmp pred) (type_of ty) (a ∷ b ∷ []))
+good_compare form lines func result pred ty a b v f read unordered =
+    good_plain form lines func (Some result) (ops.Icmp pred) (type_of ty) (a ∷ b ∷ [])
     (record { result = refl; type = is_first ty read; operand_count = refl; values = v; label_count = refl; no_bundle = refl })
-    f tt (All-nil IsWidth) (type_width ty read) refl unordered (no_layout lines) (no_names lines (a ∷ b ∷ []) v)
+    f tt (All-nil IsWidth) (type_width ty read) refl unordered (no_layout form lines) (no_names form lines (a ∷ b ∷ []) v)
 
 has_one : (result : List ℕ) (op : Op) (width : ℕ) (a : Operand) → list_all is_value (a ∷ []) ≡ true
     → Has true is_integer 1 0 (Plain_inst (Some result) op (tys.Int width) (a ∷ []))
@@ -215,27 +217,27 @@ has_one result op width a vals = record {
 pub width_one : (width : ℕ) → IsWidth width → All IsWidth (width ∷ [])
 width_one width read = All-cons IsWidth width [] read (All-nil IsWidth)
 
-pub good_convert : (lines : List Line) (func : Definition) (result : List ℕ) (op : Conversion) (width to : ℕ) (a : Operand)
+pub good_convert : (form : Form) (lines : List Line) (func : Definition) (result : List ℕ) (op : Conversion) (width to : ℕ) (a : Operand)
     → list_all is_value (a ∷ []) ≡ true → AllZip (Fits (defs.value_types (made lines func))) (a ∷ []) (tys.Int width ∷ []) → IsWidth width → IsWidth to
     → Rattle.ir_lines.specs.Faults.TypeClash.widens op width to ≡ true
-    → GoodInst lines func (Plain_inst (Some result) (Rattle.ir_lines.specs.Modules.conversion_of op to) (tys.Int width) (a ∷ []))
-good_convert lines func result Trunc width to a v f w t e =
-    good_plain lines func (Some result) (ops.Trunc to) (tys.Int width) (a ∷ []) (has_one result (ops.Trunc to) width a v) f
-    (width, refl, (Decides-ltb to width).0 e) (width_one to t) (width_one width w) refl refl (no_layout lines) (no_names lines (a ∷ []) v)
-good_convert lines func result Zext width to a v f w t e =
-    good_plain lines func (Some result) (ops.Zext to) (tys.Int width) (a ∷ []) (has_one result (ops.Zext to) width a v) f
-    (width, refl, (Decides-ltb width to).0 e) (width_one to t) (width_one width w) refl refl (no_layout lines) (no_names lines (a ∷ []) v)
-good_convert lines func result Sext width to a v f w t e =
-    good_plain lines func (Some result) (ops.Sext to) (tys.Int width) (a ∷ []) (has_one result (ops.Sext to) width a v) f
-    (width, refl, (Decides-ltb width to).0 e) (width_one to t) (width_one width w) refl refl (no_layout lines) (no_names lines (a ∷ []) v)
+    → GoodInst form lines func (Plain_inst (Some result) (Rattle.ir_lines.specs.Modules.conversion_of op to) (tys.Int width) (a ∷ []))
+good_convert form lines func result Trunc width to a v f w t e =
+    good_plain form lines func (Some result) (ops.Trunc to) (tys.Int width) (a ∷ []) (has_one result (ops.Trunc to) width a v) f
+    (width, refl, (Decides-ltb to width).0 e) (width_one to t) (width_one width w) refl refl (no_layout form lines) (no_names form lines (a ∷ []) v)
+good_convert form lines func result Zext width to a v f w t e =
+    good_plain form lines func (Some result) (ops.Zext to) (tys.Int width) (a ∷ []) (has_one result (ops.Zext to) width a v) f
+    (width, refl, (Decides-ltb width to).0 e) (width_one to t) (width_one width w) refl refl (no_layout form lines) (no_names form lines (a ∷ []) v)
+good_convert form lines func result Sext width to a v f w t e =
+    good_plain form lines func (Some result) (ops.Sext to) (tys.Int width) (a ∷ []) (has_one result (ops.Sext to) width a v) f
+    (width, refl, (Decides-ltb width to).0 e) (width_one to t) (width_one width w) refl refl (no_layout form lines) (no_names form lines (a ∷ []) v)
 
-pub good_select : (lines : List Line) (func : Definition) (result : List ℕ) (ty : TypeWord) (c a b : Operand)
+pub good_select : (form : Form) (lines : List Line) (func : Definition) (result : List ℕ) (ty : TypeWord) (c a b : Operand)
     → list_all is_value (c ∷ a ∷ b ∷ []) ≡ true → AllZip (Fits (defs.value_types (made lines func))) (c ∷ a ∷ b ∷ []) (tys.Int 1 ∷ type_of ty ∷ type_of ty ∷ []) → IsValueType ty
-    → GoodInst lines func (Plain_inst (Some result) ops.Select (type_of ty) (c ∷ a ∷ b ∷ []))
-good_select lines func result ty c a b v f read =
-    good_plain lines func (Some result) ops.Select (type_of ty) (c ∷ a ∷ b ∷ [])
+    → GoodInst form lines func (Plain_inst (Some result) ops.Select (type_of ty) (c ∷ a ∷ b ∷ []))
+good_select form lines func result ty c a b v f read =
+    good_plain form lines func (Some result) ops.Select (type_of ty) (c ∷ a ∷ b ∷ [])
     (record { result = refl; type = is_first ty read; operand_count = refl; values = v; label_count = refl; no_bundle = refl })
-    f tt (All-nil IsWidth) (type_width ty read) refl refl (no_layout lines) (no_names lines (c ∷ a ∷ b ∷ []) v)
+    f tt (All-nil IsWidth) (type_width ty read) refl refl (no_layout form lines) (no_names form lines (c ∷ a ∷ b ∷ []) v)
 
 element_ok : (ty : TypeWord) → is_scalar_type ty ≡ true → is_element (element_of ty) None ≡ true
 element_ok (Int width) e = both ((width == 8) || (width == 16) || (width == 32) || (width == 64)) true e refl
@@ -265,12 +267,12 @@ element_width Managed width e read = width_one width read
 element_width Void width e read = absurd (let bad : false ≡ true = e in cc)
 element_width Plain width e read = absurd (let bad : false ≡ true = e in cc)
 
-scalar_layouts : (lines : List Line) (result : List ℕ) (ty : TypeWord) (width : ℕ) (os : List Operand)
-    → All (λ layout. layout < length (content lines).layouts) (layouts_in (Plain_inst (Some result) (ops.Gep (element_of ty) width None) tys.Ptr os))
-scalar_layouts lines result (Int own) width os = no_layout lines
-scalar_layouts lines result Managed width os = no_layout lines
-scalar_layouts lines result Void width os = no_layout lines
-scalar_layouts lines result Plain width os = no_layout lines
+scalar_layouts : (form : Form) (lines : List Line) (result : List ℕ) (ty : TypeWord) (width : ℕ) (os : List Operand)
+    → All (λ layout. layout < length (content form lines).layouts) (layouts_in (Plain_inst (Some result) (ops.Gep (element_of ty) width None) tys.Ptr os))
+scalar_layouts form lines result (Int own) width os = no_layout form lines
+scalar_layouts form lines result Managed width os = no_layout form lines
+scalar_layouts form lines result Void width os = no_layout form lines
+scalar_layouts form lines result Plain width os = no_layout form lines
 
 scalar_rule : (fields : List ℕ) (ty : TypeWord) → HasField fields (element_of ty) None
 scalar_rule fields (Int own) = tt
@@ -278,25 +280,25 @@ scalar_rule fields Managed = tt
 scalar_rule fields Void = tt
 scalar_rule fields Plain = tt
 
-pub good_scalar : (lines : List Line) (func : Definition) (result : List ℕ) (ty : TypeWord) (width : ℕ) (a b : Operand)
+pub good_scalar : (form : Form) (lines : List Line) (func : Definition) (result : List ℕ) (ty : TypeWord) (width : ℕ) (a b : Operand)
     → list_all is_value (a ∷ b ∷ []) ≡ true → AllZip (Fits (defs.value_types (made lines func))) (a ∷ b ∷ []) (tys.Ptr ∷ tys.Int width ∷ [])
     → is_scalar_type ty ≡ true → IsWidth width
-    → GoodInst lines func (Plain_inst (Some result) (ops.Gep (element_of ty) width None) tys.Ptr (a ∷ b ∷ []))
-good_scalar lines func result ty width a b v f e read =
-    good_plain lines func (Some result) (ops.Gep (element_of ty) width None) tys.Ptr (a ∷ b ∷ [])
+    → GoodInst form lines func (Plain_inst (Some result) (ops.Gep (element_of ty) width None) tys.Ptr (a ∷ b ∷ []))
+good_scalar form lines func result ty width a b v f e read =
+    good_plain form lines func (Some result) (ops.Gep (element_of ty) width None) tys.Ptr (a ∷ b ∷ [])
     (record { result = refl; type = refl; operand_count = refl; values = v; label_count = refl; no_bundle = refl }, element_ok ty e)
-    f (scalar_rule (scope_made lines func).fields ty) (element_width ty width e read) (All-nil IsWidth) refl refl (scalar_layouts lines result ty width (a ∷ b ∷ []))
-    (no_names lines (a ∷ b ∷ []) v)
+    f (scalar_rule (scope_made form lines func).fields ty) (element_width ty width e read) (All-nil IsWidth) refl refl (scalar_layouts form lines result ty width (a ∷ b ∷ []))
+    (no_names form lines (a ∷ b ∷ []) v)
 
-pub good_layout : (lines : List Line) (func : Definition) (result : List ℕ) (number width : ℕ) (place : Option ℕ) (a b : Operand)
+pub good_layout : (form : Form) (lines : List Line) (func : Definition) (result : List ℕ) (number width : ℕ) (place : Option ℕ) (a b : Operand)
     → list_all is_value (a ∷ b ∷ []) ≡ true → AllZip (Fits (defs.value_types (made lines func))) (a ∷ b ∷ []) (tys.Ptr ∷ tys.Int width ∷ [])
-    → IsWidth width → number < length (content lines).layouts → HasField (scope_made lines func).fields (elements.Layout number) place
-    → GoodInst lines func (Plain_inst (Some result) (ops.Gep (elements.Layout number) width place) tys.Ptr (a ∷ b ∷ []))
-good_layout lines func result number width place a b v f read below field =
-    good_plain lines func (Some result) (ops.Gep (elements.Layout number) width place) tys.Ptr (a ∷ b ∷ [])
+    → IsWidth width → number < length (content form lines).layouts → HasField (scope_made form lines func).fields (elements.Layout number) place
+    → GoodInst form lines func (Plain_inst (Some result) (ops.Gep (elements.Layout number) width place) tys.Ptr (a ∷ b ∷ []))
+good_layout form lines func result number width place a b v f read below field =
+    good_plain form lines func (Some result) (ops.Gep (elements.Layout number) width place) tys.Ptr (a ∷ b ∷ [])
     (record { result = refl; type = refl; operand_count = refl; values = v; label_count = refl; no_bundle = refl }, refl)
     f field (width_one width read) (All-nil IsWidth) refl refl
-    (All-cons (λ layout. layout < length (content lines).layouts) number [] below (no_layout lines)) (no_names lines (a ∷ b ∷ []) v)
+    (All-cons (λ layout. layout < length (content form lines).layouts) number [] below (no_layout form lines)) (no_names form lines (a ∷ b ∷ []) v)
 
 pub cell_type : (ty : TypeWord) → is_cell ty ≡ true → IsCellType (type_of ty)
 cell_type (Int width) e = (cells.I64, ap tys.Int (sym ((Decides-eqb width 64).0 e)))
@@ -304,28 +306,28 @@ cell_type Managed e = (cells.Ptr, refl)
 cell_type Void e = absurd (let bad : false ≡ true = e in cc)
 cell_type Plain e = absurd (let bad : false ≡ true = e in cc)
 
-pub good_load : (lines : List Line) (func : Definition) (result : List ℕ) (ty : TypeWord) (a : Operand)
+pub good_load : (form : Form) (lines : List Line) (func : Definition) (result : List ℕ) (ty : TypeWord) (a : Operand)
     → list_all is_value (a ∷ []) ≡ true → AllZip (Fits (defs.value_types (made lines func))) (a ∷ []) (tys.Ptr ∷ []) → IsValueType ty → is_cell ty ≡ true
-    → GoodInst lines func (Plain_inst (Some result) ops.Load (type_of ty) (a ∷ []))
-good_load lines func result ty a v f read cell =
-    good_plain lines func (Some result) ops.Load (type_of ty) (a ∷ [])
+    → GoodInst form lines func (Plain_inst (Some result) ops.Load (type_of ty) (a ∷ []))
+good_load form lines func result ty a v f read cell =
+    good_plain form lines func (Some result) ops.Load (type_of ty) (a ∷ [])
     (record { result = refl; type = is_first ty read; operand_count = refl; values = v; label_count = refl; no_bundle = refl })
-    f (cell_type ty cell) (All-nil IsWidth) (type_width ty read) refl refl (no_layout lines) (no_names lines (a ∷ []) v)
+    f (cell_type ty cell) (All-nil IsWidth) (type_width ty read) refl refl (no_layout form lines) (no_names form lines (a ∷ []) v)
 
-pub good_store : (lines : List Line) (func : Definition) (ty : TypeWord) (a b : Operand)
+pub good_store : (form : Form) (lines : List Line) (func : Definition) (ty : TypeWord) (a b : Operand)
     → list_all is_value (a ∷ b ∷ []) ≡ true → AllZip (Fits (defs.value_types (made lines func))) (a ∷ b ∷ []) (type_of ty ∷ tys.Ptr ∷ []) → IsValueType ty → is_cell ty ≡ true
-    → GoodInst lines func (Plain_inst None ops.Store (type_of ty) (a ∷ b ∷ []))
-good_store lines func ty a b v f read cell =
-    good_plain lines func None ops.Store (type_of ty) (a ∷ b ∷ [])
+    → GoodInst form lines func (Plain_inst None ops.Store (type_of ty) (a ∷ b ∷ []))
+good_store form lines func ty a b v f read cell =
+    good_plain form lines func None ops.Store (type_of ty) (a ∷ b ∷ [])
     (record { result = refl; type = is_first ty read; operand_count = refl; values = v; label_count = refl; no_bundle = refl })
-    f (cell_type ty cell) (All-nil IsWidth) (type_width ty read) refl refl (no_layout lines) (no_names lines (a ∷ b ∷ []) v)
+    f (cell_type ty cell) (All-nil IsWidth) (type_width ty read) refl refl (no_layout form lines) (no_names form lines (a ∷ b ∷ []) v)
 
-pub good_ret_void : (lines : List Line) (func : Definition) → Void ≡ func.answer
-    → GoodInst lines func (Plain_inst None ops.Ret tys.Void [])
-good_ret_void lines func e =
-    good_plain lines func None ops.Ret tys.Void []
+pub good_ret_void : (form : Form) (lines : List Line) (func : Definition) → Void ≡ func.answer
+    → GoodInst form lines func (Plain_inst None ops.Ret tys.Void [])
+good_ret_void form lines func e =
+    good_plain form lines func None ops.Ret tys.Void []
     (record { result = refl; type = refl; operand_count = refl; values = refl; label_count = refl; no_bundle = refl })
-    tt (ap type_of e) (All-nil IsWidth) (All-nil IsWidth) refl refl (no_layout lines) (no_names lines [] refl)
+    tt (ap type_of e) (All-nil IsWidth) (All-nil IsWidth) refl refl (no_layout form lines) (no_names form lines [] refl)
 
 one_operand : (ty : TypeWord) → IsValueType ty → ◌≡◌ {A = ℕ} 1 (if is_void (type_of ty) then 0 else 1)
 one_operand (Int width) read = refl
@@ -333,16 +335,16 @@ one_operand Managed read = refl
 one_operand Void read = absurd read
 one_operand Plain read = absurd read
 
-pub good_ret : (lines : List Line) (func : Definition) (ty : TypeWord) (a : Operand)
+pub good_ret : (form : Form) (lines : List Line) (func : Definition) (ty : TypeWord) (a : Operand)
     → list_all is_value (a ∷ []) ≡ true → AllZip (Fits (defs.value_types (made lines func))) (a ∷ []) (type_of ty ∷ []) → IsValueType ty → ty ≡ func.answer
-    → GoodInst lines func (Plain_inst None ops.Ret (type_of ty) (a ∷ []))
-good_ret lines func ty a v f read e =
-    good_plain lines func None ops.Ret (type_of ty) (a ∷ [])
+    → GoodInst form lines func (Plain_inst None ops.Ret (type_of ty) (a ∷ []))
+good_ret form lines func ty a v f read e =
+    good_plain form lines func None ops.Ret (type_of ty) (a ∷ [])
     (record { result = refl; type = answers ty; operand_count = one_operand ty read; values = v; label_count = refl; no_bundle = refl })
-    f (ap type_of e) (All-nil IsWidth) (type_width ty read) refl refl (no_layout lines) (no_names lines (a ∷ []) v)
+    f (ap type_of e) (All-nil IsWidth) (type_width ty read) refl refl (no_layout form lines) (no_names form lines (a ∷ []) v)
 
-pub good_unreachable : (lines : List Line) (func : Definition) → GoodInst lines func (Plain_inst None ops.Unreachable tys.Void [])
-good_unreachable lines func =
-    good_plain lines func None ops.Unreachable tys.Void []
+pub good_unreachable : (form : Form) (lines : List Line) (func : Definition) → GoodInst form lines func (Plain_inst None ops.Unreachable tys.Void [])
+good_unreachable form lines func =
+    good_plain form lines func None ops.Unreachable tys.Void []
     (record { result = refl; type = refl; operand_count = refl; values = refl; label_count = refl; no_bundle = refl })
-    tt tt (All-nil IsWidth) (All-nil IsWidth) refl refl (no_layout lines) (no_names lines [] refl)
+    tt tt (All-nil IsWidth) (All-nil IsWidth) refl refl (no_layout form lines) (no_names form lines [] refl)

@@ -8,11 +8,17 @@ pub mod LawCalls
 pub mod LawExternals
 pub mod LawTyped
 pub mod LawInsts
+pub mod LawGroups
+pub mod LawPlaces
+pub mod LawTokens
 pub mod LawFunctions
 pub mod LawPhis
 pub mod LawModules
 pub mod LawDerived
 pub mod LawSource
+pub mod LawShapes
+pub mod LawRows
+pub mod LawTarget
 pub mod Runs
 pub mod Rising
 pub mod InOrder
@@ -23,3 +29,4 @@ pub mod ReadCounts
 pub mod ReadTypes
 pub mod ReadLaw
 pub mod ReadNames
+pub mod TypedTexts

@@ -1,22 +1,25 @@
 -- The lines of a text that was read are in their places.
-use Rattle.std.proofs.Common.{◌≡◌, ◌∙◌, ℕ, ◌≤◌, refl, sym, ap, subst, Bool, true, false, ◌&&◌, List, [], ◌∷◌, length, Option, Some, None, arith}
-use Rattle.std.specs.Prelude.{take_while, nat_le}
+use Rattle.std.proofs.Common.{◌≡◌, ◌∙◌, ℕ, ◌<◌, ◌≤◌, ◌^◌, refl, sym, ap, subst, Bool, true, false, cond, ◌&&◌, List, [], ◌∷◌, length, Option, Some, None, arith}
+use Rattle.std.specs.Prelude.{take_while, nat_le, not}
 use Rattle.std.specs.List.{All, list_all}
 use Rattle.std.proofs.lemmas.List.{length-map}
 use Rattle.std.proofs.lemmas.List.Elements.{All-nil, All-cons, All-append, All-head, All-tail, All-weaker}
+use Rattle.std.proofs.lemmas.List.Sums.{take_while-cons}
 use Rattle.std.proofs.lemmas.Bool.{leb-true}
+use Rattle.ir_ast.specs.declared.modules.Form.{Form}
 use Rattle.ir_reader.specs.declared.forms.Place.{Place}
 use Rattle.ir_reader.specs.declared.forms.Place.TheVariants as places
 use Rattle.ir_reader.specs.declared.readings.TypeWord.{TypeWord}
 use Rattle.ir_reader.specs.Lists.{Named}
 use Rattle.ir_reader.specs.Limits.{type_fits, name_fits, argument_fits}
 use Rattle.ir_lines.specs.Statements.{Statement, Line, define}
-use Rattle.ir_lines.specs.Sections.{Definition, definition_said, definitions_of, arguments_named, blocks_of}
+use Rattle.ir_lines.specs.Sections.{is_close, Definition, definition_said, definitions_of, arguments_named, blocks_of}
 use Rattle.ir_lines.specs.Modules.{Known, known_of, block_of, argument_of}
 use Rattle.module_build.specs.Placed.{IsPlacedFunction, IsPlaced}
 use Rattle.ir_lines.specs.TextLines.{place_behind, Stand, statement_fits, IsTextLines}
-use Rattle.module_build.proofs.Bodies.{Body, body-of, blocks-end, inside_function}
-use Rattle.module_build.proofs.Sizes.{few-while, few-layouts, few-definitions, few-arguments, few-blocks, few-instructions}
+use Rattle.module_build.proofs.Bodies.{Body, Inside, body-of, blocks-end, inside_function}
+use Rattle.module_laws.proofs.ReadCounts.{StaysIn, stays_in}
+use Rattle.module_build.proofs.Sizes.{few-layouts, few-definitions, few-arguments, few-blocks, few-instructions}
 
 both : (x y : Bool) → (x && y) ≡ true → (x ≡ true) × (y ≡ true)
 both true y e = (refl, e)
@@ -27,7 +30,7 @@ both false y e = absurd (let bad : false ≡ true = e in cc)
 -- what holds of each definition, whatever its lines name
 pub record IsPlacedBody (func : Definition) : Type 0 where
   pub body : Body places.Entry func.body
-  pub short : length func.body ≤ 16777217
+  pub short : length func.body < 2 ^ 24
   pub few_arguments : length func.arguments ≤ 64
 
 abbrev pub opens_function : Option Place → Bool
@@ -44,9 +47,26 @@ pub entry-is : (next : Place) → opens_function (Some next) ≡ true → next �
 entry-is places.Entry e = refl
 entry-is next e = absurd (let bad : false ≡ true = e in cc)
 
+-- a brace ends the body, so that the body is shorter than what stands behind the head
+closed_within : (ls : List Line) (place : Place) → Inside place → Stand place ls → length (take_while inside_function ls) < length ls
+closed_within [] place in' stand = absurd (subst Inside stand in')
+closed_within (l ∷ ls) place in' stand =
+    by (is_close l.says) refl (λ e. closed_within ls stand.next (subst StaysIn stand.is (stays_in place l.says in' e)) stand.more)
+  where
+    cut : (b : Bool) → is_close l.says ≡ b → length (take_while inside_function (l ∷ ls)) ≡ length (cond (not b) (l ∷ take_while inside_function ls) [])
+    cut b e = ap length (take_while-cons inside_function l ls ∙ ap (λ (x : Bool). cond (not x) (l ∷ take_while inside_function ls) []) e)
+
+    by : (b : Bool) → is_close l.says ≡ b → (is_close l.says ≡ false → length (take_while inside_function ls) < length ls)
+        → length (take_while inside_function (l ∷ ls)) < length (l ∷ ls)
+    by true e ih = let c = cut true e in omega (arith, c)
+    by false e ih =
+        let c = cut false e in
+        let more = ih e in
+        omega (arith, c, more)
+
 define-placed : (line : ℕ) (answer : TypeWord) (name : List ℕ) (arguments : List Named) (strategy : Option (List ℕ)) (place next : Place) (ls : List Line)
     → place_behind place (define answer name arguments strategy) ≡ Some next → Stand next ls
-    → statement_fits (define answer name arguments strategy) ≡ true → length ls ≤ 16777217
+    → statement_fits (define answer name arguments strategy) ≡ true → length ls ≤ 16777216
     → All IsPlacedBody (definition_said line (define answer name arguments strategy) ls)
 define-placed line answer name arguments strategy place next ls is stand fits few =
     let entry = entry-is next (sym (ap opens_function is) ∙ define-opens place answer name arguments strategy) in
@@ -54,7 +74,7 @@ define-placed line answer name arguments strategy place next ls is stand fits fe
     let f = both (type_fits answer) (name_fits name && nat_le (length arguments) 64 && list_all argument_fits arguments) fits in
     let g = both (name_fits name && nat_le (length arguments) 64) (list_all argument_fits arguments) f.1 in
     let h = both (name_fits name) (nat_le (length arguments) 64) g.0 in
-    let shorter = few-while inside_function ls in
+    let shorter = closed_within ls places.Entry tt (subst (λ (p : Place). Stand p ls) entry stand) in
     All-cons IsPlacedBody (record {
       line = line;
       answer = answer;
@@ -66,7 +86,7 @@ define-placed line answer name arguments strategy place next ls is stand fits fe
     (All-nil IsPlacedBody)
 
 line-placed : (line : ℕ) (what : Statement) (place next : Place) (ls : List Line)
-    → place_behind place what ≡ Some next → Stand next ls → statement_fits what ≡ true → length ls ≤ 16777217
+    → place_behind place what ≡ Some next → Stand next ls → statement_fits what ≡ true → length ls ≤ 16777216
     → All IsPlacedBody (definition_said line what ls)
 line-placed line (define answer name arguments strategy) place next ls is stand fits few =
     define-placed line answer name arguments strategy place next ls is stand fits few
@@ -78,10 +98,10 @@ Fits l = statement_fits l.says ≡ true
 pub definitions-placed : (ls : List Line) (place : Place) → Stand place ls → All Fits ls → length ls ≤ 16777217 → All IsPlacedBody (definitions_of ls)
 definitions-placed [] place stand fits few = All-nil IsPlacedBody
 definitions-placed (l ∷ ls) place stand fits few =
-    let fewer : length ls ≤ 16777217 = omega (arith, few) in
+    let fewer : length ls ≤ 16777216 = omega (arith, few) in
     All-append IsPlacedBody (definition_said l.number l.says ls) (definitions_of ls)
     (line-placed l.number l.says place stand.next ls stand.is stand.more (All-head Fits l ls fits) fewer)
-    (definitions-placed ls stand.next stand.more (All-tail Fits l ls fits) fewer)
+    (definitions-placed ls stand.next stand.more (All-tail Fits l ls fits) (omega (arith, fewer)))
 
 -- ---- the text
 
@@ -101,8 +121,8 @@ body-placed known func h =
       };
     }
 
-pub read-placed : (lines : List Line) → IsTextLines lines → IsPlaced lines
-read-placed lines read =
+pub read-placed : (form : Form) (lines : List Line) → IsTextLines form lines → IsPlaced lines
+read-placed form lines read =
     let layouts = few-layouts lines in
     let functions = few-definitions lines in
     record {

@@ -2,10 +2,12 @@
 -- and no count passes its limit.
 use Rattle.std.proofs.Common.{◌≡◌, ◌∙◌, ℕ, ◌<◌, ◌≤◌, ◌+◌, refl, sym, ap, subst, Bool, true, false, not, cond, ◌&&◌, List, [], ◌∷◌, ◌++◌, length, map, length-append, Option, Some, None, arith}
 use Rattle.std.specs.Prelude.{take_while, nat_le}
-use Rattle.std.specs.List.{All, sum_by}
+use Rattle.std.specs.List.{All, AllByRecursion, sum_by}
 use Rattle.std.proofs.lemmas.Bool.{leb-true}
 use Rattle.std.proofs.lemmas.List.Sums.{take_while-cons, sum_by-cons}
 use Rattle.std.proofs.lemmas.List.Elements.{All-nil, All-cons}
+use Rattle.ir_ast.specs.declared.modules.Form.{Form}
+use Rattle.ir_ast.specs.declared.modules.Form.TheVariants.{Source, Rewritten}
 use Rattle.ir_reader.specs.declared.forms.Place.{Place}
 use Rattle.ir_reader.specs.declared.forms.Place.TheVariants as places
 use Rattle.ir_reader.specs.declared.forms.State.{State}
@@ -15,14 +17,15 @@ use Rattle.ir_reader.specs.declared.forms.Counted.TheVariants as kinds
 use Rattle.ir_reader.specs.declared.readings.Reading.{Reading}
 use Rattle.ir_reader.specs.declared.readings.Reading.TheVariants as readings
 use Rattle.ir_reader.specs.declared.raw.NumberedReading.{NumberedReading}
-use Rattle.ir_reader.specs.Limits.{said_counts_as, counted, counts_fit}
+use Rattle.ir_reader.specs.Limits.{said_counts_as, counted, counted_in, counts_fit}
 use Rattle.ir_reader.specs.Seen.{seen}
 use Rattle.ir_reader.specs.Raws.{seen_numbered}
-use Rattle.ir_lines.specs.Statements.{Statement, Line, layout, declare, define, close, label, switch_case, switch_end}
+use Rattle.ir_lines.specs.Statements.{Statement, Line, layout, declare, define, close, label, switch_case, switch_end, gc_relocate}
 use Rattle.ir_lines.specs.Sections.{Definition, layouts_of, layout_said, definitions_of, definition_said, is_case, is_close}
 use Rattle.ir_lines.specs.Views.{said, seen_line}
 use Rattle.ir_lines.specs.TextLines.{place_behind, Goes, Stand}
-use Rattle.ir_lines.specs.ReadLines.{is_instruction, instruction_count, opens_case, CasesStand}
+use Rattle.ir_lines.specs.Parts.{is_of_group}
+use Rattle.ir_lines.specs.ReadLines.{is_instruction, is_relocate, relocates_first, RelocatesAreFew, instruction_count, opens_case, CasesStand}
 use Rattle.module_laws.proofs.Runs.{Runs}
 use Rattle.module_build.proofs.Bodies.{Inside, Body, inside_function}
 
@@ -106,24 +109,29 @@ has_line (l ∷ ls) body = omega arith
 abbrev pub kind_said : Statement → Counted
 kind_said (layout name fields) = kinds.Layout
 kind_said (define answer name arguments strategy) = kinds.Function (length arguments)
+kind_said (gc_relocate result token base derived) = kinds.Relocate
 kind_said s = cond (is_instruction s) kinds.Instruction kinds.Nothing
+
+-- in a text of this form
+abbrev pub kind_in : Form → Statement → Counted
+kind_in form s = counted_in form (kind_said s)
 
 same_kind : (r : Reading) → said_counts_as (seen r) ≡ kind_said (said r)
 same_kind (readings.Label n) = refl
 same_kind r = refl
 
 -- the lines were counted from here on, within the limits
-abbrev pub Run : Counts → List Line → Type 0
-Run c [] = counts_fit c ≡ true
-Run c (l ∷ ls) = (counts_fit c ≡ true) × Run (counted (kind_said l.says) c) ls
+abbrev pub Run : Form → Counts → List Line → Type 0
+Run form c [] = counts_fit c ≡ true
+Run form c (l ∷ ls) = (counts_fit c ≡ true) × Run form (counted (kind_in form l.says) c) ls
 
-pub runs-counted : (rs : List NumberedReading) (s : State) → counts_fit s.counts ≡ true → Runs s (map seen_numbered rs) → Run s.counts (map seen_line rs)
+pub runs-counted : (rs : List NumberedReading) (s : State) → counts_fit s.counts ≡ true → Runs s (map seen_numbered rs) → Run s.form s.counts (map seen_line rs)
 runs-counted [] s fits run = fits
 runs-counted (r ∷ rs) s fits run = (
   fits,
-  subst (λ (c : Counts). Run c (map seen_line rs))
-      (run.step.counts ∙ ap (λ (k : Counted). counted k s.counts) (same_kind r.reading))
-      (runs-counted rs run.next (run.step.few fits) run.more),
+  subst (λ (c : Counts). Run s.form c (map seen_line rs))
+      (run.step.counts ∙ ap (λ (k : Counted). counted (counted_in s.form k) s.counts) (same_kind r.reading))
+      (subst (λ (form : Form). Run form run.next.counts (map seen_line rs)) run.step.form (runs-counted rs run.next (run.step.few fits) run.more)),
 )
 
 record Fit (c : Counts) : Type 0 where
@@ -131,10 +139,12 @@ record Fit (c : Counts) : Type 0 where
   functions : c.functions ≤ 4096
   values : c.values ≤ 4096
   instructions : c.instructions ≤ 65536
+  relocates : c.relocates ≤ 16384
 
 fit-is : (c : Counts) → counts_fit c ≡ true → Fit c
 fit-is c e =
-    let a = both (nat_le c.layouts 4096 && nat_le c.functions 4096 && nat_le c.values 4096) (nat_le c.instructions 65536) e in
+    let whole = both (nat_le c.layouts 4096 && nat_le c.functions 4096 && nat_le c.values 4096 && nat_le c.instructions 65536) (nat_le c.relocates 16384) e in
+    let a = both (nat_le c.layouts 4096 && nat_le c.functions 4096 && nat_le c.values 4096) (nat_le c.instructions 65536) whole.0 in
     let b = both (nat_le c.layouts 4096 && nat_le c.functions 4096) (nat_le c.values 4096) a.0 in
     let d = both (nat_le c.layouts 4096) (nat_le c.functions 4096) b.0 in
     record {
@@ -142,26 +152,36 @@ fit-is c e =
       functions = leb-true c.functions 4096 d.1;
       values = leb-true c.values 4096 b.1;
       instructions = leb-true c.instructions 65536 a.1;
+      relocates = leb-true c.relocates 16384 whole.1;
     }
   where
     both : (x y : Bool) → (x && y) ≡ true → (x ≡ true) × (y ≡ true)
     both true y e = (refl, e)
     both false y e = absurd (let bad : false ≡ true = e in cc)
 
-run-fits : (c : Counts) (ls : List Line) → Run c ls → Fit c
-run-fits c [] run = fit-is c run
-run-fits c (l ∷ ls) run = fit-is c run.0
+run-fits : (form : Form) (c : Counts) (ls : List Line) → Run form c ls → Fit c
+run-fits form c [] run = fit-is c run
+run-fits form c (l ∷ ls) run = fit-is c run.0
 
 -- what one line adds
 record Adds (c next : Counts) (s : Statement) : Type 0 where
   layouts : next.layouts ≡ c.layouts + length (layout_said 0 s)
   functions : next.functions ≡ c.functions + length (definition_said 0 s [])
-  instructions : next.instructions ≡ c.instructions + cond (is_instruction s) 1 0
 
-adds : (c : Counts) (s : Statement) → Adds c (counted (kind_said s) c) s
-adds c (layout name fields) = record { layouts = omega arith; functions = omega arith; instructions = omega arith }
-adds c (define answer name arguments strategy) = record { layouts = omega arith; functions = omega arith; instructions = omega arith }
-adds c s = record { layouts = omega arith; functions = omega arith; instructions = omega arith }
+adds : (form : Form) (c : Counts) (s : Statement) → Adds c (counted (kind_in form s) c) s
+adds Source c (layout name fields) = record { layouts = omega arith; functions = omega arith }
+adds Source c (define answer name arguments strategy) = record { layouts = omega arith; functions = omega arith }
+adds Source c s = record { layouts = omega arith; functions = omega arith }
+adds Rewritten c (layout name fields) = record { layouts = omega arith; functions = omega arith }
+adds Rewritten c (define answer name arguments strategy) = record { layouts = omega arith; functions = omega arith }
+adds Rewritten c s = record { layouts = omega arith; functions = omega arith }
+
+-- in the source form
+instructions_add : (c : Counts) (s : Statement) → is_of_group s ≡ false → (counted (kind_in Source s) c).instructions ≡ c.instructions + cond (is_instruction s) 1 0
+instructions_add c (gc_relocate result token base derived) e = absurd (let bad : true ≡ false = e in cc)
+instructions_add c (layout name fields) e = omega arith
+instructions_add c (define answer name arguments strategy) e = omega arith
+instructions_add c s e = omega arith
 
 same_layouts : (n : ℕ) (s : Statement) → length (layout_said n s) ≡ length (layout_said 0 s)
 same_layouts n (layout name fields) = refl
@@ -174,25 +194,28 @@ same_definitions n s ls = refl
 count-cons : (l : Line) (ls : List Line) → instruction_count (l ∷ ls) ≡ cond (is_instruction l.says) 1 0 + instruction_count ls
 count-cons l ls = sum_by-cons (λ (one : Line). cond (is_instruction one.says) 1 0) l ls
 
-pub layouts_total : (ls : List Line) (c : Counts) → Run c ls → c.layouts + length (layouts_of ls) ≤ 4096
-layouts_total [] c run = let f = (fit-is c run).layouts in omega arith
-layouts_total (l ∷ ls) c run =
-    let more = layouts_total ls (counted (kind_said l.says) c) run.1 in
-    let a = (adds c l.says).layouts in
+pub layouts_total : (form : Form) (ls : List Line) (c : Counts) → Run form c ls → c.layouts + length (layouts_of ls) ≤ 4096
+layouts_total form [] c run = let f = (fit-is c run).layouts in omega arith
+layouts_total form (l ∷ ls) c run =
+    let more = layouts_total form ls (counted (kind_in form l.says) c) run.1 in
+    let a = (adds form c l.says).layouts in
     omega (arith, length-append (layout_said l.number l.says) (layouts_of ls), same_layouts l.number l.says)
 
-pub functions_total : (ls : List Line) (c : Counts) → Run c ls → c.functions + length (definitions_of ls) ≤ 4096
-functions_total [] c run = let f = (fit-is c run).functions in omega arith
-functions_total (l ∷ ls) c run =
-    let more = functions_total ls (counted (kind_said l.says) c) run.1 in
-    let a = (adds c l.says).functions in
+pub functions_total : (form : Form) (ls : List Line) (c : Counts) → Run form c ls → c.functions + length (definitions_of ls) ≤ 4096
+functions_total form [] c run = let f = (fit-is c run).functions in omega arith
+functions_total form (l ∷ ls) c run =
+    let more = functions_total form ls (counted (kind_in form l.says) c) run.1 in
+    let a = (adds form c l.says).functions in
     omega (arith, length-append (definition_said l.number l.says ls) (definitions_of ls), same_definitions l.number l.says ls)
 
-pub instructions_total : (ls : List Line) (c : Counts) → Run c ls → c.instructions + instruction_count ls ≤ 65536
-instructions_total [] c run = let f = (fit-is c run).instructions in omega arith
-instructions_total (l ∷ ls) c run =
-    let more = instructions_total ls (counted (kind_said l.says) c) run.1 in
-    let a = (adds c l.says).instructions in
+abbrev pub NoGroups : List Line → Type 0
+NoGroups ls = AllByRecursion (λ l. is_of_group l.says ≡ false) ls
+
+pub instructions_total : (ls : List Line) (c : Counts) → NoGroups ls → Run Source c ls → c.instructions + instruction_count ls ≤ 65536
+instructions_total [] c own run = let f = (fit-is c run).instructions in omega arith
+instructions_total (l ∷ ls) c own run =
+    let more = instructions_total ls (counted (kind_in Source l.says) c) own.1 run.1 in
+    let a = instructions_add c l.says own.0 in
     omega (arith, count-cons l ls)
 
 -- ---- in a body
@@ -217,53 +240,108 @@ define_needs places.Closed (define answer name arguments strategy) in' = tt
 define_needs places.Cases (define answer name arguments strategy) in' = tt
 define_needs place s in' = defines_not s (place_behind place s) refl
 
-values_add : (c : Counts) (s : Statement) → is_define s ≡ false → (counted (kind_said s) c).values ≡ c.values + cond (is_instruction s) 1 0
-values_add c (define answer name arguments strategy) e = absurd (let bad : true ≡ false = e in cc)
-values_add c (layout name fields) e = omega arith
-values_add c s e = omega arith
+values_add : (c : Counts) (s : Statement) → is_define s ≡ false → is_of_group s ≡ false
+    → (counted (kind_in Source s) c).values ≡ c.values + cond (is_instruction s) 1 0
+values_add c (define answer name arguments strategy) e own = absurd (let bad : true ≡ false = e in cc)
+values_add c (gc_relocate result token base derived) e own = absurd (let bad : true ≡ false = own in cc)
+values_add c (layout name fields) e own = omega arith
+values_add c s e own = omega arith
 
-pub values_in : (ls : List Line) (place : Place) (c : Counts) → Inside place → Body place ls → Run c ls → c.values + instruction_count ls ≤ 4096
-values_in [] place c in' body run = let f = (fit-is c run).values in omega arith
-values_in (l ∷ ls) place c in' body run =
+pub values_in : (ls : List Line) (place : Place) (c : Counts) → Inside place → Body place ls → NoGroups ls → Run Source c ls → c.values + instruction_count ls ≤ 4096
+values_in [] place c in' body own run = let f = (fit-is c run).values in omega arith
+values_in (l ∷ ls) place c in' body own run =
     let plain : is_define l.says ≡ false = subst (DefineNeeds l.says) body.is (define_needs place l.says in') in
-    let more = values_in ls body.next (counted (kind_said l.says) c) body.more.0 body.more.1 run.1 in
-    let a = values_add c l.says plain in
+    let more = values_in ls body.next (counted (kind_in Source l.says) c) body.more.0 body.more.1 own.1 run.1 in
+    let a = values_add c l.says plain own.0 in
     omega (arith, count-cons l ls)
 
-run_first : (c : Counts) (ls : List Line) → Run c ls → counts_fit c ≡ true
-run_first c [] run = run
-run_first c (l ∷ ls) run = run.0
+run_first : (form : Form) (c : Counts) (ls : List Line) → Run form c ls → counts_fit c ≡ true
+run_first form c [] run = run
+run_first form c (l ∷ ls) run = run.0
 
-run-while : (p : Line → Bool) (ls : List Line) (c : Counts) → Run c ls → Run c (take_while p ls)
-run-while p [] c run = run
-run-while p (l ∷ ls) c run = by (p l) refl (run-while p ls (counted (kind_said l.says) c) run.1)
+run-while : (form : Form) (p : Line → Bool) (ls : List Line) (c : Counts) → Run form c ls → Run form c (take_while p ls)
+run-while form p [] c run = run
+run-while form p (l ∷ ls) c run = by (p l) refl (run-while form p ls (counted (kind_in form l.says) c) run.1)
   where
-    by : (b : Bool) → p l ≡ b → Run (counted (kind_said l.says) c) (take_while p ls) → Run c (take_while p (l ∷ ls))
-    by true e ih = subst (Run c) (sym (take_while-cons p l ls ∙ ap (λ (b : Bool). cond b (l ∷ take_while p ls) []) e)) (run.0, ih)
-    by false e ih = subst (Run c) (sym (take_while-cons p l ls ∙ ap (λ (b : Bool). cond b (l ∷ take_while p ls) []) e)) run.0
+    by : (b : Bool) → p l ≡ b → Run form (counted (kind_in form l.says) c) (take_while p ls) → Run form c (take_while p (l ∷ ls))
+    by true e ih = subst (Run form c) (sym (take_while-cons p l ls ∙ ap (λ (b : Bool). cond b (l ∷ take_while p ls) []) e)) (run.0, ih)
+    by false e ih = subst (Run form c) (sym (take_while-cons p l ls ∙ ap (λ (b : Bool). cond b (l ∷ take_while p ls) []) e)) run.0
 
--- arguments and instructions of each function
-abbrev pub FewValues : Definition → Type 0
-FewValues func = Body places.Entry func.body → length func.arguments + instruction_count func.body ≤ 4096
+-- ---- each function
 
-one_few : (n : ℕ) (s : Statement) (ls : List Line) (c : Counts) → Run (counted (kind_said s) c) ls → All FewValues (definitions_of ls)
-    → All FewValues (definition_said n s ls ++ definitions_of ls)
-one_few n (define answer name arguments strategy) ls c run ih =
-    All-cons FewValues (record {
+-- its lines were counted, behind its head
+pub record IsCounted (form : Form) (func : Definition) : Type 0 where
+  pub start : Counts
+  pub values : start.values ≡ length func.arguments
+  pub run : Run form start func.body
+
+function_counted : (form : Form) (n : ℕ) (c : Counts) → (counted (counted_in form (kinds.Function n)) c).values ≡ n
+function_counted Source n c = refl
+function_counted Rewritten n c = refl
+
+one_counted : (form : Form) (n : ℕ) (s : Statement) (ls : List Line) (c : Counts) → Run form (counted (kind_in form s) c) ls → All (IsCounted form) (definitions_of ls)
+    → All (IsCounted form) (definition_said n s ls ++ definitions_of ls)
+one_counted form n (define answer name arguments strategy) ls c run ih =
+    let start = counted (counted_in form (kinds.Function (length arguments))) c in
+    All-cons (IsCounted form) (record {
       line = n;
       answer = answer;
       name = name;
       arguments = arguments;
       strategy = strategy;
       body = take_while inside_function ls;
-    }) (definitions_of ls) (λ body.
-    values_in (take_while inside_function ls) places.Entry (counted (kinds.Function (length arguments)) c) tt body
-    (run-while inside_function ls (counted (kinds.Function (length arguments)) c) run)) ih
-one_few n s ls c run ih = ih
+    }) (definitions_of ls) (record {
+      start = start;
+      values = function_counted form (length arguments) c;
+      run = run-while form inside_function ls start run;
+    }) ih
+one_counted form n s ls c run ih = ih
 
-pub few_values_each : (ls : List Line) (c : Counts) → Run c ls → All FewValues (definitions_of ls)
-few_values_each [] c run = All-nil FewValues
-few_values_each (l ∷ ls) c run = one_few l.number l.says ls c run.1 (few_values_each ls (counted (kind_said l.says) c) run.1)
+pub each_counted : (form : Form) (ls : List Line) (c : Counts) → Run form c ls → All (IsCounted form) (definitions_of ls)
+each_counted form [] c run = All-nil (IsCounted form)
+each_counted form (l ∷ ls) c run = one_counted form l.number l.says ls c run.1 (each_counted form ls (counted (kind_in form l.says) c) run.1)
+
+-- arguments and instructions of a function of the source form
+pub few_values_in : (func : Definition) → Body places.Entry func.body → NoGroups func.body → IsCounted Source func
+    → length func.arguments + instruction_count func.body ≤ 4096
+few_values_in func body own counted =
+    let most = values_in func.body places.Entry counted.start tt body own counted.run in
+    let same = counted.values in
+    omega arith
+
+-- ---- relocates in a row
+
+relocate_counted : (form : Form) (s : Statement) (c : Counts) → is_relocate s ≡ true → (counted (kind_in form s) c).relocates ≡ c.relocates + 1
+relocate_counted Source (gc_relocate result token base derived) c e = refl
+relocate_counted Rewritten (gc_relocate result token base derived) c e = refl
+relocate_counted form s c e = absurd (let bad : false ≡ true = e in cc)
+
+relocates_here : (form : Form) (ls : List Line) (c : Counts) → Run form c ls → c.relocates + relocates_first ls ≤ 16384
+relocates_here form [] c run = let f = (fit-is c run).relocates in omega arith
+relocates_here form (l ∷ ls) c run = by (is_relocate l.says) refl (relocates_here form ls (counted (kind_in form l.says) c) run.1)
+  where
+    first : relocates_first (l ∷ ls) ≡ length (cond (is_relocate l.says) (l ∷ take_while (λ (one : Line). is_relocate one.says) ls) [])
+    first = ap length (take_while-cons (λ (one : Line). is_relocate one.says) l ls)
+
+    by : (b : Bool) → is_relocate l.says ≡ b → (counted (kind_in form l.says) c).relocates + relocates_first ls ≤ 16384 → c.relocates + relocates_first (l ∷ ls) ≤ 16384
+    by true e more =
+        let is = first ∙ ap (λ (b : Bool). length (cond b (l ∷ take_while (λ (one : Line). is_relocate one.says) ls) [])) e in
+        let one = relocate_counted form l.says c e in
+        omega (arith, is, one, more)
+    by false e more =
+        let is = first ∙ ap (λ (b : Bool). length (cond b (l ∷ take_while (λ (one : Line). is_relocate one.says) ls) [])) e in
+        let f = (fit-is c run.0).relocates in
+        omega (arith, is, f)
+
+run-behind : (form : Form) (before after : List Line) (c : Counts) → Run form c (before ++ after) → (d : Counts) × Run form d after
+run-behind form [] after c run = (c, run)
+run-behind form (l ∷ before) after c run = run-behind form before after (counted (kind_in form l.says) c) run.1
+
+pub relocates_few : (form : Form) (ls : List Line) (c : Counts) → Run form c ls → RelocatesAreFew ls
+relocates_few form ls c run = λ before after e.
+    let behind = run-behind form before after c (subst (Run form c) e run) in
+    let few = relocates_here form after behind.0 behind.1 in
+    omega arith
 
 -- ---- all instructions
 
@@ -315,11 +393,11 @@ plain_total place s n ls next plain same stays total = by place (is_close s) ref
           same,
         )
 
-abbrev StaysIn : Option Place → Type 0
+abbrev pub StaysIn : Option Place → Type 0
 StaysIn None = Unit {0}
 StaysIn (Some next) = Inside next
 
-stays_in : (place : Place) (s : Statement) → Inside place → is_close s ≡ false → StaysIn (place_behind place s)
+pub stays_in : (place : Place) (s : Statement) → Inside place → is_close s ≡ false → StaysIn (place_behind place s)
 stays_in places.Top s in' c = absurd in'
 stays_in places.Closed close in' c = absurd (let bad : true ≡ false = c in cc)
 stays_in places.Entry (label name) in' c = tt

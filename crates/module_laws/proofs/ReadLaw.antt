@@ -1,29 +1,36 @@
 -- The lines of a text that was read are as a reader gives them, so that the law of the typer is one of texts.
-use Rattle.std.proofs.Common.{◌≡◌, refl, true, List, [], ◌∷◌, map, arith, sym, subst}
-use Rattle.std.specs.List.{All, AllByRecursion}
+use Rattle.std.proofs.Common.{◌≡◌, ◌+◌, ◌≤◌, refl, Bool, true, false, not, List, [], ◌∷◌, map, length, arith, sym, subst}
+use Rattle.std.specs.List.{All, AllByRecursion, Contains, sum_by}
 use Rattle.std.proofs.lemmas.List.{length-map}
-use Rattle.std.proofs.lemmas.List.Elements.{All-from_recursion, recursion_from_All}
+use Rattle.std.proofs.lemmas.List.Sums.{count_by-le-length}
+use Rattle.std.proofs.lemmas.List.Elements.{All-contains, All-from_recursion, recursion_from_All}
 use Rattle.ir_reader.specs.declared.forms.Place.TheVariants as places
 use Rattle.ir_reader.specs.declared.raw.NumberedReading.{NumberedReading}
 use Rattle.ir_reader.specs.Raws.{Readings, IsRead, seen_numbered}
-use Rattle.ir_reader.specs.Text.{opening, text_readings}
-use Rattle.sp_text.specs.Lines.{lines_of as text_lines}
+use Rattle.ir_reader.specs.Text.{opening}
+use Rattle.ir_reader.specs.declared.forms.Counts.{Counts}
 use Rattle.ir_ast.specs.Modules.{LinedModule}
+use Rattle.ir_ast.specs.declared.modules.Form.{Form}
+use Rattle.ir_ast.specs.declared.modules.Form.TheVariants.{Source, Rewritten}
 use Rattle.ir_lines.specs.Statements.{Line}
-use Rattle.ir_lines.specs.Sections.{definitions_of, blocks_of}
+use Rattle.ir_lines.specs.Parts.{is_of_group}
+use Rattle.ir_lines.specs.Sections.{Definition, definitions_of, blocks_of}
 use Rattle.ir_lines.specs.Modules.{known_of, block_of, module_of}
 use Rattle.ir_lines.specs.PlainFaults.{HasNoPlainFault}
 use Rattle.module_laws.specs.TypedModules.{IsTypedModule}
 use Rattle.module_laws.proofs.LawSource.{typed_module}
 use Rattle.ir_lines.specs.Views.{seen_line, seen_lines}
-use Rattle.ir_lines.specs.TextLines.{statement_fits, is_formed}
-use Rattle.ir_lines.specs.ReadLines.{IsReadLines, SaysRead}
-use Rattle.module_laws.proofs.Runs.{Runs, readings-run}
-use Rattle.module_laws.proofs.Placing.{definitions-placed, read-placed}
-use Rattle.module_laws.proofs.ReadTexts.{read-lines}
+use Rattle.ir_lines.specs.TextLines.{Stand, statement_fits, is_formed, stands_in}
+use Rattle.ir_lines.specs.ReadLines.{IsReadFunction, IsReadLines, SaysRead, is_instruction, instruction_count}
+use Rattle.module_build.specs.Placed.{IsPlacedFunction, IsPlaced}
+use Rattle.module_build.proofs.Bodies.{Body}
+use Rattle.module_laws.proofs.LawHeads.{SaysOf, says-defined}
+use Rattle.module_laws.proofs.LawFunctions.{contained}
+use Rattle.module_laws.proofs.Placing.{IsPlacedBody, definitions-placed, read-placed}
+use Rattle.module_laws.proofs.ReadTexts.{read-runs, read-lines}
 use Rattle.module_laws.proofs.ReadNames.{runs_names}
 use Rattle.module_laws.proofs.ReadTypes.{SaysNames, calls_void, said_read}
-use Rattle.module_laws.proofs.ReadCounts.{runs-counted, layouts_total, functions_total, total_all, instructions_total, few_values_each, cases_stand, has_line}
+use Rattle.module_laws.proofs.ReadCounts.{Run, NoGroups, IsCounted, runs-counted, layouts_total, functions_total, total_all, instructions_total, few_values_in, each_counted, relocates_few, cases_stand, has_line}
 
 all_read : (rs : List NumberedReading) → AllByRecursion (λ l. is_formed l.says ≡ true) (map seen_line rs) → AllByRecursion (λ l. statement_fits l.says ≡ true) (map seen_line rs)
     → AllByRecursion (λ l. SaysNames l.says) (map seen_line rs) → AllByRecursion (λ l. SaysRead l.says) (map seen_line rs)
@@ -31,41 +38,84 @@ all_read [] formed fit names = tt
 all_read (r ∷ rs) formed fit names =
     (said_read (seen_line r).says formed.0 fit.0 (calls_void r.reading) names.0, all_read rs formed.1 fit.1 names.1)
 
-pub read_law : (r : Readings) → IsRead r → IsReadLines (seen_lines r.lines)
-unfolding text_readings
+no_groups : (form : Form) (ls : List Line) → form ≡ Source → AllByRecursion (λ l. stands_in form l.says ≡ true) ls → NoGroups ls
+no_groups Source [] is own = tt
+no_groups Source (l ∷ ls) is own = (not_group (is_of_group l.says) own.0, no_groups Source ls is own.1)
+  where
+    not_group : (b : Bool) → not b ≡ true → b ≡ false
+    not_group false e = refl
+    not_group true e = absurd (let bad : false ≡ true = e in cc)
+no_groups Rewritten ls is own = absurd (let bad : Rewritten ≡ Source = is in cc)
+
+-- the lines of a definition
+no_groups_in : (lines : List Line) → NoGroups lines → (func : Definition) → Contains (definitions_of lines) func → NoGroups func.body
+no_groups_in lines own func inside =
+    recursion_from_All (λ (l : Line). is_of_group l.says ≡ false) func.body
+    (All-contains (SaysOf (λ s. is_of_group s ≡ false)) (definitions_of lines) func
+    (says-defined (λ s. is_of_group s ≡ false) lines (All-from_recursion (λ (l : Line). is_of_group l.says ≡ false) lines own)) inside).body
+
+values_few : (form : Form) (lines : List Line) → (form ≡ Source → NoGroups lines) → (func : Definition) → Contains (definitions_of lines) func
+    → Body places.Entry func.body → IsCounted form func → form ≡ Source → length func.arguments + instruction_count func.body ≤ 4096
+values_few Source lines own func inside body counted is = few_values_in func body (no_groups_in lines (own refl) func inside) counted
+values_few Rewritten lines own func inside body counted is = absurd (let bad : Rewritten ≡ Source = is in cc)
+
+instructions_few : (form : Form) (lines : List Line) (c : Counts) → (form ≡ Source → NoGroups lines) → Stand places.Top lines → Run form c lines → form ≡ Source
+    → sum_by (λ func. instruction_count func.body) (definitions_of lines) ≤ 65536
+instructions_few Source lines c own placed run is =
+    let t = instructions_total lines c (own refl) run in
+    let u = total_all lines places.Top placed in
+    omega arith
+instructions_few Rewritten lines c own placed run is = absurd (let bad : Rewritten ≡ Source = is in cc)
+
+function_read : (form : Form) (lines : List Line) → (form ≡ Source → NoGroups lines) → IsPlaced lines → All IsPlacedBody (definitions_of lines)
+    → All (IsCounted form) (definitions_of lines) → (func : Definition) → Contains (definitions_of lines) func → IsReadFunction form func
+function_read form lines own built placed counted func inside =
+    let here = All-contains IsPlacedBody (definitions_of lines) func placed inside in
+    let run = All-contains (IsCounted form) (definitions_of lines) func counted inside in
+    let b = (All-contains (λ (one : Definition). IsPlacedFunction (known_of lines one) one) (definitions_of lines) func built.functions inside).small.few_blocks in
+    record {
+      has_line = has_line func.body here.body;
+      cases = cases_stand func.body places.Entry here.body;
+      values = values_few form lines own func inside here.body run;
+      few_instructions = (let short = here.short in
+          let few = count_by-le-length (λ (l : Line). is_instruction l.says) func.body in
+          omega arith);
+      few_relocates = relocates_few form func.body run.start run.run;
+      few_blocks = omega (arith, b, length-map (blocks_of func) (block_of (known_of lines func)));
+    }
+
+pub read_law : (r : Readings) → IsRead r → IsReadLines r.form (seen_lines r.lines)
 read_law r read =
     let lines = seen_lines r.lines in
     let text = read-lines r read in
-    let run : Runs opening (map seen_numbered r.lines) = readings-run (text_lines r.text) opening 1 (map seen_numbered r.lines) read.lines in
-    let counts = runs-counted r.lines opening refl run in
+    let run = read-runs r read in
+    let counts = runs-counted r.lines (opening r.form) refl run in
     let placed = definitions-placed lines places.Top text.placed text.fit text.few in
-    let built = read-placed lines text in
-    let few = few_values_each lines opening.counts counts in
+    let built = read-placed r.form lines text in
+    let own : r.form ≡ Source → NoGroups lines = λ is. no_groups r.form lines is (recursion_from_All (λ (l : Line). stands_in r.form l.says ≡ true) lines text.own) in
     record {
       says = All-from_recursion (λ (l : Line). SaysRead l.says) lines (all_read r.lines
           (recursion_from_All (λ (l : Line). is_formed l.says ≡ true) lines text.formed)
           (recursion_from_All (λ (l : Line). statement_fits l.says ≡ true) lines text.fit)
-          (runs_names r.lines opening run));
-      functions = λ k d below.
-          let own = placed k d below in
-          record {
-            has_line = has_line (Rattle.std.specs.Prelude.slice_index_or (definitions_of lines) k d).body own.body;
-            cases = cases_stand (Rattle.std.specs.Prelude.slice_index_or (definitions_of lines) k d).body places.Entry own.body;
-            values = few k d below own.body;
-            few_blocks = (let b = (built.functions k d below).small.few_blocks in
-                let func = Rattle.std.specs.Prelude.slice_index_or (definitions_of lines) k d in
-                omega (arith, b, length-map (blocks_of func) (block_of (known_of lines func))));
-          };
-      few_layouts = (let t = layouts_total lines opening.counts counts in omega arith);
-      few_functions = (let t = functions_total lines opening.counts counts in omega arith);
-      few_instructions = (let t = instructions_total lines opening.counts counts in let u = total_all lines places.Top text.placed in omega arith);
+          (runs_names r.lines (opening r.form) run));
+      own = λ is. All-from_recursion (λ (l : Line). is_of_group l.says ≡ false) lines (own is);
+      functions = contained (IsReadFunction r.form) (definitions_of lines)
+          (function_read r.form lines own built placed (each_counted r.form lines (opening r.form).counts counts));
+      few_layouts = (let t = layouts_total r.form lines (opening r.form).counts counts in omega arith);
+      few_functions = (let t = functions_total r.form lines (opening r.form).counts counts in omega arith);
+      few_instructions = instructions_few r.form lines (opening r.form).counts own text.placed counts;
+      few_lines = text.few;
     }
 
--- the law of the typer: a text that was read, without a fault, stands for a typed module
-pub typed_text : (r : Readings) → IsRead r → HasNoPlainFault (seen_lines r.lines) → IsTypedModule (module_of (seen_lines r.lines)).content
-typed_text r read none = typed_module (seen_lines r.lines) (read_law r read) none
+typed_from : (form : Form) (lines : List Line) → form ≡ Source → IsReadLines form lines → HasNoPlainFault form lines → IsTypedModule (module_of form lines).content
+typed_from Source lines is read none = typed_module lines read none
+typed_from Rewritten lines is read none = absurd (let bad : Rewritten ≡ Source = is in cc)
+
+-- the law of the typer: a source text that was read, without a fault, stands for a typed module
+pub typed_text : (r : Readings) → IsRead r → r.form ≡ Source → HasNoPlainFault r.form (seen_lines r.lines) → IsTypedModule (module_of r.form (seen_lines r.lines)).content
+typed_text r read is none = typed_from r.form (seen_lines r.lines) is (read_law r read) none
 
 -- and so does what typing answers
-pub typed_whole : (r : Readings) → IsRead r → (whole : LinedModule) → whole ≡ module_of (seen_lines r.lines) → HasNoPlainFault (seen_lines r.lines)
+pub typed_whole : (r : Readings) → IsRead r → r.form ≡ Source → (whole : LinedModule) → whole ≡ module_of r.form (seen_lines r.lines) → HasNoPlainFault r.form (seen_lines r.lines)
     → IsTypedModule whole.content
-typed_whole r read whole is none = subst (λ (one : LinedModule). IsTypedModule one.content) (sym is) (typed_text r read none)
+typed_whole r read source whole is none = subst (λ (one : LinedModule). IsTypedModule one.content) (sym is) (typed_text r read source none)

@@ -1,5 +1,5 @@
 -- The lines of a text that was read stand where they may, pass no limit of a line, and are few.
-use Rattle.std.proofs.Common.{◌≡◌, ◌∙◌, ℕ, ◌+◌, ◌≤◌, suc, refl, sym, ap, Bool, true, false, ◌&&◌, List, [], ◌∷◌, length, arith}
+use Rattle.std.proofs.Common.{◌≡◌, ◌∙◌, ℕ, ◌+◌, ◌≤◌, suc, refl, sym, ap, subst, Bool, true, false, ◌&&◌, List, [], ◌∷◌, length, arith}
 use Rattle.std.specs.Prelude.{map, ◌==◌, if◌then◌else◌}
 use Rattle.std.specs.List.{All, slice_split}
 use Rattle.std.specs.Str.Lines.{lines, lines_of_parts}
@@ -8,6 +8,8 @@ use Rattle.std.proofs.lemmas.List.Elements.{All-nil, All-cons}
 use Rattle.std.proofs.lemmas.List.Splits.{length-slice_split}
 use Rattle.std.proofs.lemmas.List.Sums.{count_by-le-length}
 use Rattle.sp_text.specs.Lines.{numbered, lines_of as text_lines}
+use Rattle.ir_ast.specs.declared.modules.Form.{Form}
+use Rattle.ir_ast.specs.declared.modules.Form.TheVariants.{Source, Rewritten}
 use Rattle.ir_reader.specs.declared.forms.Place.{Place}
 use Rattle.ir_reader.specs.declared.forms.Place.TheVariants as places
 use Rattle.ir_reader.specs.declared.forms.State.{State}
@@ -17,12 +19,13 @@ use Rattle.ir_reader.specs.declared.raw.NumberedReading.{NumberedReading}
 use Rattle.ir_reader.specs.Limits.{said_fits}
 use Rattle.ir_reader.specs.Seen.{seen}
 use Rattle.ir_reader.specs.Raws.{Readings, IsRead, seen_numbered}
-use Rattle.ir_reader.specs.Text.{is_top, opening, text_readings}
+use Rattle.ir_reader.specs.Text.{is_top, opening, readings_in}
 use Rattle.ir_lines.specs.Statements.{Line}
 use Rattle.ir_lines.specs.Views.{said, seen_line, seen_lines}
-use Rattle.ir_lines.specs.TextLines.{place_behind, Stand, statement_fits, is_formed, IsTextLines}
+use Rattle.ir_lines.specs.TextLines.{place_behind, Stand, statement_fits, is_formed, stands_in, IsTextLines}
 use Rattle.module_laws.proofs.Formed.{said_suits, spelled-suits}
-use Rattle.module_laws.proofs.Runs.{said_behind, Runs, readings-run, readings-few}
+use Rattle.module_laws.proofs.Runs.{said_behind, IsOwn, Runs, readings-run, readings-few}
+use Rattle.module_laws.proofs.ReadCounts.{runs-counted, relocates_few}
 
 -- ---- line by line
 
@@ -76,7 +79,22 @@ same-forms (readings.Switch n v d) = refl
 same-forms (readings.Binary x op n l m) = refl
 same-forms (readings.Convert x op n v to) = refl
 same-forms (readings.LayoutElement x l a n i p) = refl
+same-forms (readings.GcRelocate x token b d) = refl
 same-forms r = simp and-true
+
+same-own : (form : Form) (r : Reading) → IsOwn form (seen r) → stands_in form (said r) ≡ true
+same-own Rewritten r own = refl
+same-own Source (readings.Label n) own = refl
+same-own Source r own = own
+
+abbrev Own : Form → Line → Type 0
+Own form l = stands_in form l.says ≡ true
+
+own-of : (rs : List NumberedReading) (s : State) → Runs s (map seen_numbered rs) → All (Own s.form) (map seen_line rs)
+own-of [] s top = All-nil (Own s.form)
+own-of (r ∷ rs) s run =
+    All-cons (Own s.form) (seen_line r) (map seen_line rs) (same-own s.form r.reading run.step.own)
+    (subst (λ (form : Form). All (Own form) (map seen_line rs)) run.step.form (own-of rs run.next run.more))
 
 abbrev Formed : Line → Type 0
 Formed l = is_formed l.says ≡ true
@@ -113,18 +131,28 @@ lines-few text =
 
 -- ---- the text
 
-pub read-lines : (r : Readings) → IsRead r → IsTextLines (seen_lines r.lines)
-unfolding text_readings
-read-lines r read =
-    let run : Runs opening (map seen_numbered r.lines) = readings-run (text_lines r.text) opening 1 (map seen_numbered r.lines) read.lines in
-    let a = readings-few (text_lines r.text) opening 1 (map seen_numbered r.lines) read.lines in
+pub read-runs : (r : Readings) → IsRead r → Runs (opening r.form) (map seen_numbered r.lines)
+unfolding readings_in
+read-runs r read = readings-run (text_lines r.text) (opening r.form) 1 (map seen_numbered r.lines) read.lines
+
+read-few : (r : Readings) → IsRead r → length (seen_lines r.lines) ≤ 16777217
+unfolding readings_in
+read-few r read =
+    let a = readings-few (text_lines r.text) (opening r.form) 1 (map seen_numbered r.lines) read.lines in
     let b = lines-few r.text in
     let c = length-map r.lines seen_numbered in
     let d = length-map r.lines seen_line in
     let e = read.small in
+    omega (arith, a, b, c, d, e)
+
+pub read-lines : (r : Readings) → IsRead r → IsTextLines r.form (seen_lines r.lines)
+read-lines r read =
+    let run = read-runs r read in
     record {
-      placed = stand-of r.lines opening run;
-      fit = fit-of r.lines opening run;
-      formed = formed-of r.lines opening run;
-      few = omega (arith, a, b, c, d, e);
+      placed = stand-of r.lines (opening r.form) run;
+      fit = fit-of r.lines (opening r.form) run;
+      formed = formed-of r.lines (opening r.form) run;
+      own = own-of r.lines (opening r.form) run;
+      few_relocates = relocates_few r.form (seen_lines r.lines) (opening r.form).counts (runs-counted r.lines (opening r.form) refl run);
+      few = read-few r read;
     }

@@ -10,13 +10,14 @@ use Rattle.ir_reader.specs.declared.readings.TypeWord.{TypeWord}
 use Rattle.ir_reader.specs.declared.readings.TypeWord.TheVariants.{Void, Int, Managed, Plain}
 use Rattle.ir_reader.specs.declared.readings.Reading.{Reading}
 use Rattle.ir_reader.specs.declared.readings.Reading.TheVariants as readings
-use Rattle.ir_reader.specs.Parts.{is_value_type, is_answer_type}
-use Rattle.ir_reader.specs.Lists.{Named, Given, given, function, is_argument_type}
-use Rattle.ir_reader.specs.Limits.{width_fits, type_fits, value_fits, place_fits, argument_fits, given_fits, entry_value_fits, name_fits}
-use Rattle.ir_lines.specs.Statements.{Statement, layout, define, label, binary, compare, convert, select, phi, scalar_step, layout_step, load, store, call, switch, switch_case, ret}
-use Rattle.ir_lines.specs.TextLines.{statement_fits, is_formed, given_is_formed}
+use Rattle.ir_reader.specs.Parts.{Val, is_value_type, is_answer_type}
+use Rattle.ir_reader.specs.Lists.{Named, Given, given, function, is_argument_type, is_task_start}
+use Rattle.ir_reader.specs.Statepoints.{Guarded}
+use Rattle.ir_reader.specs.Limits.{width_fits, type_fits, value_fits, place_fits, argument_fits, given_fits, entry_value_fits, name_fits, literal_fits, signature_fits, guarded_fits, live_fits}
+use Rattle.ir_lines.specs.Statements.{Statement, layout, define, label, binary, compare, convert, select, phi, scalar_step, layout_step, load, store, call, switch, switch_case, ret, statepoint, gc_result, gc_relocate}
+use Rattle.ir_lines.specs.TextLines.{statement_fits, is_formed, given_is_formed, call_is_formed}
 use Rattle.ir_lines.specs.Views.{said}
-use Rattle.ir_lines.specs.ReadLines.{IsValueType, IsAnswerType, IsNameIfAny, IsReadArgument, IsReadPassed, SaysRead}
+use Rattle.ir_lines.specs.ReadLines.{IsValueType, IsAnswerType, IsNameIfAny, IsReadArgument, IsReadPassed, IsReadStatepoint, SaysRead}
 
 both : (x y : Bool) → (x && y) ≡ true → (x ≡ true) × (y ≡ true)
 both true y e = (refl, e)
@@ -61,6 +62,9 @@ SaysNames (scalar_step result element address width index) = IsName result
 SaysNames (layout_step result named address width index place) = IsName result
 SaysNames (load result ty address) = IsName result
 SaysNames (call result answer callee passed) = NameGiven result
+SaysNames (statepoint result made live) = IsName result
+SaysNames (gc_result result ty token) = IsName result
+SaysNames (gc_relocate result token base derived) = IsName result
 SaysNames _ = ⊤
 
 -- a call without a result answers nothing
@@ -94,6 +98,26 @@ passed_read callee (one ∷ more) e f =
     let a = both (given_is_formed callee one) (list_all (given_is_formed callee) more) e in
     let b = both (given_fits one) (list_all given_fits more) f in
     (given_read callee one a.0 b.0, passed_read callee more a.1 b.1)
+
+statepoint_read : (result : List ℕ) (made : Guarded) (live : List Val) → call_is_formed made ≡ true → (guarded_fits made && live_fits live) ≡ true → IsName result
+    → IsReadStatepoint result made live
+statepoint_read result made live e f name =
+    let given = list_all (given_is_formed made.callee) made.passed in
+    let taken = list_all (is_argument_type (is_task_start made.callee)) made.signature.parameters in
+    let a = both (is_answer_type made.signature.answer) (taken && given) e in
+    let b = both taken given a.1 in
+    let c = both (guarded_fits made) (live_fits live) f in
+    let d = both (literal_fits made.id && signature_fits made.signature && literal_fits made.count) (list_all given_fits made.passed) c.0 in
+    let g = both (literal_fits made.id && signature_fits made.signature) (literal_fits made.count) d.0 in
+    let h = both (literal_fits made.id) (signature_fits made.signature) g.0 in
+    let i = both (type_fits made.signature.answer) (list_all type_fits made.signature.parameters) h.1 in
+    let k = both (nat_le (length live) 16384) (list_all value_fits live) c.1 in
+    record {
+      named = name;
+      answered = answer_type made.signature.answer a.0 i.0;
+      passed = All-from_recursion IsReadPassed made.passed (passed_read made.callee made.passed b.1 d.1);
+      few = leb-true (length live) 16384 k.0;
+    }
 
 pub said_read : (s : Statement) → is_formed s ≡ true → statement_fits s ≡ true → CallsVoid s → SaysNames s → SaysRead s
 said_read (layout name fields) e f void names =
@@ -139,4 +163,7 @@ said_read (call (Some result) answer callee passed) e f void names =
 said_read (switch width value default) e f void names = width_is width (both (width_fits width) (value_fits value) f).0
 said_read (switch_case width value to) e f void names = e
 said_read (ret ty value) e f void names = value_type ty e (both (type_fits ty) (value_fits value) f).0
+said_read (statepoint result made live) e f void names = statepoint_read result made live e f names
+said_read (gc_result result ty token) e f void names = (names, value_type ty e f)
+said_read (gc_relocate result token base derived) e f void names = names
 said_read s e f void names = tt

@@ -6,7 +6,7 @@ use Rattle.sp_text.specs.Lines.{numbered, lines_of as text_lines}
 use Rattle.ir_reader.specs.declared.forms.State.{State}
 use Rattle.ir_reader.specs.declared.raw.NumberedReading.{NumberedReading}
 use Rattle.ir_reader.specs.Raws.{Readings, IsRead, seen_numbered}
-use Rattle.ir_reader.specs.Text.{Outcome, no_reading, over_limit, nothing, said, is_top, outcome, opening, Fault, syntax_fault, limit_fault, Numbered, with_first, readings_by, readings, text_readings}
+use Rattle.ir_reader.specs.Text.{Outcome, no_reading, over_limit, nothing, said, is_top, outcome, opening, Fault, syntax_fault, limit_fault, Numbered, with_first, readings_by, readings, readings_in}
 use Rattle.ir_lines.specs.Statements.{Line}
 use Rattle.ir_lines.specs.Views.{seen_lines}
 
@@ -110,7 +110,7 @@ numbers-seen [] = refl
 numbers-seen (r ∷ rs) = ap (λ (ns : List ℕ). r.line ∷ ns) (numbers-seen rs)
 
 pub lines-rise : (r : Readings) → IsRead r → Within 1 (numbers (seen_lines r.lines)) (1 + length (lines r.text))
-unfolding text_readings text_lines
+unfolding readings_in text_lines
 lines-rise r read =
     subst (λ (ns : List ℕ). Within 1 ns (1 + length (lines r.text))) (numbers-seen r.lines)
-    (readings-rise (lines r.text) 1 1 opening (map seen_numbered r.lines) read.lines)
+    (readings-rise (lines r.text) 1 1 (opening r.form) (map seen_numbered r.lines) read.lines)

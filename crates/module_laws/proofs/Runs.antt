@@ -1,17 +1,23 @@
 -- The readings of a text one behind the other: what a line comes to in its place says of the line.
-use Rattle.std.proofs.Common.{◌≡◌, ℕ, ◌+◌, ◌≤◌, suc, refl, ap, Bool, true, false, ◌&&◌, List, [], ◌∷◌, length, Ok, Err, Result, Option, Some, None, arith}
-use Rattle.std.specs.Prelude.{if◌then◌else◌}
+use Rattle.std.proofs.Common.{◌≡◌, ℕ, ◌+◌, ◌≤◌, suc, refl, ap, sym, Bool, true, false, ◌&&◌, List, [], ◌∷◌, length, Ok, Err, Result, Option, Some, None, arith}
+use Rattle.std.specs.Prelude.{nat_le, if◌then◌else◌, ⊤}
 use Rattle.sp_text.specs.Tokens.{tokens}
 use Rattle.sp_text.specs.Lines.{NumberedLine}
 use Rattle.sp_text.specs.Labels.{label_of, is_metadata}
+use Rattle.ir_ast.specs.declared.modules.Form.{Form as TextForm}
+use Rattle.ir_ast.specs.declared.modules.Form.TheVariants as text_forms
 use Rattle.ir_reader.specs.declared.forms.Form.{Form}
+use Rattle.ir_reader.specs.declared.forms.Counts.{Counts}
+use Rattle.ir_reader.specs.declared.forms.Counted.{Counted}
+use Rattle.ir_reader.specs.declared.forms.Counted.TheVariants as kinds
 use Rattle.ir_reader.specs.declared.forms.Place.{Place}
 use Rattle.ir_reader.specs.declared.forms.State.{State}
 use Rattle.ir_reader.specs.Gives.{Found, after, is_nil}
-use Rattle.ir_reader.specs.Forms.{slots, form_of}
+use Rattle.ir_reader.specs.Forms.{slots, form_in, stands_in}
 use Rattle.ir_reader.specs.Slots.{Item, parse}
 use Rattle.ir_reader.specs.Places.{behind, behind_label, is_dropped_form}
-use Rattle.ir_reader.specs.Limits.{said_fits, said_counts_as, counted, counts_fit}
+use Rattle.ir_reader.specs.Limits.{said_fits, said_counts_as, counted, counted_in, counts_fit}
+use Rattle.ir_reader.proofs.FamilyLines.{stands_where_read}
 use Rattle.ir_reader.specs.Seen.{Said, label, line, of_form, line_at}
 use Rattle.ir_reader.specs.Text.{Outcome, no_reading, over_limit, nothing, said, is_top, next_state, within, ended, said_by, formed, by_form, tokens_outcome, label_outcome, labelled, outcome, Fault, syntax_fault, limit_fault, Numbered, with_first, readings_by, readings}
 
@@ -26,12 +32,19 @@ abbrev pub IsSpelled : Said → Type 0
 IsSpelled (label name) = (bytes : List ℕ) × (label_of bytes ≡ Some name)
 IsSpelled (line l) = (bytes : List ℕ) × (parse (slots l.form) (tokens bytes) ≡ Some (l.items, []))
 
+-- it stands in texts of the form
+abbrev pub IsOwn : TextForm → Said → Type 0
+IsOwn text (label name) = ⊤
+IsOwn text (line l) = stands_in text l.form l.items ≡ true
+
 pub record IsStep (s : State) (what : Said) (next : State) : Type 0 where
   pub place : said_behind s.place what ≡ Some next.place
+  pub form : next.form ≡ s.form
   pub fits : said_fits what ≡ true
-  pub counts : next.counts ≡ counted (said_counts_as what) s.counts
+  pub counts : next.counts ≡ counted (counted_in s.form (said_counts_as what)) s.counts
   pub few : counts_fit s.counts ≡ true → counts_fit next.counts ≡ true
   pub spelled : IsSpelled what
+  pub own : IsOwn s.form what
 
 step-is : (s : State) (w what : Said) (n next : State) → w ≡ what → n ≡ next → IsStep s w n → IsStep s what next
 step-is s w what n next e f h = rw (← e, ← f) h
@@ -41,70 +54,91 @@ both true y e = (refl, e)
 both false y e = absurd (let bad : false ≡ true = e in cc)
 
 within-step : (s : State) (form : Form) (place : Place) (items : List Item) (bytes : List ℕ) (b : Bool) (what : Said) (next : State)
-    → parse (slots form) (tokens bytes) ≡ Some (items, []) → behind s.place form ≡ Some place
+    → form_in s.form (tokens bytes) ≡ Some form → parse (slots form) (tokens bytes) ≡ Some (items, []) → behind s.place form ≡ Some place
     → (said_fits (of_form form items) && counts_fit (next_state s place (of_form form items)).counts) ≡ b
     → (if b then said (of_form form items) (next_state s place (of_form form items)) else over_limit) ≡ said what next
     → IsStep s what next
-within-step s form place items bytes false what next p e fits o = absurd (let bad : over_limit ≡ said what next = o in cc)
-within-step s form place items bytes true what next p e fits o =
+within-step s form place items bytes false what next f p e fits o = absurd (let bad : over_limit ≡ said what next = o in cc)
+within-step s form place items bytes true what next f p e fits o =
     let is : said (of_form form items) (next_state s place (of_form form items)) ≡ said what next = o in
     let w : of_form form items ≡ what = cc in
     let n : next_state s place (of_form form items) ≡ next = cc in
     let h = both (said_fits (of_form form items)) (counts_fit (next_state s place (of_form form items)).counts) fits in
     step-is s (of_form form items) what (next_state s place (of_form form items)) next w n (record {
       place = e;
+      form = refl;
       fits = h.0;
       counts = refl;
       few = λ _. h.1;
       spelled = (bytes, p);
+      own = stands_where_read s.form form items (tokens bytes) [] f p;
     })
 
 dropped-step : (s : State) (form : Form) (place : Place) (items : List Item) (bytes : List ℕ) (b : Bool) (what : Said) (next : State)
-    → parse (slots form) (tokens bytes) ≡ Some (items, []) → behind s.place form ≡ Some place
+    → form_in s.form (tokens bytes) ≡ Some form → parse (slots form) (tokens bytes) ≡ Some (items, []) → behind s.place form ≡ Some place
     → (if b then nothing else within s place (of_form form items)) ≡ said what next
     → IsStep s what next
-dropped-step s form place items bytes true what next p e o = absurd (let bad : nothing ≡ said what next = o in cc)
-dropped-step s form place items bytes false what next p e o =
-    within-step s form place items bytes (said_fits (of_form form items) && counts_fit (next_state s place (of_form form items)).counts) what next p e refl o
+dropped-step s form place items bytes true what next f p e o = absurd (let bad : nothing ≡ said what next = o in cc)
+dropped-step s form place items bytes false what next f p e o =
+    within-step s form place items bytes (said_fits (of_form form items) && counts_fit (next_state s place (of_form form items)).counts) what next f p e refl o
 
 -- what the tokens of a form come to
 found-step : (s : State) (form : Form) (place : Place) (bytes : List ℕ) (found : Found (List Item)) (what : Said) (next : State)
-    → parse (slots form) (tokens bytes) ≡ found → behind s.place form ≡ Some place
+    → form_in s.form (tokens bytes) ≡ Some form → parse (slots form) (tokens bytes) ≡ found → behind s.place form ≡ Some place
     → said_by s form place (ended (after found (λ items rest. Some (of_form form items, rest)))) ≡ said what next
     → IsStep s what next
 unfolding after
-found-step s form place bytes None what next p e o = absurd (let bad : no_reading ≡ said what next = o in cc)
-found-step s form place bytes (Some (items, t ∷ rest)) what next p e o = absurd (let bad : no_reading ≡ said what next = o in cc)
-found-step s form place bytes (Some (items, [])) what next p e o = dropped-step s form place items bytes (is_dropped_form form) what next p e o
+found-step s form place bytes None what next f p e o = absurd (let bad : no_reading ≡ said what next = o in cc)
+found-step s form place bytes (Some (items, t ∷ rest)) what next f p e o = absurd (let bad : no_reading ≡ said what next = o in cc)
+found-step s form place bytes (Some (items, [])) what next f p e o =
+    dropped-step s form place items bytes (is_dropped_form form) what next f p e o
 
 formed-step : (s : State) (form : Form) (bytes : List ℕ) (place : Option Place) (what : Said) (next : State)
-    → behind s.place form ≡ place → formed s form (tokens bytes) place ≡ said what next → IsStep s what next
+    → form_in s.form (tokens bytes) ≡ Some form → behind s.place form ≡ place → formed s form (tokens bytes) place ≡ said what next → IsStep s what next
 unfolding line_at
-formed-step s form bytes None what next e o = absurd (let bad : no_reading ≡ said what next = o in cc)
-formed-step s form bytes (Some place) what next e o = found-step s form place bytes (parse (slots form) (tokens bytes)) what next refl e o
+formed-step s form bytes None what next f e o = absurd (let bad : no_reading ≡ said what next = o in cc)
+formed-step s form bytes (Some place) what next f e o =
+    found-step s form place bytes (parse (slots form) (tokens bytes)) what next f refl e o
 
 form-step : (s : State) (bytes : List ℕ) (form : Option Form) (what : Said) (next : State)
-    → by_form s (tokens bytes) form ≡ said what next → IsStep s what next
-form-step s bytes None what next o = absurd (let bad : no_reading ≡ said what next = o in cc)
-form-step s bytes (Some form) what next o = formed-step s form bytes (behind s.place form) what next refl o
+    → form_in s.form (tokens bytes) ≡ form → by_form s (tokens bytes) form ≡ said what next → IsStep s what next
+form-step s bytes None what next f o = absurd (let bad : no_reading ≡ said what next = o in cc)
+form-step s bytes (Some form) what next f o = formed-step s form bytes (behind s.place form) what next f refl o
 
 tokens-step : (s : State) (bytes : List ℕ) (what : Said) (next : State) → tokens_outcome s (tokens bytes) ≡ said what next → IsStep s what next
 unfolding tokens_outcome
 tokens-step s bytes what next o = by (is_nil (tokens bytes)) o
   where
-    by : (b : Bool) → (if b then nothing else by_form s (tokens bytes) (form_of (tokens bytes))) ≡ said what next → IsStep s what next
+    by : (b : Bool) → (if b then nothing else by_form s (tokens bytes) (form_in s.form (tokens bytes))) ≡ said what next → IsStep s what next
     by true e = absurd (let bad : nothing ≡ said what next = e in cc)
-    by false e = form-step s bytes (form_of (tokens bytes)) what next e
+    by false e = form-step s bytes (form_in s.form (tokens bytes)) what next refl e
+
+nothing_counted : (text : TextForm) → counted_in text kinds.Nothing ≡ kinds.Nothing
+nothing_counted text_forms.Source = refl
+nothing_counted text_forms.Rewritten = refl
+
+label-few : (c : Counts) → counts_fit c ≡ true → counts_fit (counted kinds.Nothing c) ≡ true
+label-few c e =
+    let front = nat_le c.layouts 4096 && nat_le c.functions 4096 && nat_le c.values 4096 && nat_le c.instructions 65536 in
+    ap (λ (x : Bool). x && true) (both front (nat_le c.relocates 16384) e).0
 
 label-step : (s : State) (bytes name : List ℕ) (place : Option Place) (what : Said) (next : State) → label_of bytes ≡ Some name
     → behind_label s.place ≡ place → label_outcome s name place ≡ said what next → IsStep s what next
 label-step s bytes name None what next is_label e o = absurd (let bad : no_reading ≡ said what next = o in cc)
 label-step s bytes name (Some place) what next is_label e o =
-    let behind : State = record { place = place; counts = s.counts } in
+    let behind : State = record { form = s.form; place = place; counts = counted kinds.Nothing s.counts } in
     let is : said (label name) behind ≡ said what next = o in
     let w : label name ≡ what = cc in
     let n : behind ≡ next = cc in
-    step-is s (label name) what behind next w n (record { place = e; fits = refl; counts = refl; few = λ h. h; spelled = (bytes, is_label) })
+    step-is s (label name) what behind next w n (record {
+      place = e;
+      form = refl;
+      fits = refl;
+      counts = sym (ap (λ (kind : Counted). counted kind s.counts) (nothing_counted s.form));
+      few = label-few s.counts;
+      spelled = (bytes, is_label);
+      own = tt;
+    })
 
 labelled-step : (s : State) (bytes : List ℕ) (name : Option (List ℕ)) (what : Said) (next : State) → label_of bytes ≡ name
     → labelled s bytes name ≡ said what next → IsStep s what next

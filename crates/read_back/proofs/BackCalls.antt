@@ -9,6 +9,7 @@ use Rattle.std.proofs.lemmas.List.Elements.{recursion_from_All, All-contains}
 use Rattle.std.proofs.lemmas.Slice.Eq.{bytes_eq-Decides}
 use Rattle.sp_ids.specs.declared.ids.FuncId.{FuncId}
 use Rattle.sp_ids.specs.declared.ids.BlockId.{BlockId}
+use Rattle.ir_ast.specs.declared.modules.Form.TheVariants.{Source}
 use Rattle.ir_ast.specs.declared.types.Ty.{Ty}
 use Rattle.ir_ast.specs.declared.types.Ty.TheVariants as tys
 use Rattle.ir_ast.specs.declared.funcs.Arg.{Arg}
@@ -214,6 +215,10 @@ task_passed scope names values func (o ∷ p ∷ []) fit at =
 both : (a b : Bool) → a ≡ true → b ≡ true → (a && b) ≡ true
 both a b p q = ap (λ (x : Bool). x && b) p ∙ q
 
+-- the source form has no checks, so what they ask doesn't count
+both_alone : (a b : Bool) → a ≡ true → b ≡ true → (a && (b && true)) ≡ true
+both_alone a b p q = both a (b && true) p (both b true q refl)
+
 same_types-refl : (words : List TypeWord) → same_types words words ≡ true
 same_types-refl [] = refl
 same_types-refl (w ∷ ws) = both (same_type w w) (same_types ws ws) (same_type-refl w) (same_types-refl ws)
@@ -239,14 +244,14 @@ starts_some false b e = e
 
 -- a call of what has this signature
 abbrev CallFits : Scope → Names → List ℕ → List Operand → Signature → Type 0
-CallFits scope names name os sig = call_agrees scope (word_of sig.answer) name (passed_of names sig.params os) ≡ true
+CallFits scope names name os sig = call_agrees Source scope (word_of sig.answer) name (passed_of names sig.params os) ≡ true
 
 plain_call : (scope : Scope) (names : Names) (values : List Ty) (name : List ℕ) (os : List Operand) (sig : Signature) (defined : Bool)
     → HeadSays scope name defined (word_of sig.answer) (map word_of sig.params) → AllZip (Fits values) os sig.params → AllByRecursion IsFirst sig.params
     → name ≢ codes "task_start" → CallFits scope names name os sig
 plain_call scope names values name os sig defined s fit first other =
     let passed = passed_of names sig.params os in
-    both (agrees (word_of sig.answer) passed (head_named scope name)) (not (bytes_eq name (codes "task_start")) || starts_task scope passed)
+    both_alone (agrees (word_of sig.answer) passed (head_named scope name)) (not (bytes_eq name (codes "task_start")) || starts_task scope passed)
     (agree scope name defined (word_of sig.answer) passed
     (subst (HeadSays scope name defined (word_of sig.answer)) (sym (passed_types names values os sig.params fit first)) s))
     (starts_none name (starts_task scope passed) other)
@@ -266,7 +271,7 @@ task_call : (scope : Scope) (names : Names) (values : List Ty) (os : List Operan
 task_call scope names values os func s task fit at =
     let t = task_passed scope names values func os fit at in
     let passed = passed_of names (tys.Void ∷ tys.Ptr ∷ []) os in
-    both (agrees types.Void passed (head_named scope (codes "task_start"))) (not (bytes_eq (codes "task_start") (codes "task_start")) || starts_task scope passed)
+    both_alone (agrees types.Void passed (head_named scope (codes "task_start"))) (not (bytes_eq (codes "task_start") (codes "task_start")) || starts_task scope passed)
     (agree scope (codes "task_start") false types.Void passed (subst (HeadSays scope (codes "task_start") false types.Void) (sym t.words) s))
     (starts_some (not (bytes_eq (codes "task_start") (codes "task_start"))) (starts_task scope passed)
     (t.starts ∙ task_is scope (function_name names.funcs func.0) task))

@@ -1,12 +1,14 @@
 -- The lines that a source module is printed as have no fault.
-use Rattle.std.proofs.Common.{◌≡◌, ℕ, List}
+use Rattle.std.proofs.Common.{◌≡◌, ℕ, List, true, false}
+use Rattle.ir_ast.specs.declared.modules.Form.{Form}
+use Rattle.ir_ast.specs.declared.modules.Form.TheVariants.{Source, Rewritten}
 use Rattle.ir_ast.specs.Modules.{ModuleContent}
 use Rattle.ir_cfg.specs.SourceModules.{IsSourceModule}
 use Rattle.ir_lines.specs.Statements.{Line}
 use Rattle.ir_lines.specs.Faults.NameTwice.{NameTwice, layout_again, head_again, declares_defined, label_again, value_again}
 use Rattle.ir_lines.specs.Faults.TypeClash.{by_line, by_case}
 use Rattle.ir_lines.specs.Faults.Reserved.{Reserved, defines_external, declares_helper, names_value, names_label}
-use Rattle.ir_lines.specs.PlainFaults.{HasPlainFault, HasNoPlainFault, name_twice, unknown_name, type_clash, entry_has_pred, phi_edges, derived_escapes, no_strategy, no_main, unknown_extern, bad_layout, reserved, pointer_order, pointer_cast}
+use Rattle.ir_lines.specs.PlainFaults.{HasPlainFault, HasNoPlainFault, name_twice, unknown_name, type_clash, entry_has_pred, phi_edges, derived_escapes, no_strategy, no_main, unknown_extern, bad_layout, reserved, pointer_order, pointer_cast, group_shape}
 use Rattle.read_back.specs.BlocksEnd.{BlocksEnd}
 use Rattle.read_back.specs.Said.{said_by}
 use Rattle.read_back.proofs.BackLines.{said}
@@ -32,24 +34,24 @@ names_clear content source lines e line (label_again func c r) = labels_once con
 names_clear content source lines e line (value_again func c r) = values_once content source lines e func c line r
 
 reserved_clear : (content : ModuleContent) → IsSourceModule content → (lines : List Line) → said lines ≡ said_by content
-    → (line : ℕ) → Reserved lines line → ⊥
+    → (line : ℕ) → Reserved Source lines line → ⊥
 reserved_clear content source lines e line (defines_external func c at external) = definitions_free content source lines e func c external
-reserved_clear content source lines e line (declares_helper answer name parameters c h) = declares_free content lines e line answer name parameters c h
-reserved_clear content source lines e line (names_value func one c d at inserted) = values_free content source lines e func c one d inserted
-reserved_clear content source lines e line (names_label func one c d at inserted) = labels_free content source lines e func c one d inserted
+reserved_clear content source lines e line (declares_helper is answer name parameters c h) = declares_free content lines e line answer name parameters c h
+reserved_clear content source lines e line (names_value is func one c d at inserted) = values_free content source lines e func c one d inserted
+reserved_clear content source lines e line (names_label is func one c d at inserted) = labels_free content source lines e func c one d inserted
 
 pub no_fault : (content : ModuleContent) → IsSourceModule content → BlocksEnd content → (lines : List Line) → said lines ≡ said_by content
-    → HasNoPlainFault lines
+    → HasNoPlainFault Source lines
 no_fault content source ends lines e line code f = go code f
   where
-    go : (code : ℕ) → HasPlainFault lines line code → ⊥
+    go : (code : ℕ) → HasPlainFault Source lines line code → ⊥
     go code (name_twice t) = names_clear content source lines e line t
     go code (unknown_name t) = unknown_name-clear content source lines e line t
     go code (type_clash (by_line t)) = clashes-clear content source lines e line (misfits-clear content source ends lines e line) (named-clear content source lines e line (calls-clear content source lines e line)) t
     go code (type_clash (by_case t)) = case_clash-clear content source ends lines e line t
     go code (entry_has_pred t) = entry_has_pred-clear content source ends lines e line t
     go code (phi_edges t) = phi_edges-clear content source ends lines e line t
-    go code (derived_escapes t) = derived_escapes-clear content source ends lines e line t
+    go code (derived_escapes is t) = derived_escapes-clear content source ends lines e line t
     go code (no_strategy t) = no_strategy-clear content lines e line t
     go code (no_main t) = no_main-clear content source lines e line t
     go code (unknown_extern t) = unknown_extern-clear content lines e line t
@@ -57,3 +59,4 @@ no_fault content source ends lines e line code f = go code f
     go code (reserved t) = reserved_clear content source lines e line t
     go code (pointer_order t) = pointer_order-clear content source lines e line t
     go code (pointer_cast t) = pointer_cast-clear content lines e line t
+    go code (group_shape is t) = absurd (let bad : Source ≡ Rewritten = is in cc)

@@ -6,6 +6,7 @@ use Rattle.std.proofs.lemmas.Option.{slice_get-map, same_Some}
 use Rattle.std.proofs.lemmas.List.{length-map}
 use Rattle.std.proofs.lemmas.List.Elements.{All-contains}
 use Rattle.sp_ids.specs.declared.ids.BlockId.{BlockId}
+use Rattle.ir_ast.specs.declared.modules.Form.TheVariants.{Source}
 use Rattle.ir_ast.specs.declared.types.Ty.{Ty}
 use Rattle.ir_ast.specs.declared.types.Ty.TheVariants as tys
 use Rattle.ir_ast.specs.declared.ops.Op.{Op}
@@ -41,11 +42,11 @@ use Rattle.read_back.proofs.BackRules.{breaks_by_name, less}
 
 -- a call that does not agree with its head
 abbrev pub breaks_call : Scope → Statement → Bool
-breaks_call scope (call result answer callee passed) = not (keeps_rule scope (call result answer callee passed))
+breaks_call scope (call result answer callee passed) = not (keeps_rule Source scope (call result answer callee passed))
 breaks_call scope _ = false
 
 abbrev breaks_field : Scope → Statement → Bool
-breaks_field scope (layout_step result named address width index place) = not (keeps_rule scope (layout_step result named address width index place))
+breaks_field scope (layout_step result named address width index place) = not (keeps_rule Source scope (layout_step result named address width index place))
 breaks_field scope _ = false
 
 field_fits : (content : ModuleContent) → IsSourceModule content → (lines : List Line) → said lines ≡ said_by content → (one : Definition) (l : ℕ) → l < length content.layouts

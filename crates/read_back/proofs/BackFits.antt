@@ -47,6 +47,7 @@ use Rattle.ir_reader.specs.Parts as values
 use Rattle.ir_lines.specs.Statements.{Line, Statement, switch, switch_end, cast}
 use Rattle.ir_lines.specs.Parts.{uses, passed_value, entry_use}
 use Rattle.ir_lines.specs.Places.{place_in}
+use Rattle.ir_lines.specs.Parts.{is_of_group}
 use Rattle.ir_lines.specs.Sections.{Definition, Naming, values_of}
 use Rattle.ir_lines.specs.Scope.{Scope, scope_of, value_named}
 use Rattle.ir_lines.specs.Types.{same_type, is_within, naming_fits, takes_null, fits}
@@ -67,7 +68,7 @@ use Rattle.read_back.proofs.BackNames.{Good, placed-back}
 use Rattle.read_back.proofs.BackInsts.{IsPrinted, WidthsOf, good_zip, same_good, one_width, pointer_width, callee_parts, passes_zip}
 use Rattle.read_back.proofs.BackSections.{SaysDefinition}
 use Rattle.read_back.proofs.BackModules.{names_in, printed_inst, function-back}
-use Rattle.read_back.proofs.BackFaults.{no_body_fault, no_cast_inst, blocks_pass}
+use Rattle.read_back.proofs.BackFaults.{no_body_fault, no_cast_inst, no_group_inst, blocks_pass}
 use Rattle.read_back.proofs.BackEntry.{setting_of}
 use Rattle.read_back.proofs.BackRules.{less}
 
@@ -157,6 +158,16 @@ no_casts names one e =
     lines [] h = tt
     lines (l ∷ ls) h = (no_cast_line l.says h.0, lines ls h.1)
 
+no_groups : (names : Names) (one : Definition) → said one.body ≡ flat_map (block_says names) names.func.blocks
+    → AllByRecursion (λ l. is_of_group l.says ≡ false) one.body
+no_groups names one e =
+    lines_all (λ (s : Statement). is_of_group s ≡ false) one.body (flat_map (block_says names) names.func.blocks) e
+    (blocks_pass names (λ (s : Statement). is_of_group s ≡ false) names.func.blocks (λ name. refl) (each (instructions_of names.func.blocks)))
+  where
+    each : (insts : List Instruction) → AllByRecursion (λ inst. AllByRecursion (λ (s : Statement). is_of_group s ≡ false) (instruction_says names inst)) insts
+    each [] = tt
+    each (i ∷ is) = (no_group_inst names i.op i, each is)
+
 all_typed : (content : ModuleContent) → IsSourceModule content → BlocksEnd content → (lines : List Line) → said lines ≡ said_by content
     → (one : Definition) (func : Function) → SaysDefinition content.layouts content.funcs one func → Contains content.funcs func
     → Typed (scope_of lines one) (names_in content func)
@@ -165,7 +176,7 @@ all_typed content source ends lines e one func says c k ty there first =
     let s = setting_of content source ends lines e one func says c in
     let back = function-back content source (known_of lines one) one func says c s in
     let typed : map definition_type (defs.definitions_of func) ≡ map (λ (n : Naming). type_of n.ty) (values_of one) =
-    ap value_types (sym back) ∙ values-are (λ name ty. ty) (known_of lines one) one (no_casts (names_in content func) one says.body) in
+    ap value_types (sym back) ∙ values-are (λ name ty. ty) (known_of lines one) one (no_groups (names_in content func) one says.body) (no_casts (names_in content func) one says.body) in
     naming_of (defs.definitions_of func) (values_of one) k ty s.values s.values_once typed there first
 
 -- ---- operands

@@ -225,7 +225,7 @@ few_in content source ends func c =
     omega arith
 
 pub module-back : (content : ModuleContent) → IsSourceModule content → BlocksEnd content → (lines : List Line) → said lines ≡ said_by content
-    → (module_of lines).content ≡ content
+    → (module_of Source lines).content ≡ content
 module-back content source ends lines e =
     let zip = definitions-are content lines e in
     let names = function-names content.layouts content.funcs (definitions_of lines) content.funcs zip in

@@ -5,6 +5,7 @@ use Rattle.std.specs.List.{AllByRecursion, zip}
 use Rattle.std.proofs.lemmas.Bool.Decides.{nat_tests, Decides-eqb}
 use Rattle.std.proofs.lemmas.List.Elements.{All-contains}
 use Rattle.sp_ids.specs.declared.ids.BlockId.{BlockId}
+use Rattle.ir_ast.specs.declared.modules.Form.TheVariants.{Source}
 use Rattle.ir_ast.specs.declared.types.Ty.{Ty}
 use Rattle.ir_ast.specs.declared.types.Ty.TheVariants as tys
 use Rattle.ir_ast.specs.declared.cells.Cell.{Cell}
@@ -36,15 +37,15 @@ use Rattle.read_back.proofs.BackFaults.{no_body_fault}
 
 -- a call that does not agree with its head, or a step to a field that there isn't
 abbrev pub breaks_by_name : Scope → Statement → Bool
-breaks_by_name scope (call result answer callee passed) = not (keeps_rule scope (call result answer callee passed))
-breaks_by_name scope (layout_step result named address width index place) = not (keeps_rule scope (layout_step result named address width index place))
+breaks_by_name scope (call result answer callee passed) = not (keeps_rule Source scope (call result answer callee passed))
+breaks_by_name scope (layout_step result named address width index place) = not (keeps_rule Source scope (layout_step result named address width index place))
 breaks_by_name scope _ = false
 
 -- the rules of the other forms
 abbrev breaks_rule : Scope → Statement → Bool
 breaks_rule scope (call result answer callee passed) = false
 breaks_rule scope (layout_step result named address width index place) = false
-breaks_rule scope what = not (keeps_rule scope what)
+breaks_rule scope what = not (keeps_rule Source scope what)
 
 pub same_type-refl : (a : TypeWord) → same_type a a ≡ true
 same_type-refl Void = refl
@@ -112,22 +113,22 @@ rules-clear content source lines e line f =
     (λ scope name. refl) line f
 
 -- a clash is an operand that does not fit, or a broken rule
-clash_parts : (scope : Scope) (s : Statement) → (misfits scope s || not (keeps_rule scope s)) ≡ true
+clash_parts : (scope : Scope) (s : Statement) → (misfits scope s || not (keeps_rule Source scope s)) ≡ true
     → (misfits scope s ≡ true) ⊎ ((breaks_by_name scope s ≡ true) ⊎ (breaks_rule scope s ≡ true))
 clash_parts scope s e = by (misfits scope s) refl e
   where
-    named : (s : Statement) → not (keeps_rule scope s) ≡ true → (breaks_by_name scope s ≡ true) ⊎ (breaks_rule scope s ≡ true)
+    named : (s : Statement) → not (keeps_rule Source scope s) ≡ true → (breaks_by_name scope s ≡ true) ⊎ (breaks_rule scope s ≡ true)
     named (call result answer callee passed) h = inl h
     named (layout_step result layout address width index place) h = inl h
     named _ h = inr h
 
-    by : (b : Bool) → misfits scope s ≡ b → (misfits scope s || not (keeps_rule scope s)) ≡ true
+    by : (b : Bool) → misfits scope s ≡ b → (misfits scope s || not (keeps_rule Source scope s)) ≡ true
         → (misfits scope s ≡ true) ⊎ ((breaks_by_name scope s ≡ true) ⊎ (breaks_rule scope s ≡ true))
     by true is h = inl is
-    by false is h = inr (named s (sym (ap (λ (b : Bool). b || not (keeps_rule scope s)) is) ∙ h))
+    by false is h = inr (named s (sym (ap (λ (b : Bool). b || not (keeps_rule Source scope s)) is) ∙ h))
 
 pub clashes-clear : (content : ModuleContent) → IsSourceModule content → (lines : List Line) → said lines ≡ said_by content → (line : ℕ)
-    → ¬ (InBody lines line misfits) → ¬ (InBody lines line breaks_by_name) → ¬ (InBody lines line clashes)
+    → ¬ (InBody lines line misfits) → ¬ (InBody lines line breaks_by_name) → ¬ (InBody lines line (clashes Source))
 clashes-clear content source lines e line fit named f = by (clash_parts (scope_of lines f.func) f.found.says f.faulty)
   where
     by : (misfits (scope_of lines f.func) f.found.says ≡ true)

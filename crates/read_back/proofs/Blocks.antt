@@ -10,14 +10,12 @@ use Rattle.ir_ast.specs.Ops.{is_terminator}
 use Rattle.ir_printer.specs.Lists.{joined}
 use Rattle.ir_printer.specs.Names.{Names}
 use Rattle.ir_printer.specs.Texts.{block_text}
-use Rattle.ir_reader.specs.declared.forms.Counts.{Counts}
 use Rattle.ir_reader.specs.declared.forms.Counted.TheVariants as kinds
 use Rattle.ir_reader.specs.declared.forms.Place.TheVariants as places
-use Rattle.ir_reader.specs.declared.forms.State.{State}
-use Rattle.ir_reader.specs.Limits.{counts_fit, counted}
 use Rattle.ir_reader.specs.Places.{behind_label}
 use Rattle.ir_reader.specs.Text.{is_top}
 use Rattle.read_back.specs.Said.{block_says}
+use Rattle.read_back.proofs.SourceStates.{Counts, State, counted, counts_fit}
 use Rattle.read_back.proofs.LinesRead.{Says}
 use Rattle.read_back.proofs.OneLine.{place_after}
 use Rattle.read_back.proofs.Chains.{AllOk, behind_all, says-chain, behind_inst, InstSays, InstOk, in_block, behind_block, block_read}

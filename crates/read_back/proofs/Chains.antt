@@ -13,16 +13,15 @@ use Rattle.ir_printer.specs.Lines.{line_text, result_front, operator_text}
 use Rattle.ir_printer.specs.Texts.{block_text}
 use Rattle.ir_reader.specs.declared.forms.Counted.TheVariants as kinds
 use Rattle.ir_reader.specs.declared.forms.Place.TheVariants as places
-use Rattle.ir_reader.specs.declared.forms.State.{State}
 use Rattle.ir_reader.specs.Forms.{slots, form_of}
-use Rattle.ir_reader.specs.Limits.{counts_fit, counted}
 use Rattle.ir_reader.specs.Places.{behind, behind_label}
 use Rattle.ir_reader.specs.Seen.{label, of_form}
 use Rattle.ir_reader.specs.Slots.{parse}
-use Rattle.ir_reader.specs.Text.{said, outcome, is_top, next_state}
+use Rattle.ir_reader.specs.Text.{said, outcome, is_top}
 use Rattle.ir_lines.specs.Statements.{Statement}
 use Rattle.read_back.specs.Said.{instruction_says, block_says}
 use Rattle.read_back.proofs.Steps.{IsClean, name-clean}
+use Rattle.read_back.proofs.SourceStates.{State, whole, counted, counts_fit, next_state}
 use Rattle.read_back.proofs.LinesRead.{Says, says-nil, says-both, says-line, formed_outcome, label_line, ends_none-clean, ends_none}
 use Rattle.read_back.proofs.OneLine.{OneLine, place_after}
 
@@ -64,15 +63,15 @@ line_shape : (front op : List ℕ) → codes "  " ++ (front ++ (op ++ codes "\n"
 line_shape front op = simp append_assoc
 
 one_outcome : (names : Names) (inst : Instruction) (one : OneLine names inst) (s : State) → s.place ≡ places.Block → counts_fit (counted kinds.Instruction s.counts) ≡ true
-    → outcome s (32 ∷ 32 ∷ (result_front inst.result ++ operator_text names inst.op inst)) ≡ said (of_form one.form one.items) (behind_inst inst s)
+    → outcome (whole s) (32 ∷ 32 ∷ (result_front inst.result ++ operator_text names inst.op inst)) ≡ said (of_form one.form one.items) (whole (behind_inst inst s))
 one_outcome names inst one s inside fit =
     let text : List ℕ = result_front inst.result ++ operator_text names inst.op inst in
     let plain : (is_top s.place && is_metadata (32 ∷ 32 ∷ text)) ≡ false = rw inside refl in
     let form_is : form_of (tokens (32 ∷ 32 ∷ text)) ≡ Some one.form = rw (indented text) one.reads.form_is in
-    let whole : parse (slots one.form) (tokens (32 ∷ 32 ∷ text)) ≡ Some (one.items, []) = rw (indented text) one.reads.whole in
+    let fitting : parse (slots one.form) (tokens (32 ∷ 32 ∷ text)) ≡ Some (one.items, []) = rw (indented text) one.reads.whole in
     let stands : behind s.place one.form ≡ Some (place_after inst.op) = rw inside one.stands in
     let counts : counts_fit (next_state s (place_after inst.op) (of_form one.form one.items)).counts ≡ true = rw one.counts fit in
-    rw one.counts at (formed_outcome s (32 ∷ 32 ∷ text) one.form (place_after inst.op) one.items one.reads.clean plain form_is whole stands one.kept one.fits counts)
+    rw one.counts at (formed_outcome s (32 ∷ 32 ∷ text) one.form (place_after inst.op) one.items one.reads.clean plain form_is fitting stands one.kept (rw one.counts refl) one.fits counts)
 
 pub one_says : (names : Names) (inst : Instruction) → OneLine names inst → InstSays names inst
 one_says names inst one s inside fit =

@@ -14,8 +14,7 @@ use Rattle.ir_printer.specs.Texts.{argument_of, function_text}
 use Rattle.ir_reader.specs.declared.forms.Form.TheVariants as forms
 use Rattle.ir_reader.specs.declared.forms.Counted.TheVariants as kinds
 use Rattle.ir_reader.specs.declared.forms.Place.TheVariants as places
-use Rattle.ir_reader.specs.declared.forms.State.{State}
-use Rattle.ir_reader.specs.Limits.{counted, counts_fit, item_fits}
+use Rattle.ir_reader.specs.Limits.{item_fits}
 use Rattle.ir_reader.specs.Seen.{of_form}
 use Rattle.ir_reader.specs.Slots as parts
 use Rattle.ir_reader.specs.Text.{said, outcome}
@@ -23,6 +22,7 @@ use Rattle.read_back.specs.Said.{word_of, argument_says, function_says}
 use Rattle.read_back.proofs.PartSteps.{strategy_word}
 use Rattle.read_back.proofs.Forms.{ReadsAs, close_line}
 use Rattle.read_back.proofs.ListForms.{define_line}
+use Rattle.read_back.proofs.SourceStates.{State, whole, counted, counts_fit}
 use Rattle.read_back.proofs.LinesRead.{Says, says-both, says-line, formed_outcome, ends_none-clean}
 use Rattle.read_back.proofs.Operands.{IsNarrow}
 use Rattle.read_back.proofs.Chains.{behind_all, behind_block}
@@ -62,16 +62,16 @@ head_line layouts funcs func is = define_line (answer_spelled func.answer is.ans
     argument_of argument_says func.args (arguments_each func.args is.args) (arguments_open func.args is.args)
 
 head_outcome : (layouts : List ObjectLayout) (funcs : List Function) (func : Function) (s : State) → FunctionReads layouts funcs func → s.place ≡ places.Top → counts_fit (behind_head func s).counts ≡ true
-    → outcome s (head_text func) ≡ said (of_form forms.Define (head_items func)) (behind_head func s)
+    → outcome (whole s) (head_text func) ≡ said (of_form forms.Define (head_items func)) (whole (behind_head func s))
 head_outcome layouts funcs func s is top fit =
     let line = head_line layouts funcs func is in
     let same : length (map argument_says func.args) ≡ length func.args = length-map func.args argument_says in
     let fits : list_all item_fits (head_items func) ≡ true =
     rw (answer_fits func.answer is.answers is.narrow, le-leb (length func.name) 4096 is.short, same, le-leb (length func.args) 64 is.few, arguments_fit func.args is.args) refl in
-    rw same at (formed_outcome s (head_text func) forms.Define places.Entry (head_items func) line.clean (rw top refl) line.form_is line.whole (rw top refl) refl fits (rw same fit))
+    rw same at (formed_outcome s (head_text func) forms.Define places.Entry (head_items func) line.clean (rw top refl) line.form_is line.whole (rw top refl) refl refl fits (rw same fit))
 
-end_outcome : (s : State) → s.place ≡ places.Closed → counts_fit s.counts ≡ true → outcome s (codes "}") ≡ said (of_form forms.Close []) (record { place = places.Top; counts = s.counts })
-end_outcome s closed fit = formed_outcome s (codes "}") forms.Close places.Top [] close_line.clean (rw closed refl) close_line.form_is close_line.whole (rw closed refl) refl refl fit
+end_outcome : (s : State) → s.place ≡ places.Closed → counts_fit s.counts ≡ true → outcome (whole s) (codes "}") ≡ said (of_form forms.Close []) (whole (record { place = places.Top; counts = s.counts }))
+end_outcome s closed fit = formed_outcome s (codes "}") forms.Close places.Top [] close_line.clean (rw closed refl) close_line.form_is close_line.whole (rw closed refl) refl refl refl fit
 
 pub function_read : (layouts : List ObjectLayout) (funcs : List Function) (func : Function) (s : State) (l f i : ℕ) → FunctionReads layouts funcs func → s.place ≡ places.Top
     → length func.args + length (instructions_of func.blocks) ≤ 4096 → Room l (suc f) 0 (length (instructions_of func.blocks) + i) s.counts

@@ -4,6 +4,7 @@ pub mod PartSteps
 pub mod Forms
 pub mod Listed
 pub mod ListForms
+pub mod SourceStates
 pub mod LinesRead
 pub mod Operands
 pub mod OneLine

@@ -8,19 +8,22 @@ use Rattle.sp_text.specs.Tokens.{Tok, tokens, is_name}
 use Rattle.sp_text.specs.Bytes.{is_blank}
 use Rattle.sp_text.proofs.Spelled.{label-spelled}
 use Rattle.ir_reader.specs.Gives.{after}
-use Rattle.ir_reader.specs.Forms.{slots, form_of}
+use Rattle.ir_reader.specs.Forms.{slots, form_of, form_in}
 use Rattle.ir_reader.specs.Slots.{Item, parse}
 use Rattle.ir_reader.specs.Places.{behind, behind_label, is_dropped_form}
-use Rattle.ir_reader.specs.Limits.{said_fits, counts_fit}
+use Rattle.ir_reader.specs.Limits as limits
+use Rattle.ir_reader.specs.Limits.{said_fits, said_counts_as}
 use Rattle.read_back.proofs.Steps.{IsClean, in_line}
 use Rattle.sp_text.proofs.TokenLemmas.{tokens-nil}
 use Rattle.sp_text.specs.Lines.{numbered}
 use Rattle.sp_text.specs.Labels.{label_of, is_metadata, is_colon}
 use Rattle.ir_reader.specs.declared.forms.Form.{Form}
 use Rattle.ir_reader.specs.declared.forms.Place.{Place}
-use Rattle.ir_reader.specs.declared.forms.State.{State}
+use Rattle.ir_reader.specs.declared.forms.State.{State as WholeState}
 use Rattle.ir_reader.specs.Seen.{Said, label, of_form, line_at}
-use Rattle.ir_reader.specs.Text.{nothing, said, outcome, Fault, Numbered, with_first, readings, is_top, next_state, labelled, tokens_outcome}
+use Rattle.ir_reader.specs.Text.{nothing, said, outcome, Fault, Numbered, with_first, readings, is_top, within, labelled, tokens_outcome}
+use Rattle.ir_reader.specs.Text as texts
+use Rattle.read_back.proofs.SourceStates.{State, whole, is_relocate, counts_fit, next_state, next-whole}
 use Rattle.ir_lines.specs.Statements.{Statement, stated}
 
 abbrev pub newline : ℕ
@@ -73,7 +76,7 @@ before front (Err fault) = Err fault
 pub record Says (from : State) (text : List ℕ) (to : State) (statements : List Statement) : Type 0 where
   pub read : ℕ → List Numbered
   pub next : ℕ → ℕ
-  pub reads : (number : ℕ) (rest : List ℕ) → readings from number (numbered number (lines (text ++ rest))) ≡ before (read number) (readings to (next number) (numbered (next number) (lines rest)))
+  pub reads : (number : ℕ) (rest : List ℕ) → readings (whole from) number (numbered number (lines (text ++ rest))) ≡ before (read number) (readings (whole to) (next number) (numbered (next number) (lines rest)))
   pub says : (number : ℕ) → map (λ one. stated one.said) (read number) ≡ statements
 
 before-nil : (found : Result (List Numbered) Fault) → found ≡ before [] found
@@ -85,7 +88,7 @@ before-before front more (Ok end) = ap Ok (sym (append_assoc front more end))
 before-before front more (Err fault) = refl
 
 pub says-nil : (s : State) → Says s [] s []
-says-nil s = record { read = λ number. []; next = λ number. number; reads = λ number rest. before-nil (readings s number (numbered number (lines rest))); says = λ number. refl }
+says-nil s = record { read = λ number. []; next = λ number. number; reads = λ number rest. before-nil (readings (whole s) number (numbered number (lines rest))); says = λ number. refl }
 
 map-append : {A B : Type 0} (f : A → B) (xs ys : List A) → map f (xs ++ ys) ≡ map f xs ++ map f ys
 map-append f [] ys = refl
@@ -105,7 +108,7 @@ with_first-before one (Ok more) = refl
 with_first-before one (Err fault) = refl
 
 -- a line that says something
-pub says-line : (s t : State) (line : List ℕ) (what : Said) → list_all ends_none line ≡ true → outcome s line ≡ said what t → Says s (line ++ (10 ∷ [])) t (stated what ∷ [])
+pub says-line : (s t : State) (line : List ℕ) (what : Said) → list_all ends_none line ≡ true → outcome (whole s) line ≡ said what (whole t) → Says s (line ++ (10 ∷ [])) t (stated what ∷ [])
 unfolding readings
 says-line s t line what clean is = record {
   read = λ number. record { line = number; said = what } ∷ [];
@@ -145,33 +148,42 @@ no_form : form_of [] ≡ None
 unfolding form_of
 no_form = refl
 
+-- a reading that passes no limit
+within_said : (s : WholeState) (place : Place) (what : Said) (next : WholeState) → texts.next_state s place what ≡ next → said_fits what ≡ true → limits.counts_fit next.counts ≡ true
+    → within s place what ≡ said what next
+within_said s place what next same fits counts = rw same (rw (fits, counts) refl)
+
 tokens_said : (s : State) (ts : List Tok) (form : Form) (place : Place) (items : List Item) → form_of ts ≡ Some form → parse (slots form) ts ≡ Some (items, [])
-    → behind s.place form ≡ Some place → is_dropped_form form ≡ false → said_fits (of_form form items) ≡ true → counts_fit (next_state s place (of_form form items)).counts ≡ true
-    → tokens_outcome s ts ≡ said (of_form form items) (next_state s place (of_form form items))
-unfolding tokens_outcome line_at after
-tokens_said s [] form place items is whole stands kept fits counts = let none = no_form in cc
-tokens_said s (t ∷ ts) form place items is whole stands kept fits counts = rw is (rw stands (rw whole (rw kept (rw (fits, counts) refl))))
+    → behind s.place form ≡ Some place → is_dropped_form form ≡ false → is_relocate (said_counts_as (of_form form items)) ≡ false
+    → said_fits (of_form form items) ≡ true → counts_fit (next_state s place (of_form form items)).counts ≡ true
+    → tokens_outcome (whole s) ts ≡ said (of_form form items) (whole (next_state s place (of_form form items)))
+unfolding tokens_outcome line_at after form_in
+tokens_said s [] form place items is fitting stands kept plain fits counts = let none = no_form in cc
+tokens_said s (t ∷ ts) form place items is fitting stands kept plain fits counts =
+    rw is (rw stands (rw fitting (rw kept
+    (within_said (whole s) place (of_form form items) (whole (next_state s place (of_form form items))) (next-whole s place (of_form form items) plain) fits counts))))
 
 -- a line of a form, where it may stand and passes no limit
 pub formed_outcome : (s : State) (line : List ℕ) (form : Form) (place : Place) (items : List Item) → IsClean line → (is_top s.place && is_metadata line) ≡ false
     → form_of (tokens line) ≡ Some form → parse (slots form) (tokens line) ≡ Some (items, [])
-    → behind s.place form ≡ Some place → is_dropped_form form ≡ false → said_fits (of_form form items) ≡ true → counts_fit (next_state s place (of_form form items)).counts ≡ true
-    → outcome s line ≡ said (of_form form items) (next_state s place (of_form form items))
+    → behind s.place form ≡ Some place → is_dropped_form form ≡ false → is_relocate (said_counts_as (of_form form items)) ≡ false
+    → said_fits (of_form form items) ≡ true → counts_fit (next_state s place (of_form form items)).counts ≡ true
+    → outcome (whole s) line ≡ said (of_form form items) (whole (next_state s place (of_form form items)))
 unfolding outcome
-formed_outcome s line form place items clean plain is whole stands kept fits counts =
-    rw plain (rw (label-none line clean) (tokens_said s (tokens line) form place items is whole stands kept fits counts))
+formed_outcome s line form place items clean other is fitting stands kept plain fits counts =
+    rw other (rw (label-none line clean) (tokens_said s (tokens line) form place items is fitting stands kept plain fits counts))
 
 pub label_line : (s : State) (name : List ℕ) (place : Place) → is_name name ≡ true → is_top s.place ≡ false → behind_label s.place ≡ Some place
-    → outcome s (name ++ (58 ∷ [])) ≡ said (label name) (record { place = place; counts = s.counts })
+    → outcome (whole s) (name ++ (58 ∷ [])) ≡ said (label name) (whole (record { place = place; counts = s.counts }))
 unfolding outcome
 label_line s name place is inside stands = rw inside (rw (label-spelled name is) (rw stands refl))
 
 -- an empty line
-empty_outcome : (s : State) → outcome s [] ≡ nothing
+empty_outcome : (s : State) → outcome (whole s) [] ≡ nothing
 unfolding outcome tokens_outcome
 empty_outcome s = by (is_top s.place)
   where
-    by : (top : Bool) → cond (top && is_metadata []) nothing (labelled s [] (label_of [])) ≡ nothing
+    by : (top : Bool) → cond (top && is_metadata []) nothing (labelled (whole s) [] (label_of [])) ≡ nothing
     by true = rw tokens-nil refl
     by false = rw tokens-nil refl
 

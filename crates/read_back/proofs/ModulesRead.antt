@@ -37,18 +37,16 @@ use Rattle.ir_reader.specs.declared.readings.TypeWord.{TypeWord}
 use Rattle.ir_reader.specs.declared.readings.TypeWord.TheVariants as types
 use Rattle.ir_reader.specs.declared.forms.Form.{Form}
 use Rattle.ir_reader.specs.declared.forms.Form.TheVariants as forms
-use Rattle.ir_reader.specs.declared.forms.Counts.{Counts}
 use Rattle.ir_reader.specs.declared.forms.Counted.TheVariants as kinds
 use Rattle.ir_reader.specs.declared.forms.Place.TheVariants as places
-use Rattle.ir_reader.specs.declared.forms.State.{State}
-use Rattle.ir_reader.specs.Limits.{item_fits, type_fits, counts_fit, counted}
+use Rattle.ir_reader.specs.Limits.{item_fits, type_fits, said_counts_as}
 use Rattle.ir_reader.specs.Lists.{Named, comma, argument_at, is_task_start}
 use Rattle.ir_reader.specs.Marks.{is_mark, begins}
 use Rattle.ir_reader.specs.Parts.{is_value_type, is_answer_type}
 use Rattle.ir_reader.specs.Places.{behind, is_dropped_form}
 use Rattle.ir_reader.specs.Seen.{of_form}
 use Rattle.ir_reader.specs.Slots as parts
-use Rattle.ir_reader.specs.Text.{Numbered, next_state, opening, readings, text_readings}
+use Rattle.ir_reader.specs.Text.{Numbered, readings, readings_in, text_readings}
 use Rattle.ir_lines.specs.Statements.{Line, Statement, stated}
 use Rattle.ir_lines.specs.Statements as statements
 use Rattle.read_back.specs.BlocksEnd.{BlocksEnd}
@@ -60,6 +58,7 @@ use Rattle.read_back.proofs.Spellings.{SpellsType, integer_type, pointer_type, v
 use Rattle.read_back.proofs.Forms.{ReadsAs}
 use Rattle.read_back.proofs.Listed.{SpellsElement}
 use Rattle.read_back.proofs.ListForms.{EndsAtMark, field_element, type_opens, layout_line, parameter_element, plain_element, plain_opens, declare_line}
+use Rattle.read_back.proofs.SourceStates.{Counts, State, whole, is_relocate, counted, counts_fit, next_state, opening}
 use Rattle.read_back.proofs.LinesRead.{Says, says-nil, says-both, says-line, says-empty, formed_outcome, ends_none-clean, before}
 use Rattle.read_back.proofs.CallLines.{new-named}
 use Rattle.read_back.proofs.Operands.{named_at}
@@ -73,11 +72,11 @@ abbrev at_top : Counts → State
 at_top c = record { place = places.Top; counts = c }
 
 top_line : (c : Counts) (text : List ℕ) (form : Form) (items : List parts.Item) → ReadsAs text form items → is_metadata text ≡ false → behind places.Top form ≡ Some places.Top → is_dropped_form form ≡ false
-    → list_all item_fits items ≡ true → counts_fit (next_state (at_top c) places.Top (of_form form items)).counts ≡ true
+    → is_relocate (said_counts_as (of_form form items)) ≡ false → list_all item_fits items ≡ true → counts_fit (next_state (at_top c) places.Top (of_form form items)).counts ≡ true
     → Says (at_top c) (text ++ (10 ∷ [])) (next_state (at_top c) places.Top (of_form form items)) (stated (of_form form items) ∷ [])
-top_line c text form items reads plain stands kept fits room =
+top_line c text form items reads other stands kept plain fits room =
     says-line (at_top c) (next_state (at_top c) places.Top (of_form form items)) text (of_form form items) (ends_none-clean text reads.clean)
-    (formed_outcome (at_top c) text form places.Top items reads.clean plain reads.form_is reads.whole stands kept fits room)
+    (formed_outcome (at_top c) text form places.Top items reads.clean other reads.form_is reads.whole stands kept plain fits room)
 
 -- ---- layouts
 
@@ -121,7 +120,7 @@ layout_read layout c is room =
     (λ k d low. field_element (cell_spelled _) (cell_value _)) (λ k d low rest ends. type_opens (cell_spelled _) (codes "}") rest ends) in
     let count : length (map cell_word layout.fields) ≡ length layout.fields = length-map layout.fields cell_word in
     let fits : list_all item_fits items ≡ true = rw (le-leb (length layout.name) 4096 is.short, count, le-leb (length layout.fields) 64 is.few, cells_fit layout.fields) refl in
-    rw (layout_bytes layout.name (joined (codes ", ") (map word_of layout.fields))) (top_line c text forms.Layout items reads refl refl refl fits room)
+    rw (layout_bytes layout.name (joined (codes ", ") (map word_of layout.fields))) (top_line c text forms.Layout items reads refl refl refl refl fits room)
 
 abbrev behind_layouts : List ObjectLayout → Counts → Counts
 behind_layouts [] c = c
@@ -201,16 +200,16 @@ declaration_read layouts named c room (externs.New number) low is =
     let n_is : is_name n ≡ true = new-named (layout_name layouts number) (named_at (λ (layout : ObjectLayout). layout.name) layouts named number low) in
     rw (new_bytes (layout_name layouts number))
     (top_line c (codes "declare ptr addrspace(1) @gc_new." ++ (layout_name layouts number ++ codes "(i64)")) forms.Declare (parts.ty types.Managed ∷ parts.declared n (unnamed (types.Int 64 ∷ [])) ∷ [])
-    (declared_line pointer_type refl n n_is (types.Int 64 ∷ []) (wide_parameter (is_task_start n), tt)) refl refl refl refl room)
+    (declared_line pointer_type refl n n_is (types.Int 64 ∷ []) (wide_parameter (is_task_start n), tt)) refl refl refl refl refl room)
 declaration_read layouts named c room externs.Print low is =
     top_line c (codes "declare void @print_i64(i64)") forms.Declare (parts.ty types.Void ∷ parts.declared (codes "print_i64") (unnamed (types.Int 64 ∷ [])) ∷ [])
-    (declared_line void_type refl (codes "print_i64") refl (types.Int 64 ∷ []) (wide_parameter false, tt)) refl refl refl refl room
+    (declared_line void_type refl (codes "print_i64") refl (types.Int 64 ∷ []) (wide_parameter false, tt)) refl refl refl refl refl room
 declaration_read layouts named c room externs.Read low is =
     top_line c (codes "declare i64 @read_i64()") forms.Declare (parts.ty (types.Int 64) ∷ parts.declared (codes "read_i64") (unnamed []) ∷ [])
-    (declared_line wide_type refl (codes "read_i64") refl [] tt) refl refl refl refl room
+    (declared_line wide_type refl (codes "read_i64") refl [] tt) refl refl refl refl refl room
 declaration_read layouts named c room externs.TaskStart low is =
     top_line c (codes "declare void @task_start(ptr, ptr addrspace(1))") forms.Declare (parts.ty types.Void ∷ parts.declared (codes "task_start") (unnamed (types.Plain ∷ types.Managed ∷ [])) ∷ [])
-    (declared_line void_type refl (codes "task_start") refl (types.Plain ∷ types.Managed ∷ []) (plain_parameter, (managed_parameter true, tt))) refl refl refl refl room
+    (declared_line void_type refl (codes "task_start") refl (types.Plain ∷ types.Managed ∷ []) (plain_parameter, (managed_parameter true, tt))) refl refl refl refl refl room
 declaration_read layouts named c room externs.Poll low is = absurd (let bad : false ≡ true = is in cc)
 declaration_read layouts named c room externs.Check low is = absurd (let bad : false ≡ true = is in cc)
 declaration_read layouts named c room externs.Same low is = absurd (let bad : false ≡ true = is in cc)
@@ -386,7 +385,7 @@ pub record TextReads (text : List ℕ) (says : List Statement) : Type 0 where
   pub reads : text_readings text ≡ Ok found
   pub same : map (λ (l : Line). l.says) (statements.lines_of found) ≡ says
 
-ended_top : (s : State) (number : ℕ) → s.place ≡ places.Top → readings s number [] ≡ Ok []
+ended_top : (s : State) (number : ℕ) → s.place ≡ places.Top → readings (whole s) number [] ≡ Ok []
 unfolding readings
 ended_top s number top = rw top refl
 
@@ -395,10 +394,10 @@ says_lines [] = refl
 says_lines (one ∷ found) = ap (λ (more : List Statement). stated one.said ∷ more) (says_lines found)
 
 text_reads : (text : List ℕ) (last : State) (says : List Statement) → last.place ≡ places.Top → Says opening text last says → TextReads text says
-unfolding text_readings lines_of
+unfolding readings_in lines_of
 text_reads text last says top read = record {
   found = read.read 1;
-  reads = ap (λ (bs : List ℕ). readings opening 1 (numbered 1 (lines bs))) (sym (append-nil text)) ∙ read.reads 1 [] ∙ ap (before (read.read 1)) (ended_top last (read.next 1) top) ∙ ap Ok (append-nil (read.read 1));
+  reads = ap (λ (bs : List ℕ). readings (whole opening) 1 (numbered 1 (lines bs))) (sym (append-nil text)) ∙ read.reads 1 [] ∙ ap (before (read.read 1)) (ended_top last (read.next 1) top) ∙ ap Ok (append-nil (read.read 1));
   same = says_lines (read.read 1) ∙ read.says 1;
 }
 

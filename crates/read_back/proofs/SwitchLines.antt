@@ -18,22 +18,21 @@ use Rattle.ir_printer.specs.Operands.{value_text}
 use Rattle.ir_printer.specs.Lines.{line_text, case_text}
 use Rattle.ir_reader.specs.declared.forms.Form.{Form}
 use Rattle.ir_reader.specs.declared.forms.Form.TheVariants as forms
-use Rattle.ir_reader.specs.declared.forms.Counts.{Counts}
 use Rattle.ir_reader.specs.declared.forms.Counted.TheVariants as kinds
 use Rattle.ir_reader.specs.declared.forms.Place.{Place}
 use Rattle.ir_reader.specs.declared.forms.Place.TheVariants as places
-use Rattle.ir_reader.specs.declared.forms.State.{State}
-use Rattle.ir_reader.specs.Limits.{item_fits, counts_fit, counted}
+use Rattle.ir_reader.specs.Limits.{item_fits, said_counts_as}
 use Rattle.ir_reader.specs.Parts.{is_case_value}
 use Rattle.ir_reader.specs.Parts as values
 use Rattle.ir_reader.specs.Places.{behind, is_dropped_form}
 use Rattle.ir_reader.specs.Seen.{of_form}
 use Rattle.ir_reader.specs.Slots as parts
-use Rattle.ir_reader.specs.Text.{is_top, next_state}
+use Rattle.ir_reader.specs.Text.{is_top}
 use Rattle.ir_lines.specs.Statements.{stated}
 use Rattle.read_back.specs.Said.{value_says, case_says, literal_of}
 use Rattle.read_back.proofs.Steps.{IsClean}
 use Rattle.read_back.proofs.Forms.{ReadsAs, switch_line, case_line, switch_end_line}
+use Rattle.read_back.proofs.SourceStates.{Counts, State, is_relocate, counted, counts_fit, next_state}
 use Rattle.read_back.proofs.LinesRead.{Says, says-nil, says-both, says-line, formed_outcome, ends_none-clean}
 use Rattle.read_back.proofs.Operands.{HaveNames, block-named, value_spelled, value_in_limit}
 use Rattle.read_back.proofs.OneLine.{made}
@@ -42,11 +41,11 @@ use Rattle.read_back.proofs.Chains.{joined-cons, indented, InstSays}
 
 -- a line behind blanks, inside a function
 pub inner_line : (s : State) (line text : List ℕ) (form : Form) (place : Place) (items : List parts.Item) → ReadsAs text form items → tokens line ≡ tokens text → IsClean line
-    → is_top s.place ≡ false → behind s.place form ≡ Some place → is_dropped_form form ≡ false → list_all item_fits items ≡ true → counts_fit (next_state s place (of_form form items)).counts ≡ true
+    → is_top s.place ≡ false → behind s.place form ≡ Some place → is_dropped_form form ≡ false → is_relocate (said_counts_as (of_form form items)) ≡ false → list_all item_fits items ≡ true → counts_fit (next_state s place (of_form form items)).counts ≡ true
     → Says s (line ++ (10 ∷ [])) (next_state s place (of_form form items)) (stated (of_form form items) ∷ [])
-inner_line s line text form place items reads same clean inside stands kept fits counts =
+inner_line s line text form place items reads same clean inside stands kept plain fits counts =
     says-line s (next_state s place (of_form form items)) line (of_form form items) (ends_none-clean line clean)
-    (formed_outcome s line form place items clean (rw inside refl) (rw same reads.form_is) (rw same reads.whole) stands kept fits counts)
+    (formed_outcome s line form place items clean (rw inside refl) (rw same reads.form_is) (rw same reads.whole) stands kept plain fits counts)
 
 -- among the cases
 abbrev at_cases : Counts → State
@@ -89,7 +88,7 @@ case_read names have bits narrow c room e fits =
     case_line bits narrow.1 value (case_value names bits e.0 fits.literal) l (block-named names have e.1.0 of.low) in
     rw (case_shape names bits e.0 e.1)
     (inner_line (at_cases c) (32 ∷ 32 ∷ 32 ∷ 32 ∷ text) text forms.Case places.Cases (parts.width bits ∷ parts.value (value_says names (tys.Int bits) e.0) ∷ parts.name l ∷ []) reads
-    (indented (32 ∷ 32 ∷ text) ∙ indented text) reads.clean refl refl refl
+    (indented (32 ∷ 32 ∷ text) ∙ indented text) reads.clean refl refl refl refl
     (rw (le-leb 1 bits narrow.0, le-leb bits 64 narrow.1, value_in_limit names (tys.Int bits) narrow e.0 of.fits) refl) room)
 
 cases_read : (names : Names) → HaveNames names → (bits : ℕ) → (1 ≤ bits) × (bits ≤ 64) → (c : Counts) → counts_fit c ≡ true → (es : List (Operand × BlockId)) → AllByRecursion (CaseFits names (tys.Int bits)) es
@@ -123,7 +122,7 @@ switch_says_so names have bits o os l ls narrow first all s inside room =
     let reads : ReadsAs text forms.Switch items = switch_line bits narrow.1 value target (block-named names have l.0 first.low) in
     let c : Counts = counted kinds.Instruction s.counts in
     rw (switch_shape names bits o os l ls)
-    (says-both {t = at_cases c} (inner_line s (32 ∷ 32 ∷ text) text forms.Switch places.Cases items reads (indented text) reads.clean (rw inside refl) (rw inside refl) refl
+    (says-both {t = at_cases c} (inner_line s (32 ∷ 32 ∷ text) text forms.Switch places.Cases items reads (indented text) reads.clean (rw inside refl) (rw inside refl) refl refl
     (rw (le-leb 1 bits narrow.0, le-leb bits 64 narrow.1, value_in_limit names (tys.Int bits) narrow o first.fits) refl) room)
     (says-both (cases_read names have bits narrow c room (zip os ls) all)
-    (inner_line (at_cases c) (32 ∷ 32 ∷ 93 ∷ []) (codes "]") forms.SwitchEnd places.Closed [] switch_end_line (indented (93 ∷ [])) refl refl refl refl refl room)))
+    (inner_line (at_cases c) (32 ∷ 32 ∷ 93 ∷ []) (codes "]") forms.SwitchEnd places.Closed [] switch_end_line (indented (93 ∷ [])) refl refl refl refl refl refl room)))

@@ -2,6 +2,7 @@
 -- those of the module, and definite.
 use Rattle.std.proofs.Common.{◌≡◌, sym, subst}
 use Rattle.std.specs.List.{All}
+use Rattle.ir_ast.specs.declared.modules.Form.TheVariants.{Source}
 use Rattle.ir_ast.specs.Modules.{ModuleContent}
 use Rattle.ir_cfg.specs.DefiniteUses.{UsesAreDefinite}
 use Rattle.ir_cfg.specs.SourceModules.{IsSourceModule}
@@ -24,6 +25,6 @@ reads_back content source ends small =
     record {
       readings = text.found;
       reads = text.reads;
-      no_fault = definite-faultless lines (no_fault content source ends lines text.same) (uses_definite content _ source same);
+      no_fault = definite-faultless Source lines (no_fault content source ends lines text.same) (uses_definite content _ source same);
       same = same;
     }

@@ -1,5 +1,6 @@
 -- Printing and reading back: the printed text of a source module reads and types to that module again.
 use Rattle.std.specs.Prelude.{◌≡◌, ◌≤◌, length, List, Ok}
+use Rattle.ir_ast.specs.declared.modules.Form.TheVariants.{Source}
 use Rattle.ir_ast.specs.Modules.{ModuleContent}
 use Rattle.ir_cfg.specs.SourceModules.{IsSourceModule}
 use Rattle.ir_printer.specs.Texts.{text_of}
@@ -13,8 +14,8 @@ use Rattle.read_back.specs.BlocksEnd.{BlocksEnd}
 pub record ReadsBack (content : ModuleContent) : Type 0 where
   pub readings : List Numbered
   pub reads : text_readings (text_of content) ≡ Ok readings
-  pub no_fault : HasNoFault (lines_of readings)
-  pub same : (module_of (lines_of readings)).content ≡ content
+  pub no_fault : HasNoFault Source (lines_of readings)
+  pub same : (module_of Source (lines_of readings)).content ≡ content
 
 -- That each source module whose printed text is within the file limit reads back. Its blocks end at
 -- terminators, as those of each `Module` do.

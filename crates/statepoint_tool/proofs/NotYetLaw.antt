@@ -8,6 +8,7 @@ use Rattle.std.proofs.lemmas.List.Folds.{list_any-append}
 use Rattle.std.proofs.lemmas.List.Elements.{All-nil, All-cons, All-map, All-weaker, All-contains, All-contains_itself, Contains-append_cases}
 use Rattle.std.proofs.lemmas.Slice.Eq.{starts_is}
 use Rattle.std.proofs.lemmas.Bool.Decides.{Decides-eqb}
+use Rattle.ir_ast.specs.declared.modules.Form.TheVariants.{Source}
 use Rattle.ir_ast.specs.declared.ops.Operand.{Operand}
 use Rattle.ir_ast.specs.Types.{is_pointer as is_pointer_type}
 use Rattle.ir_ast.specs.Insts.{Instruction}
@@ -20,7 +21,7 @@ use Rattle.ir_reader.specs.declared.readings.TypeWord.TheVariants.{Void, Int, Ma
 use Rattle.ir_reader.specs.Parts.{Val}
 use Rattle.ir_reader.specs.Parts as values
 use Rattle.ir_reader.specs.Lists.{Given, given, function}
-use Rattle.ir_lines.specs.Statements.{Line, Statement, define, binary, compare, convert, select, phi, scalar_step, layout_step, load, store, call, jump, branch, switch, switch_case, ret_void, ret, unreachable}
+use Rattle.ir_lines.specs.Statements.{Line, Statement, define, binary, compare, convert, select, phi, scalar_step, layout_step, load, store, call, jump, branch, switch, switch_case, ret_void, ret, unreachable, statepoint, gc_result, gc_relocate}
 use Rattle.ir_lines.specs.Parts.{given_by_call, uses, targets, entry_labels, values_named, functions_named, layouts_named, passed_value, passed_function, entry_use}
 use Rattle.ir_lines.specs.Sections.{Definition, Head, types_of, layouts_of, heads_of, definitions_of, cases_of}
 use Rattle.ir_lines.specs.Scope.{Scope, scope_of, head_named, value_named, block_named, layout_named}
@@ -203,21 +204,21 @@ external_runs layouts e plain there = maker_or layouts e plain (Contains-append_
 abbrev names_defined : List Line → List (List ℕ)
 names_defined lines = map (λ one. one.name) (definitions_of lines)
 
-head_runs : (lines : List Line) → HasNoPlainFault lines → (h : Head) → is_maker h.name ≡ false → place_in (names_defined lines) h.name ≡ None
+head_runs : (lines : List Line) → HasNoPlainFault Source lines → (h : Head) → is_maker h.name ≡ false → place_in (names_defined lines) h.name ≡ None
     → HeadFrom lines h → RunsToday h.name
 head_runs lines none h maker nowhere (from_definition func inside is) =
     let placed = (stands (λ (one : Definition). one.name) (definitions_of lines) h.name
     (found_by_name (λ (one : Definition). one.name) (definitions_of lines) func h.name inside (ap (λ (x : Head). x.name) is))).placed in
     absurd (let bad : None ≡ Some _ = sym nowhere ∙ placed in cc)
 head_runs lines none h maker nowhere (from_declaration l inside answer name parameters says is) =
-    let told = declared lines none l inside answer name parameters says in
+    let told = declared Source lines none l inside answer name parameters says in
     let named : h.name ≡ name = ap (λ (x : Head). x.name) is in
     subst RunsToday (sym named)
     (external_runs (map (λ one. one.name) (layouts_of lines)) (external name answer (types_of parameters))
-    (record { no_helper = told.1; no_maker = subst (λ n. is_maker n ≡ false) named maker }) told.0)
+    (record { no_helper = told.1 refl; no_maker = subst (λ n. is_maker n ≡ false) named maker }) told.0)
 
 -- a call of faultless lines that makes no object and starts no task calls a definition, or prints or reads
-callee_runs : (lines : List Line) → HasNoPlainFault lines → (func : Definition) (callee : List ℕ)
+callee_runs : (lines : List Line) → HasNoPlainFault Source lines → (func : Definition) (callee : List ℕ)
     → is_none (head_named (scope_of lines func) callee) ≡ false → is_maker callee ≡ false
     → calls_today (callee_of (known_of lines func) callee) ≡ true
 callee_runs lines none func callee known maker = by (place_in (names_defined lines) callee) refl
@@ -251,7 +252,7 @@ of_parts made op ty operands =
     right made (and-true (op_runs_today made.op && not (is_pointer_type made.ty)) (list_all (λ operand. not (is_null_operand operand)) made.operands)
     (and-true (op_runs_today made.op) (not (is_pointer_type made.ty)) op ty) operands)
 
-call-right : (lines : List Line) → HasNoPlainFault lines → (func : Definition) (result : Option (List ℕ)) (answer : TypeWord) (callee : List ℕ)
+call-right : (lines : List Line) → HasNoPlainFault Source lines → (func : Definition) (result : Option (List ℕ)) (answer : TypeWord) (callee : List ℕ)
     (passed : List Given) → has_pointer (call result answer callee passed) ≡ false
     → list_any (λ name. is_none (head_named (scope_of lines func) name)) (callee ∷ filter_map passed_function passed) ≡ false
     → IsRight (instruction_said (known_of lines func) [] (call result answer callee passed))
@@ -276,7 +277,7 @@ heads-known scope what e =
     let heads = list_any (λ name. is_none (head_named scope name)) (functions_named what) in
     or-right (values || labels) heads (or-left ((values || labels) || heads) (list_any (λ name. is_none (layout_named scope name)) (layouts_named what)) e)
 
-said-right : (lines : List Line) → HasNoPlainFault lines → (func : Definition) (after : List Line) → list_any says_pointer after ≡ false
+said-right : (lines : List Line) → HasNoPlainFault Source lines → (func : Definition) (after : List Line) → list_any says_pointer after ≡ false
     → (s : Statement) → has_pointer s ≡ false → IsGoodCallee lines func s → IsRight (instruction_said (known_of lines func) after s)
 said-right lines none func after rest (binary result op width left second) clear known =
     of_parts _ (binary-today op) refl (used-clear (known_of lines func) (uses (binary result op width left second)) clear)
@@ -314,11 +315,14 @@ said-right lines none func after rest (ret ty value) clear known =
     of_parts _ refl (type-clear ty (or-left (is_managed ty) (is_null value) (or-left (is_pointer (value, ty)) false clear)))
     (used-clear (known_of lines func) (uses (ret ty value)) clear)
 said-right lines none func after rest unreachable clear known = of_parts _ refl refl refl
+said-right lines none func after rest (statepoint result made live) clear known = absurd (let bad : true ≡ false = clear in cc)
+said-right lines none func after rest (gc_result result ty token) clear known = absurd (let bad : true ≡ false = clear in cc)
+said-right lines none func after rest (gc_relocate result token base derived) clear known = absurd (let bad : true ≡ false = clear in cc)
 said-right lines none func after rest _ clear known = λ inst told. absurd (let bad : None ≡ Some inst = told in cc)
 
 -- ---- functions and the module
 
-body-right : (lines : List Line) → HasNoPlainFault lines → (func : Definition) → Contains (definitions_of lines) func
+body-right : (lines : List Line) → HasNoPlainFault Source lines → (func : Definition) → Contains (definitions_of lines) func
     → list_any says_pointer func.body ≡ false → (before : List Line) (l : Line) (after : List Line) → func.body ≡ before ++ l ∷ after
     → IsRight (instruction_said (known_of lines func) after l.says)
 body-right lines none func inside clear before l after split =
@@ -333,7 +337,7 @@ body-right lines none func inside clear before l after split =
 abbrev IsClear : Definition → Type 0
 IsClear func = list_any says_pointer (lines_in func) ≡ false
 
-function-right : (lines : List Line) → HasNoPlainFault lines → (func : Definition) → Contains (definitions_of lines) func → IsClear func
+function-right : (lines : List Line) → HasNoPlainFault Source lines → (func : Definition) → Contains (definitions_of lines) func → IsClear func
     → FunctionIsToday (function_of (known_of lines func) func)
 function-right lines none func inside clear =
     func_insts (known_of lines func) (λ inst. is_today inst ≡ true) func
@@ -359,10 +363,10 @@ none-any (l ∷ ls) e = by (has_pointer l.says) refl (none-any ls)
         ap (λ b. b || list_any says_pointer ls) is
         ∙ rest (sym (ap (λ b. option_map (λ (one : Line). one.number) (cond b (Some l) (find says_pointer ls))) is) ∙ e)
 
-pub runs_today : (lines : List Line) → HasNoFault lines → first_not_yet lines ≡ None → IsToday (module_of lines).content
+pub runs_today : (lines : List Line) → HasNoFault Source lines → first_not_yet lines ≡ None → IsToday (module_of Source lines).content
 unfolding first_not_yet
 runs_today lines faultless e =
-    let none : HasNoPlainFault lines = λ line code has. faultless line code (of_plain code has) in
+    let none : HasNoPlainFault Source lines = λ line code has. faultless line code (of_plain code has) in
     let funcs = definitions_of lines in
     let clear = each-clear funcs (none-any (flat_map lines_in funcs) e) in
     All-map FunctionIsToday (λ func. function_of (known_of lines func) func) funcs

@@ -1,5 +1,6 @@
 -- What reading and typing a module's text come to.
 use Rattle.std.proofs.Common.{◌≡◌, ℕ, ◌<◌, ◌≤◌, ◌⊎◌, inl, inr, List, [], ◌∷◌, map, Option, Some, None, Result, Ok, Err, ◌∙◌, refl, sym, ap, subst, arith}
+use Rattle.ir_ast.specs.declared.modules.Form.TheVariants as text_forms
 use Rattle.ir_ast.specs.Modules.{ModuleContent, LinedModule}
 use Rattle.ir_reader.specs.Text.{Numbered, Fault, syntax_fault, limit_fault, text_readings}
 use Rattle.ir_lines.specs.declared.faults.Fault.{Fault as TypeFault}
@@ -42,7 +43,7 @@ same_fault : (one other : TypeFault) → one.line ≡ other.line → one.code �
 same_fault one other line code =
     ap (λ (n : ℕ). record { line = n; code = one.code }) line ∙ ap (λ (n : ℕ). record { line = other.line; code = n }) code
 
-pub one-least : (lines : List Line) (one other : TypeFault) → IsLeastFault lines one.line one.code → IsLeastFault lines other.line other.code → one ≡ other
+pub one-least : (lines : List Line) (one other : TypeFault) → IsLeastFault text_forms.Source lines one.line one.code → IsLeastFault text_forms.Source lines other.line other.code → one ≡ other
 one-least lines one other p q =
     let first : ComesFirst one.line one.code other.line other.code = p.least other.line other.code q.is in
     let second : ComesFirst other.line other.code one.line one.code = q.least one.line one.code p.is in
@@ -70,11 +71,11 @@ lines_of-seen [] = refl
 lines_of-seen (x ∷ xs) = ap (λ (ls : List Line). seen_line x ∷ ls) (lines_of-seen xs)
 
 -- what the typer answers
-pub typed-go : (lines : List Line) (whole : LinedModule) → IsTypedAs lines whole → Typing lines (Go whole.content)
+pub typed-go : (lines : List Line) (whole : LinedModule) → IsTypedAs text_forms.Source lines whole → Typing lines (Go whole.content)
 typed-go lines whole typed = subst (λ (w : LinedModule). Typing lines (Go w.content)) (sym typed.is) (faultless typed.faultless)
 
-pub typed-stop : (lines : List Line) (error : TypingFault) (fault : TypeFault) → error ≡ answers.Fault fault → Answers lines (Err error) → Typing lines (Stop (Module (Typed fault)))
-typed-stop lines error fault is answered = typed_faulty fault (subst (λ (e : TypingFault). Answers lines (Err e)) is answered)
+pub typed-stop : (lines : List Line) (error : TypingFault) (fault : TypeFault) → error ≡ answers.Fault fault → Answers text_forms.Source lines (Err error) → Typing lines (Stop (Module (Typed fault)))
+typed-stop lines error fault is answered = typed_faulty fault (subst (λ (e : TypingFault). Answers text_forms.Source lines (Err e)) is answered)
 
 read_by : (text : List ℕ) (lines : List Line) (result : Result (List Numbered) Fault) → text_readings text ≡ result → Go lines ≡ read_step result → IsReadAs text lines
 read_by text lines (Ok readings) is same = record { readings = readings; read = is; are = same-value lines (lines_of readings) same }

@@ -5,6 +5,7 @@ use Rattle.ir_lines.specs.declared.faults.Fault.{Fault as TypeFault}
 use Rattle.ir_lines.specs.Statements.{Line, lines_of}
 use Rattle.ir_types.specs.FaultSet.{HasNoFault, IsLeastFault}
 use Rattle.sp_ids.specs.declared.ends.End.{End}
+use Rattle.ir_ast.specs.declared.modules.Form.TheVariants as text_forms
 use Rattle.ir_ast.specs.Modules.{ModuleContent}
 use Rattle.ir_meaning.specs.SourceRuns.{Progress, SourceRun, no_go}
 use Rattle.statepoint_tool.specs.NotYet.{first_not_yet}
@@ -27,13 +28,13 @@ pub record IsReadAs (text : List ℕ) (lines : List Line) : Type 0 where
 -- and they have no fault
 pub record IsAccepted (text : List ℕ) (lines : List Line) : Type 0 where
   pub read : IsReadAs text lines
-  pub faultless : HasNoFault lines
+  pub faultless : HasNoFault text_forms.Source lines
 
 -- the first line that has no reading or passes a limit; or else the least fault of the lines
 pub data HasTextFault (text : List ℕ) : ModuleFault → Type 0 where
   unread : (line : ℕ) → text_readings text ≡ Err (syntax_fault line) → HasTextFault text (Syntax line)
   over_limit : (line : ℕ) → text_readings text ≡ Err (limit_fault line) → HasTextFault text (Limit line)
-  faulty : (lines : List Line) (fault : TypeFault) → IsReadAs text lines → IsLeastFault lines fault.line fault.code
+  faulty : (lines : List Line) (fault : TypeFault) → IsReadAs text lines → IsLeastFault text_forms.Source lines fault.line fault.code
       → HasTextFault text (Typed fault)
 
 -- ---- how far the work goes

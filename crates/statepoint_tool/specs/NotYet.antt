@@ -6,7 +6,7 @@ use Rattle.ir_reader.specs.declared.readings.TypeWord.{TypeWord}
 use Rattle.ir_reader.specs.declared.readings.TypeWord.TheVariants.{Managed}
 use Rattle.ir_reader.specs.Parts.{Val}
 use Rattle.ir_reader.specs.Parts as values
-use Rattle.ir_lines.specs.Statements.{Line, Statement, define, close, call}
+use Rattle.ir_lines.specs.Statements.{Line, Statement, define, close, call, statepoint, gc_result, gc_relocate}
 use Rattle.ir_lines.specs.Parts.{gives, uses}
 use Rattle.ir_lines.specs.Sections.{Definition, definitions_of}
 
@@ -30,13 +30,16 @@ is_pointer_given (Some result) = is_managed result.1
 abbrev pub is_maker : List ℕ → Bool
 is_maker callee = starts_with nat_eq callee (codes "gc_new.") || bytes_eq callee (codes "task_start")
 
--- what a head or a call says of pointers beside the values that it uses and gives
+-- what a head or a call says of pointers beside the values that it uses and gives; the lines of a statepoint group are for pointers alone
 abbrev pub names_pointer : Statement → Bool
 names_pointer (define answer name arguments strategy) = is_managed answer || list_any (λ one. is_managed one.ty) arguments
 names_pointer (call result answer callee passed) = is_managed answer || is_maker callee
+names_pointer (statepoint result made live) = true
+names_pointer (gc_result result ty token) = true
+names_pointer (gc_relocate result token base derived) = true
 names_pointer _ = false
 
--- the line has a managed pointer as operand, argument, answer or result, or calls `gc_new` or `task_start`
+-- the line has a managed pointer as operand, argument, answer or result, calls `gc_new` or `task_start`, or is of a statepoint group
 abbrev pub has_pointer : Statement → Bool
 has_pointer what = names_pointer what || (is_pointer_given (gives what) || list_any is_pointer (uses what))
 

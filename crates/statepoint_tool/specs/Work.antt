@@ -2,6 +2,7 @@
 -- the input and the plan are taken, and it runs by the source meaning.
 use Rattle.std.specs.Prelude.{◌≡◌, ℕ, ⊤, List, [], ◌∷◌, ◌++◌, Option, Some, None, Result, Ok, Err}
 use Rattle.sp_ids.specs.declared.ends.End.{End}
+use Rattle.ir_ast.specs.declared.modules.Form.TheVariants as text_forms
 use Rattle.ir_ast.specs.Modules.{ModuleContent}
 use Rattle.ir_reader.specs.Text.{Numbered, Fault, syntax_fault, limit_fault, text_readings}
 use Rattle.ir_lines.specs.declared.faults.Fault.{Fault as TypeFault}
@@ -55,12 +56,12 @@ abbrev pub reading : List ℕ → Step (List Line) → Type 0
 reading text = comes_to (read_step (text_readings text))
 
 abbrev pub content_of : List Line → ModuleContent
-content_of lines = (module_of lines).content
+content_of lines = (module_of text_forms.Source lines).content
 
 -- typing it: the module that the lines stand for where they have no fault, or else the least of their faults
 pub data Typing (lines : List Line) : Step ModuleContent → Type 0 where
-  faultless : HasNoFault lines → Typing lines (Go (content_of lines))
-  faulty : (fault : TypeFault) → IsLeastFault lines fault.line fault.code → Typing lines (Stop (Module (Typed fault)))
+  faultless : HasNoFault text_forms.Source lines → Typing lines (Go (content_of lines))
+  faulty : (fault : TypeFault) → IsLeastFault text_forms.Source lines fault.line fault.code → Typing lines (Stop (Module (Typed fault)))
 
 abbrev pub module_phase : List ℕ → Step ModuleContent → Type 0
 module_phase text = Then (reading text) Typing

@@ -75,7 +75,10 @@ fn has_pointer(reading: &Reading) -> bool
         Reading::ScalarElement { .. }
         | Reading::LayoutElement { .. }
         | Reading::Load { .. }
-        | Reading::Store { .. } => true,
+        | Reading::Store { .. }
+        | Reading::Statepoint { .. }
+        | Reading::GcResult { .. }
+        | Reading::GcRelocate { .. } => true,
         Reading::ValueCall {
             answer,
             callee,

@@ -3,6 +3,7 @@ ghost use Rattle.std.specs.Prelude.{◌≡◌, ◌≤◌, ℕ, List, length, vec
 ghost use Rattle.sp_ids.specs.declared.limits.TheConstants.{FILE_BYTES};
 ghost use Rattle.tool_io.specs.Counts.{NoneFell};
 ghost use Rattle.ir_ast.specs.Formed.{IsFormedModule};
+ghost use Rattle.ir_ast.specs.declared.modules.Form.TheVariants.{Source};
 ghost use Rattle.ir_cfg.specs.SourceModules.{IsSourceModule};
 ghost use Rattle.ir_meaning.specs.Stages.{IsToday};
 ghost use Rattle.ir_lines.specs.Views.{seen_lines};
@@ -108,6 +109,7 @@ pub(crate) fn take_plan<F: Files>(
 fn read_in(alloc: Global, text: &[u8]) -> Result<Raw<'_>, Refusal>
     requires { length text.now ≤ FILE_BYTES }
     ensures read { Agrees (λ raw. seen_lines raw.lines) result (reading text.now) }
+    ensures form { IfOk result (λ raw. raw.form ≡ Source) }
 {
     match read(alloc, text) {
         Ok(raw) => Ok(raw),
@@ -123,6 +125,7 @@ fn read_in(alloc: Global, text: &[u8]) -> Result<Raw<'_>, Refusal>
 
 // The module that readings stand for.
 fn type_in(alloc: Global, raw: Raw) -> Result<Module, Refusal>
+    requires { raw.form ≡ Source }
     ensures typed { Agrees (λ read. read.content) result (Typing (seen_lines raw.entry.lines)) }
     ensures formed { IfOk result (λ read. IsFormedModule read.content) }
     ensures source { IfOk result (λ read. IsSourceModule read.content) }
@@ -157,6 +160,7 @@ fn runnable_in(alloc: Global, text: &[u8]) -> Result<Module, Refusal>
 
 // The module that readings stand for, where it can be run so far.
 fn type_to_run(alloc: Global, raw: Raw) -> Result<Module, Refusal>
+    requires { raw.form ≡ Source }
     ensures read { Agrees (λ read. read.content) result (typing_to_run (seen_lines raw.entry.lines)) }
     ensures source { IfOk result (λ read. IsSourceModule read.content) }
     ensures today { IfOk result (λ read. IsToday read.content) }

@@ -175,10 +175,10 @@ same-name names a b k p q = same_Some a b (sym (place-name names a k p) ∙ plac
 
 -- ---- the values that stand before a line's own
 
-abbrev name_of : Naming → List ℕ
+abbrev pub name_of : Naming → List ℕ
 name_of one = one.name
 
-abbrev gives_names : Line → List Naming
+abbrev pub gives_names : Line → List Naming
 gives_names l = result_named l.number (gives l.says)
 
 -- the names of the arguments and of what these lines give
@@ -198,7 +198,7 @@ front-more func before more =
     ∙ ap (map name_of) (sym (append_assoc args (flat_map gives_names before) (flat_map gives_names more)))
     ∙ map-append name_of (args ++ flat_map gives_names before) (flat_map gives_names more)
 
-names-split : (func : Definition) (before : List Line) (l : Line) (after : List Line) (name : List ℕ) (ty : TypeWord) → func.body ≡ before ++ l ∷ after
+pub names-split : (func : Definition) (before : List Line) (l : Line) (after : List Line) (name : List ℕ) (ty : TypeWord) → func.body ≡ before ++ l ∷ after
     → gives l.says ≡ Some (name, ty) → names_given func ≡ front func before ++ name ∷ map name_of (flat_map gives_names after)
 names-split func before l after name ty whole e =
     ap (front func) whole ∙ front-more func before (l ∷ after)
@@ -243,7 +243,7 @@ stands-place func name what s =
     ap (λ ns. place_in ns name) (names-split func s.before (record { number = s.number; says = what }) s.after name g.0 s.body g.1)
     ∙ place-front (front func s.before) name (map name_of (flat_map gives_names s.after)) s.first
 
-number-same : (o : Option ℕ) (n : ℕ) → is_number o n ≡ true → o ≡ Some n
+pub number-same : (o : Option ℕ) (n : ℕ) → is_number o n ≡ true → o ≡ Some n
 number-same None n e = absurd (let bad : false ≡ true = e in cc)
 number-same (Some m) n e = ap (λ k. Some k) (eq-same m n e)
 

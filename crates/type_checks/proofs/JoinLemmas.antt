@@ -1,6 +1,7 @@
 -- The passes over a function, one after another.
 use Rattle.std.proofs.Common.{◌≡◌, ◌∙◌, ℕ, List, refl, ap, sym, subst}
 use Rattle.std.specs.Prelude.{Option, Result, Ok, Err, OnOk, map, length}
+use Rattle.ir_ast.specs.declared.modules.Form.{Form}
 use Rattle.ir_lines.specs.declared.faults.Fault.{Fault}
 use Rattle.type_checks.specs.declared.lines.Scope.{Scope as ScopeTable}
 use Rattle.ir_lines.specs.Statements.{Line}
@@ -10,7 +11,7 @@ use Rattle.ir_lines.specs.Scope.{Scope, scope_of}
 use Rattle.ir_lines.specs.Tables.{IsTop, IsLocal}
 use Rattle.ir_lines.specs.Again.{FoundByNames}
 use Rattle.type_checks.specs.LineFaults.{Tables, AreTables, tables_in}
-use Rattle.type_checks.specs.FunctionFaults.{LineInAt, LineAt, LinesIn, LinesOf, CasesOf, PhisOf, EscapesOf, FoundWithin, FoundInFunction}
+use Rattle.type_checks.specs.FunctionFaults.{LineInAt, LineAt, LinesIn, LinesOf, CasesOf, PhisOf, FoundByForm, FoundWithin, FoundInFunction}
 use Rattle.ir_lines.proofs.NoteLemmas.{Either, notes-then}
 use Rattle.type_checks.proofs.Founds.{notes-alike}
 use Rattle.type_checks.proofs.ScopeLemmas.{line-in, line-of}
@@ -28,26 +29,26 @@ tables-of lines func scope t l = record {
   answer = l.answer;
 }
 
-lines-noted : (scope : Scope) (tables : Tables) (body : List Line) (old new : Option Fault) → AreTables scope tables
-    → Notes old new (LinesIn tables body) → Notes old new (LinesOf scope body)
-lines-noted scope tables body old new t n =
-    notes-alike (LineInAt tables) (LineAt scope) body old new
-    (λ before here after line code f. (f.0, line-in scope tables here.says code t f.1))
-    (λ before here after line code f. (f.0, line-of scope tables here.says code t f.1)) n
+lines-noted : (form : Form) (scope : Scope) (tables : Tables) (body : List Line) (old new : Option Fault) → AreTables scope tables
+    → Notes old new (LinesIn form tables body) → Notes old new (LinesOf form scope body)
+lines-noted form scope tables body old new t n =
+    notes-alike (LineInAt form tables) (LineAt form scope) body old new
+    (λ before here after line code f. (f.0, line-in form scope tables here.says code t f.1))
+    (λ before here after line code f. (f.0, line-of form scope tables here.says code t f.1)) n
 
 pub notes-within : (lines : List Line) (func : Definition) (scope : ScopeTable) (old a b c new : Option Fault)
     → IsTop lines scope.top.now → IsLocal func scope.local.now
-    → Notes old a (LinesIn (tables_in scope) func.body) → Notes a b (CasesOf func.body) → Notes b c (PhisOf (scope_of lines func) (blocks_of func))
-    → Notes c new (EscapesOf func func.body) → Notes old new (FoundWithin (scope_of lines func) func)
+    → Notes old a (LinesIn scope.form (tables_in scope) func.body) → Notes a b (CasesOf func.body) → Notes b c (PhisOf (scope_of lines func) (blocks_of func))
+    → Notes c new (FoundByForm scope.form (scope_of lines func) func) → Notes old new (FoundWithin scope.form (scope_of lines func) func)
 notes-within lines func scope old a b c new t l m n p q =
-    notes-then old a new (LinesOf (scope_of lines func) func.body) (Either (CasesOf func.body) (Either (PhisOf (scope_of lines func) (blocks_of func)) (EscapesOf func func.body)))
-    (lines-noted (scope_of lines func) (tables_in scope) func.body old a (tables-of lines func scope t l) m)
-    (notes-then a b new (CasesOf func.body) (Either (PhisOf (scope_of lines func) (blocks_of func)) (EscapesOf func func.body)) n
-    (notes-then b c new (PhisOf (scope_of lines func) (blocks_of func)) (EscapesOf func func.body) p q))
+    notes-then old a new (LinesOf scope.form (scope_of lines func) func.body) (Either (CasesOf func.body) (Either (PhisOf (scope_of lines func) (blocks_of func)) (FoundByForm scope.form (scope_of lines func) func)))
+    (lines-noted scope.form (scope_of lines func) (tables_in scope) func.body old a (tables-of lines func scope t l) m)
+    (notes-then a b new (CasesOf func.body) (Either (PhisOf (scope_of lines func) (blocks_of func)) (FoundByForm scope.form (scope_of lines func) func)) n
+    (notes-then b c new (PhisOf (scope_of lines func) (blocks_of func)) (FoundByForm scope.form (scope_of lines func) func) p q))
 
-pub notes-function : (lines : List Line) (func : Definition) (old a new : Option Fault) → Notes old a (FoundByNames func)
-    → Notes a new (FoundWithin (scope_of lines func) func) → Notes old new (FoundInFunction (scope_of lines func) func)
-notes-function lines func old a new m n = notes-then old a new (FoundByNames func) (FoundWithin (scope_of lines func) func) m n
+pub notes-function : (form : Form) (lines : List Line) (func : Definition) (old a new : Option Fault) → Notes old a (FoundByNames form func)
+    → Notes a new (FoundWithin form (scope_of lines func) func) → Notes old new (FoundInFunction form (scope_of lines func) func)
+notes-function form lines func old a new m n = notes-then old a new (FoundByNames form func) (FoundWithin form (scope_of lines func) func) m n
 
 pub on-ok : {A E : Type 0} (r : Result A E) (P Q : Type 0) → (P → Q) → OnOk r P → OnOk r Q
 on-ok (Ok value) P Q f p = f p

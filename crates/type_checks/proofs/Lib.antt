@@ -1,5 +1,4 @@
 pub mod TypeLists
-pub mod TopLemmas
 pub mod ExternalLemmas
 pub mod OuterLemmas
 pub mod Founds
@@ -12,6 +11,7 @@ pub mod CaseNotes
 pub mod Union
 pub mod SearchLemmas
 pub mod DerivedLemmas
+pub mod GroupLemmas
 pub mod CountLemmas
 pub mod EdgeLemmas
 pub mod PhiNotes

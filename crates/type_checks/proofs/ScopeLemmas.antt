@@ -8,22 +8,25 @@ use Rattle.std.proofs.lemmas.List.Folds.{list_any-append}
 use Rattle.std.proofs.lemmas.Option.{slice_get-get_or}
 use Rattle.std.proofs.lemmas.Bool.Decides.{nat_tests}
 use Rattle.ir_reader.specs.declared.readings.TypeWord.{TypeWord}
-use Rattle.ir_reader.specs.declared.readings.TypeWord.TheVariants.{Void}
+use Rattle.ir_reader.specs.declared.readings.TypeWord.TheVariants.{Void, Int}
 use Rattle.ir_reader.specs.declared.readings.Literal.{Literal}
 use Rattle.ir_reader.specs.Parts.{Val}
 use Rattle.ir_reader.specs.Parts as values
 use Rattle.ir_reader.specs.Lists.{Given, given, function}
-use Rattle.ir_lines.specs.Statements.{Statement, phi, layout_step, call, ret_void, ret}
+use Rattle.ir_reader.specs.Statepoints.{Guarded}
+use Rattle.ir_ast.specs.declared.modules.Form.{Form}
+use Rattle.ir_lines.specs.Statements.{Statement, phi, layout_step, call, ret_void, ret, statepoint}
+use Rattle.ir_lines.specs.TextForms.{is_source}
 use Rattle.ir_lines.specs.Parts.{uses, local_name, values_named, targets, entry_labels, passed_function, functions_named, layouts_named}
 use Rattle.ir_lines.specs.Places.{place_in, number_in}
 use Rattle.ir_lines.specs.Sections.{LayoutLine, Head, Naming}
 use Rattle.ir_lines.specs.Scope.{Scope, layout_named, head_named, value_named, block_named}
-use Rattle.ir_lines.specs.Types.{same_type, naming_fits, fits}
+use Rattle.ir_lines.specs.Types.{same_type, literal_fits, naming_fits, fits}
 use Rattle.ir_lines.specs.Again.{at_name}
 use Rattle.ir_lines.specs.Faults.UnknownName.{names_unknown}
-use Rattle.ir_lines.specs.Faults.TypeClash.{misfits, place_fits, is_task, starts_task, agrees, call_agrees, keeps_rule, clashes}
+use Rattle.ir_lines.specs.Faults.TypeClash.{misfits, place_fits, is_task, starts_task, checks_kind, takes_operands, agrees, call_agrees, takes_types, statepoint_agrees, keeps_rule, clashes}
 use Rattle.ir_lines.specs.Faults.EntryHasPred.{names_entry}
-use Rattle.type_checks.specs.LineFaults.{Tables, AreTables, LineFault, LineFaultIn, Coded, is_missing, misses, misses_used, misses_label, misses_label_of_phi, misses_entry, misses_passed, misses_function, misses_name, type_fits, fits_in, misfits_in, count_fits, starts_at, task_starts, call_fits, rule_kept, clashes_in, targets_first}
+use Rattle.type_checks.specs.LineFaults.{Tables, AreTables, LineFault, LineFaultIn, Coded, is_missing, misses, misses_used, misses_label, misses_label_of_phi, misses_entry, misses_passed, misses_function, misses_name, type_fits, fits_in, misfits_in, count_fits, starts_at, task_starts, operands_fit, call_fits, statepoint_fits, rule_kept, clashes_in, targets_first}
 use Rattle.ir_lines.specs.Faults.PointerOrder.{orders_pointers}
 use Rattle.ir_lines.specs.Faults.PointerCast.{is_cast}
 use Rattle.ir_lines.proofs.PlaceLemmas.{at-name}
@@ -76,6 +79,8 @@ misses-filter_map names f (x ∷ xs) =
 functions-missing : (names : List (List ℕ)) (what : Statement) → misses_function names what ≡ misses names (functions_named what)
 functions-missing names (call result answer callee passed) =
     ap (λ b. is_none (place_in names callee) || b) (misses-filter_map names passed_function passed)
+functions-missing names (statepoint result made live) =
+    ap (λ b. is_none (place_in names made.callee) || b) (misses-filter_map names passed_function made.passed)
 functions-missing names _ = refl
 
 entries-missing : (names : List (List ℕ)) (entries : List (Val × List ℕ)) → misses_entry names entries ≡ misses names (map (λ entry. entry.1) entries)
@@ -114,7 +119,7 @@ typed-same : (ty : TypeWord) (found : Option Naming) → type_fits ty (option_ma
 typed-same ty None = refl
 typed-same ty (Some one) = refl
 
-fits-same : (scope : Scope) (tables : Tables) → AreTables scope tables → (ty : TypeWord) (value : Val)
+pub fits-same : (scope : Scope) (tables : Tables) → AreTables scope tables → (ty : TypeWord) (value : Val)
     → fits_in tables.values tables.types ty value ≡ fits scope ty value
 fits-same scope tables t ty (values.local name) =
     ap (λ ns. type_fits ty (at_name ns tables.types name)) t.values
@@ -156,42 +161,58 @@ starts-same scope tables t [] = refl
 starts-same scope tables t (given ty value ∷ passed) = refl
 starts-same scope tables t (function name ∷ passed) = ap is_task (head-same scope tables t name)
 
-call-same : (scope : Scope) (tables : Tables) → AreTables scope tables → (answer : TypeWord) (callee : List ℕ) (passed : List Given)
-    → call_fits tables answer callee passed ≡ call_agrees scope answer callee passed
-call-same scope tables t answer callee passed =
-    ap (λ found. agrees answer passed found && (not (bytes_eq callee (codes "task_start")) || task_starts tables passed))
-    (head-same scope tables t callee)
-    ∙ ap (λ b. agrees answer passed (head_named scope callee) && (not (bytes_eq callee (codes "task_start")) || b))
+operands-same : (form : Form) (scope : Scope) (tables : Tables) → AreTables scope tables → (callee : List ℕ) (passed : List Given)
+    → operands_fit form tables callee passed ≡ takes_operands form scope callee passed
+operands-same form scope tables t callee passed =
+    ap
+    (λ b. (not (bytes_eq callee (codes "task_start")) || b) && (is_source form || not (bytes_eq callee (codes "gc_check")) || checks_kind passed))
     (starts-same scope tables t passed)
 
-rule-same : (scope : Scope) (tables : Tables) (what : Statement) → AreTables scope tables → rule_kept tables what ≡ keeps_rule scope what
-rule-same scope tables (layout_step result named address width index place) t =
+call-same : (form : Form) (scope : Scope) (tables : Tables) → AreTables scope tables → (answer : TypeWord) (callee : List ℕ) (passed : List Given)
+    → call_fits form tables answer callee passed ≡ call_agrees form scope answer callee passed
+call-same form scope tables t answer callee passed =
+    ap (λ found. agrees answer passed found && operands_fit form tables callee passed) (head-same scope tables t callee)
+    ∙ ap (λ b. agrees answer passed (head_named scope callee) && b) (operands-same form scope tables t callee passed)
+
+statepoint-same : (form : Form) (scope : Scope) (tables : Tables) → AreTables scope tables → (made : Guarded)
+    → statepoint_fits form tables made ≡ statepoint_agrees form scope made
+statepoint-same form scope tables t made =
+    ap
+    (λ b. b && (takes_types made.signature.parameters (at_name tables.heads tables.head_list made.callee) && literal_fits (Int 32) made.count))
+    (call-same form scope tables t made.signature.answer made.callee made.passed)
+    ∙ ap
+    (λ found. call_agrees form scope made.signature.answer made.callee made.passed && (takes_types made.signature.parameters found && literal_fits (Int 32) made.count))
+    (head-same scope tables t made.callee)
+
+rule-same : (form : Form) (scope : Scope) (tables : Tables) (what : Statement) → AreTables scope tables → rule_kept form tables what ≡ keeps_rule form scope what
+rule-same form scope tables (layout_step result named address width index place) t =
     ap (λ ns. count_fits place (at_name ns tables.fields named)) t.layouts
     ∙ ap (λ fs. count_fits place (at_name (map (λ one. one.name) scope.layouts) fs named)) t.fields
     ∙ ap (count_fits place) (at-name (λ (one : LayoutLine). one.name) (λ (one : LayoutLine). length one.fields) scope.layouts named)
     ∙ placed-same place (layout_named scope named)
-rule-same scope tables (call result answer callee passed) t = call-same scope tables t answer callee passed
-rule-same scope tables ret_void t = ap (same_type Void) t.answer
-rule-same scope tables (ret ty value) t = ap (same_type ty) t.answer
-rule-same scope tables _ t = refl
+rule-same form scope tables (call result answer callee passed) t = call-same form scope tables t answer callee passed
+rule-same form scope tables (statepoint result made live) t = statepoint-same form scope tables t made
+rule-same form scope tables ret_void t = ap (same_type Void) t.answer
+rule-same form scope tables (ret ty value) t = ap (same_type ty) t.answer
+rule-same form scope tables _ t = refl
 
-clash-same : (scope : Scope) (tables : Tables) (what : Statement) → AreTables scope tables → clashes_in tables what ≡ clashes scope what
-clash-same scope tables what t =
-    or-same _ _ _ _ (misfits-same scope tables what t) (ap not (rule-same scope tables what t))
+clash-same : (form : Form) (scope : Scope) (tables : Tables) (what : Statement) → AreTables scope tables → clashes_in form tables what ≡ clashes form scope what
+clash-same form scope tables what t =
+    or-same _ _ _ _ (misfits-same scope tables what t) (ap not (rule-same form scope tables what t))
 
 entry-same : (scope : Scope) (tables : Tables) (what : Statement) → AreTables scope tables → targets_first tables what ≡ names_entry scope what
 entry-same scope tables what t = ap (λ (blocks : List (List ℕ)). list_any (λ name. number_in blocks name == 0) (targets what)) t.blocks
 
 -- ---- the codes of a line
 
-coded-same : (scope : Scope) (tables : Tables) (what : Statement) (code : ℕ) → AreTables scope tables → LineFaultIn tables what code ≡ LineFault scope what code
-coded-same scope tables what code t =
-    ap (λ b. Coded b (clashes_in tables what) (targets_first tables what) (orders_pointers what) (is_cast what) code) (unknown-same scope tables what t)
-    ∙ ap (λ b. Coded (names_unknown scope what) b (targets_first tables what) (orders_pointers what) (is_cast what) code) (clash-same scope tables what t)
-    ∙ ap (λ b. Coded (names_unknown scope what) (clashes scope what) b (orders_pointers what) (is_cast what) code) (entry-same scope tables what t)
+coded-same : (form : Form) (scope : Scope) (tables : Tables) (what : Statement) (code : ℕ) → AreTables scope tables → LineFaultIn form tables what code ≡ LineFault form scope what code
+coded-same form scope tables what code t =
+    ap (λ b. Coded b (clashes_in form tables what) (targets_first tables what) (orders_pointers what) (is_cast what) code) (unknown-same scope tables what t)
+    ∙ ap (λ b. Coded (names_unknown scope what) b (targets_first tables what) (orders_pointers what) (is_cast what) code) (clash-same form scope tables what t)
+    ∙ ap (λ b. Coded (names_unknown scope what) (clashes form scope what) b (orders_pointers what) (is_cast what) code) (entry-same scope tables what t)
 
-pub line-in : (scope : Scope) (tables : Tables) (what : Statement) (code : ℕ) → AreTables scope tables → LineFaultIn tables what code → LineFault scope what code
-line-in scope tables what code t f = subst (λ (F : Type 0). F) (coded-same scope tables what code t) f
+pub line-in : (form : Form) (scope : Scope) (tables : Tables) (what : Statement) (code : ℕ) → AreTables scope tables → LineFaultIn form tables what code → LineFault form scope what code
+line-in form scope tables what code t f = subst (λ (F : Type 0). F) (coded-same form scope tables what code t) f
 
-pub line-of : (scope : Scope) (tables : Tables) (what : Statement) (code : ℕ) → AreTables scope tables → LineFault scope what code → LineFaultIn tables what code
-line-of scope tables what code t f = subst (λ (F : Type 0). F) (sym (coded-same scope tables what code t)) f
+pub line-of : (form : Form) (scope : Scope) (tables : Tables) (what : Statement) (code : ℕ) → AreTables scope tables → LineFault form scope what code → LineFaultIn form tables what code
+line-of form scope tables what code t f = subst (λ (F : Type 0). F) (sym (coded-same form scope tables what code t)) f

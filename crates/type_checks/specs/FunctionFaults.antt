@@ -1,8 +1,10 @@
 -- What the passes over a function find.
-use Rattle.std.specs.Prelude.{◌≡◌, ◌≢◌, ℕ, ◌⊎◌, Bool, false, nat_eq, List, Option, None, Some, map, filter_map, length}
+use Rattle.std.specs.Prelude.{◌≡◌, ◌≢◌, ℕ, ◌⊎◌, Bool, true, false, nat_eq, List, Option, None, Some, map, filter_map, length}
 use Rattle.std.specs.List.{list_any, Contains}
 use Rattle.ir_reader.specs.declared.readings.TypeWord.{TypeWord}
 use Rattle.ir_reader.specs.Parts.{Val}
+use Rattle.ir_ast.specs.declared.modules.Form.{Form}
+use Rattle.ir_ast.specs.declared.modules.Form.TheVariants.{Source, Rewritten}
 use Rattle.ir_lines.specs.declared.scope.Local.{Local}
 use Rattle.ir_lines.specs.Statements.{Statement, Line, phi, switch, switch_case}
 use Rattle.ir_lines.specs.Parts.{leaving, local_name}
@@ -14,21 +16,22 @@ use Rattle.type_checks.specs.LineFaults.{Tables, LineFault, LineFaultIn}
 use Rattle.ir_lines.specs.Faults.TypeClash.{number_said, case_numbers}
 use Rattle.ir_lines.specs.Faults.PhiEdges.{PhiIsWrong}
 use Rattle.ir_lines.specs.Faults.DerivedEscapes.{Derived}
+use Rattle.ir_lines.specs.Faults.GroupShape.{misshapes, PartIsWrong}
 
 -- ---- lines by themselves
 
 -- of one line, with those before and those behind it
-abbrev pub LineInAt : Tables → List Line → Line → List Line → ℕ → ℕ → Type 0
-LineInAt tables before here after line code = (line ≡ here.number) × LineFaultIn tables here.says code
+abbrev pub LineInAt : Form → Tables → List Line → Line → List Line → ℕ → ℕ → Type 0
+LineInAt form tables before here after line code = (line ≡ here.number) × LineFaultIn form tables here.says code
 
-abbrev pub LineAt : Scope → List Line → Line → List Line → ℕ → ℕ → Type 0
-LineAt scope before here after line code = (line ≡ here.number) × LineFault scope here.says code
+abbrev pub LineAt : Form → Scope → List Line → Line → List Line → ℕ → ℕ → Type 0
+LineAt form scope before here after line code = (line ≡ here.number) × LineFault form scope here.says code
 
-abbrev pub LinesIn : Tables → List Line → ℕ → ℕ → Type 0
-LinesIn tables body = Found (LineInAt tables) body
+abbrev pub LinesIn : Form → Tables → List Line → ℕ → ℕ → Type 0
+LinesIn form tables body = Found (LineInAt form tables) body
 
-abbrev pub LinesOf : Scope → List Line → ℕ → ℕ → Type 0
-LinesOf scope body = Found (LineAt scope) body
+abbrev pub LinesOf : Form → Scope → List Line → ℕ → ℕ → Type 0
+LinesOf form scope body = Found (LineAt form scope) body
 
 -- ---- cases
 
@@ -101,23 +104,37 @@ EscapeAt func before here after line code = (code ≡ 9) × (line ≡ here.numbe
 abbrev pub EscapesOf : Definition → List Line → ℕ → ℕ → Type 0
 EscapesOf func body = Found (EscapeAt func) body
 
+-- ---- statepoint groups
+
+abbrev pub ShapeAt : Scope → Definition → List Line → Line → List Line → ℕ → ℕ → Type 0
+ShapeAt scope func before here after line code =
+    (code ≡ 18) × (line ≡ here.number) × ((misshapes scope here.says ≡ true) ⊎ PartIsWrong func before here.says)
+
+abbrev pub ShapesOf : Scope → Definition → List Line → ℕ → ℕ → Type 0
+ShapesOf scope func body = Found (ShapeAt scope func) body
+
 -- ---- a function
 
--- what the lines of a function have, besides what its names have
-abbrev pub FoundWithin : Scope → Definition → ℕ → ℕ → Type 0
-FoundWithin scope func line code =
-    LinesOf scope func.body line code
-    ⊎ (CasesOf func.body line code ⊎ (PhisOf scope (blocks_of func) line code ⊎ EscapesOf func func.body line code))
+-- what only one of the two forms asks
+abbrev pub FoundByForm : Form → Scope → Definition → ℕ → ℕ → Type 0
+FoundByForm Source scope func = EscapesOf func func.body
+FoundByForm Rewritten scope func = ShapesOf scope func func.body
 
-abbrev pub FoundInFunction : Scope → Definition → ℕ → ℕ → Type 0
-FoundInFunction scope func line code = FoundByNames func line code ⊎ FoundWithin scope func line code
+-- what the lines of a function have, besides what its names have
+abbrev pub FoundWithin : Form → Scope → Definition → ℕ → ℕ → Type 0
+FoundWithin form scope func line code =
+    LinesOf form scope func.body line code
+    ⊎ (CasesOf func.body line code ⊎ (PhisOf scope (blocks_of func) line code ⊎ FoundByForm form scope func line code))
+
+abbrev pub FoundInFunction : Form → Scope → Definition → ℕ → ℕ → Type 0
+FoundInFunction form scope func line code = FoundByNames form func line code ⊎ FoundWithin form scope func line code
 
 -- what the definitions among these lines have
-abbrev pub FunctionAt : List Line → List Definition → Definition → List Definition → ℕ → ℕ → Type 0
-FunctionAt lines before func after = FoundInFunction (scope_of lines func) func
+abbrev pub FunctionAt : Form → List Line → List Definition → Definition → List Definition → ℕ → ℕ → Type 0
+FunctionAt form lines before func after = FoundInFunction form (scope_of lines func) func
 
-abbrev pub InFunctions : List Line → List Definition → ℕ → ℕ → Type 0
-InFunctions lines funcs = Found (FunctionAt lines) funcs
+abbrev pub InFunctions : Form → List Line → List Definition → ℕ → ℕ → Type 0
+InFunctions form lines funcs = Found (FunctionAt form lines) funcs
 
 -- a table holds the names of the values and the blocks of a scope
 pub record AreNames (scope : Scope) (local : Local) : Type 0 where

@@ -4,4 +4,5 @@ pub mod Founds
 pub mod FunctionFaults
 pub mod Follows
 pub mod Derivations
+pub mod Groups
 pub mod Edges

@@ -11,8 +11,11 @@ use Rattle.ir_reader.specs.Seen.{seen_value}
 use Rattle.ir_reader.specs.Parts.{Val}
 use Rattle.ir_reader.specs.Parts as values
 use Rattle.ir_reader.specs.Lists.{Given, given, function}
+use Rattle.ir_reader.specs.Statepoints.{Guarded}
+use Rattle.ir_ast.specs.declared.modules.Form.{Form}
 use Rattle.type_checks.specs.declared.lines.Scope.{Scope as ScopeTable}
-use Rattle.ir_lines.specs.Statements.{Statement, Line, convert, select, phi, layout_step, load, store, call, ret_void, ret}
+use Rattle.ir_lines.specs.Statements.{Statement, Line, convert, select, phi, layout_step, load, store, call, ret_void, ret, statepoint}
+use Rattle.ir_lines.specs.TextForms.{is_source}
 use Rattle.ir_lines.specs.Parts.{uses, local_name, targets, passed_function, layouts_named}
 use Rattle.ir_lines.specs.Places.{place_in, number_in}
 use Rattle.ir_lines.specs.Sections.{Head}
@@ -21,7 +24,7 @@ use Rattle.ir_lines.specs.Types.{same_type, is_cell, literal_fits, takes_null}
 use Rattle.ir_lines.specs.Again.{at_name}
 use Rattle.ir_lines.specs.Tables.{seen_head}
 use Rattle.ir_lines.specs.Faults.UnknownName.{names_unknown}
-use Rattle.ir_lines.specs.Faults.TypeClash.{clashes, widens, is_field, is_task, agrees}
+use Rattle.ir_lines.specs.Faults.TypeClash.{clashes, widens, is_field, is_task, checks_kind, agrees, takes_types}
 use Rattle.ir_lines.specs.Faults.EntryHasPred.{names_entry}
 use Rattle.ir_lines.specs.Faults.PointerOrder.{orders_pointers}
 use Rattle.ir_lines.specs.Faults.PointerCast.{is_cast}
@@ -35,16 +38,16 @@ pub data Coded (unknown clash entry order conversion : Bool) (code : ℕ) : Type
   pointer_cast : code ≡ 16 → conversion ≡ true → Coded unknown clash entry order conversion code
 
 -- the codes that a line has by itself
-abbrev pub LineFault : Scope → Statement → ℕ → Type 0
-LineFault scope what code =
-    Coded (names_unknown scope what) (clashes scope what) (names_entry scope what) (orders_pointers what) (is_cast what) code
+abbrev pub LineFault : Form → Scope → Statement → ℕ → Type 0
+LineFault form scope what code =
+    Coded (names_unknown scope what) (clashes form scope what) (names_entry scope what) (orders_pointers what) (is_cast what) code
 
 -- a line among these has the code
-pub record LineFaults (scope : Scope) (lines : List Line) (line code : ℕ) : Type 0 where
+pub record LineFaults (form : Form) (scope : Scope) (lines : List Line) (line code : ℕ) : Type 0 where
   pub found : Line
   pub inside : Contains lines found
   pub number : found.number ≡ line
-  pub faulty : LineFault scope found.says code
+  pub faulty : LineFault form scope found.says code
 
 -- ---- over tables
 
@@ -114,6 +117,7 @@ misses_passed names passed = list_any (λ one. is_missing names (passed_function
 
 abbrev pub misses_function : List (List ℕ) → Statement → Bool
 misses_function names (call result answer callee passed) = is_none (place_in names callee) || misses_passed names passed
+misses_function names (statepoint result made live) = is_none (place_in names made.callee) || misses_passed names made.passed
 misses_function names _ = false
 
 abbrev pub misses_name : Tables → Statement → Bool
@@ -155,24 +159,34 @@ abbrev pub task_starts : Tables → List Given → Bool
 task_starts tables [] = false
 task_starts tables (one ∷ passed) = starts_at tables one
 
-abbrev pub call_fits : Tables → TypeWord → List ℕ → List Given → Bool
-call_fits tables answer callee passed =
-    agrees answer passed (at_name tables.heads tables.head_list callee)
-    && (not (bytes_eq callee (codes "task_start")) || task_starts tables passed)
+abbrev pub operands_fit : Form → Tables → List ℕ → List Given → Bool
+operands_fit form tables callee passed =
+    (not (bytes_eq callee (codes "task_start")) || task_starts tables passed)
+    && (is_source form || not (bytes_eq callee (codes "gc_check")) || checks_kind passed)
 
-abbrev pub rule_kept : Tables → Statement → Bool
-rule_kept tables (convert result op width value to) = widens op width to
-rule_kept tables (select result condition left_ty left right_ty right) = same_type left_ty right_ty
-rule_kept tables (layout_step result named address width index place) = count_fits place (at_name tables.layouts tables.fields named)
-rule_kept tables (load result ty address) = is_cell ty
-rule_kept tables (store ty value address) = is_cell ty
-rule_kept tables (call result answer callee passed) = call_fits tables answer callee passed
-rule_kept tables ret_void = same_type Void tables.answer
-rule_kept tables (ret ty value) = same_type ty tables.answer
-rule_kept tables _ = true
+abbrev pub call_fits : Form → Tables → TypeWord → List ℕ → List Given → Bool
+call_fits form tables answer callee passed =
+    agrees answer passed (at_name tables.heads tables.head_list callee) && operands_fit form tables callee passed
 
-abbrev pub clashes_in : Tables → Statement → Bool
-clashes_in tables what = misfits_in tables what || not (rule_kept tables what)
+abbrev pub statepoint_fits : Form → Tables → Guarded → Bool
+statepoint_fits form tables made =
+    call_fits form tables made.signature.answer made.callee made.passed
+    && (takes_types made.signature.parameters (at_name tables.heads tables.head_list made.callee) && literal_fits (Int 32) made.count)
+
+abbrev pub rule_kept : Form → Tables → Statement → Bool
+rule_kept form tables (convert result op width value to) = widens op width to
+rule_kept form tables (select result condition left_ty left right_ty right) = same_type left_ty right_ty
+rule_kept form tables (layout_step result named address width index place) = count_fits place (at_name tables.layouts tables.fields named)
+rule_kept form tables (load result ty address) = is_cell ty
+rule_kept form tables (store ty value address) = is_cell ty
+rule_kept form tables (call result answer callee passed) = call_fits form tables answer callee passed
+rule_kept form tables (statepoint result made live) = statepoint_fits form tables made
+rule_kept form tables ret_void = same_type Void tables.answer
+rule_kept form tables (ret ty value) = same_type ty tables.answer
+rule_kept form tables _ = true
+
+abbrev pub clashes_in : Form → Tables → Statement → Bool
+clashes_in form tables what = misfits_in tables what || not (rule_kept form tables what)
 
 -- a name, where there is one, of the first of these
 abbrev pub is_first : List (List ℕ) → Option (List ℕ) → Bool
@@ -182,6 +196,6 @@ is_first names (Some name) = number_in names name == 0
 abbrev pub targets_first : Tables → Statement → Bool
 targets_first tables what = list_any (λ name. number_in tables.blocks name == 0) (targets what)
 
-abbrev pub LineFaultIn : Tables → Statement → ℕ → Type 0
-LineFaultIn tables what code =
-    Coded (misses_name tables what) (clashes_in tables what) (targets_first tables what) (orders_pointers what) (is_cast what) code
+abbrev pub LineFaultIn : Form → Tables → Statement → ℕ → Type 0
+LineFaultIn form tables what code =
+    Coded (misses_name tables what) (clashes_in form tables what) (targets_first tables what) (orders_pointers what) (is_cast what) code

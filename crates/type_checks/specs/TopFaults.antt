@@ -4,6 +4,8 @@ use Rattle.std.specs.List.{Contains}
 use Rattle.std.specs.Str.{bytes_eq}
 use Rattle.ir_reader.specs.declared.readings.TypeWord.{TypeWord}
 use Rattle.ir_reader.specs.Lists.{Named}
+use Rattle.ir_ast.specs.declared.modules.Form.{Form}
+use Rattle.ir_ast.specs.declared.modules.Form.TheVariants.{Source}
 use Rattle.ir_ast.specs.Lists.{HasFront}
 use Rattle.ir_ast.specs.Faults.Reserved.{IsExternalName}
 use Rattle.ir_lines.specs.Statements.{Statement, Line, layout, declare, define}
@@ -15,36 +17,36 @@ use Rattle.ir_lines.specs.Faults.NoMain.{is_main}
 use Rattle.ir_lines.specs.Again.{TopAgain}
 
 -- the codes of a declaration, where definitions and layouts have these names
-abbrev pub DeclareFault : List (List ℕ) → List (List ℕ) → TypeWord → List ℕ → List Named → ℕ → Type 0
-DeclareFault functions layouts answer name parameters code =
+abbrev pub DeclareFault : Form → List (List ℕ) → List (List ℕ) → TypeWord → List ℕ → List Named → ℕ → Type 0
+DeclareFault form functions layouts answer name parameters code =
     ((code ≡ 3) × Contains functions name)
     ⊎ (((code ≡ 12) × ¬ Contains (externals_of layouts) (external name answer (types_of parameters)))
-    ⊎ ((code ≡ 14) × (Contains helpers name ⊎ HasFront (codes "llvm.") name)))
+    ⊎ ((code ≡ 14) × (form ≡ Source) × (Contains helpers name ⊎ HasFront (codes "llvm.") name)))
 
 abbrev pub DefineFault : List ℕ → Option (List ℕ) → ℕ → Type 0
 DefineFault name strategy code = ((code ≡ 10) × (is_strategy strategy ≡ false)) ⊎ ((code ≡ 14) × IsExternalName name)
 
 -- the codes of a line outside functions
-abbrev pub OuterFault : List (List ℕ) → List (List ℕ) → Statement → ℕ → Type 0
-OuterFault functions layouts (layout name fields) code = (code ≡ 13) × (are_cells fields ≡ false)
-OuterFault functions layouts (declare answer name parameters) code = DeclareFault functions layouts answer name parameters code
-OuterFault functions layouts (define answer name arguments strategy) code = DefineFault name strategy code
-OuterFault functions layouts _ code = ⊥
+abbrev pub OuterFault : Form → List (List ℕ) → List (List ℕ) → Statement → ℕ → Type 0
+OuterFault form functions layouts (layout name fields) code = (code ≡ 13) × (are_cells fields ≡ false)
+OuterFault form functions layouts (declare answer name parameters) code = DeclareFault form functions layouts answer name parameters code
+OuterFault form functions layouts (define answer name arguments strategy) code = DefineFault name strategy code
+OuterFault form functions layouts _ code = ⊥
 
 -- a line outside functions has the code
-pub record OuterFaults (functions layouts : List (List ℕ)) (lines : List Line) (line code : ℕ) : Type 0 where
+pub record OuterFaults (form : Form) (functions layouts : List (List ℕ)) (lines : List Line) (line code : ℕ) : Type 0 where
   pub found : Line
   pub inside : Contains lines found
   pub number : found.number ≡ line
-  pub faulty : OuterFault functions layouts found.says code
+  pub faulty : OuterFault form functions layouts found.says code
 
 -- there is no main function that takes nothing and answers `i32` or `i64`
 abbrev pub LacksMain : List Definition → ℕ → ℕ → Type 0
 LacksMain funcs line code =
     ((line ≡ 0) × (code ≡ 11)) × (is_main (find (λ func. bytes_eq func.name (codes "main")) funcs) ≡ false)
 
-abbrev pub FoundByTop : List Line → ℕ → ℕ → Type 0
-FoundByTop lines line code =
+abbrev pub FoundByTop : Form → List Line → ℕ → ℕ → Type 0
+FoundByTop form lines line code =
     TopAgain lines line code
-    ⊎ (OuterFaults (map (λ one. one.name) (definitions_of lines)) (map (λ one. one.name) (layouts_of lines)) lines line code
+    ⊎ (OuterFaults form (map (λ one. one.name) (definitions_of lines)) (map (λ one. one.name) (layouts_of lines)) lines line code
     ⊎ LacksMain (definitions_of lines) line code)

@@ -92,7 +92,8 @@ struct Sources {
     users: Vec<Vec<usize>>,
 }
 
-fn is_number(found: Option<usize>, number: usize) -> bool
+/// Whether the place that was found is this one.
+pub(crate) fn is_number(found: Option<usize>, number: usize) -> bool
     ensures { result ≡ is_number found number }
 {
     match found {
@@ -111,8 +112,8 @@ fn gives_first(local: &Local, number: usize, reading: &Reading) -> bool
     }
 }
 
-// How many values a line gives.
-fn count_given(reading: &Reading) -> usize
+/// How many values a line gives.
+pub(crate) fn count_given(reading: &Reading) -> usize
     ensures { result ≡ count_given (gives (said reading.now)) }
 {
     match given(reading) {

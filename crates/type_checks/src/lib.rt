@@ -5,6 +5,7 @@ mod cases;
 mod checks;
 mod derived;
 mod fits;
+mod groups;
 mod lines;
 mod phis;
 mod tops;

@@ -1,9 +1,10 @@
 //! The faults of a line of a function that the line has by itself.
 
-ghost use Rattle.std.specs.Prelude.{◌≡◌, ◌||◌, [], map, is_none, option_map, OnOk};
+ghost use Rattle.std.specs.Prelude.{◌≡◌, ◌||◌, ◌&&◌, [], codes, not, map, is_none, option_map, OnOk};
 ghost use Rattle.std.specs.Option.{option_copied};
-ghost use Rattle.ir_reader.specs.Seen.{seen_argument, seen_entry, seen_passed, seen_value};
-ghost use Rattle.type_checks.specs.LineFaults.{Coded, LineFaultIn, tables_in, seen_use, is_missing, is_first, misses, misses_used, misses_entry, misses_label_of_phi, misses_label, misses_passed, misses_function, misses_name, misfits_of, count_fits, starts_at, task_starts, call_fits, rule_kept, clashes_in, targets_first};
+ghost use Rattle.std.specs.Str.{bytes_eq};
+ghost use Rattle.ir_reader.specs.Seen.{seen_argument, seen_entry, seen_passed, seen_value, seen_guarded};
+ghost use Rattle.type_checks.specs.LineFaults.{Coded, LineFaultIn, tables_in, seen_use, is_missing, is_first, misses, misses_used, misses_entry, misses_label_of_phi, misses_label, misses_passed, misses_function, misses_name, misfits_of, count_fits, starts_at, task_starts, operands_fit, call_fits, statepoint_fits, rule_kept, clashes_in, targets_first};
 ghost use Rattle.type_checks.specs.FunctionFaults.{LinesIn};
 ghost use Rattle.ir_lines.specs.Modules.{passed_type};
 ghost use Rattle.ir_lines.specs.Notes.{Notes};
@@ -11,29 +12,34 @@ ghost use Rattle.ir_lines.specs.Parts.{local_name, passed_function, layouts_name
 ghost use Rattle.ir_lines.specs.Places.{place_in};
 ghost use Rattle.ir_lines.specs.Sections.{types_of};
 ghost use Rattle.ir_lines.specs.Tables.{seen_head};
-ghost use Rattle.ir_lines.specs.Types.{same_type, same_types};
+ghost use Rattle.ir_lines.specs.Types.{same_type, same_types, literal_fits};
 ghost use Rattle.ir_lines.specs.Views.{said, seen_lines};
-ghost use Rattle.ir_lines.specs.Faults.TypeClash.{widens, is_field, is_task, agrees};
+ghost use Rattle.ir_lines.specs.Faults.TypeClash.{widens, is_field, is_task, is_kind, gives_kind, checks_kind, agrees, takes_types};
+ghost use Rattle.ir_lines.specs.TextForms.{is_source};
+ghost use Rattle.ir_lines.specs.Again.{at_name};
 ghost use Rattle.ir_lines.specs.Faults.PointerCast.{is_cast};
 ghost use Rattle.ir_lines.specs.Faults.PointerOrder.{is_order, orders, orders_pointers};
 
 use crate::fits::fits;
 use crate::tops::has_types;
-use ir_ast::Pred;
+use ir_ast::{Form, Pred};
 use ir_lines::best::First;
-use ir_lines::literals::{is_cell, same_type};
+use ir_lines::literals::{is_cell, is_within, same_type, wrapped};
 use ir_lines::names::{Names, is_text};
 use ir_lines::operands::passed_type;
 use ir_lines::parts::{targets, uses};
 use ir_lines::scope::{Head, Local, Top};
 use ir_reader::{
-    Argument, Conversion, Entry, Literal, NumberedReading, Passed, Reading, TypeWord, Value,
+    Argument, Conversion, Entry, Literal, NumberedReading, Passed, Reading, StatepointCall,
+    TypeWord, Value,
 };
 use std::alloc::{AllocError, Global};
 
 /// What the lines of a function can name.
 #[derive(Clone, Copy)]
 pub(crate) struct Scope<'s, 't, 'a, 'n> {
+    /// The form of the text.
+    pub(crate) form: Form,
     pub(crate) top: &'s Top<'t, 'a>,
     pub(crate) local: &'s Local<'n>,
 }
@@ -149,6 +155,11 @@ fn misses_function(names: &Names, reading: &Reading) -> bool
             passed.as_slice(),
         ),
         Reading::VoidCall { callee, passed } => misses_called(names, callee, passed.as_slice()),
+        Reading::Statepoint { call, .. } => misses_called(
+            names,
+            call.callee,
+            call.passed.as_slice(),
+        ),
         _ => false,
     }
 }
@@ -203,6 +214,59 @@ fn agrees(answer: TypeWord, passed: &[Passed], head: Option<&Head>) -> bool
     }
 }
 
+// Whether these are the types of the head's parameters.
+fn takes_types(types: &[TypeWord], head: Option<&Head>) -> bool
+    ensures { result ≡ takes_types types.now (option_map (λ one. seen_head one.now) head.entry) }
+{
+    match head {
+        Some(head) => are_types_of(types, head.parameters),
+        None => true,
+    }
+}
+
+fn are_types_of(types: &[TypeWord], parameters: &[Argument]) -> bool
+    ensures { result ≡ same_types types.now (types_of (map seen_argument parameters.now)) }
+{
+    if types.len() != parameters.len() {
+        return false;
+    }
+    for (i, ty) in types.iter().enumerate() {
+        if !same_type(*ty, parameters[i].ty) {
+            return false;
+        }
+    }
+    true
+}
+
+// Whether it is the literal 0 or 1, the kind of a cell.
+fn is_kind(value: &Value) -> bool
+    ensures { result ≡ is_kind (seen_value value.now) }
+{
+    match value {
+        Value::Number(literal) => wrapped(64, *literal) <= 1,
+        _ => false,
+    }
+}
+
+fn gives_kind(passed: &Passed) -> bool
+    ensures { result ≡ gives_kind (seen_passed passed.now) }
+{
+    match passed {
+        Passed::Value(_, value) => is_kind(value),
+        Passed::Function(_) => false,
+    }
+}
+
+// Whether the third operand is the kind of a cell.
+fn checks_kind(passed: &[Passed]) -> bool
+    ensures { result ≡ checks_kind (map seen_passed passed.now) }
+{
+    match passed {
+        [_, _, kind, ..] => gives_kind(kind),
+        _ => false,
+    }
+}
+
 fn widens(op: Conversion, from: u32, to: u32) -> bool
     ensures { result ≡ widens op from to }
 {
@@ -212,7 +276,7 @@ fn widens(op: Conversion, from: u32, to: u32) -> bool
     }
 }
 
-fn is_field(place: Literal, count: usize) -> bool
+pub(crate) fn is_field(place: Literal, count: usize) -> bool
     ensures { result ≡ is_field place count }
 {
     (!place.negative || place.magnitude == 0) && place.magnitude < count as u64
@@ -324,16 +388,59 @@ impl Scope<'_, '_, '_, '_> {
         }
     }
 
-    fn call_agrees(&self, answer: TypeWord, callee: &[u8], passed: &[Passed]) -> bool
-        ensures { result ≡ call_fits (tables_in self.now) answer callee.now (map seen_passed passed.now) }
+    fn kind_fits(&self, callee: &[u8], passed: &[Passed]) -> bool
+        ensures { result ≡ (is_source self.now.form || not (bytes_eq callee.now (codes "gc_check")) || checks_kind (map seen_passed passed.now)) }
     {
-        agrees(answer, passed, self.top.head(callee))
-            && (!is_text(callee, b"task_start") || self.starts_task(passed))
+        match self.form {
+            Form::Source => true,
+            Form::Rewritten => !is_text(callee, b"gc_check") || checks_kind(passed),
+        }
+    }
+
+    fn task_fits(&self, callee: &[u8], passed: &[Passed]) -> bool
+        ensures { result ≡ (not (bytes_eq callee.now (codes "task_start")) || task_starts (tables_in self.now) (map seen_passed passed.now)) }
+    {
+        !is_text(callee, b"task_start") || self.starts_task(passed)
+    }
+
+    // What two of the externals ask of their operands.
+    fn takes_operands(&self, callee: &[u8], passed: &[Passed]) -> bool
+        ensures { result ≡ operands_fit self.now.form (tables_in self.now) callee.now (map seen_passed passed.now) }
+    {
+        self.task_fits(callee, passed) && self.kind_fits(callee, passed)
+    }
+
+    fn call_agrees(&self, answer: TypeWord, callee: &[u8], passed: &[Passed]) -> bool
+        ensures { result ≡ call_fits self.now.form (tables_in self.now) answer callee.now (map seen_passed passed.now) }
+    {
+        agrees(answer, passed, self.top.head(callee)) && self.takes_operands(callee, passed)
+    }
+
+    // What a statepoint asks besides the call: the callee's type, and a number of arguments of `i32`.
+    fn statepoint_type_agrees(&self, call: &StatepointCall) -> bool
+        ensures { result ≡ (takes_types (seen_guarded call.now).signature.parameters
+            (at_name self.now.top.now.heads (map seen_head self.now.top.now.head_list.items) (seen_guarded call.now).callee)
+            && literal_fits (TypeWord.Int 32) (seen_guarded call.now).count) }
+    {
+        takes_types(
+            call.function_type.parameters.as_slice(),
+            self.top.head(call.callee),
+        ) && is_within(32, call.count)
+    }
+
+    fn statepoint_agrees(&self, call: &StatepointCall) -> bool
+        ensures { result ≡ statepoint_fits self.now.form (tables_in self.now) (seen_guarded call.now) }
+    {
+        self.call_agrees(
+            call.function_type.answer,
+            call.callee,
+            call.passed.as_slice(),
+        ) && self.statepoint_type_agrees(call)
     }
 
     // What a form asks besides the types of its operands.
     fn keeps_rule(&self, reading: &Reading) -> bool
-        ensures { result ≡ rule_kept (tables_in self.now) (said reading.now) }
+        ensures { result ≡ rule_kept self.now.form (tables_in self.now) (said reading.now) }
     {
         match reading {
             Reading::Convert { op, width, to, .. } => widens(*op, *width, *to),
@@ -356,6 +463,7 @@ impl Scope<'_, '_, '_, '_> {
             Reading::VoidCall { callee, passed } => {
                 self.call_agrees(TypeWord::Void, callee, passed.as_slice())
             }
+            Reading::Statepoint { call, .. } => self.statepoint_agrees(call),
             Reading::ReturnVoid => same_type(TypeWord::Void, self.local.answer),
             Reading::Return { ty, .. } => same_type(*ty, self.local.answer),
             _ => true,
@@ -364,7 +472,7 @@ impl Scope<'_, '_, '_, '_> {
 
     fn clashes(&self, reading: &Reading, used: &[(Value, TypeWord)]) -> bool
         requires { map seen_use used.now ≡ uses (said reading.now) }
-        ensures { result ≡ clashes_in (tables_in self.now) (said reading.now) }
+        ensures { result ≡ clashes_in self.now.form (tables_in self.now) (said reading.now) }
     {
         self.misfits(used) || !self.keeps_rule(reading)
     }
@@ -379,7 +487,7 @@ impl Scope<'_, '_, '_, '_> {
     fn tests(&self, reading: &Reading, used: &[(Value, TypeWord)]) -> Tests
         requires { map seen_use used.now ≡ uses (said reading.now) }
         ensures unknown { result.unknown ≡ misses_name (tables_in self.now) (said reading.now) }
-        ensures clash { result.clash ≡ clashes_in (tables_in self.now) (said reading.now) }
+        ensures clash { result.clash ≡ clashes_in self.now.form (tables_in self.now) (said reading.now) }
         ensures entry { result.entry ≡ targets_first (tables_in self.now) (said reading.now) }
         ensures order { result.order ≡ orders_pointers (said reading.now) }
         ensures cast { result.cast ≡ is_cast (said reading.now) }
@@ -402,7 +510,7 @@ impl Scope<'_, '_, '_, '_> {
         first: &mut First,
     ) -> Result<(), AllocError>
         ensures { OnOk result (Notes first.old.found first.new.found
-            (λ l code. (l ≡ line.now.line) × LineFaultIn (tables_in self.now) (said line.now.reading) code)) }
+            (λ l code. (l ≡ line.now.line) × LineFaultIn self.now.form (tables_in self.now) (said line.now.reading) code)) }
     {
         let uses = uses(alloc, &line.reading)?;
         let tests = self.tests(&line.reading, uses.as_slice());
@@ -417,7 +525,7 @@ impl Scope<'_, '_, '_, '_> {
         lines: &[NumberedReading],
         first: &mut First,
     ) -> Result<(), AllocError>
-        ensures { OnOk result (Notes first.old.found first.new.found (LinesIn (tables_in self.now) (seen_lines lines.now))) }
+        ensures { OnOk result (Notes first.old.found first.new.found (LinesIn self.now.form (tables_in self.now) (seen_lines lines.now))) }
     {
         for line in lines {
             self.note_line(alloc, line, first)?;

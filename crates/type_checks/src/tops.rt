@@ -18,6 +18,7 @@ ghost use Rattle.ir_lines.specs.Faults.NoMain.{is_main, is_status};
 ghost use Rattle.ir_lines.specs.Faults.NoStrategy.{is_strategy};
 ghost use Rattle.ir_lines.specs.Faults.BadLayout.{are_cells};
 
+use ir_ast::Form;
 use ir_lines::best::First;
 use ir_lines::literals::is_cell;
 use ir_lines::names::is_text;
@@ -73,6 +74,16 @@ fn is_of_rewritten(name: &[u8]) -> bool
     ensures { IsTrue result ↔ (Contains helpers name.now ⊎ HasFront (codes "llvm.") name.now) }
 {
     is_helper(name) || is_of_llvm(name)
+}
+
+// Whether no text in this form declares it.
+fn is_reserved(form: Form, name: &[u8]) -> bool
+    ensures { IsTrue result ↔ ((form ≡ Form.Source) × (Contains helpers name.now ⊎ HasFront (codes "llvm.") name.now)) }
+{
+    match form {
+        Form::Source => is_of_rewritten(name),
+        Form::Rewritten => false,
+    }
 }
 
 fn is_basic(name: &[u8]) -> bool
@@ -238,6 +249,7 @@ fn is_external(top: &Top, answer: TypeWord, name: &[u8], parameters: &[Argument]
 // Notes the faults of a declaration.
 fn note_declaration(
     top: &Top,
+    form: Form,
     line: u32,
     answer: TypeWord,
     name: &[u8],
@@ -245,17 +257,17 @@ fn note_declaration(
     first: &mut First,
 )
     ensures { Notes first.old.found first.new.found (λ at code. (at ≡ line)
-        × DeclareFault top.now.functions top.now.layouts answer name.now (map seen_argument parameters.now) code) }
+        × DeclareFault form top.now.functions top.now.layouts answer name.now (map seen_argument parameters.now) code) }
 {
     first.note_if(top.functions.has(name), line, 3);
     first.note_if(!is_external(top, answer, name, parameters), line, 12);
-    first.note_if(is_of_rewritten(name), line, 14);
+    first.note_if(is_reserved(form, name), line, 14);
 }
 
 // Notes the faults of a line outside functions.
-fn note_line(top: &Top, line: &NumberedReading, first: &mut First)
+fn note_line(top: &Top, form: Form, line: &NumberedReading, first: &mut First)
     ensures { Notes first.old.found first.new.found (λ at code. (at ≡ line.now.line)
-        × OuterFault top.now.functions top.now.layouts (said line.now.reading) code) }
+        × OuterFault form top.now.functions top.now.layouts (said line.now.reading) code) }
 {
     match &line.reading {
         Reading::Layout { fields, .. } => {
@@ -265,18 +277,26 @@ fn note_line(top: &Top, line: &NumberedReading, first: &mut First)
             answer,
             name,
             parameters,
-        } => note_declaration(top, line.line, *answer, name, parameters.as_slice(), first),
+        } => note_declaration(
+            top,
+            form,
+            line.line,
+            *answer,
+            name,
+            parameters.as_slice(),
+            first,
+        ),
         Reading::Define { name, strategy, .. } => note_head(line.line, name, *strategy, first),
         _ => {}
     }
 }
 
 /// Notes the faults of lines outside functions.
-pub(crate) fn note_lines(top: &Top, lines: &[NumberedReading], first: &mut First)
-    ensures { Notes first.old.found first.new.found (OuterFaults top.now.functions top.now.layouts (seen_lines lines.now)) }
+pub(crate) fn note_lines(top: &Top, form: Form, lines: &[NumberedReading], first: &mut First)
+    ensures { Notes first.old.found first.new.found (OuterFaults form top.now.functions top.now.layouts (seen_lines lines.now)) }
 {
     for line in lines {
-        note_line(top, line, first);
+        note_line(top, form, line, first);
     }
 }
 

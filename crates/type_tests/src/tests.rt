@@ -6,9 +6,11 @@ use std::alloc::Global;
 use std::process::Abort;
 use std::test::Fail;
 
+mod groups;
 mod lines;
 mod modules;
 mod paths;
+mod printed;
 mod tops;
 
 const HEAD: &[u8] = b"define void @f(i64 %n, ptr addrspace(1) %p) gc \"statepoint-example\" {\n";

@@ -1,11 +1,9 @@
--- Code 9. A derived pointer leaves the registers (Garbage Collection Safepoints in LLVM, "Base & Derived Pointers").
+-- Code 9, of the source form alone. A derived pointer leaves the registers (Garbage Collection Safepoints in LLVM, "Base & Derived Pointers").
 use Rattle.std.specs.Prelude.{◌≡◌, ℕ, true, List, ◌∷◌, ◌++◌, map, filter_map, Option, Some}
 use Rattle.std.specs.List.{Contains, All}
 use Rattle.ir_lines.specs.Statements.{Line, Statement}
 use Rattle.ir_lines.specs.Parts.{gives, is_step, is_merge, values_named, leaving, local_name}
-use Rattle.ir_lines.specs.Sections.{Definition, Naming, definitions_of, arguments_named, result_named, values_of}
-use Rattle.ir_lines.specs.InBody.{Repeats}
-use Rattle.std.specs.Prelude.{[], flat_map}
+use Rattle.ir_lines.specs.Sections.{Definition, definitions_of, result_named, values_before}
 
 -- the line that the name stands for: the first that gives it, where no argument does
 pub record StandsFor (func : Definition) (name : List ℕ) (what : Statement) : Type 0 where
@@ -14,8 +12,7 @@ pub record StandsFor (func : Definition) (name : List ℕ) (what : Statement) : 
   pub after : List Line
   pub body : func.body ≡ before ++ (record { number = number; says = what }) ∷ after
   pub gives_it : Contains (map (λ one. one.name) (result_named number (gives what))) name
-  pub first : ¬ Contains (map (λ one. one.name)
-      (arguments_named func.line [] func.arguments ++ flat_map (λ l. result_named l.number (gives l.says)) before)) name
+  pub first : ¬ Contains (map (λ one. one.name) (values_before func before)) name
 
 -- the least set with each result of a `getelementptr`, and each phi or select with a derived operand
 pub data Derived (func : Definition) : List ℕ → Type 0 where

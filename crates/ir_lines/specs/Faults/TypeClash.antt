@@ -1,5 +1,5 @@
 -- Code 5. An operand doesn't fit, a rule of the form is broken, or a case doesn't fit its `switch`.
-use Rattle.std.specs.Prelude.{◌≡◌, ◌≢◌, ◌⊎◌, ℕ, ◌%◌, ◌^◌, Bool, true, false, not, ◌&&◌, ◌||◌, nat_lt, List, [], ◌∷◌, ◌++◌, map, filter_map, length, codes, Option, Some, None, if◌then◌else◌}
+use Rattle.std.specs.Prelude.{◌≡◌, ◌≢◌, ◌⊎◌, ℕ, ◌%◌, ◌^◌, Bool, true, false, not, ◌&&◌, ◌||◌, nat_lt, nat_le, List, [], ◌∷◌, ◌++◌, map, filter_map, length, codes, Option, Some, None, if◌then◌else◌}
 use Rattle.std.specs.List.{list_any, Contains}
 use Rattle.std.specs.Str.{bytes_eq}
 use Rattle.ir_reader.specs.declared.readings.TypeWord.{TypeWord}
@@ -10,11 +10,14 @@ use Rattle.ir_reader.specs.declared.words.Conversion.TheVariants.{Trunc, Zext, S
 use Rattle.ir_reader.specs.Parts.{Val}
 use Rattle.ir_reader.specs.Parts as values
 use Rattle.ir_reader.specs.Lists.{Given, given, function}
-use Rattle.ir_lines.specs.Statements.{Line, Statement, convert, select, layout_step, load, store, call, switch, switch_case, ret_void, ret}
+use Rattle.ir_reader.specs.Statepoints.{Guarded}
+use Rattle.ir_ast.specs.declared.modules.Form.{Form}
+use Rattle.ir_lines.specs.Statements.{Line, Statement, convert, select, layout_step, load, store, call, switch, switch_case, ret_void, ret, statepoint}
 use Rattle.ir_lines.specs.Parts.{uses}
 use Rattle.ir_lines.specs.Sections.{LayoutLine, Head, Definition, definitions_of, cases_of}
 use Rattle.ir_lines.specs.Scope.{Scope, scope_of, head_named, layout_named}
-use Rattle.ir_lines.specs.Types.{same_type, same_types, is_cell, fits}
+use Rattle.ir_lines.specs.TextForms.{is_source}
+use Rattle.ir_lines.specs.Types.{same_type, same_types, is_cell, literal_fits, fits}
 use Rattle.ir_lines.specs.Modules.{passed_type, wrapped}
 use Rattle.ir_lines.specs.InBody.{InBody}
 
@@ -46,31 +49,62 @@ abbrev pub starts_task : Scope → List Given → Bool
 starts_task scope (function name ∷ passed) = is_task (head_named scope name)
 starts_task scope _ = false
 
+-- the literal 0 or 1, the kind of a cell
+abbrev pub is_kind : Val → Bool
+is_kind (values.number literal) = nat_le (wrapped 64 literal) 1
+is_kind _ = false
+
+abbrev pub gives_kind : Given → Bool
+gives_kind (given ty value) = is_kind value
+gives_kind (function name) = false
+
+-- the third operand of a check is its kind
+abbrev pub checks_kind : List Given → Bool
+checks_kind (base ∷ address ∷ kind ∷ passed) = gives_kind kind
+checks_kind _ = false
+
+-- what two of the externals ask of their operands; only the rewritten form has checks
+abbrev pub takes_operands : Form → Scope → List ℕ → List Given → Bool
+takes_operands form scope callee passed =
+    (not (bytes_eq callee (codes "task_start")) || starts_task scope passed)
+    && (is_source form || not (bytes_eq callee (codes "gc_check")) || checks_kind passed)
+
 abbrev pub agrees : TypeWord → List Given → Option Head → Bool
 agrees answer passed None = true
 agrees answer passed (Some head) =
     same_type answer head.answer && same_types (map passed_type passed) head.parameters
 
 -- a call has the types of what the first head of the name says
-abbrev pub call_agrees : Scope → TypeWord → List ℕ → List Given → Bool
-call_agrees scope answer callee passed =
-    agrees answer passed (head_named scope callee)
-    && (not (bytes_eq callee (codes "task_start")) || starts_task scope passed)
+abbrev pub call_agrees : Form → Scope → TypeWord → List ℕ → List Given → Bool
+call_agrees form scope answer callee passed =
+    agrees answer passed (head_named scope callee) && takes_operands form scope callee passed
+
+-- the parameters of a head have these types
+abbrev pub takes_types : List TypeWord → Option Head → Bool
+takes_types types None = true
+takes_types types (Some head) = same_types types head.parameters
+
+-- a statepoint calls by the type of its callee, and its number of arguments is one of `i32`
+abbrev pub statepoint_agrees : Form → Scope → Guarded → Bool
+statepoint_agrees form scope made =
+    call_agrees form scope made.signature.answer made.callee made.passed
+    && (takes_types made.signature.parameters (head_named scope made.callee) && literal_fits (Int 32) made.count)
 
 -- what a form asks besides
-abbrev pub keeps_rule : Scope → Statement → Bool
-keeps_rule scope (convert result op width value to) = widens op width to
-keeps_rule scope (select result condition left_ty left right_ty right) = same_type left_ty right_ty
-keeps_rule scope (layout_step result named address width index place) = place_fits place (layout_named scope named)
-keeps_rule scope (load result ty address) = is_cell ty
-keeps_rule scope (store ty value address) = is_cell ty
-keeps_rule scope (call result answer callee passed) = call_agrees scope answer callee passed
-keeps_rule scope ret_void = same_type Void scope.answer
-keeps_rule scope (ret ty value) = same_type ty scope.answer
-keeps_rule scope _ = true
+abbrev pub keeps_rule : Form → Scope → Statement → Bool
+keeps_rule form scope (convert result op width value to) = widens op width to
+keeps_rule form scope (select result condition left_ty left right_ty right) = same_type left_ty right_ty
+keeps_rule form scope (layout_step result named address width index place) = place_fits place (layout_named scope named)
+keeps_rule form scope (load result ty address) = is_cell ty
+keeps_rule form scope (store ty value address) = is_cell ty
+keeps_rule form scope (call result answer callee passed) = call_agrees form scope answer callee passed
+keeps_rule form scope (statepoint result made live) = statepoint_agrees form scope made
+keeps_rule form scope ret_void = same_type Void scope.answer
+keeps_rule form scope (ret ty value) = same_type ty scope.answer
+keeps_rule form scope _ = true
 
-abbrev pub clashes : Scope → Statement → Bool
-clashes scope what = misfits scope what || not (keeps_rule scope what)
+abbrev pub clashes : Form → Scope → Statement → Bool
+clashes form scope what = misfits scope what || not (keeps_rule form scope what)
 
 -- the number that a case names, modulo 2^width
 abbrev pub number_said : ℕ → Val → Option ℕ
@@ -105,6 +139,6 @@ pub record CaseClash (lines : List Line) (line : ℕ) : Type 0 where
   pub wrong : (case_width ≢ width)
       ⊎ ((value : ℕ) × (number_said width case ≡ Some value) × Contains (case_numbers width earlier) value)
 
-pub data TypeClash (lines : List Line) (line : ℕ) : Type 0 where
-  by_line : InBody lines line clashes → TypeClash lines line
-  by_case : CaseClash lines line → TypeClash lines line
+pub data TypeClash (form : Form) (lines : List Line) (line : ℕ) : Type 0 where
+  by_line : InBody lines line (clashes form) → TypeClash form lines line
+  by_case : CaseClash lines line → TypeClash form lines line

@@ -3,5 +3,5 @@ use Rattle.ir_lines.proofs.scope.note_name.Goals as goal
 
 pub returns : goal.returns
 returns c =
-    name-notes c.args.line c.args.name.now c.args.is_new c.is_inserted.result c.args.first.now.found c.note_if.new.self.found
-    c.note_if-2.new.self.found c.is_inserted.ensures c.note_if.ensures c.note_if-2.ensures
+    name-notes c.args.form c.args.line c.args.name.now c.args.is_new c.is_reserved.result c.args.first.now.found c.note_if.new.self.found
+    c.note_if-2.new.self.found c.is_reserved.ensures c.note_if.ensures c.note_if-2.ensures

@@ -1,6 +1,5 @@
-use Rattle.std.proofs.Common.{◌≡◌, true}
-use Rattle.ir_reader.proofs.Openings.{opens}
+use Rattle.ir_reader.proofs.FamilyLines.{form_is}
 use Rattle.ir_reader.proofs.laws.one_form.Goals as goal
 
 pub returns : goal.returns
-returns c = λ form line fits. opens form line fits
+returns c = λ text form says line rest fits stands. form_is text form says line rest fits stands

@@ -2,36 +2,36 @@ use Rattle.std.proofs.Common.{◌≡◌, ◌+◌, List, [], ◌∷◌, Ok, sym, 
 use Rattle.std.specs.Prelude.{map}
 use Rattle.std.proofs.lemmas.Result.{err_from_is_err_and}
 use Rattle.sp_text.specs.Lines.{NumberedLine, lines_left, lines_of, seen_line}
-use Rattle.ir_reader.specs.Text.{readings, text_readings, opening}
+use Rattle.ir_reader.specs.Text.{readings, readings_in, opening}
 use Rattle.ir_reader.specs.Raws.{seen_numbered}
 use Rattle.ir_reader.proofs.LineByLine.{with_lines, with_none, goes_on, ends_at, is_whole, is_cut}
 use Rattle.ir_reader.proofs.text.all_readings.Goals as goal
 
 pub loop-line-init : goal.loop-line-init
-unfolding text_readings
-loop-line-init c = (rw (c.new-readings.ensures.items, c.of-lines.ensures.all) (with_none (readings opening 1 (lines_of c.args.text.now))), refl)
+unfolding readings_in
+loop-line-init c = (rw (c.new-readings.ensures.items, c.of-lines.ensures.all) (with_none (readings (opening c.args.form) 1 (lines_of c.args.text.now))), refl)
 
 pub returns-in_err-read_line : goal.returns-in_err-read_line
 returns-in_err-read_line c =
     let p = err_from_is_err_and c.from_residual.result c.from_residual.ensures.1 in
-    let so_far : with_lines (map seen_numbered c.loop-line.readings.items) (readings c.loop-line.state c.loop-line.number (seen_line c.in-Some.line ∷ lines_left c.next_line.new.self)) ≡ text_readings c.args.text.now
+    let so_far : with_lines (map seen_numbered c.loop-line.readings.items) (readings c.loop-line.state c.loop-line.number (seen_line c.in-Some.line ∷ lines_left c.next_line.new.self)) ≡ readings_in c.args.form c.args.text.now
     = rw (← c.in-Some.ensures.next) c.loop-line.invariant.0 in
-    rw (p.1, p.2) (ends_at c.in_err-read_line.field-0.0 (seen_line c.in-Some.line) (lines_left c.next_line.new.self) c.loop-line.number c.loop-line.state (map seen_numbered c.loop-line.readings.items) (text_readings c.args.text.now)
+    rw (p.1, p.2) (ends_at c.in_err-read_line.field-0.0 (seen_line c.in-Some.line) (lines_left c.next_line.new.self) c.loop-line.number c.loop-line.state (map seen_numbered c.loop-line.readings.items) (readings_in c.args.form c.args.text.now)
     so_far c.in_err-read_line.ensures.fault)
 
 pub loop-line-preserved : goal.loop-line-preserved
 loop-line-preserved c =
-    let so_far : with_lines (map seen_numbered c.loop-line.readings.items) (readings c.loop-line.state c.loop-line.number (seen_line c.in-Some.line ∷ lines_left c.next_line.new.self)) ≡ text_readings c.args.text.now
+    let so_far : with_lines (map seen_numbered c.loop-line.readings.items) (readings c.loop-line.state c.loop-line.number (seen_line c.in-Some.line ∷ lines_left c.next_line.new.self)) ≡ readings_in c.args.form c.args.text.now
     = rw (← c.in-Some.ensures.next) c.loop-line.invariant.0 in (
       goes_on (seen_line c.in-Some.line) (lines_left c.next_line.new.self) c.loop-line.number c.loop-line.state c.read_line.new.state (map seen_numbered c.loop-line.readings.items)
-          (map seen_numbered c.read_line.new.readings.items) (text_readings c.args.text.now) so_far c.in_ok-read_line.ensures.ok,
+          (map seen_numbered c.read_line.new.readings.items) (readings_in c.args.form c.args.text.now) so_far c.in_ok-read_line.ensures.ok,
       c.in_ok-read_line.ensures.counts,
     )
 
 pub returns-then-is_top : goal.returns-then-is_top
 returns-then-is_top c =
-    is_whole (lines_left c.loop-line.lines) c.loop-line.number c.loop-line.state (map seen_numbered c.loop-line.readings.items) (text_readings c.args.text.now) c.loop-line.invariant.0 (c.in_default.ensures.end.0 refl) (sym c.is_top.ensures ∙ c.if-is_top.true)
+    is_whole (lines_left c.loop-line.lines) c.loop-line.number c.loop-line.state (map seen_numbered c.loop-line.readings.items) (readings_in c.args.form c.args.text.now) c.loop-line.invariant.0 (c.in_default.ensures.end.0 refl) (sym c.is_top.ensures ∙ c.if-is_top.true)
 
 pub returns : goal.returns
 returns c =
-    is_cut (lines_left c.loop-line.lines) c.loop-line.number c.loop-line.state (map seen_numbered c.loop-line.readings.items) (text_readings c.args.text.now) c.loop-line.invariant.0 (c.in_default.ensures.end.0 refl) (sym c.is_top.ensures ∙ c.if-is_top.false)
+    is_cut (lines_left c.loop-line.lines) c.loop-line.number c.loop-line.state (map seen_numbered c.loop-line.readings.items) (readings_in c.args.form c.args.text.now) c.loop-line.invariant.0 (c.in_default.ensures.end.0 refl) (sym c.is_top.ensures ∙ c.if-is_top.false)

@@ -14,7 +14,7 @@ functions_of-requires c =
 
 pub returns : goal.returns
 returns c =
-    built-module (seen_lines c.args.lines.now) c.in_ok-top.top c.in_ok-top.ensures.is c.of-2.result c.in_ok-layouts.layouts.items
+    built-module c.args.form (seen_lines c.args.lines.now) c.in_ok-top.top c.in_ok-top.ensures.is c.of-2.result c.in_ok-layouts.layouts.items
     c.in_ok-funcs.funcs.items c.in_ok-layouts.ensures
     (c.in_ok-funcs.ensures ∙ ap (λ (fs : List Definition). map (lined_with c.in_ok-top.top) fs)
     (ap (λ (fs : List DefinitionTable). map seen_definition fs) c.as_slice.ensures.value ∙ c.in_ok-found.ensures))

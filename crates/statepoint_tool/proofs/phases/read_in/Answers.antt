@@ -4,5 +4,5 @@ use Rattle.statepoint_tool.specs.Work.{read_step}
 use Rattle.statepoint_tool.proofs.TextLaws.{lines_of-seen}
 use Rattle.statepoint_tool.proofs.phases.read_in.Goals as goal
 
-pub returns-in-Ok : goal.returns-in-Ok
-returns-in-Ok c = record { read = ap Go (sym (lines_of-seen c.in-Ok.raw.lines)) ∙ sym (ap read_step c.in-Ok.ensures.exact) }
+pub returns-in-Ok-clause-read : goal.returns-in-Ok-clause-read
+returns-in-Ok-clause-read c = ap Go (sym (lines_of-seen c.in-Ok.raw.lines)) ∙ sym (ap read_step c.in-Ok.ensures.exact)

@@ -9,7 +9,7 @@ pub returns : goal.returns
 returns c =
     let lines = seen_lines c.args.lines.now in
     let top = c.in_ok-top.ensures.is in
-    notes-whole lines c.in_ok-top.top.functions c.in_ok-top.top.layouts
+    notes-whole c.args.form lines c.in_ok-top.top.functions c.in_ok-top.top.layouts
     (map seen_definition c.as_slice.result.now) (map seen_definition c.as_slice-2.result.now)
     None c.of.new.first.found c.note_lines.new.first.found c.note_main.new.first.found c.note_functions.new.first.found
     top.functions top.layouts

@@ -4,8 +4,8 @@ use Rattle.type_checks.proofs.checks.note_body.Goals as goal
 
 pub returns : goal.returns
 returns c = λ lines top.
-    on-ok c.note_escapes.result _ _
-    (λ escaped. notes-within lines (seen_definition c.args.func.now) c.args.scope.now
-    c.args.first.now.found c.note_lines.new.first.found c.note_cases.new.first.found c.note_phis.new.first.found c.note_escapes.new.first.found
-    top c.requires.local c.in_ok-note_lines.ensures c.in_ok-note_cases.ensures (c.in_ok-note_phis.ensures lines) escaped)
-    c.note_escapes.ensures
+    on-ok c.note_by_form.result _ _
+    (λ by_form. notes-within lines (seen_definition c.args.func.now) c.args.scope.now
+    c.args.first.now.found c.note_lines.new.first.found c.note_cases.new.first.found c.note_phis.new.first.found c.note_by_form.new.first.found
+    top c.requires.local c.in_ok-note_lines.ensures c.in_ok-note_cases.ensures (c.in_ok-note_phis.ensures lines) by_form)
+    (c.note_by_form.ensures lines)

@@ -9,4 +9,4 @@ use Rattle.type_checks.proofs.checks.note_functions.Given as goal
 
 abbrev pub invariant-loop-func : goal.invariant-loop-func
 invariant-loop-func l = (lines : List Line) → IsTop lines l.top
-    → Notes l.initial.first.found l.first.found (FoundUpTo (FunctionAt lines) (map seen_definition l.funcs) l.func-index)
+    → Notes l.initial.first.found l.first.found (FoundUpTo (FunctionAt l.form lines) (map seen_definition l.funcs) l.func-index)

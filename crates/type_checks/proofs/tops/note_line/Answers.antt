@@ -8,5 +8,5 @@ use Rattle.type_checks.proofs.tops.note_line.Goals as goal
 pub returns-in-Define : goal.returns-in-Define
 returns-in-Define c =
     subst (λ (reading : Reading). Notes c.args.first.now.found c.note_head.new.first.found
-    (λ at code. (at ≡ c.args.line.now.line) × OuterFault c.args.top.now.functions c.args.top.now.layouts (said reading) code))
+    (λ at code. (at ≡ c.args.line.now.line) × OuterFault c.args.form c.args.top.now.functions c.args.top.now.layouts (said reading) code))
     (sym c.in-Define.is) c.note_head.ensures

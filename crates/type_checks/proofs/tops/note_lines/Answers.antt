@@ -12,5 +12,5 @@ loop-line-preserved c =
     let one = c.line-item.result in
     let more : seen_lines (take (i + 1) lines) ≡ seen_lines (take i lines) ++ seen_line one ∷ []
     = ap seen_lines (taken lines i one c.loop-line-test.true c.line-item.is) ∙ map-append seen_line (take i lines) (one ∷ []) in
-    outer-more c.args.top.now.functions c.args.top.now.layouts (seen_lines (take i lines)) (seen_lines (take (i + 1) lines)) (seen_line one)
+    outer-more c.args.form c.args.top.now.functions c.args.top.now.layouts (seen_lines (take i lines)) (seen_lines (take (i + 1) lines)) (seen_line one)
     c.args.first.now.found c.loop-line.first.found c.note_line.new.first.found more c.loop-line.invariant c.note_line.ensures

@@ -6,4 +6,4 @@ use Rattle.type_checks.proofs.tops.note_lines.Given as goal
 
 abbrev pub invariant-loop-line : goal.invariant-loop-line
 invariant-loop-line l =
-    Notes l.initial.first.found l.first.found (OuterFaults l.top.functions l.top.layouts (seen_lines (take l.line-index l.lines)))
+    Notes l.initial.first.found l.first.found (OuterFaults l.form l.top.functions l.top.layouts (seen_lines (take l.line-index l.lines)))

@@ -15,7 +15,7 @@ use Rattle.ir_lines.proofs.scope.Local.add_arguments.Goals as goal
 
 pub loop-i-init : goal.loop-i-init
 loop-i-init c =
-    let v = values-none c.args.self.now c.args.first.now.found in
+    let v = values-none c.args.form c.args.self.now c.args.first.now.found in
     record { added = v.added; noted = v.noted }
 
 pub bounds-names-i : goal.bounds-names-i
@@ -48,9 +48,9 @@ loop-i-preserved c =
     = ap (λ (one : Named). one.ty) (get-map seen_argument arguments i blank (seen_argument blank) c.loop-i-test.true) in
     let more : take (i + 1) all ≡ take i all ++ record { line = c.args.line; name = c.as_slice.result.now; ty = ty } ∷ []
     = argument-push c.args.line args i c.as_slice.result.now ty (record { line = 0; name = []; ty = Void }) (seen_argument blank) below named typed in
-    let before : Values c.args.self.now c.loop-i.self c.args.first.now.found c.loop-i.first.found (take i all)
+    let before : Values c.args.form c.args.self.now c.loop-i.self c.args.first.now.found c.loop-i.first.found (take i all)
     = record { added = c.loop-i.invariant.added; noted = c.loop-i.invariant.noted } in
-    let v = values-more c.args.self.now c.loop-i.self c.add_value.new.self c.args.first.now.found c.loop-i.first.found
+    let v = values-more c.args.form c.args.self.now c.loop-i.self c.add_value.new.self c.args.first.now.found c.loop-i.first.found
     c.add_value.new.first.found (take i all) (record { line = c.args.line; name = c.as_slice.result.now; ty = ty } ∷ [])
     (take (i + 1) all) more before c.in_ok-add_value.ensures.added c.in_ok-add_value.ensures.noted in
     record { added = v.added; noted = v.noted }
@@ -68,5 +68,5 @@ returns-clause-noted c =
     let args = map seen_argument c.args.arguments.now in
     let all : length (arguments_named c.args.line [] args) ≤ c.loop-i.i
     = (let a = length-arguments c.args.line [] args in let b = length-map c.args.arguments.now seen_argument in omega arith) in
-    subst (λ (xs : List Naming). Notes c.args.first.now.found c.loop-i.first.found (FoundAfter IsBadName c.args.self.now.values (named_values xs)))
+    subst (λ (xs : List Naming). Notes c.args.first.now.found c.loop-i.first.found (FoundAfter (IsBadName c.args.form) c.args.self.now.values (named_values xs)))
     (take_all c.loop-i.i (arguments_named c.args.line [] args) all) c.loop-i.invariant.noted

@@ -11,5 +11,5 @@ abbrev pub invariant-loop-i : goal.invariant-loop-i
 invariant-loop-i l = record {
   added : AddsValues l.initial.self l.self (take l.i (arguments_named l.line [] (map seen_argument l.arguments)));
   noted : Notes l.initial.first.found l.first.found
-      (FoundAfter IsBadName l.initial.self.values (named_values (take l.i (arguments_named l.line [] (map seen_argument l.arguments)))));
+      (FoundAfter (IsBadName l.form) l.initial.self.values (named_values (take l.i (arguments_named l.line [] (map seen_argument l.arguments)))));
 }

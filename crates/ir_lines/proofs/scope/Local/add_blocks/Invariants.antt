@@ -9,5 +9,5 @@ abbrev pub invariant-loop-block : goal.invariant-loop-block
 invariant-loop-block l = record {
   added : AddsBlocks l.initial.self l.self (map seen_block (take l.block-index l.blocks));
   noted : Notes l.initial.first.found l.first.found
-      (FoundAfter IsBadName l.initial.self.blocks (named_blocks (map seen_block (take l.block-index l.blocks))));
+      (FoundAfter (IsBadName l.form) l.initial.self.blocks (named_blocks (map seen_block (take l.block-index l.blocks))));
 }

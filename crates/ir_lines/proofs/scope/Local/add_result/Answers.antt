@@ -14,5 +14,5 @@ pub returns-in-None-clause-noted : goal.returns-in-None-clause-noted
 returns-in-None-clause-noted c =
     let none : None ≡ gives (said c.args.line.now.reading) = c.in-None.ensures in
     subst (λ (given : Option (List ℕ × TypeWord)). Notes c.args.first.now.found c.args.first.now.found
-    (FoundAfter IsBadName c.args.self.now.values (named_values (result_named c.args.line.now.line given)))) none
-    (notes-nothing c.args.first.now.found (FoundAfter IsBadName c.args.self.now.values []) (found-none IsBadName c.args.self.now.values))
+    (FoundAfter (IsBadName c.args.form) c.args.self.now.values (named_values (result_named c.args.line.now.line given)))) none
+    (notes-nothing c.args.first.now.found (FoundAfter (IsBadName c.args.form) c.args.self.now.values []) (found-none (IsBadName c.args.form) c.args.self.now.values))

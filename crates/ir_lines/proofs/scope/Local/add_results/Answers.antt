@@ -11,7 +11,7 @@ use Rattle.ir_lines.proofs.scope.Local.add_results.Goals as goal
 
 pub loop-line-init : goal.loop-line-init
 loop-line-init c =
-    let v = values-none c.args.self.now c.args.first.now.found in
+    let v = values-none c.args.form c.args.self.now c.args.first.now.found in
     record { added = v.added; noted = v.noted }
 
 pub loop-line-preserved : goal.loop-line-preserved
@@ -23,9 +23,9 @@ loop-line-preserved c =
     = ap (λ ls. results_of (seen_lines ls)) (taken lines i one c.loop-line-test.true c.line-item.is)
     ∙ ap results_of (map-append seen_line (take i lines) (one ∷ []))
     ∙ flat_map-push (λ (l : Line). result_named l.number (gives l.says)) (seen_lines (take i lines)) (seen_line one) in
-    let before : Values c.args.self.now c.loop-line.self c.args.first.now.found c.loop-line.first.found (results_of (seen_lines (take i lines)))
+    let before : Values c.args.form c.args.self.now c.loop-line.self c.args.first.now.found c.loop-line.first.found (results_of (seen_lines (take i lines)))
     = record { added = c.loop-line.invariant.added; noted = c.loop-line.invariant.noted } in
-    let v = values-more c.args.self.now c.loop-line.self c.add_result.new.self c.args.first.now.found c.loop-line.first.found
+    let v = values-more c.args.form c.args.self.now c.loop-line.self c.add_result.new.self c.args.first.now.found c.loop-line.first.found
     c.add_result.new.first.found (results_of (seen_lines (take i lines))) (result_named one.line (gives (said one.reading)))
     (results_of (seen_lines (take (i + 1) lines))) more before c.in_ok-add_result.ensures.added c.in_ok-add_result.ensures.noted in
     record { added = v.added; noted = v.noted }

@@ -9,5 +9,5 @@ abbrev pub invariant-loop-line : goal.invariant-loop-line
 invariant-loop-line l = record {
   added : AddsValues l.initial.self l.self (results_of (seen_lines (take l.line-index l.lines)));
   noted : Notes l.initial.first.found l.first.found
-      (FoundAfter IsBadName l.initial.self.values (named_values (results_of (seen_lines (take l.line-index l.lines)))));
+      (FoundAfter (IsBadName l.form) l.initial.self.values (named_values (results_of (seen_lines (take l.line-index l.lines)))));
 }

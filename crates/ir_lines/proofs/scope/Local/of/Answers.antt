@@ -22,9 +22,9 @@ returns-clause-noted c =
     = c.in_ok-add_arguments.ensures.added.values ∙ ap (λ (names : List (List ℕ)). names ++ map (λ (one : Naming). one.name) args) c.new.ensures in
     let unlabelled : c.add_results.new.self.blocks ≡ []
     = c.in_ok-add_results.ensures.added.blocks ∙ c.in_ok-add_arguments.ensures.added.blocks ∙ c.new-3.ensures in
-    names-noted (seen_definition func) args results f g h i c.add_arguments.new.self.values refl known
-    (subst (λ (names : List (List ℕ)). Notes f g (FoundAfter IsBadName names (named_values args))) c.new.ensures c.in_ok-add_arguments.ensures.noted)
+    names-noted c.args.form (seen_definition func) args results f g h i c.add_arguments.new.self.values refl known
+    (subst (λ (names : List (List ℕ)). Notes f g (FoundAfter (IsBadName c.args.form) names (named_values args))) c.new.ensures c.in_ok-add_arguments.ensures.noted)
     c.in_ok-add_results.ensures.noted
-    (subst (λ (blocks : List BlockLines). Notes h i (FoundAfter IsBadName [] (named_blocks blocks))) c.requires.blocks
-    (subst (λ (names : List (List ℕ)). Notes h i (FoundAfter IsBadName names (named_blocks (map seen_block c.args.blocks.now)))) unlabelled
+    (subst (λ (blocks : List BlockLines). Notes h i (FoundAfter (IsBadName c.args.form) [] (named_blocks blocks))) c.requires.blocks
+    (subst (λ (names : List (List ℕ)). Notes h i (FoundAfter (IsBadName c.args.form) names (named_blocks (map seen_block c.args.blocks.now)))) unlabelled
     c.in_ok-add_blocks.ensures.noted))

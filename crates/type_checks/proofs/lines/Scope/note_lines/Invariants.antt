@@ -7,4 +7,4 @@ use Rattle.type_checks.proofs.lines.Scope.note_lines.Given as goal
 
 abbrev pub invariant-loop-line : goal.invariant-loop-line
 invariant-loop-line l =
-    Notes l.initial.first.found l.first.found (FoundUpTo (LineInAt (tables_in l.self)) (seen_lines l.lines) l.line-index)
+    Notes l.initial.first.found l.first.found (FoundUpTo (LineInAt l.self.form (tables_in l.self)) (seen_lines l.lines) l.line-index)

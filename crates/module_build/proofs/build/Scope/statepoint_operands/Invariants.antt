@@ -1,0 +1,12 @@
+use Rattle.std.proofs.Common.{◌≡◌, ◌++◌, drop}
+use Rattle.std.specs.Prelude.{map}
+use Rattle.ir_reader.specs.Seen.{seen_passed, seen_value}
+use Rattle.ir_lines.specs.Parts.{live_use}
+use Rattle.ir_lines.specs.Modules.{passed_operand, used_operand}
+use Rattle.module_build.specs.Known.{known_in}
+use Rattle.module_build.proofs.build.Scope.statepoint_operands.Given as goal
+
+abbrev pub invariant-loop-entry : goal.invariant-loop-entry
+invariant-loop-entry l =
+    l.operands.items ++ map (used_operand (known_in l.self)) (map live_use (map seen_value (drop l.entry-index l.live)))
+    ≡ map (passed_operand (known_in l.self)) (map seen_passed l.passed) ++ map (used_operand (known_in l.self)) (map live_use (map seen_value l.live))
