@@ -40,7 +40,7 @@ use Rattle.read_back.proofs.OneLine.{OneLine, made}
 
 -- ---- callees
 
-digits_named : (bs : List ℕ) → list_all is_ascii_digit bs ≡ true → list_all in_name bs ≡ true
+pub digits_named : (bs : List ℕ) → list_all is_ascii_digit bs ≡ true → list_all in_name bs ≡ true
 digits_named [] digits = refl
 digits_named (b ∷ bs) digits =
     let both = and_parts (is_ascii_digit b) (list_all is_ascii_digit bs) digits in
@@ -114,7 +114,7 @@ function_passed names have f low = record {
   fits = refl;
 }
 
-each_element : (plain : Bool) (names : Names) (ys : List (Ty × Operand)) → AllByRecursion (PassedReads plain names) ys
+pub each_element : (plain : Bool) (names : Names) (ys : List (Ty × Operand)) → AllByRecursion (PassedReads plain names) ys
     → AllByRecursion (λ y. SpellsElement (passed_at plain) comma EndsAtMark (passed_text names y) (passed_given names y)) ys
 each_element plain names [] all = tt
 each_element plain names (y ∷ ys) all = (all.0.element, each_element plain names ys all.1)
@@ -124,7 +124,7 @@ each_opens : (plain : Bool) (names : Names) (ys : List (Ty × Operand)) → AllB
 each_opens plain names [] all = tt
 each_opens plain names (y ∷ ys) all = (all.0.opens, each_opens plain names ys all.1)
 
-each_fits : (plain : Bool) (names : Names) (ys : List (Ty × Operand)) → AllByRecursion (PassedReads plain names) ys → list_all given_fits (map (passed_given names) ys) ≡ true
+pub each_fits : (plain : Bool) (names : Names) (ys : List (Ty × Operand)) → AllByRecursion (PassedReads plain names) ys → list_all given_fits (map (passed_given names) ys) ≡ true
 each_fits plain names [] all = refl
 each_fits plain names (y ∷ ys) all = rw all.0.fits (each_fits plain names ys all.1)
 

@@ -33,14 +33,14 @@ pub record EndsAtMark (rest : List ℕ) : Type 0 where
 pub at_comma : (rest : List ℕ) → EndsAtMark (44 ∷ 32 ∷ rest)
 at_comma rest = record { stop = refl; spelled = codes ","; begins_so = rw (comma_spelled rest) refl }
 
-anywhere : (text : List ℕ) → stops (continues kinds.Punct) text ≡ true
+pub anywhere : (text : List ℕ) → stops (continues kinds.Punct) text ≡ true
 anywhere [] = refl
 anywhere (c ∷ cs) = refl
 
 pub closing_tokens : (rest : List ℕ) → tokens (41 ∷ rest) ≡ tok kinds.Punct (codes ")") ∷ tokens rest
 closing_tokens rest = tokens-spelled kinds.Punct (codes ")") rest refl (anywhere rest)
 
-at_closing : (rest : List ℕ) → EndsAtMark (41 ∷ rest)
+pub at_closing : (rest : List ℕ) → EndsAtMark (41 ∷ rest)
 at_closing rest = record { stop = refl; spelled = codes ")"; begins_so = rw (closing_tokens rest) refl }
 
 brace_tokens : (rest : List ℕ) → tokens (32 ∷ 125 ∷ rest) ≡ tok kinds.Punct (codes "}") ∷ tokens rest
@@ -49,18 +49,21 @@ brace_tokens rest = tokens-blank 32 (125 ∷ rest) refl ∙ tokens-spelled kinds
 at_brace : (rest : List ℕ) → EndsAtMark (32 ∷ 125 ∷ rest)
 at_brace rest = record { stop = refl; spelled = codes "}"; begins_so = rw (brace_tokens rest) refl }
 
-goes_by_comma : (text : List ℕ) → comma (tokens (44 ∷ 32 ∷ text)) ≡ true
+pub goes_by_comma : (text : List ℕ) → comma (tokens (44 ∷ 32 ∷ text)) ≡ true
 goes_by_comma text = rw (comma_spelled text) refl
 
 -- ---- fields
 
-pub field_element : {text : List ℕ} {of_type : TypeWord} → SpellsType text of_type → is_value_type of_type ≡ true → SpellsElement (allowed_type_at is_value_type) comma EndsAtMark text of_type
-field_element {text} {of_type} t allow = record {
+pub type_element : {text : List ℕ} {of_type : TypeWord} (allows : TypeWord → Bool) → SpellsType text of_type → allows of_type ≡ true → SpellsElement (allowed_type_at allows) comma EndsAtMark text of_type
+type_element {text} {of_type} allows t allow = record {
   clean = t.clean;
-  says = λ rest ends. rw (t.spelled rest ends.stop) (allowed text of_type t is_value_type allow (tokens rest));
+  says = λ rest ends. rw (t.spelled rest ends.stop) (allowed text of_type t allows allow (tokens rest));
   shorter = λ rest ends. rw (t.spelled rest ends.stop) (omega (arith, length-append t.more (tokens rest)));
   goes = λ rest ends. goes_by_comma (text ++ rest);
 }
+
+pub field_element : {text : List ℕ} {of_type : TypeWord} → SpellsType text of_type → is_value_type of_type ≡ true → SpellsElement (allowed_type_at is_value_type) comma EndsAtMark text of_type
+field_element t allow = type_element is_value_type t allow
 
 fields_part : (fs : List TypeWord) (ts us : List Tok) → list_to (allowed_type_at is_value_type) (codes "}") ts ≡ Some (fs, us) → part some_fields ts ≡ Some (fields fs ∷ [], us)
 unfolding part after
@@ -115,10 +118,10 @@ pub defined_step : {f : List Slot} {rest : List ℕ} {first : Option Tok} {items
     → Reads f rest first items → Reads (a_defined ∷ f) (64 ∷ (n ++ (40 ∷ (joined (codes ", ") (map text ys) ++ (41 ∷ rest))))) (Some (tok kinds.Global (64 ∷ n))) (defined n (map said ys) ∷ items)
 defined_step {rest = rest} n is text said ys each opens r =
     let found : list_to (argument_at false) (codes ")") (tokens (joined (codes ", ") (map text ys) ++ (41 ∷ rest))) ≡ Some (map said ys, tok kinds.Punct (codes ")") ∷ tokens rest) =
-    list_read (argument_at false) (codes ")") EndsAtMark text said at_comma ys (41 ∷ rest) each opens (at_closing rest) (rw (closing_tokens rest) refl) (rw (closing_tokens rest) refl)
+    list_read (argument_at false) (codes ")") EndsAtMark text said (λ y rest e ends. at_comma (text y ++ rest)) ys (41 ∷ rest) each opens (at_closing rest) (rw (closing_tokens rest) refl) (rw (closing_tokens rest) refl)
     ∙ ap (λ ts. Some (map said ys, ts)) (closing_tokens rest) in
     step_to a_defined _ (tok kinds.Global (64 ∷ n)) _ (defined n (map said ys) ∷ [])
-    (head_clean n (joined (codes ", ") (map text ys)) rest is (list_clean (argument_at false) comma EndsAtMark text said at_comma ys each) r.clean) (head_tokens n is (joined (codes ", ") (map text ys) ++ (41 ∷ rest)))
+    (head_clean n (joined (codes ", ") (map text ys)) rest is (list_clean (argument_at false) comma EndsAtMark text said (λ y rest e ends. at_comma (text y ++ rest)) ys each) r.clean) (head_tokens n is (joined (codes ", ") (map text ys) ++ (41 ∷ rest)))
     (defined_part n (map said ys) _ (tokens rest) found) r
 
 define_form : (more : List Tok) → word_form (codes "define") more ≡ Some forms.Define
@@ -163,7 +166,7 @@ passed_says {text} {bytes} {of_type} plain t allow s ts =
     rw (allowed text of_type t (is_argument_type plain) (argument_type plain of_type allow) (tok s.kind bytes ∷ ts))
     (rw (past_all-none drops.Groups (tok s.kind bytes ∷ ts) (s.group ts)) (rw (value_behind of_type allow (tok s.kind bytes ∷ ts)) (rw s.says refl)))
 
-passed_spelled : {text bytes : List ℕ} {of_type : TypeWord} {v : Val} (t : SpellsType text of_type) (s : SpellsValue bytes v) (rest : List ℕ) → Stops rest
+pub passed_spelled : {text bytes : List ℕ} {of_type : TypeWord} {v : Val} (t : SpellsType text of_type) (s : SpellsValue bytes v) (rest : List ℕ) → Stops rest
     → tokens ((text ++ (32 ∷ bytes)) ++ rest) ≡ tok kinds.Word t.first ∷ (t.more ++ (tok s.kind bytes ∷ tokens rest))
 passed_spelled {text} {bytes} t s rest stop =
     rw (append_assoc text (32 ∷ bytes) rest) (t.spelled (32 ∷ (bytes ++ rest)) refl
@@ -193,10 +196,10 @@ pub called_step : {f : List Slot} {rest : List ℕ} {first : Option Tok} {items 
     → Reads f rest first items → Reads (a_called ∷ f) (64 ∷ (n ++ (40 ∷ (joined (codes ", ") (map text ys) ++ (41 ∷ rest))))) (Some (tok kinds.Global (64 ∷ n))) (called n (map said ys) ∷ items)
 called_step {rest = rest} n is text said ys each opens r =
     let found : list_to (passed_at (is_task_start n)) (codes ")") (tokens (joined (codes ", ") (map text ys) ++ (41 ∷ rest))) ≡ Some (map said ys, tok kinds.Punct (codes ")") ∷ tokens rest) =
-    list_read (passed_at (is_task_start n)) (codes ")") EndsAtMark text said at_comma ys (41 ∷ rest) each opens (at_closing rest) (rw (closing_tokens rest) refl) (rw (closing_tokens rest) refl)
+    list_read (passed_at (is_task_start n)) (codes ")") EndsAtMark text said (λ y rest e ends. at_comma (text y ++ rest)) ys (41 ∷ rest) each opens (at_closing rest) (rw (closing_tokens rest) refl) (rw (closing_tokens rest) refl)
     ∙ ap (λ ts. Some (map said ys, ts)) (closing_tokens rest) in
     step_to a_called _ (tok kinds.Global (64 ∷ n)) _ (called n (map said ys) ∷ [])
-    (head_clean n (joined (codes ", ") (map text ys)) rest is (list_clean (passed_at (is_task_start n)) comma EndsAtMark text said at_comma ys each) r.clean) (head_tokens n is (joined (codes ", ") (map text ys) ++ (41 ∷ rest)))
+    (head_clean n (joined (codes ", ") (map text ys)) rest is (list_clean (passed_at (is_task_start n)) comma EndsAtMark text said (λ y rest e ends. at_comma (text y ++ rest)) ys each) r.clean) (head_tokens n is (joined (codes ", ") (map text ys) ++ (41 ∷ rest)))
     (called_part n (map said ys) _ (tokens rest) found) r
 
 value_call_form : (more : List Tok) → named_form (codes "call") more ≡ Some forms.ValueCall
@@ -271,7 +274,7 @@ unfolding named_form
 phi_form more = refl
 
 -- a slot whose first token isn't told
-step_any : {f : List Slot} {text : List ℕ} {first : Option Tok} {items : List Item} (s : Slot) (all : List ℕ) (here : List Item) → IsClean all
+pub step_any : {f : List Slot} {text : List ℕ} {first : Option Tok} {items : List Item} (s : Slot) (all : List ℕ) (here : List Item) → IsClean all
     → part s (tokens all) ≡ Some (here, tokens text) → Reads f text first items → Reads (s ∷ f) all (first_of (tokens all)) (here ++ items)
 unfolding parse after
 step_any {f} {text} {first} {items} s all here clean p r = record { whole = rw p (rw r.whole refl); begins = refl; clean = clean }
@@ -279,7 +282,7 @@ step_any {f} {text} {first} {items} s all here clean p r = record { whole = rw p
 phi_lines : {Y : Type 0} (text : Y → List ℕ) (said : Y → Val × List ℕ) (y : Y) (ys : List Y) → All (λ y. SpellsElement entry_at begins_entry Anything (text y) (said y)) (y ∷ ys)
     → listed_at entry_at begins_entry (tokens (text y ++ others text ys)) ≡ Some (map said (y ∷ ys), tokens [])
 phi_lines text said y ys each =
-    rw (append-nil (text y ++ others text ys)) at (listed entry_at begins_entry Anything text said (λ rest. tt) y ys [] each tt (rw tokens-nil refl))
+    rw (append-nil (text y ++ others text ys)) at (listed entry_at begins_entry Anything text said (λ y rest e ends. tt) y ys [] each tt (rw tokens-nil refl))
 
 -- `%x = phi T [ V, %l ], ..`
 pub phi_line : (n : List ℕ) → is_name n ≡ true → {spelled : List ℕ} {of_type : TypeWord} → SpellsType spelled of_type → is_value_type of_type ≡ true
@@ -289,7 +292,7 @@ pub phi_line : (n : List ℕ) → is_name n ≡ true → {spelled : List ℕ} {o
 phi_line n is t allow text said y ys each =
     named_line n (codes "phi") forms.Phi is phi_form refl
     (word (codes "phi") refl refl refl refl (space (type_step t allow refl
-    (space (step_any some_entries (text y ++ others text ys) (entries (map said (y ∷ ys)) ∷ []) (list_clean entry_at begins_entry Anything text said (λ rest. tt) (y ∷ ys) each)
+    (space (step_any some_entries (text y ++ others text ys) (entries (map said (y ∷ ys)) ∷ []) (list_clean entry_at begins_entry Anything text said (λ y rest e ends. tt) (y ∷ ys) each)
     (entries_part (map said (y ∷ ys)) _ _ (phi_lines text said y ys each)) (drop_end drops.Attachments end))))))
 
 -- `%T = type { F, F, .. }`
@@ -303,11 +306,11 @@ layout_line {Y} n is text said ys each opens = record { form_is = form_is; whole
     body = joined (codes ", ") (map text ys) ++ codes " }"
 
     found : list_to (allowed_type_at is_value_type) (codes "}") (tokens body) ≡ Some (map said ys, tokens (codes " }"))
-    found = list_read (allowed_type_at is_value_type) (codes "}") EndsAtMark text said at_comma ys (codes " }") each opens (at_brace []) (rw (brace_tokens []) refl) (rw (brace_tokens []) refl)
+    found = list_read (allowed_type_at is_value_type) (codes "}") EndsAtMark text said (λ y rest e ends. at_comma (text y ++ rest)) ys (codes " }") each opens (at_brace []) (rw (brace_tokens []) refl) (rw (brace_tokens []) refl)
 
     inner : Reads (w (codes "type") ∷ blank ∷ m (codes "{") ∷ blank ∷ some_fields ∷ blank ∷ m (codes "}") ∷ []) (codes "type { " ++ body) (Some (tok kinds.Word (codes "type"))) (fields (map said ys) ∷ [])
     inner = word (codes "type") refl refl refl refl (space (mark 123 refl refl refl (space (step_any some_fields body (fields (map said ys) ∷ [])
-        (clean-both (joined (codes ", ") (map text ys)) (codes " }") (list_clean (allowed_type_at is_value_type) comma EndsAtMark text said at_comma ys each) refl)
+        (clean-both (joined (codes ", ") (map text ys)) (codes " }") (list_clean (allowed_type_at is_value_type) comma EndsAtMark text said (λ y rest e ends. at_comma (text y ++ rest)) ys each) refl)
         (fields_part (map said ys) (tokens body) (tokens (codes " }")) found) (space (mark 125 refl refl refl end))))))
 
     all : Reads (slots forms.Layout) (37 ∷ (n ++ (32 ∷ 61 ∷ 32 ∷ (codes "type { " ++ body)))) (Some (tok kinds.Local (37 ∷ n))) (layout_name n ∷ fields (map said ys) ∷ [])
@@ -338,7 +341,7 @@ parameter_element {text} plain t allow = record {
 pub type_opens : {text : List ℕ} {of_type : TypeWord} (t : SpellsType text of_type) (closing : List ℕ) (rest : List ℕ) → EndsAtMark rest → begins (is_mark closing) (tokens (text ++ rest)) ≡ false
 type_opens t closing rest ends = rw (t.spelled rest ends.stop) refl
 
-plain_spelled : (rest : List ℕ) → Stops rest → tokens (codes "ptr" ++ rest) ≡ tok kinds.Word (codes "ptr") ∷ tokens rest
+pub plain_spelled : (rest : List ℕ) → Stops rest → tokens (codes "ptr" ++ rest) ≡ tok kinds.Word (codes "ptr") ∷ tokens rest
 plain_spelled rest stop = tokens-spelled kinds.Word (codes "ptr") rest refl (stops-kind kinds.Word rest stop)
 
 plain_says : (ts : List Tok) (spelled : List ℕ) → first_of ts ≡ Some (tok kinds.Punct spelled)
@@ -371,10 +374,10 @@ pub declared_step : {f : List Slot} {rest : List ℕ} {first : Option Tok} {item
     → Reads f rest first items → Reads (a_declared ∷ f) (64 ∷ (n ++ (40 ∷ (joined (codes ", ") (map text ys) ++ (41 ∷ rest))))) (Some (tok kinds.Global (64 ∷ n))) (declared n (map said ys) ∷ items)
 declared_step {rest = rest} n is text said ys each opens r =
     let found : list_to (argument_at (is_task_start n)) (codes ")") (tokens (joined (codes ", ") (map text ys) ++ (41 ∷ rest))) ≡ Some (map said ys, tok kinds.Punct (codes ")") ∷ tokens rest) =
-    list_read (argument_at (is_task_start n)) (codes ")") EndsAtMark text said at_comma ys (41 ∷ rest) each opens (at_closing rest) (rw (closing_tokens rest) refl) (rw (closing_tokens rest) refl)
+    list_read (argument_at (is_task_start n)) (codes ")") EndsAtMark text said (λ y rest e ends. at_comma (text y ++ rest)) ys (41 ∷ rest) each opens (at_closing rest) (rw (closing_tokens rest) refl) (rw (closing_tokens rest) refl)
     ∙ ap (λ ts. Some (map said ys, ts)) (closing_tokens rest) in
     step_to a_declared _ (tok kinds.Global (64 ∷ n)) _ (declared n (map said ys) ∷ [])
-    (head_clean n (joined (codes ", ") (map text ys)) rest is (list_clean (argument_at (is_task_start n)) comma EndsAtMark text said at_comma ys each) r.clean) (head_tokens n is (joined (codes ", ") (map text ys) ++ (41 ∷ rest)))
+    (head_clean n (joined (codes ", ") (map text ys)) rest is (list_clean (argument_at (is_task_start n)) comma EndsAtMark text said (λ y rest e ends. at_comma (text y ++ rest)) ys each) r.clean) (head_tokens n is (joined (codes ", ") (map text ys) ++ (41 ∷ rest)))
     (declared_part n (map said ys) _ (tokens rest) found) r
 
 declare_form : (more : List Tok) → word_form (codes "declare") more ≡ Some forms.Declare

@@ -25,7 +25,7 @@ others text ys = led (codes ", ") (map text ys)
 pub comma_spelled : (text : List ℕ) → tokens (44 ∷ 32 ∷ text) ≡ tok kinds.Punct (codes ",") ∷ tokens text
 comma_spelled text = tokens-spelled kinds.Punct (codes ",") (32 ∷ text) refl refl ∙ ap (λ ts. tok kinds.Punct (codes ",") ∷ ts) (tokens-blank 32 text refl)
 
-module _ {A Y : Type 0} (element : List Tok → Found A) (goes_on : List Tok → Bool) (Ends : List ℕ → Type 0) (text : Y → List ℕ) (said : Y → A) (commas : (rest : List ℕ) → Ends (44 ∷ 32 ∷ rest)) where
+module _ {A Y : Type 0} (element : List Tok → Found A) (goes_on : List Tok → Bool) (Ends : List ℕ → Type 0) (text : Y → List ℕ) (said : Y → A) (commas : (y : Y) (rest : List ℕ) → SpellsElement element goes_on Ends (text y) (said y) → Ends rest → Ends (44 ∷ 32 ∷ (text y ++ rest))) where
   abbrev Each : List Y → Type 0
   Each ys = All (λ y. SpellsElement element goes_on Ends (text y) (said y)) ys
 
@@ -35,7 +35,7 @@ module _ {A Y : Type 0} (element : List Tok → Found A) (goes_on : List Tok →
   tail : (y : Y) (ys : List Y) → Each (y ∷ ys) → Each ys
   tail y ys each = All-tail (λ one. SpellsElement element goes_on Ends (text one) (said one)) y ys each
 
-  clean_others : (ys : List Y) → Each ys → IsClean (others text ys)
+  pub clean_others : (ys : List Y) → Each ys → IsClean (others text ys)
   clean_others [] each = refl
   clean_others (y ∷ ys) each = clean-both (codes ", " ++ text y) (others text ys) (clean-both (codes ", ") (text y) refl (head y ys each).clean) (clean_others ys (tail y ys each))
 
@@ -43,9 +43,10 @@ module _ {A Y : Type 0} (element : List Tok → Found A) (goes_on : List Tok →
   list_clean [] each = refl
   list_clean (y ∷ ys) each = clean-both (text y) (others text ys) (head y ys each).clean (clean_others ys (tail y ys each))
 
-  ends_others : (ys : List Y) (rest : List ℕ) → Ends rest → Ends (others text ys ++ rest)
-  ends_others [] rest ends = ends
-  ends_others (y ∷ ys) rest ends = commas ((text y ++ others text ys) ++ rest)
+  pub ends_others : (ys : List Y) (rest : List ℕ) → Each ys → Ends rest → Ends (others text ys ++ rest)
+  ends_others [] rest each ends = ends
+  ends_others (y ∷ ys) rest each ends =
+      rw (append_assoc (text y) (others text ys) rest) (commas y (others text ys ++ rest) (head y ys each) (ends_others ys rest (tail y ys each) ends))
 
   shape : (y z : Y) (zs : List Y) (rest : List ℕ) → (text y ++ others text (z ∷ zs)) ++ rest ≡ text y ++ (44 ∷ 32 ∷ (text z ++ (others text zs ++ rest)))
   shape y z zs rest = simp append_assoc
@@ -57,17 +58,19 @@ module _ {A Y : Type 0} (element : List Tok → Found A) (goes_on : List Tok →
   at_most y (z ∷ zs) rest zero each ends last most = absurd (omega arith)
   at_most y (z ∷ zs) rest (suc count) each ends last most =
       let behind : List ℕ = text z ++ (others text zs ++ rest) in
+      let commaed : Ends (44 ∷ 32 ∷ behind) = commas z (others text zs ++ rest) (head z zs (tail y (z ∷ zs) each)) (ends_others zs rest (tail z zs (tail y (z ∷ zs) each)) ends) in
       let later : at_most_at element goes_on (suc count) (tokens behind) ≡ Some (map said (z ∷ zs), tokens rest) =
       rw append_assoc at (at_most z zs rest count (tail y (z ∷ zs) each) ends last (omega arith)) in
-      rw (shape y z zs rest) (rw ((head y (z ∷ zs) each).says (44 ∷ 32 ∷ behind) (commas behind)) (rw ((head z zs (tail y (z ∷ zs) each)).goes (others text zs ++ rest) (ends_others zs rest ends))
+      rw (shape y z zs rest) (rw ((head y (z ∷ zs) each).says (44 ∷ 32 ∷ behind) commaed) (rw ((head z zs (tail y (z ∷ zs) each)).goes (others text zs ++ rest) (ends_others zs rest (tail z zs (tail y (z ∷ zs) each)) ends))
       (rw (comma_spelled behind) (rw later refl))))
 
   enough : (y : Y) (ys : List Y) (rest : List ℕ) → Each (y ∷ ys) → Ends rest → length ys + length (tokens rest) < length (tokens ((text y ++ others text ys) ++ rest))
   enough y [] rest each ends = rw (append-nil (text y)) (omega (arith, (head y [] each).shorter rest ends))
   enough y (z ∷ zs) rest each ends =
       let behind : List ℕ = text z ++ (others text zs ++ rest) in
+      let commaed : Ends (44 ∷ 32 ∷ behind) = commas z (others text zs ++ rest) (head z zs (tail y (z ∷ zs) each)) (ends_others zs rest (tail z zs (tail y (z ∷ zs) each)) ends) in
       let later : length zs + length (tokens rest) < length (tokens behind) = rw append_assoc at (enough z zs rest (tail y (z ∷ zs) each) ends) in
-      let first : length (tokens (44 ∷ 32 ∷ behind)) < length (tokens (text y ++ (44 ∷ 32 ∷ behind))) = (head y (z ∷ zs) each).shorter (44 ∷ 32 ∷ behind) (commas behind) in
+      let first : length (tokens (44 ∷ 32 ∷ behind)) < length (tokens (text y ++ (44 ∷ 32 ∷ behind))) = (head y (z ∷ zs) each).shorter (44 ∷ 32 ∷ behind) commaed in
       let mark : length (tokens (44 ∷ 32 ∷ behind)) ≡ suc (length (tokens behind)) = ap length (comma_spelled behind) in
       rw (shape y z zs rest) (omega arith)
 
@@ -81,7 +84,8 @@ module _ {A Y : Type 0} (element : List Tok → Found A) (goes_on : List Tok →
       by (suc count) more = at_most y ys rest count each ends last (omega arith)
 
 -- a list to a closing mark
-pub list_read : {A Y : Type 0} (element : List Tok → Found A) (closing : List ℕ) (Ends : List ℕ → Type 0) (text : Y → List ℕ) (said : Y → A) (commas : (rest : List ℕ) → Ends (44 ∷ 32 ∷ rest))
+pub list_read : {A Y : Type 0} (element : List Tok → Found A) (closing : List ℕ) (Ends : List ℕ → Type 0) (text : Y → List ℕ) (said : Y → A)
+    (commas : (y : Y) (rest : List ℕ) → SpellsElement element comma Ends (text y) (said y) → Ends rest → Ends (44 ∷ 32 ∷ (text y ++ rest)))
     (ys : List Y) (rest : List ℕ) → All (λ y. SpellsElement element comma Ends (text y) (said y)) ys
     → All (λ y. (rest : List ℕ) → Ends rest → begins (is_mark closing) (tokens (text y ++ rest)) ≡ false) ys
     → Ends rest → begins (is_mark closing) (tokens rest) ≡ true → comma (tokens rest) ≡ false
@@ -90,5 +94,5 @@ unfolding list_to
 list_read element closing Ends text said commas [] rest each opens ends closed last = rw closed refl
 list_read element closing Ends text said commas (y ∷ ys) rest each opens ends closed last =
     let first : begins (is_mark closing) (tokens ((text y ++ others text ys) ++ rest)) ≡ false =
-    rw append_assoc (All-head (λ y. (rest : List ℕ) → Ends rest → begins (is_mark closing) (tokens (text y ++ rest)) ≡ false) y ys opens (others text ys ++ rest) (ends_others element comma Ends text said commas ys rest ends)) in
+    rw append_assoc (All-head (λ y. (rest : List ℕ) → Ends rest → begins (is_mark closing) (tokens (text y ++ rest)) ≡ false) y ys opens (others text ys ++ rest) (ends_others element comma Ends text said commas ys rest (λ k d low. each (suc k) d (omega (arith, low))) ends)) in
     rw first (listed element comma Ends text said commas y ys rest each ends last)

@@ -78,7 +78,7 @@ type_fits_in tys.Token first narrow = cc
 
 -- ---- values
 
-spellable_fits : (z : ℤ) → Spellable z → literal_fits (literal_of z) ≡ true
+pub spellable_fits : (z : ℤ) → Spellable z → literal_fits (literal_of z) ≡ true
 spellable_fits (pos n) small = refl
 spellable_fits (negsuc n) small = rw (le-leb (suc n) (2 ^ 63) small) refl
 

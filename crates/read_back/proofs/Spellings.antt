@@ -27,6 +27,9 @@ use Rattle.ir_reader.specs.Marks.{is_word}
 use Rattle.ir_reader.specs.Drops.{past_group, past_one_of, flag_words, is_attribute_word, is_one_of, reserved}
 use Rattle.ir_reader.specs.Parts.{Val, value_of, is_value_type, spelled_type_at, allowed_type_at, pointer_at, addrspace_at, type_behind, other_type_at}
 use Rattle.ir_reader.specs.Parts as values
+use Rattle.ir_reader.specs.declared.readings.Literal.{Literal}
+use Rattle.ir_reader.specs.Forms.{first_global}
+use Rattle.ir_reader.specs.Statepoints.{suffix_of}
 use Rattle.ir_printer.specs.Words.{integer_text}
 use Rattle.read_back.specs.Said.{literal_of, integer_value}
 use Rattle.read_back.proofs.Steps.{Stops, stops-kind, IsClean, digits-clean, name-clean}
@@ -94,6 +97,7 @@ pub record SpellsType (text : List ℕ) (word : TypeWord) : Type 0 where
   pub group : (ts : List Tok) → past_group (tok kinds.Word first ∷ ts) ≡ None
   pub flag : (which : Flags) (ts : List Tok) → past_one_of (flag_words which) (tok kinds.Word first ∷ ts) ≡ None
   pub other : is_value_type word ≡ true → is_word (codes "void") (tok kinds.Word first) ≡ false
+  pub global : (ts : List Tok) → first_global (tok kinds.Word first ∷ (more ++ ts)) ≡ first_global ts
 
 -- `iN` is no word with a letter behind its `i`
 no_letter : (ds : List ℕ) (c : ℕ) (cs : List ℕ) → are_digits ds ≡ true → 58 ≤ c → bytes_eq (105 ∷ ds) (105 ∷ c ∷ cs) ≡ false
@@ -131,6 +135,10 @@ integer_says n most =
 pub width_spelled : (n : ℕ) → n ≤ 64 → (rest : List ℕ) → Stops rest → tokens ((105 ∷ decimal n) ++ rest) ≡ tok kinds.Word (105 ∷ decimal n) ∷ tokens rest
 width_spelled n most rest stop = tokens-spelled kinds.Word (105 ∷ decimal n) rest (or_left _ _ (digits-in_word (decimal n) (decimal-is n (omega arith)).digits)) (stops-kind kinds.Word rest stop)
 
+word_global : (word : List ℕ) (ts : List Tok) → first_global (tok kinds.Word word ∷ ts) ≡ first_global ts
+unfolding first_global
+word_global word ts = refl
+
 pub integer_type : (n : ℕ) → n ≤ 64 → SpellsType (105 ∷ decimal n) (types.Int n)
 unfolding spelled_type_at
 integer_type n most = record {
@@ -142,6 +150,7 @@ integer_type n most = record {
   group = integer_group (decimal n) digits;
   flag = integer_flag (decimal n) digits;
   other = λ allow. refl;
+  global = word_global (105 ∷ decimal n);
 }
   where
     small : n < 2 ^ 64
@@ -155,6 +164,11 @@ integer_type n most = record {
 
     says : (ts : List Tok) → spelled_type_at (tok kinds.Word (105 ∷ decimal n) ∷ ts) ≡ Some (types.Int n, ts)
     says ts = rw (integer_says n most) refl
+
+-- the end of the name of a result of the type
+pub integer_suffix : (n : ℕ) (most : n ≤ 64) (ts : List Tok) → suffix_of (types.Int n) (tok kinds.Word (integer_type n most).first ∷ ts) ≡ 105 ∷ decimal n
+unfolding integer_type
+integer_suffix n most ts = refl
 
 pointer_spelled : (rest : List ℕ) → tokens (codes "ptr addrspace(1)" ++ rest) ≡ tok kinds.Word (codes "ptr") ∷ tok kinds.Word (codes "addrspace") ∷ tok kinds.Punct (codes "(") ∷ tok kinds.Number (codes "1") ∷ tok kinds.Punct (codes ")") ∷ tokens rest
 pointer_spelled rest =
@@ -183,6 +197,10 @@ pointer_says : (ts : List Tok) → spelled_type_at (tok kinds.Word (codes "ptr")
 unfolding spelled_type_at pointer_at addrspace_at after one_at
 pointer_says ts = refl
 
+pointer_global : (ts : List Tok) → first_global (tok kinds.Word (codes "ptr") ∷ tok kinds.Word (codes "addrspace") ∷ tok kinds.Punct (codes "(") ∷ tok kinds.Number (codes "1") ∷ tok kinds.Punct (codes ")") ∷ ts) ≡ first_global ts
+unfolding first_global
+pointer_global ts = refl
+
 pub pointer_type : SpellsType (codes "ptr addrspace(1)") types.Managed
 pointer_type = record {
   clean = refl;
@@ -193,6 +211,7 @@ pointer_type = record {
   group = λ ts. refl;
   flag = pointer_flag;
   other = λ allow. refl;
+  global = pointer_global;
 }
 
 void_flag : (which : Flags) (ts : List Tok) → past_one_of (flag_words which) (tok kinds.Word (codes "void") ∷ ts) ≡ None
@@ -219,6 +238,7 @@ void_type = record {
   group = λ ts. refl;
   flag = void_flag;
   other = λ allow. cc;
+  global = word_global (codes "void");
 }
 
 pub allowed : (text : List ℕ) (word : TypeWord) (t : SpellsType text word) (allows : TypeWord → Bool) → allows word ≡ true → (ts : List Tok) → allowed_type_at allows (tok kinds.Word t.first ∷ (t.more ++ ts)) ≡ Some (word, ts)
@@ -270,21 +290,28 @@ Spellable (negsuc n) = suc n ≤ 2 ^ 63
 pub decimal_token : (n : ℕ) → n < 2 ^ 64 → is_token kinds.Number (decimal n) ≡ true
 decimal_token n small = or_left (are_digits (decimal n)) (first_then 45 are_digits (decimal n)) (decimal-digits n small)
 
-pub number_value : (z : ℤ) → Spellable z → SpellsValue (signed_decimal z) (values.number (literal_of z))
-number_value (pos n) small = record {
+-- an integer is one token
+pub record SpellsLiteral (text : List ℕ) (literal : Literal) : Type 0 where
+  pub clean : IsClean text
+  pub is : is_token kinds.Number text ≡ true
+  pub says : literal_spelled text ≡ literal
+
+pub literal_token : (z : ℤ) → Spellable z → SpellsLiteral (signed_decimal z) (literal_of z)
+literal_token (pos n) small = record {
   clean = digits-clean (decimal n) (decimal-is n small).digits;
-  kind = kinds.Number;
   is = or_left (are_digits (decimal n)) (first_then 45 are_digits (decimal n)) (decimal-digits n small);
-  says = ap (λ l. Some (values.number l)) (literal_digits (decimal n) (decimal-digits n small) ∙ (ap positive_literal (decimal-is n small).number ∙ positive n small));
-  group = λ ts. refl;
+  says = literal_digits (decimal n) (decimal-digits n small) ∙ (ap positive_literal (decimal-is n small).number ∙ positive n small);
 }
-number_value (negsuc n) small = record {
+literal_token (negsuc n) small = record {
   clean = digits-clean (decimal (suc n)) (decimal-is (suc n) (omega arith)).digits;
-  kind = kinds.Number;
   is = or_right (are_digits (45 ∷ decimal (suc n))) (are_digits (decimal (suc n))) (decimal-digits (suc n) (omega arith));
-  says = ap (λ l. Some (values.number l)) (ap negative_literal (decimal-is (suc n) (omega arith)).number ∙ negative (suc n) small);
-  group = λ ts. refl;
+  says = ap negative_literal (decimal-is (suc n) (omega arith)).number ∙ negative (suc n) small;
 }
+
+pub number_value : (z : ℤ) → Spellable z → SpellsValue (signed_decimal z) (values.number (literal_of z))
+number_value z small =
+    let literal = literal_token z small in
+    record { clean = literal.clean; kind = kinds.Number; is = literal.is; says = ap (λ l. Some (values.number l)) literal.says; group = λ ts. refl }
 
 below_zero : (a b : ℕ) → a < b → 2 * a + 1 ≤ 2 * b → b ≤ 2 * a → b ≤ 2 ^ 64 → Spellable (pos a -ℤ pos b)
 below_zero a zero less odd half small = absurd (omega arith)

@@ -1,5 +1,5 @@
 -- What the lines of a printed module say, line by line; empty lines say nothing.
-use Rattle.std.specs.Prelude.{ℕ, ℤ, pos, negsuc, suc, ◌==◌, true, false, not, List, [], ◌∷◌, ◌++◌, map, drop, Option, Some, None, codes, unwrap_or, option_map, if◌then◌else◌}
+use Rattle.std.specs.Prelude.{ℕ, ℤ, pos, negsuc, suc, ◌==◌, true, false, not, List, [], ◌∷◌, ◌++◌, length, map, drop, Option, Some, None, codes, unwrap_or, option_map, if◌then◌else◌}
 use Rattle.std.specs.List.{zip, flat_map}
 use Rattle.sp_ids.specs.declared.ids.BlockId.{BlockId}
 use Rattle.sp_ids.specs.Numbers.{wrapped, signed}
@@ -37,6 +37,7 @@ use Rattle.ir_reader.specs.declared.words.Conversion.TheVariants as conversions
 use Rattle.ir_reader.specs.Parts.{Val}
 use Rattle.ir_reader.specs.Parts as values
 use Rattle.ir_reader.specs.Lists.{Named, Given, given, function}
+use Rattle.ir_reader.specs.Statepoints.{Guarded}
 use Rattle.ir_lines.specs.Statements.{Statement}
 use Rattle.ir_lines.specs.Statements as says
 
@@ -145,6 +146,43 @@ abbrev pub call_says : Names → Callee → List Ty → Instruction → Statemen
 call_says names callee tys inst =
     says.call inst.result (word_of inst.ty) (callee_name names callee)
     (map (λ argument. passed_says names argument.0 argument.1) (zip tys inst.operands))
+
+-- a parameter of a callee; that of a function's name is a plain pointer
+abbrev pub parameter_says : Ty → TypeWord
+parameter_says tys.Void = types.Plain
+parameter_says ty = word_of ty
+
+-- a number of so many bits
+abbrev pub number_says : ℕ → Operand → Literal
+number_says width (operands.Int number) = literal_of (signed width number)
+number_says width _ = literal_of (pos 0)
+
+-- a token, by its name
+abbrev pub token_says : Names → Operand → List ℕ
+token_says names (operands.Value value) = value_name names.func value.0
+token_says names _ = []
+
+-- what a statepoint calls and passes
+abbrev pub made_says : Names → ℕ → Callee → List Ty → Instruction → Guarded
+made_says names id callee takes inst = record {
+  id = literal_of (signed 64 id);
+  signature = record { answer = word_of inst.ty; parameters = map parameter_says takes };
+  callee = callee_name names callee;
+  count = literal_of (pos (length takes));
+  passed = map (λ argument. passed_says names argument.0 argument.1) (zip takes inst.operands);
+}
+
+-- the operands behind the arguments are the live entries
+abbrev pub statepoint_says : Names → ℕ → Callee → List Ty → Instruction → Statement
+statepoint_says names id callee takes inst =
+    says.statepoint (result_of inst) (made_says names id callee takes inst) (map (value_says names tys.Ptr) (drop (length takes) inst.operands))
+
+abbrev pub gc_result_says : Names → Instruction → Statement
+gc_result_says names inst = says.gc_result (result_of inst) (word_of inst.ty) (token_says names (operand_at inst 0))
+
+abbrev pub gc_relocate_says : Names → Instruction → Statement
+gc_relocate_says names inst =
+    says.gc_relocate (result_of inst) (token_says names (operand_at inst 0)) (number_says 32 (operand_at inst 1)) (number_says 32 (operand_at inst 2))
 
 abbrev pub jump_says : Names → Instruction → Statement
 jump_says names inst = says.jump (target_at names inst 0)

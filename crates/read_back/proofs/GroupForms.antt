@@ -1,0 +1,265 @@
+-- The lines of both forms of texts: a line of the source form is one of the rewritten form too, and the lines that the rewritten form has besides.
+use Rattle.std.proofs.Common.{◌≡◌, refl, ap, ◌∙◌, ℕ, ◌≤◌, Bool, true, false, ◌||◌, List, [], ◌∷◌, ◌++◌, map, Option, Some, None, arith, codes, decimal, append_assoc}
+use Rattle.std.specs.List.{All}
+use Rattle.std.specs.Str.{bytes_eq}
+use Rattle.std.proofs.lemmas.Bool.{or_parts}
+use Rattle.std.proofs.lemmas.Slice.Eq.{bytes_eq-Decides}
+use Rattle.sp_text.specs.Tokens.{Tok, tok, tokens, is_token, is_name}
+use Rattle.sp_text.specs.declared.tokens.Kind.TheVariants as kinds
+use Rattle.ir_ast.specs.declared.modules.Form.{Form as TextForm}
+use Rattle.ir_ast.specs.declared.modules.Form.TheVariants as text_forms
+use Rattle.ir_reader.specs.declared.readings.TypeWord.{TypeWord}
+use Rattle.ir_reader.specs.declared.readings.TypeWord.TheVariants as types
+use Rattle.ir_reader.specs.declared.readings.Literal.{Literal}
+use Rattle.ir_reader.specs.declared.forms.Form.{Form}
+use Rattle.ir_reader.specs.declared.forms.Form.TheVariants as forms
+use Rattle.ir_reader.specs.declared.forms.DroppedLine.TheVariants as drop_lines
+use Rattle.ir_reader.specs.declared.words.Dropped.TheVariants as drops
+use Rattle.ir_reader.specs.declared.words.Flags.TheVariants as flags
+use Rattle.ir_reader.specs.Families.{statepoint_name, relocate_name, result_front, result_suffix, is_suffix, is_result_name, is_family_name, is_result_of}
+use Rattle.ir_reader.specs.Forms.{slots, form_of, form_in, named_form, group_form, grouped_form, called_form, plain_form, callee_of, behind_result, first_global}
+use Rattle.ir_reader.specs.Lists.{Given, comma, is_task_start, passed_at}
+use Rattle.ir_reader.specs.Marks.{is_mark, begins}
+use Rattle.ir_reader.specs.Parts.{Val, is_value_type}
+use Rattle.ir_reader.specs.Slots.{Item, name, ty, guarded, live, literal, dropped, a_live, parse}
+use Rattle.ir_reader.specs.Statepoints.{Guarded, live_entry_at, suffix_of}
+use Rattle.ir_printer.specs.Lists.{joined}
+use Rattle.read_back.proofs.Steps.{Reads, IsClean, past_all-none, first_of, end, mark, word, local, spaced, space, over_blank, drop_at, drop_end}
+use Rattle.read_back.proofs.Spellings.{SpellsType, SpellsValue, SpellsLiteral, pointer_type, void_type}
+use Rattle.read_back.proofs.PartSteps.{managed_step}
+use Rattle.read_back.proofs.Listed.{SpellsElement, others}
+use Rattle.read_back.proofs.Forms.{ReadsAs, result_tokens}
+use Rattle.read_back.proofs.ListForms.{EndsAtMark}
+use Rattle.read_back.proofs.GroupSteps.{as_is, token_then, mark_then, blank_then, type_tokens, type_spelled, statepoint_type_step, global_step, token_step, place_step, call_spelled, SpellsCall, guarded_step, live_step, no_live, result_step}
+
+-- in a text of this form the text is a line of this form, and says this at the form's slots
+pub record ReadsIn (of : TextForm) (text : List ℕ) (form : Form) (items : List Item) : Type 0 where
+  pub form_is : form_in of (tokens text) ≡ Some form
+  pub whole : parse (slots form) (tokens text) ≡ Some (items, [])
+  pub clean : IsClean text
+
+-- a call or a declaration, of which the function that it names tells what it is
+abbrev pub names_function : Form → Bool
+names_function forms.ValueCall = true
+names_function forms.VoidCall = true
+names_function forms.Declare = true
+names_function _ = false
+
+group_plain : (ts : List Tok) (form : Form) → names_function form ≡ false → group_form ts form ≡ Some form
+unfolding group_form
+group_plain ts forms.ValueCall plain = cc
+group_plain ts forms.VoidCall plain = cc
+group_plain ts forms.Declare plain = cc
+group_plain ts _ plain = refl
+
+plain_in : (of : TextForm) (ts : List Tok) (form : Form) → names_function form ≡ false → form_of ts ≡ Some form → form_in of ts ≡ Some form
+unfolding form_in
+plain_in text_forms.Source ts form plain is = is
+plain_in text_forms.Rewritten ts form plain is = rw is (group_plain ts form plain)
+
+-- a line that is no call and no declaration
+pub in_both : (of : TextForm) {text : List ℕ} {form : Form} {items : List Item} → names_function form ≡ false → ReadsAs text form items → ReadsIn of text form items
+in_both of {text} {form} plain reads = record { form_is = plain_in of (tokens text) form plain reads.form_is; whole = reads.whole; clean = reads.clean }
+
+pub in_source : {text : List ℕ} {form : Form} {items : List Item} → ReadsAs text form items → ReadsIn text_forms.Source text form items
+unfolding form_in
+in_source reads = record { form_is = reads.form_is; whole = reads.whole; clean = reads.clean }
+
+-- ---- the function that a call names
+
+first_here : (o : List ℕ) (ts : List Tok) → first_global (tok kinds.Global (64 ∷ o) ∷ ts) ≡ Some o
+unfolding first_global
+first_here o ts = refl
+
+pub call_callee : {spelled : List ℕ} {of_type : TypeWord} (t : SpellsType spelled of_type) (o : List ℕ) (ts : List Tok)
+    → callee_of (tok kinds.Word (codes "call") ∷ tok kinds.Word t.first ∷ (t.more ++ (tok kinds.Global (64 ∷ o) ∷ ts))) ≡ Some o
+unfolding callee_of
+call_callee t o ts =
+    let rest : List Tok = t.more ++ (tok kinds.Global (64 ∷ o) ∷ ts) in
+    rw (past_all-none (drops.Words flags.Calling) (tok kinds.Word (codes "call") ∷ tok kinds.Word t.first ∷ rest) refl)
+    (rw (past_all-none drops.Groups (tok kinds.Word t.first ∷ rest) (t.group rest)) (t.global (tok kinds.Global (64 ∷ o) ∷ ts) ∙ first_here o ts))
+
+called_plain : (o : List ℕ) → is_family_name o ≡ false → called_form (Some o) ≡ forms.ValueCall
+called_plain o other =
+    let parts = or_parts (is_result_name o) (bytes_eq o statepoint_name || bytes_eq o relocate_name) other in
+    let names = or_parts (bytes_eq o statepoint_name) (bytes_eq o relocate_name) parts.1 in
+    rw (parts.0, names.0, names.1) refl
+
+named_call : (n : List ℕ) (ts : List Tok) → form_of (tok kinds.Local n ∷ tok kinds.Punct (codes "=") ∷ tok kinds.Word (codes "call") ∷ ts) ≡ Some forms.ValueCall
+unfolding form_of named_form
+named_call n ts = refl
+
+-- a call with a result is by its callee's name one of a group or a plain one
+value_in : (n o : List ℕ) (ts : List Tok) → callee_of (tok kinds.Word (codes "call") ∷ ts) ≡ Some o
+    → form_in text_forms.Rewritten (tok kinds.Local n ∷ tok kinds.Punct (codes "=") ∷ tok kinds.Word (codes "call") ∷ ts) ≡ Some (called_form (Some o))
+unfolding form_in group_form
+value_in n o ts is = rw (named_call n ts) (rw is refl)
+
+void_in : (o : List ℕ) (ts : List Tok) → form_of ts ≡ Some forms.VoidCall → callee_of ts ≡ Some o → is_family_name o ≡ false → form_in text_forms.Rewritten ts ≡ Some forms.VoidCall
+unfolding form_in group_form
+void_in o ts form is other = rw form (rw is (rw other refl))
+
+call_tokens : {spelled : List ℕ} {of_type : TypeWord} (t : SpellsType spelled of_type) (o : List ℕ) → is_name o ≡ true → (rest : List ℕ)
+    → tokens (codes "call " ++ (spelled ++ (32 ∷ 64 ∷ (o ++ (40 ∷ rest))))) ≡ tok kinds.Word (codes "call") ∷ tok kinds.Word t.first ∷ (t.more ++ (tok kinds.Global (64 ∷ o) ∷ tokens (40 ∷ rest)))
+call_tokens {spelled} t o is rest =
+    let behind : tokens (spelled ++ (32 ∷ 64 ∷ (o ++ (40 ∷ rest)))) ≡ tok kinds.Word t.first ∷ (t.more ++ (tok kinds.Global (64 ∷ o) ∷ tokens (40 ∷ rest))) =
+    t.spelled (32 ∷ 64 ∷ (o ++ (40 ∷ rest))) refl ∙ ap (λ ts. tok kinds.Word t.first ∷ (t.more ++ ts)) (blank_then (token_then kinds.Global (64 ∷ o) is refl (as_is (40 ∷ rest)))).is in
+    (token_then kinds.Word (codes "call") refl refl (blank_then (as_is (spelled ++ (32 ∷ 64 ∷ (o ++ (40 ∷ rest))))))).is ∙ ap (λ ts. tok kinds.Word (codes "call") ∷ ts) behind
+
+-- `%x = call T @f(..)`
+pub value_call_in : (of : TextForm) (n : List ℕ) → is_name n ≡ true → {spelled : List ℕ} {answer : TypeWord} (t : SpellsType spelled answer) (o : List ℕ) → is_name o ≡ true → is_family_name o ≡ false → (rest : List ℕ) {items : List Item}
+    → ReadsAs (37 ∷ (n ++ (32 ∷ 61 ∷ 32 ∷ (codes "call " ++ (spelled ++ (32 ∷ 64 ∷ (o ++ (40 ∷ rest)))))))) forms.ValueCall items
+    → ReadsIn of (37 ∷ (n ++ (32 ∷ 61 ∷ 32 ∷ (codes "call " ++ (spelled ++ (32 ∷ 64 ∷ (o ++ (40 ∷ rest)))))))) forms.ValueCall items
+value_call_in text_forms.Source n is t o o_is other rest reads = in_source reads
+value_call_in text_forms.Rewritten n is {spelled} t o o_is other rest reads = record { form_is = form_is; whole = reads.whole; clean = reads.clean }
+  where
+    text : List ℕ
+    text = codes "call " ++ (spelled ++ (32 ∷ 64 ∷ (o ++ (40 ∷ rest))))
+
+    form_is : form_in text_forms.Rewritten (tokens (37 ∷ (n ++ (32 ∷ 61 ∷ 32 ∷ text)))) ≡ Some forms.ValueCall
+    form_is = rw (result_tokens n text is) (rw (call_tokens t o o_is rest)
+        (value_in (37 ∷ n) o (tok kinds.Word t.first ∷ (t.more ++ (tok kinds.Global (64 ∷ o) ∷ tokens (40 ∷ rest)))) (call_callee t o (tokens (40 ∷ rest))) ∙ ap Some (called_plain o other)))
+
+-- `call void @f(..)`
+pub void_call_in : (of : TextForm) (o : List ℕ) → is_name o ≡ true → is_family_name o ≡ false → (rest : List ℕ) {items : List Item}
+    → ReadsAs (codes "call void @" ++ (o ++ (40 ∷ rest))) forms.VoidCall items → ReadsIn of (codes "call void @" ++ (o ++ (40 ∷ rest))) forms.VoidCall items
+void_call_in text_forms.Source o is other rest reads = in_source reads
+void_call_in text_forms.Rewritten o is other rest reads = record { form_is = form_is; whole = reads.whole; clean = reads.clean }
+  where
+    form_is : form_in text_forms.Rewritten (tokens (codes "call void @" ++ (o ++ (40 ∷ rest)))) ≡ Some forms.VoidCall
+    form_is = void_in o (tokens (codes "call void @" ++ (o ++ (40 ∷ rest)))) reads.form_is (ap callee_of (call_tokens void_type o is rest) ∙ call_callee void_type o (tokens (40 ∷ rest))) other
+
+-- ---- statepoints
+
+statepoint_callee : (ts : List Tok) → callee_of (tok kinds.Word (codes "call") ∷ type_tokens (tok kinds.Global (codes "@llvm.experimental.gc.statepoint.p0") ∷ ts)) ≡ Some statepoint_name
+unfolding callee_of first_global statepoint_name
+statepoint_callee ts =
+    rw (past_all-none (drops.Words flags.Calling) (tok kinds.Word (codes "call") ∷ type_tokens (tok kinds.Global (codes "@llvm.experimental.gc.statepoint.p0") ∷ ts)) refl)
+    (rw (past_all-none drops.Groups (type_tokens (tok kinds.Global (codes "@llvm.experimental.gc.statepoint.p0") ∷ ts)) refl) refl)
+
+statepoint_called : called_form (Some statepoint_name) ≡ forms.Statepoint
+unfolding statepoint_name result_suffix result_front
+statepoint_called = refl
+
+abbrev pub statepoint_front : List ℕ → List ℕ
+statepoint_front rest = codes "call token (i64, i32, ptr, i32, i32, ...) @llvm.experimental.gc.statepoint.p0(" ++ rest
+
+statepoint_tokens : (rest : List ℕ) → tokens (statepoint_front rest) ≡ tok kinds.Word (codes "call") ∷ type_tokens (tok kinds.Global (codes "@llvm.experimental.gc.statepoint.p0") ∷ tokens (40 ∷ rest))
+statepoint_tokens rest =
+    let behind : tokens (codes "token (i64, i32, ptr, i32, i32, ...) @llvm.experimental.gc.statepoint.p0(" ++ rest) ≡ type_tokens (tok kinds.Global (codes "@llvm.experimental.gc.statepoint.p0") ∷ tokens (40 ∷ rest)) =
+    type_spelled (codes " @llvm.experimental.gc.statepoint.p0(" ++ rest) ∙ ap type_tokens (blank_then (token_then kinds.Global (codes "@llvm.experimental.gc.statepoint.p0") refl refl (as_is (40 ∷ rest)))).is in
+    (token_then kinds.Word (codes "call") refl refl (blank_then (as_is (codes "token (i64, i32, ptr, i32, i32, ...) @llvm.experimental.gc.statepoint.p0(" ++ rest)))).is ∙ ap (λ ts. tok kinds.Word (codes "call") ∷ ts) behind
+
+-- the line of a statepoint whose live entries are spelled by the end of the text
+statepoint_by : {P Y : Type 0} (n : List ℕ) → is_name n ≡ true → (id answer callee count : List ℕ) (ptext : P → List ℕ) (psaid : P → TypeWord) (ps : List P) (text : Y → List ℕ) (said : Y → Given) (ys : List Y) (made : Guarded)
+    → SpellsCall id answer callee count ptext psaid ps text said ys made → {rest : List ℕ} {first : Option Tok} {items : List Item}
+    → Reads (dropped drops.Groups ∷ a_live ∷ dropped drops.Attachments ∷ []) rest first items
+    → ReadsIn text_forms.Rewritten (37 ∷ (n ++ (32 ∷ 61 ∷ 32 ∷ statepoint_front (call_spelled id answer (map ptext ps) made.callee count (others text ys) rest)))) forms.Statepoint (name n ∷ guarded made ∷ items)
+unfolding statepoint_name
+statepoint_by n is id answer callee count ptext psaid ps text said ys made c {rest} {items = items} r = record { form_is = form_is; whole = all.whole; clean = all.clean }
+  where
+    body : List ℕ
+    body = call_spelled id answer (map ptext ps) made.callee count (others text ys) rest
+
+    all : Reads (slots forms.Statepoint) (37 ∷ (n ++ (32 ∷ 61 ∷ 32 ∷ statepoint_front body))) (Some (tok kinds.Local (37 ∷ n))) (name n ∷ guarded made ∷ items)
+    all = local n is refl (space (mark 61 refl refl refl (space (drop_at (drops.Words flags.Calling) (λ more. refl) (word (codes "call") refl refl refl refl (spaced (drop_at drops.Groups (λ more. refl) (over_blank
+        (statepoint_type_step (space (global_step (codes "llvm.experimental.gc.statepoint.p0") refl refl refl (mark 40 refl refl refl
+        (guarded_step id answer callee count ptext psaid ps text said ys made c r)))))))))))))
+
+    form_is : form_in text_forms.Rewritten (tokens (37 ∷ (n ++ (32 ∷ 61 ∷ 32 ∷ statepoint_front body)))) ≡ Some forms.Statepoint
+    form_is = rw (result_tokens n (statepoint_front body) is) (rw (statepoint_tokens body)
+        (value_in (37 ∷ n) statepoint_name (type_tokens (tok kinds.Global (codes "@llvm.experimental.gc.statepoint.p0") ∷ tokens (40 ∷ body))) (statepoint_callee (tokens (40 ∷ body))) ∙ ap Some statepoint_called))
+
+-- a statepoint without live entries
+pub bare_statepoint_line : {P Y : Type 0} (n : List ℕ) → is_name n ≡ true → (id answer callee count : List ℕ) (ptext : P → List ℕ) (psaid : P → TypeWord) (ps : List P) (text : Y → List ℕ) (said : Y → Given) (ys : List Y) (made : Guarded)
+    → SpellsCall id answer callee count ptext psaid ps text said ys made
+    → ReadsIn text_forms.Rewritten (37 ∷ (n ++ (32 ∷ 61 ∷ 32 ∷ statepoint_front (call_spelled id answer (map ptext ps) made.callee count (others text ys) [])))) forms.Statepoint (name n ∷ guarded made ∷ live [] ∷ [])
+bare_statepoint_line n is id answer callee count ptext psaid ps text said ys made c =
+    statepoint_by n is id answer callee count ptext psaid ps text said ys made c (drop_end drops.Groups (no_live (drop_end drops.Attachments end)))
+
+-- and one with some
+pub live_statepoint_line : {P Y L : Type 0} (n : List ℕ) → is_name n ≡ true → (id answer callee count : List ℕ) (ptext : P → List ℕ) (psaid : P → TypeWord) (ps : List P) (text : Y → List ℕ) (said : Y → Given) (ys : List Y) (made : Guarded)
+    → SpellsCall id answer callee count ptext psaid ps text said ys made → (ltext : L → List ℕ) (lsaid : L → Val) (ls : List L)
+    → All (λ l. SpellsElement live_entry_at comma EndsAtMark (ltext l) (lsaid l)) ls
+    → All (λ l. (rest : List ℕ) → EndsAtMark rest → begins (is_mark (codes ")")) (tokens (ltext l ++ rest)) ≡ false) ls
+    → ReadsIn text_forms.Rewritten (37 ∷ (n ++ (32 ∷ 61 ∷ 32 ∷ statepoint_front (call_spelled id answer (map ptext ps) made.callee count (others text ys) (codes " [ \"gc-live\"(" ++ (joined (codes ", ") (map ltext ls) ++ codes ") ]"))))))
+    forms.Statepoint (name n ∷ guarded made ∷ live (map lsaid ls) ∷ [])
+live_statepoint_line n is id answer callee count ptext psaid ps text said ys made c ltext lsaid ls each opens =
+    statepoint_by n is id answer callee count ptext psaid ps text said ys made c
+    (spaced (drop_at drops.Groups (λ more. refl) (live_step ltext lsaid ls each opens (drop_end drops.Attachments end))))
+
+-- ---- results
+
+-- the name of the result of a type: how it ends
+pub record ResultNamed {spelled : List ℕ} {of_type : TypeWord} (t : SpellsType spelled of_type) (suffix : List ℕ) : Type 0 where
+  pub allowed : is_value_type of_type ≡ true
+  pub same : (ts : List Tok) → suffix_of of_type (tok kinds.Word t.first ∷ ts) ≡ suffix
+  pub ends : is_suffix (Some suffix) ≡ true
+  pub named : is_name (codes "llvm.experimental.gc.result." ++ suffix) ≡ true
+
+bytes_self : (bs : List ℕ) → bytes_eq bs bs ≡ true
+bytes_self bs = (bytes_eq-Decides bs bs).1 refl
+
+result_named : (suffix : List ℕ) → result_suffix (codes "llvm.experimental.gc.result." ++ suffix) ≡ Some suffix
+unfolding result_suffix result_front
+result_named suffix = refl
+
+result_called : (suffix : List ℕ) → is_suffix (Some suffix) ≡ true → called_form (Some (codes "llvm.experimental.gc.result." ++ suffix)) ≡ forms.GcResult
+result_called suffix ends = rw (result_named suffix) (rw ends refl)
+
+result_is : (suffix : List ℕ) → is_result_of suffix (codes "llvm.experimental.gc.result." ++ suffix) ≡ true
+result_is suffix = rw (result_named suffix) (bytes_self suffix)
+
+-- `%x = call T @llvm.experimental.gc.result.S(token %t)`
+pub result_line : (n : List ℕ) → is_name n ≡ true → {spelled : List ℕ} {of_type : TypeWord} (t : SpellsType spelled of_type) (suffix : List ℕ) → ResultNamed t suffix → (token : List ℕ) → is_name token ≡ true
+    → ReadsIn text_forms.Rewritten (37 ∷ (n ++ (32 ∷ 61 ∷ 32 ∷ (codes "call " ++ (spelled ++ (32 ∷ 64 ∷ ((codes "llvm.experimental.gc.result." ++ suffix) ++ (40 ∷ (codes "token %" ++ (token ++ codes ")"))))))))))
+    forms.GcResult (name n ∷ ty of_type ∷ name token ∷ [])
+result_line n is {spelled} {of_type} t suffix r token token_is = record { form_is = form_is; whole = all.whole; clean = all.clean }
+  where
+    o : List ℕ
+    o = codes "llvm.experimental.gc.result." ++ suffix
+
+    rest : List ℕ
+    rest = codes "token %" ++ (token ++ codes ")")
+
+    text : List ℕ
+    text = codes "call " ++ (spelled ++ (32 ∷ 64 ∷ (o ++ (40 ∷ rest))))
+
+    all : Reads (slots forms.GcResult) (37 ∷ (n ++ (32 ∷ 61 ∷ 32 ∷ text))) (Some (tok kinds.Local (37 ∷ n))) (name n ∷ ty of_type ∷ name token ∷ [])
+    all = local n is refl (space (mark 61 refl refl refl (space (drop_at (drops.Words flags.Calling) (λ more. refl) (word (codes "call") refl refl refl refl (spaced (drop_at drops.Groups t.group (over_blank
+        (result_step t r.allowed suffix o r.same (result_is suffix) r.named refl (mark 40 refl refl refl (token_step token token_is refl (mark 41 refl refl refl (drop_end drops.Groups (drop_end drops.Attachments end))))))))))))))
+
+    form_is : form_in text_forms.Rewritten (tokens (37 ∷ (n ++ (32 ∷ 61 ∷ 32 ∷ text)))) ≡ Some forms.GcResult
+    form_is = rw (result_tokens n text is) (rw (call_tokens t o r.named rest)
+        (value_in (37 ∷ n) o (tok kinds.Word t.first ∷ (t.more ++ (tok kinds.Global (64 ∷ o) ∷ tokens (40 ∷ rest)))) (call_callee t o (tokens (40 ∷ rest))) ∙ ap Some (result_called suffix r.ends)))
+
+-- ---- relocates
+
+relocate_called : called_form (Some (codes "llvm.experimental.gc.relocate.p1")) ≡ forms.GcRelocate
+unfolding statepoint_name relocate_name result_suffix result_front
+relocate_called = refl
+
+-- `%x = call P @llvm.experimental.gc.relocate.p1(token %t, i32 B, i32 D)`
+pub relocate_line : (n : List ℕ) → is_name n ≡ true → (token : List ℕ) → is_name token ≡ true → {base derived : List ℕ} {b d : Literal} → SpellsLiteral base b → SpellsLiteral derived d
+    → ReadsIn text_forms.Rewritten (37 ∷ (n ++ (32 ∷ 61 ∷ 32 ∷ (codes "call ptr addrspace(1) @llvm.experimental.gc.relocate.p1(token %" ++ (token ++ (codes ", i32 " ++ (base ++ (codes ", i32 " ++ (derived ++ codes ")")))))))))
+    forms.GcRelocate (name n ∷ name token ∷ literal b ∷ literal d ∷ [])
+unfolding relocate_name
+relocate_line n is token token_is {base} {derived} {b} {d} s u = record { form_is = form_is; whole = all.whole; clean = all.clean }
+  where
+    o : List ℕ
+    o = codes "llvm.experimental.gc.relocate.p1"
+
+    rest : List ℕ
+    rest = codes "token %" ++ (token ++ (codes ", i32 " ++ (base ++ (codes ", i32 " ++ (derived ++ codes ")")))))
+
+    text : List ℕ
+    text = codes "call " ++ (codes "ptr addrspace(1)" ++ (32 ∷ 64 ∷ (o ++ (40 ∷ rest))))
+
+    all : Reads (slots forms.GcRelocate) (37 ∷ (n ++ (32 ∷ 61 ∷ 32 ∷ text))) (Some (tok kinds.Local (37 ∷ n))) (name n ∷ name token ∷ literal b ∷ literal d ∷ [])
+    all = local n is refl (space (mark 61 refl refl refl (space (drop_at (drops.Words flags.Calling) (λ more. refl) (word (codes "call") refl refl refl refl (spaced (drop_at drops.Groups pointer_type.group (over_blank
+        (managed_step pointer_type refl (space (global_step o refl refl refl (mark 40 refl refl refl (token_step token token_is refl (mark 44 refl refl refl (space (place_step s refl
+        (mark 44 refl refl refl (space (place_step u refl (mark 41 refl refl refl (drop_end drops.Groups (drop_end drops.Attachments end))))))))))))))))))))))
+
+    form_is : form_in text_forms.Rewritten (tokens (37 ∷ (n ++ (32 ∷ 61 ∷ 32 ∷ text)))) ≡ Some forms.GcRelocate
+    form_is = rw (result_tokens n text is) (rw (call_tokens pointer_type o refl rest)
+        (value_in (37 ∷ n) o (tok kinds.Word pointer_type.first ∷ (pointer_type.more ++ (tok kinds.Global (64 ∷ o) ∷ tokens (40 ∷ rest)))) (call_callee pointer_type o (tokens (40 ∷ rest))) ∙ ap Some relocate_called))

@@ -1,0 +1,449 @@
+-- The parts of the lines of statepoint groups, where a line prints them.
+use Rattle.std.proofs.Common.{◌≡◌, refl, ap, sym, ◌∙◌, ℕ, suc, Bool, true, false, not, cond, List, [], ◌∷◌, ◌++◌, length, map, Option, Some, None, arith, codes, decimal, append_assoc, append-nil, length-append}
+use Rattle.std.specs.Prelude.{is_some}
+use Rattle.std.specs.List.{All}
+use Rattle.std.specs.Str.{bytes_eq}
+use Rattle.std.proofs.lemmas.Slice.Eq.{bytes_eq-Decides}
+use Rattle.std.proofs.lemmas.List.Elements.{All-head}
+use Rattle.sp_text.specs.Tokens.{Tok, tok, bad, tokens, is_token, is_name}
+use Rattle.sp_text.specs.declared.tokens.Kind.{Kind}
+use Rattle.sp_text.specs.declared.tokens.Kind.TheVariants as kinds
+use Rattle.sp_text.proofs.Spelled.{stops, continues, tokens-spelled, tokens-blank}
+use Rattle.ir_reader.specs.declared.readings.TypeWord.{TypeWord}
+use Rattle.ir_reader.specs.declared.readings.TypeWord.TheVariants as types
+use Rattle.ir_reader.specs.declared.readings.Literal.{Literal}
+use Rattle.ir_reader.specs.declared.words.Dropped.TheVariants as drops
+use Rattle.ir_reader.specs.Drops.{past_all}
+use Rattle.ir_reader.specs.Families.{is_result_of}
+use Rattle.ir_printer.specs.Lists.{joined}
+use Rattle.ir_reader.specs.Gives.{Found, after, one_at, with_rest}
+use Rattle.ir_reader.specs.Lists.{Given, given, comma, list_to, is_argument_type, is_task_start, passed_at, given_behind}
+use Rattle.ir_reader.specs.Marks.{is_mark, begins, stands}
+use Rattle.ir_reader.specs.Numbers.{decimal_from}
+use Rattle.ir_reader.specs.Parts.{Val, mark_at, value_at, is_value_type, is_answer_type, is_managed, allowed_type_at, spelled_type_at}
+use Rattle.ir_reader.specs.Parts as values
+use Rattle.ir_reader.specs.Slots.{Item, name, ty, guarded, live, literal, Slot, g, a_statepoint_type, a_token, a_guarded, a_live, a_result, a_number, part, parse}
+use Rattle.ir_reader.specs.Statepoints.{Signature, Guarded, first_types_at, last_types_at, statepoint_type_at, number_at, is_zero, zero_at, token_at, signature_at, is_type_of, element_at, target_at, closing_at, begins_argument, handed_at, id_at, count_at, guarded_at, live_entry_at, bundle_at, live_at, suffix_of, result_at}
+use Rattle.read_back.proofs.Steps.{Reads, Stops, IsClean, clean-both, name-clean, one, step, step_to, past_all-none, first_of, stops-kind}
+use Rattle.read_back.proofs.Spellings.{SpellsType, SpellsValue, SpellsLiteral, allowed, pointer_type}
+use Rattle.read_back.proofs.Listed.{SpellsElement, others, comma_spelled, clean_others, ends_others, listed, list_read, list_clean}
+use Rattle.read_back.proofs.ListForms.{EndsAtMark, at_comma, at_closing, closing_tokens, anywhere, goes_by_comma, passed_spelled, passed_opens, step_any}
+
+-- ---- tokens, one after another
+
+pub record Spelled (text : List ℕ) (ts : List Tok) : Type 0 where
+  pub is : tokens text ≡ ts
+
+pub as_is : (text : List ℕ) → Spelled text (tokens text)
+as_is text = record { is = refl }
+
+pub token_then : {rest : List ℕ} {ts : List Tok} (kind : Kind) (word : List ℕ) → is_token kind word ≡ true → stops (continues kind) rest ≡ true → Spelled rest ts → Spelled (word ++ rest) (tok kind word ∷ ts)
+token_then {rest} kind word is stop e = record { is = tokens-spelled kind word rest is stop ∙ ap (λ more. tok kind word ∷ more) e.is }
+
+pub mark_then : {rest : List ℕ} {ts : List Tok} (b : ℕ) → is_token kinds.Punct (b ∷ []) ≡ true → Spelled rest ts → Spelled (b ∷ rest) (tok kinds.Punct (b ∷ []) ∷ ts)
+mark_then {rest} b is e = record { is = tokens-spelled kinds.Punct (b ∷ []) rest is (anywhere rest) ∙ ap (λ more. tok kinds.Punct (b ∷ []) ∷ more) e.is }
+
+pub blank_then : {rest : List ℕ} {ts : List Tok} → Spelled rest ts → Spelled (32 ∷ rest) ts
+blank_then {rest} e = record { is = tokens-blank 32 rest refl ∙ e.is }
+
+-- ---- the type of a statepoint, and the name of one of the families
+
+abbrev pub type_tokens : List Tok → List Tok
+type_tokens ts = tok kinds.Word (codes "token") ∷ tok kinds.Punct (codes "(") ∷ tok kinds.Word (codes "i64") ∷ tok kinds.Punct (codes ",") ∷ tok kinds.Word (codes "i32")
+    ∷ tok kinds.Punct (codes ",") ∷ tok kinds.Word (codes "ptr") ∷ tok kinds.Punct (codes ",") ∷ tok kinds.Word (codes "i32")
+    ∷ tok kinds.Punct (codes ",") ∷ tok kinds.Word (codes "i32") ∷ tok kinds.Punct (codes ",") ∷ tok kinds.Word (codes "...") ∷ tok kinds.Punct (codes ")") ∷ ts
+
+pub type_spelled : (rest : List ℕ) → tokens (codes "token (i64, i32, ptr, i32, i32, ...)" ++ rest) ≡ type_tokens (tokens rest)
+type_spelled rest =
+    (token_then kinds.Word (codes "token") refl refl (blank_then (mark_then 40 refl (token_then kinds.Word (codes "i64") refl refl (mark_then 44 refl (blank_then
+    (token_then kinds.Word (codes "i32") refl refl (mark_then 44 refl (blank_then (token_then kinds.Word (codes "ptr") refl refl (mark_then 44 refl (blank_then
+    (token_then kinds.Word (codes "i32") refl refl (mark_then 44 refl (blank_then (token_then kinds.Word (codes "i32") refl refl (mark_then 44 refl (blank_then
+    (token_then kinds.Word (codes "...") refl refl (mark_then 41 refl (as_is rest))))))))))))))))))))).is
+
+type_part : (ts : List Tok) → part a_statepoint_type (type_tokens ts) ≡ Some ([], ts)
+unfolding part after statepoint_type_at first_types_at last_types_at one_at
+type_part ts = refl
+
+pub statepoint_type_step : {f : List Slot} {rest : List ℕ} {first : Option Tok} {items : List Item} → Reads f rest first items
+    → Reads (a_statepoint_type ∷ f) (codes "token (i64, i32, ptr, i32, i32, ...)" ++ rest) (Some (tok kinds.Word (codes "token"))) items
+statepoint_type_step {rest = rest} r =
+    step_to a_statepoint_type (codes "token (i64, i32, ptr, i32, i32, ...)" ++ rest) (tok kinds.Word (codes "token")) _ [] r.clean (type_spelled rest) (type_part (tokens rest)) r
+
+global_part : (n : List ℕ) → bytes_eq n n ≡ true → (ts : List Tok) → part (g n) (tok kinds.Global (64 ∷ n) ∷ ts) ≡ Some ([], ts)
+unfolding part after one_at
+global_part n same ts = rw same refl
+
+-- the function of this name
+pub global_step : {f : List Slot} {rest : List ℕ} {first : Option Tok} {items : List Item} (n : List ℕ) → is_name n ≡ true → bytes_eq n n ≡ true → Stops rest
+    → Reads f rest first items → Reads (g n ∷ f) (64 ∷ (n ++ rest)) (Some (tok kinds.Global (64 ∷ n))) items
+global_step n is same stop r = one (g n) kinds.Global (64 ∷ n) [] is (name-clean n is) stop (global_part n same) r
+
+-- ---- tokens and places
+
+token_part : (n : List ℕ) (ts : List Tok) → part a_token (tok kinds.Word (codes "token") ∷ tok kinds.Local (37 ∷ n) ∷ ts) ≡ Some (name n ∷ [], ts)
+unfolding part after token_at one_at
+token_part n ts = rw (past_all-none drops.Groups (tok kinds.Local (37 ∷ n) ∷ ts) refl) refl
+
+-- `token %t`
+pub token_step : {f : List Slot} {rest : List ℕ} {first : Option Tok} {items : List Item} (n : List ℕ) → is_name n ≡ true → Stops rest
+    → Reads f rest first items → Reads (a_token ∷ f) (codes "token %" ++ (n ++ rest)) (Some (tok kinds.Word (codes "token"))) (name n ∷ items)
+token_step {rest = rest} n is stop r =
+    step_to a_token (codes "token %" ++ (n ++ rest)) (tok kinds.Word (codes "token")) (tok kinds.Local (37 ∷ n) ∷ tokens rest) (name n ∷ []) (clean-both n rest (name-clean n is) r.clean)
+    (token_then kinds.Word (codes "token") refl refl (blank_then (token_then kinds.Local (37 ∷ n) is stop (as_is rest)))).is (token_part n (tokens rest)) r
+
+place_part : {text : List ℕ} {l : Literal} → SpellsLiteral text l → (ts : List Tok) → part (a_number (codes "i32")) (tok kinds.Word (codes "i32") ∷ tok kinds.Number text ∷ ts) ≡ Some (literal l ∷ [], ts)
+unfolding part after number_at one_at
+place_part {text} s ts = rw (past_all-none drops.Groups (tok kinds.Number text ∷ ts) refl) (rw s.says refl)
+
+number_stops : (rest : List ℕ) → Stops rest → stops (continues kinds.Number) rest ≡ true
+number_stops rest stop = stops-kind kinds.Number rest stop
+
+-- `i32 B`
+pub place_step : {f : List Slot} {rest text : List ℕ} {l : Literal} {first : Option Tok} {items : List Item} → SpellsLiteral text l → Stops rest
+    → Reads f rest first items → Reads (a_number (codes "i32") ∷ f) (codes "i32 " ++ (text ++ rest)) (Some (tok kinds.Word (codes "i32"))) (literal l ∷ items)
+place_step {rest = rest} {text = text} {l = l} s stop r =
+    step_to (a_number (codes "i32")) (codes "i32 " ++ (text ++ rest)) (tok kinds.Word (codes "i32")) (tok kinds.Number text ∷ tokens rest) (literal l ∷ []) (clean-both text rest s.clean r.clean)
+    (token_then kinds.Word (codes "i32") refl refl (blank_then (token_then kinds.Number text s.is (number_stops rest stop) (as_is rest)))).is (place_part s (tokens rest)) r
+
+-- ---- what a statepoint calls
+
+abbrev zero_tokens : List Tok → List Tok
+zero_tokens ts = tok kinds.Word (codes "i32") ∷ tok kinds.Number (codes "0") ∷ ts
+
+zero_says : (ts : List Tok) → zero_at (zero_tokens ts) ≡ Some (tt, ts)
+unfolding zero_at after one_at
+zero_says ts = rw (past_all-none drops.Groups (tok kinds.Number (codes "0") ∷ ts) refl) refl
+
+abbrev comma_tok : Tok
+comma_tok = tok kinds.Punct (codes ",")
+
+id_spelled : {text : List ℕ} {l : Literal} → SpellsLiteral text l → (rest : List ℕ)
+    → tokens (codes "i64 " ++ (text ++ (codes ", i32 0, " ++ rest))) ≡ tok kinds.Word (codes "i64") ∷ tok kinds.Number text ∷ comma_tok ∷ zero_tokens (comma_tok ∷ tokens rest)
+id_spelled {text} s rest =
+    (token_then kinds.Word (codes "i64") refl refl (blank_then (token_then kinds.Number text s.is refl (mark_then 44 refl (blank_then
+    (token_then kinds.Word (codes "i32") refl refl (blank_then (token_then kinds.Number (codes "0") refl refl (mark_then 44 refl (blank_then (as_is rest))))))))))).is
+
+id_says : {text : List ℕ} {l : Literal} → SpellsLiteral text l → (ts : List Tok) → id_at (tok kinds.Word (codes "i64") ∷ tok kinds.Number text ∷ comma_tok ∷ zero_tokens (comma_tok ∷ ts)) ≡ Some (l, ts)
+unfolding id_at number_at after one_at
+id_says {text} s ts =
+    rw (past_all-none drops.Groups (tok kinds.Number text ∷ comma_tok ∷ zero_tokens (comma_tok ∷ ts)) refl) (rw s.says (rw (zero_says (comma_tok ∷ ts)) refl))
+
+count_spelled : {text : List ℕ} {l : Literal} → SpellsLiteral text l → (rest : List ℕ) → Stops rest
+    → tokens (codes ", i32 " ++ (text ++ (codes ", i32 0" ++ rest))) ≡ comma_tok ∷ tok kinds.Word (codes "i32") ∷ tok kinds.Number text ∷ comma_tok ∷ zero_tokens (tokens rest)
+count_spelled {text} s rest stop =
+    (mark_then 44 refl (blank_then (token_then kinds.Word (codes "i32") refl refl (blank_then (token_then kinds.Number text s.is refl (mark_then 44 refl (blank_then
+    (token_then kinds.Word (codes "i32") refl refl (blank_then (token_then kinds.Number (codes "0") refl (number_stops rest stop) (as_is rest))))))))))).is
+
+count_says : {text : List ℕ} {l : Literal} → SpellsLiteral text l → (ts : List Tok) → count_at (comma_tok ∷ tok kinds.Word (codes "i32") ∷ tok kinds.Number text ∷ comma_tok ∷ zero_tokens ts) ≡ Some (l, ts)
+unfolding count_at number_at after one_at
+count_says {text} s ts = rw (past_all-none drops.Groups (tok kinds.Number text ∷ comma_tok ∷ zero_tokens ts) refl) (rw s.says (rw (zero_says ts) refl))
+
+signature_says : {text : List ℕ} {word : TypeWord} (t : SpellsType text word) → is_answer_type word ≡ true → (parameters : List TypeWord) (ts us : List Tok)
+    → list_to (allowed_type_at (is_argument_type true)) (codes ")") ts ≡ Some (parameters, tok kinds.Punct (codes ")") ∷ us)
+    → signature_at (tok kinds.Word t.first ∷ (t.more ++ (tok kinds.Punct (codes "(") ∷ ts))) ≡ Some (record { answer = word; parameters = parameters }, us)
+unfolding signature_at after one_at
+signature_says {text} {word} t allow parameters ts us e = rw (allowed text word t is_answer_type allow (tok kinds.Punct (codes "(") ∷ ts)) (rw e refl)
+
+target_says : (s : Signature) (o : List ℕ) → is_type_of o s ≡ true → (ts us : List Tok) → signature_at ts ≡ Some (s, tok kinds.Punct (codes ")") ∷ tok kinds.Global (64 ∷ o) ∷ us)
+    → target_at (tok kinds.Word (codes "ptr") ∷ tok kinds.Word (codes "elementtype") ∷ tok kinds.Punct (codes "(") ∷ ts) ≡ Some ((s, o), us)
+unfolding target_at element_at after one_at
+target_says s o is ts us e =
+    rw (past_all-none drops.BesideElementType (tok kinds.Word (codes "elementtype") ∷ tok kinds.Punct (codes "(") ∷ ts) refl)
+    (rw e (rw (past_all-none drops.BesideElementType (tok kinds.Global (64 ∷ o) ∷ us) refl) (rw is refl)))
+
+-- ---- what a statepoint passes
+
+closing_spelled : (rest : List ℕ) → tokens (codes ", i32 0, i32 0)" ++ rest) ≡ comma_tok ∷ zero_tokens (comma_tok ∷ zero_tokens (tok kinds.Punct (codes ")") ∷ tokens rest))
+closing_spelled rest =
+    (mark_then 44 refl (blank_then (token_then kinds.Word (codes "i32") refl refl (blank_then (token_then kinds.Number (codes "0") refl refl (mark_then 44 refl (blank_then
+    (token_then kinds.Word (codes "i32") refl refl (blank_then (token_then kinds.Number (codes "0") refl refl (mark_then 41 refl (as_is rest)))))))))))).is
+
+closing_says : (ts : List Tok) → closing_at (comma_tok ∷ zero_tokens (comma_tok ∷ zero_tokens (tok kinds.Punct (codes ")") ∷ ts))) ≡ Some (tt, ts)
+unfolding closing_at after one_at
+closing_says ts = rw (zero_says (comma_tok ∷ zero_tokens (tok kinds.Punct (codes ")") ∷ ts))) (rw (zero_says (tok kinds.Punct (codes ")") ∷ ts)) refl)
+
+-- `, i32 0)`, the second half of the end
+abbrev second_half : List Tok → Found (Unit {0})
+second_half ts = after (mark_at (codes ",") ts) (λ _ ts. after (zero_at ts) (λ _ ts. mark_at (codes ")") ts))
+
+-- what follows an argument is not the second half of the end
+pub record EndsHanded (rest : List ℕ) : Type 0 where
+  pub ends : EndsAtMark rest
+  pub opens : mark_at (codes ")") (tokens rest) ≡ None
+  pub whole : second_half (tokens rest) ≡ None
+
+bytes_same : (a b : List ℕ) → bytes_eq a b ≡ true → a ≡ b
+bytes_same a b is = (bytes_eq-Decides a b).0 is
+
+abbrev left : {A : Type 0} → Found A → List Tok
+left None = []
+left (Some y) = y.1
+
+abbrev found_if : Bool → Option (Unit {0})
+found_if is = cond is (Some tt) None
+
+-- `i32 0` is an argument too
+zero_passed : (plain : Bool) (ts us : List Tok) → zero_at ts ≡ Some (tt, us) → passed_at plain ts ≡ Some (given (types.Int 32) (values.number (record { negative = false; magnitude = 0 })), us)
+unfolding zero_at passed_at after one_at allowed_type_at spelled_type_at decimal_from
+zero_passed plain (tok kinds.Word bytes ∷ ts) us e = by (bytes_eq bytes (codes "i32")) refl e
+  where
+    digits : (q : List Tok) → one_at (stands is_zero) q ≡ Some (tt, us) → given_behind (types.Int 32) q ≡ Some (given (types.Int 32) (values.number (record { negative = false; magnitude = 0 })), us)
+    digits (tok kinds.Number bs ∷ vs) e = zero (bytes_eq bs (codes "0")) refl e
+      where
+        zero : (is : Bool) → bytes_eq bs (codes "0") ≡ is → with_rest vs (found_if is) ≡ Some (tt, us)
+            → given_behind (types.Int 32) (tok kinds.Number bs ∷ vs) ≡ Some (given (types.Int 32) (values.number (record { negative = false; magnitude = 0 })), us)
+        zero false same e = cc
+        zero true same e = let is : bs ≡ codes "0" = bytes_same bs (codes "0") same in rw is (let behind : vs ≡ us = ap left e in rw behind refl)
+    digits _ e = cc
+
+    by : (is : Bool) → bytes_eq bytes (codes "i32") ≡ is → after (with_rest ts (found_if is)) (λ _ ts. one_at (stands is_zero) (past_all drops.Groups ts)) ≡ Some (tt, us)
+        → passed_at plain (tok kinds.Word bytes ∷ ts) ≡ Some (given (types.Int 32) (values.number (record { negative = false; magnitude = 0 })), us)
+    by false same e = cc
+    by true same e = let is : bytes ≡ codes "i32" = bytes_same bytes (codes "i32") same in rw is (digits (past_all drops.Groups ts) e)
+zero_passed plain _ us e = cc
+
+behind_same : (plain : Bool) (x : Given) (ts us vs : List Tok) → passed_at plain ts ≡ Some (x, us) → zero_at ts ≡ Some (tt, vs) → vs ≡ us
+behind_same plain x ts us vs passed zero =
+    let other = sym (zero_passed plain ts vs zero) ∙ passed in
+    ap left other
+
+not_closing : (plain : Bool) (x : Given) (ts us : List Tok) → passed_at plain ts ≡ Some (x, us) → second_half us ≡ None → closing_at (comma_tok ∷ ts) ≡ None
+unfolding closing_at after one_at
+not_closing plain x ts us passed none = by (zero_at ts) refl
+  where
+    by : (r : Found (Unit {0})) → zero_at ts ≡ r → after r (λ _ ts. second_half ts) ≡ None
+    by None is = refl
+    by (Some y) is = let same : y.1 ≡ us = behind_same plain x ts us y.1 passed is in rw same none
+
+not_half : (plain : Bool) (x : Given) (ts us : List Tok) → passed_at plain ts ≡ Some (x, us) → mark_at (codes ")") us ≡ None → second_half (comma_tok ∷ ts) ≡ None
+unfolding after one_at
+not_half plain x ts us passed none = by (zero_at ts) refl
+  where
+    by : (r : Found (Unit {0})) → zero_at ts ≡ r → after r (λ _ ts. mark_at (codes ")") ts) ≡ None
+    by None is = refl
+    by (Some y) is = let same : y.1 ≡ us = behind_same plain x ts us y.1 passed is in rw same none
+
+open_comma : (text : List ℕ) → mark_at (codes ")") (tokens (44 ∷ 32 ∷ text)) ≡ None
+unfolding one_at
+open_comma text = rw (comma_spelled text) refl
+
+handed_element : {text : List ℕ} {x : Given} (plain : Bool) → SpellsElement (passed_at plain) comma EndsAtMark text x → SpellsElement (passed_at plain) begins_argument EndsHanded text x
+handed_element {text} {x} plain e = record {
+  clean = e.clean;
+  says = λ rest ends. e.says rest ends.ends;
+  shorter = λ rest ends. e.shorter rest ends.ends;
+  goes = λ rest ends. rw (comma_spelled (text ++ rest)) (rw (not_closing plain x (tokens (text ++ rest)) (tokens rest) (e.says rest ends.ends) ends.whole) refl);
+}
+
+handed_comma : {text : List ℕ} {x : Given} (plain : Bool) (rest : List ℕ) → SpellsElement (passed_at plain) begins_argument EndsHanded text x → EndsHanded rest → EndsHanded (44 ∷ 32 ∷ (text ++ rest))
+handed_comma {text} {x} plain rest e ends = record {
+  ends = at_comma (text ++ rest);
+  opens = open_comma (text ++ rest);
+  whole = rw (comma_spelled (text ++ rest)) (not_half plain x (tokens (text ++ rest)) (tokens rest) (e.says rest ends) ends.opens);
+}
+
+at_end : (rest : List ℕ) → EndsHanded (codes ", i32 0, i32 0)" ++ rest)
+unfolding after one_at
+at_end rest = record {
+  ends = at_comma (codes "i32 0, i32 0)" ++ rest);
+  opens = open_comma (codes "i32 0, i32 0)" ++ rest);
+  whole = rw (closing_spelled rest) (rw (zero_says (comma_tok ∷ zero_tokens (tok kinds.Punct (codes ")") ∷ tokens rest))) refl);
+}
+
+no_argument : (rest : List ℕ) → begins_argument (tokens (codes ", i32 0, i32 0)" ++ rest)) ≡ false
+no_argument rest = rw (closing_spelled rest) (rw (closing_says (tokens rest)) refl)
+
+handed_shape : (first more end : List ℕ) → ((codes ", " ++ first) ++ more) ++ end ≡ 44 ∷ 32 ∷ (first ++ (more ++ end))
+handed_shape first more end = simp append_assoc
+
+-- the arguments, a comma before each
+handed_reads : {Y : Type 0} (plain : Bool) (text : Y → List ℕ) (said : Y → Given) (ys : List Y) → All (λ y. SpellsElement (passed_at plain) comma EndsAtMark (text y) (said y)) ys → (rest : List ℕ)
+    → handed_at plain (tokens (others text ys ++ (codes ", i32 0, i32 0)" ++ rest))) ≡ Some (map said ys, tokens (codes ", i32 0, i32 0)" ++ rest))
+unfolding handed_at
+handed_reads plain text said [] each rest = rw (no_argument rest) refl
+handed_reads {Y} plain text said (y ∷ ys) each rest =
+    let end : List ℕ = codes ", i32 0, i32 0)" ++ rest in
+    let all : All (λ y. SpellsElement (passed_at plain) begins_argument EndsHanded (text y) (said y)) (y ∷ ys) = λ k d low. handed_element plain (each k d low) in
+    let found = listed (passed_at plain) begins_argument EndsHanded text said (λ y rest e ends. handed_comma plain rest e ends) y ys end all (at_end rest) (no_argument rest) in
+    let behind : EndsHanded (others text ys ++ end) = ends_others (passed_at plain) begins_argument EndsHanded text said (λ y rest e ends. handed_comma plain rest e ends) ys end (λ k d low. all (suc k) d (omega (arith, low))) (at_end rest) in
+    let more : begins_argument (tokens (44 ∷ 32 ∷ (text y ++ (others text ys ++ end)))) ≡ true = (All-head (λ one. SpellsElement (passed_at plain) begins_argument EndsHanded (text one) (said one)) y ys all).goes (others text ys ++ end) behind in
+    rw (handed_shape (text y) (others text ys) end) (rw more (rw (comma_spelled (text y ++ (others text ys ++ end))) (rw (append_assoc (text y) (others text ys) end) at found)))
+
+-- ---- a statepoint's call
+
+guarded_says : (t u v w x y : List Tok) (id count : Literal) (s : Signature) (o : List ℕ) (passed : List Given)
+    → id_at t ≡ Some (id, u) → target_at u ≡ Some ((s, o), v) → count_at v ≡ Some (count, w) → handed_at (is_task_start o) w ≡ Some (passed, x) → closing_at x ≡ Some (tt, y)
+    → guarded_at t ≡ Some (record { id = id; signature = s; callee = o; count = count; passed = passed }, y)
+unfolding guarded_at after
+guarded_says t u v w x y id count s o passed a b c d e = rw a (rw b (rw c (rw d (rw e refl))))
+
+abbrev ParametersRead : {P : Type 0} → (P → List ℕ) → (P → TypeWord) → List P → Type 0
+ParametersRead text said ps = All (λ p. SpellsElement (allowed_type_at (is_argument_type true)) comma EndsAtMark (text p) (said p)) ps
+
+abbrev Opens : {P : Type 0} → (P → List ℕ) → List P → Type 0
+Opens text ps = All (λ p. (rest : List ℕ) → EndsAtMark rest → begins (is_mark (codes ")")) (tokens (text p ++ rest)) ≡ false) ps
+
+signature_reads : {answer : List ℕ} {word : TypeWord} (t : SpellsType answer word) → is_answer_type word ≡ true → {P : Type 0} (text : P → List ℕ) (said : P → TypeWord) (ps : List P) → ParametersRead text said ps → Opens text ps → (rest : List ℕ)
+    → signature_at (tokens (answer ++ (codes " (" ++ (joined (codes ", ") (map text ps) ++ (41 ∷ rest))))) ≡ Some (record { answer = word; parameters = map said ps }, tokens rest)
+signature_reads {answer} {word} t allow text said ps each opens rest =
+    let body : List ℕ = joined (codes ", ") (map text ps) ++ (41 ∷ rest) in
+    let found : list_to (allowed_type_at (is_argument_type true)) (codes ")") (tokens body) ≡ Some (map said ps, tok kinds.Punct (codes ")") ∷ tokens rest) =
+    list_read (allowed_type_at (is_argument_type true)) (codes ")") EndsAtMark text said (λ y rest e ends. at_comma (text y ++ rest)) ps (41 ∷ rest) each opens (at_closing rest) (rw (closing_tokens rest) refl) (rw (closing_tokens rest) refl)
+    ∙ ap (λ ts. Some (map said ps, ts)) (closing_tokens rest) in
+    let spelled : tokens (answer ++ (codes " (" ++ body)) ≡ tok kinds.Word t.first ∷ (t.more ++ (tok kinds.Punct (codes "(") ∷ tokens body)) =
+    t.spelled (codes " (" ++ body) refl ∙ ap (λ ts. tok kinds.Word t.first ∷ (t.more ++ ts)) (blank_then (mark_then 40 refl (as_is body))).is in
+    rw spelled (signature_says t allow (map said ps) (tokens body) (tokens rest) found)
+
+target_reads : {answer : List ℕ} {word : TypeWord} (t : SpellsType answer word) → is_answer_type word ≡ true → {P : Type 0} (text : P → List ℕ) (said : P → TypeWord) (ps : List P) → ParametersRead text said ps → Opens text ps
+    → (o : List ℕ) → is_name o ≡ true → is_type_of o (record { answer = word; parameters = map said ps }) ≡ true → (rest : List ℕ) → Stops rest
+    → target_at (tokens (codes "ptr elementtype(" ++ (answer ++ (codes " (" ++ (joined (codes ", ") (map text ps) ++ (codes ")) @" ++ (o ++ rest)))))))
+    ≡ Some ((record { answer = word; parameters = map said ps }, o), tokens rest)
+target_reads {answer} {word} t allow text said ps each opens o is fits rest stop =
+    let body : List ℕ = answer ++ (codes " (" ++ (joined (codes ", ") (map text ps) ++ (codes ")) @" ++ (o ++ rest)))) in
+    let s : Signature = record { answer = word; parameters = map said ps } in
+    let spelled : tokens (codes "ptr elementtype(" ++ body) ≡ tok kinds.Word (codes "ptr") ∷ tok kinds.Word (codes "elementtype") ∷ tok kinds.Punct (codes "(") ∷ tokens body =
+    (token_then kinds.Word (codes "ptr") refl refl (blank_then (token_then kinds.Word (codes "elementtype") refl refl (mark_then 40 refl (as_is body))))).is in
+    let found : signature_at (tokens body) ≡ Some (s, tok kinds.Punct (codes ")") ∷ tok kinds.Global (64 ∷ o) ∷ tokens rest) =
+    signature_reads t allow text said ps each opens (codes ") @" ++ (o ++ rest))
+    ∙ ap (λ ts. Some (s, ts)) (mark_then 41 refl (blank_then (token_then kinds.Global (64 ∷ o) is stop (as_is rest)))).is in
+    rw spelled (target_says s o fits (tokens body) (tokens rest) found)
+
+others_stop : {Y : Type 0} (text : Y → List ℕ) (ys : List Y) (rest : List ℕ) → Stops (others text ys ++ (codes ", i32 0, i32 0)" ++ rest))
+others_stop text [] rest = refl
+others_stop text (y ∷ ys) rest = refl
+
+-- the text of a statepoint's call, of which the arguments are this and the rest that
+abbrev pub call_spelled : (id answer : List ℕ) → (parameters : List (List ℕ)) → (callee count arguments rest : List ℕ) → List ℕ
+call_spelled id answer parameters callee count arguments rest =
+    codes "i64 " ++ (id ++ (codes ", i32 0, ptr elementtype(" ++ (answer ++ (codes " (" ++ (joined (codes ", ") parameters ++ (codes ")) @" ++ (callee
+    ++ (codes ", i32 " ++ (count ++ (codes ", i32 0" ++ (arguments ++ (codes ", i32 0, i32 0)" ++ rest))))))))))))
+
+-- what is known of a statepoint's call
+pub record SpellsCall {P Y : Type 0} (id answer callee count : List ℕ) (ptext : P → List ℕ) (psaid : P → TypeWord) (ps : List P) (text : Y → List ℕ) (said : Y → Given) (ys : List Y) (made : Guarded) : Type 0 where
+  pub numbered : SpellsLiteral id made.id
+  pub answers : SpellsType answer made.signature.answer
+  pub allowed_answer : is_answer_type made.signature.answer ≡ true
+  pub parameters : ParametersRead ptext psaid ps
+  pub parameters_open : Opens ptext ps
+  pub parameters_are : map psaid ps ≡ made.signature.parameters
+  pub callee_is : callee ≡ made.callee
+  pub named : is_name made.callee ≡ true
+  pub typed : is_type_of made.callee made.signature ≡ true
+  pub counted : SpellsLiteral count made.count
+  pub arguments : All (λ y. SpellsElement (passed_at (is_task_start made.callee)) comma EndsAtMark (text y) (said y)) ys
+  pub arguments_are : map said ys ≡ made.passed
+
+guarded_reads : {P Y : Type 0} (id answer callee count : List ℕ) (ptext : P → List ℕ) (psaid : P → TypeWord) (ps : List P) (text : Y → List ℕ) (said : Y → Given) (ys : List Y) (made : Guarded)
+    → SpellsCall id answer callee count ptext psaid ps text said ys made → (rest : List ℕ)
+    → guarded_at (tokens (call_spelled id answer (map ptext ps) made.callee count (others text ys) rest)) ≡ Some (made, tokens rest)
+guarded_reads id answer callee count ptext psaid ps text said ys made c rest =
+    let signature : ◌≡◌ {A = Signature} (record { answer = made.signature.answer; parameters = map psaid ps }) made.signature = ap (λ parameters. record { answer = made.signature.answer; parameters = parameters }) c.parameters_are in
+    let ending : List ℕ = codes ", i32 0, i32 0)" ++ rest in
+    let passing : List ℕ = others text ys ++ ending in
+    let counting : List ℕ = codes ", i32 " ++ (count ++ (codes ", i32 0" ++ passing)) in
+    let target : List ℕ = codes "ptr elementtype(" ++ (answer ++ (codes " (" ++ (joined (codes ", ") (map ptext ps) ++ (codes ")) @" ++ (made.callee ++ counting))))) in
+    let fits : is_type_of made.callee (record { answer = made.signature.answer; parameters = map psaid ps }) ≡ true = ap (is_type_of made.callee) signature ∙ c.typed in
+    guarded_says (tokens (codes "i64 " ++ (id ++ (codes ", i32 0, " ++ target)))) (tokens target) (tokens counting) (tokens passing) (tokens ending) (tokens rest)
+    made.id made.count made.signature made.callee made.passed
+    (rw (id_spelled c.numbered target) (id_says c.numbered (tokens target)))
+    (target_reads c.answers c.allowed_answer ptext psaid ps c.parameters c.parameters_open made.callee c.named fits counting refl ∙ ap (λ s. Some ((s, made.callee), tokens counting)) signature)
+    (rw (count_spelled c.counted passing (others_stop text ys rest)) (count_says c.counted (tokens passing)))
+    (handed_reads (is_task_start made.callee) text said ys c.arguments rest ∙ ap (λ all. Some (all, tokens ending)) c.arguments_are)
+    (rw (closing_spelled rest) (closing_says (tokens rest)))
+
+guarded_part : (made : Guarded) (ts us : List Tok) → guarded_at ts ≡ Some (made, us) → part a_guarded ts ≡ Some (guarded made ∷ [], us)
+unfolding part after
+guarded_part made ts us e = rw e refl
+
+guarded_clean : {P Y : Type 0} (id answer callee count : List ℕ) (ptext : P → List ℕ) (psaid : P → TypeWord) (ps : List P) (text : Y → List ℕ) (said : Y → Given) (ys : List Y) (made : Guarded)
+    → SpellsCall id answer callee count ptext psaid ps text said ys made → (rest : List ℕ) → IsClean rest → IsClean (call_spelled id answer (map ptext ps) made.callee count (others text ys) rest)
+guarded_clean id answer callee count ptext psaid ps text said ys made c rest clean =
+    clean-both id _ c.numbered.clean (clean-both answer _ c.answers.clean
+    (clean-both (joined (codes ", ") (map ptext ps)) _ (list_clean (allowed_type_at (is_argument_type true)) comma EndsAtMark ptext psaid (λ y rest e ends. at_comma (ptext y ++ rest)) ps c.parameters)
+    (clean-both made.callee _ (name-clean made.callee c.named) (clean-both count _ c.counted.clean
+    (clean-both (others text ys) _ (clean_others (passed_at (is_task_start made.callee)) comma EndsAtMark text said (λ y rest e ends. at_comma (text y ++ rest)) ys c.arguments) clean)))))
+
+pub guarded_step : {f : List Slot} {rest : List ℕ} {first : Option Tok} {items : List Item} {P Y : Type 0} (id answer callee count : List ℕ) (ptext : P → List ℕ) (psaid : P → TypeWord) (ps : List P) (text : Y → List ℕ) (said : Y → Given) (ys : List Y) (made : Guarded)
+    → SpellsCall id answer callee count ptext psaid ps text said ys made → Reads f rest first items
+    → Reads (a_guarded ∷ f) (call_spelled id answer (map ptext ps) made.callee count (others text ys) rest) (first_of (tokens (call_spelled id answer (map ptext ps) made.callee count (others text ys) rest))) (guarded made ∷ items)
+guarded_step {rest = rest} id answer callee count ptext psaid ps text said ys made c r =
+    step_any a_guarded (call_spelled id answer (map ptext ps) made.callee count (others text ys) rest) (guarded made ∷ [])
+    (guarded_clean id answer callee count ptext psaid ps text said ys made c rest r.clean)
+    (guarded_part made _ (tokens rest) (guarded_reads id answer callee count ptext psaid ps text said ys made c rest)) r
+
+-- ---- live entries
+
+live_says : {bytes : List ℕ} {v : Val} (s : SpellsValue bytes v) (ts : List Tok) → live_entry_at (tok kinds.Word pointer_type.first ∷ (pointer_type.more ++ (tok s.kind bytes ∷ ts))) ≡ Some (v, ts)
+unfolding live_entry_at after one_at
+live_says {bytes} s ts = rw (allowed (codes "ptr addrspace(1)") types.Managed pointer_type is_managed refl (tok s.kind bytes ∷ ts)) (rw s.says refl)
+
+-- `P V`
+pub live_element : {bytes : List ℕ} {v : Val} → SpellsValue bytes v → SpellsElement live_entry_at comma EndsAtMark (codes "ptr addrspace(1)" ++ (32 ∷ bytes)) v
+live_element {bytes} s = record {
+  clean = clean-both (codes "ptr addrspace(1)") (32 ∷ bytes) refl s.clean;
+  says = λ rest ends. rw (passed_spelled pointer_type s rest ends.stop) (live_says s (tokens rest));
+  shorter = λ rest ends. rw (passed_spelled pointer_type s rest ends.stop) (omega (arith, length-append pointer_type.more (tok s.kind bytes ∷ tokens rest)));
+  goes = λ rest ends. goes_by_comma ((codes "ptr addrspace(1)" ++ (32 ∷ bytes)) ++ rest);
+}
+
+pub live_opens : {bytes : List ℕ} {v : Val} → SpellsValue bytes v → (rest : List ℕ) → EndsAtMark rest → begins (is_mark (codes ")")) (tokens ((codes "ptr addrspace(1)" ++ (32 ∷ bytes)) ++ rest)) ≡ false
+live_opens s rest ends = passed_opens pointer_type s rest ends
+
+unfoldable live_word : List ℕ
+live_word = codes "\"gc-live\""
+
+live_part : (vs : List Val) (ts us : List Tok) → list_to live_entry_at (codes ")") ts ≡ Some (vs, tok kinds.Punct (codes ")") ∷ tok kinds.Punct (codes "]") ∷ us)
+    → part a_live (tok kinds.Punct (codes "[") ∷ tok kinds.Quoted live_word ∷ tok kinds.Punct (codes "(") ∷ ts) ≡ Some (live vs ∷ [], us)
+unfolding part after live_at bundle_at one_at live_word
+live_part vs ts us e = rw e refl
+
+live_spelled : (rest : List ℕ) → tokens (codes "[ \"gc-live\"(" ++ rest) ≡ tok kinds.Punct (codes "[") ∷ tok kinds.Quoted live_word ∷ tok kinds.Punct (codes "(") ∷ tokens rest
+unfolding live_word
+live_spelled rest = (mark_then 91 refl (blank_then (token_then kinds.Quoted (codes "\"gc-live\"") refl refl (mark_then 40 refl (as_is rest))))).is
+
+-- `[ "gc-live"(P V, ..) ]`
+pub live_step : {f : List Slot} {rest : List ℕ} {first : Option Tok} {items : List Item} {Y : Type 0} (text : Y → List ℕ) (said : Y → Val) (ys : List Y)
+    → All (λ y. SpellsElement live_entry_at comma EndsAtMark (text y) (said y)) ys → Opens text ys
+    → Reads f rest first items → Reads (a_live ∷ f) (codes "[ \"gc-live\"(" ++ (joined (codes ", ") (map text ys) ++ (codes ") ]" ++ rest))) (Some (tok kinds.Punct (codes "["))) (live (map said ys) ∷ items)
+live_step {rest = rest} text said ys each opens r =
+    let body : List ℕ = joined (codes ", ") (map text ys) ++ (codes ") ]" ++ rest) in
+    let found : list_to live_entry_at (codes ")") (tokens body) ≡ Some (map said ys, tok kinds.Punct (codes ")") ∷ tok kinds.Punct (codes "]") ∷ tokens rest) =
+    list_read live_entry_at (codes ")") EndsAtMark text said (λ y rest e ends. at_comma (text y ++ rest)) ys (codes ") ]" ++ rest) each opens (at_closing (codes " ]" ++ rest)) (rw (closing_tokens (codes " ]" ++ rest)) refl) (rw (closing_tokens (codes " ]" ++ rest)) refl)
+    ∙ ap (λ ts. Some (map said ys, ts)) (mark_then 41 refl (blank_then (mark_then 93 refl (as_is rest)))).is in
+    step_to a_live (codes "[ \"gc-live\"(" ++ body) (tok kinds.Punct (codes "[")) _ (live (map said ys) ∷ [])
+    (clean-both (joined (codes ", ") (map text ys)) (codes ") ]" ++ rest) (list_clean live_entry_at comma EndsAtMark text said (λ y rest e ends. at_comma (text y ++ rest)) ys each) r.clean)
+    (live_spelled body) (live_part (map said ys) (tokens body) (tokens rest) found) r
+
+nothing_left : (ts : List Tok) → first_of ts ≡ None → ts ≡ []
+nothing_left [] e = refl
+nothing_left (t ∷ ts) e = cc
+
+no_live_part : part a_live [] ≡ Some (live [] ∷ [], [])
+unfolding part after live_at
+no_live_part = refl
+
+-- no bundle stands there
+pub no_live : {f : List Slot} {items : List Item} → Reads f [] None items → Reads (a_live ∷ f) [] None (live [] ∷ items)
+unfolding parse after
+no_live {f} {items} r = record { whole = rw e (rw no_live_part (rw (rw e at r.whole) refl)); begins = r.begins; clean = refl }
+  where
+    e : tokens [] ≡ []
+    e = nothing_left (tokens []) r.begins
+
+-- ---- results
+
+result_part : {text : List ℕ} {word : TypeWord} (t : SpellsType text word) → is_value_type word ≡ true → (suffix n : List ℕ) → ((ts : List Tok) → suffix_of word (tok kinds.Word t.first ∷ ts) ≡ suffix) → is_result_of suffix n ≡ true
+    → (ts : List Tok) → part a_result (tok kinds.Word t.first ∷ (t.more ++ (tok kinds.Global (64 ∷ n) ∷ ts))) ≡ Some (ty word ∷ [], ts)
+unfolding part after result_at one_at
+result_part {text} {word} t allow suffix n same is ts =
+    rw (allowed text word t is_value_type allow (tok kinds.Global (64 ∷ n) ∷ ts)) (rw (same (t.more ++ (tok kinds.Global (64 ∷ n) ∷ ts))) (rw is refl))
+
+-- `T @llvm.experimental.gc.result.S`
+pub result_step : {f : List Slot} {text rest : List ℕ} {word : TypeWord} {first : Option Tok} {items : List Item} (t : SpellsType text word) → is_value_type word ≡ true
+    → (suffix n : List ℕ) → ((ts : List Tok) → suffix_of word (tok kinds.Word t.first ∷ ts) ≡ suffix) → is_result_of suffix n ≡ true → is_name n ≡ true → Stops rest
+    → Reads f rest first items → Reads (a_result ∷ f) (text ++ (32 ∷ 64 ∷ (n ++ rest))) (Some (tok kinds.Word t.first)) (ty word ∷ items)
+result_step {text = text} {rest = rest} {word = word} t allow suffix n same of_type is stop r =
+    step_to a_result (text ++ (32 ∷ 64 ∷ (n ++ rest))) (tok kinds.Word t.first) (t.more ++ (tok kinds.Global (64 ∷ n) ∷ tokens rest)) (ty word ∷ [])
+    (clean-both text (32 ∷ 64 ∷ (n ++ rest)) t.clean (clean-both n rest (name-clean n is) r.clean))
+    (t.spelled (32 ∷ 64 ∷ (n ++ rest)) refl ∙ ap (λ ts. tok kinds.Word t.first ∷ (t.more ++ ts)) (blank_then (token_then kinds.Global (64 ∷ n) is stop (as_is rest))).is)
+    (result_part t allow suffix n same of_type (tokens rest)) r
