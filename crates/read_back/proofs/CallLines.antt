@@ -27,15 +27,17 @@ use Rattle.ir_printer.specs.Operands.{parameter_text, argument_text}
 use Rattle.ir_printer.specs.Calls.{callee_name}
 use Rattle.ir_printer.specs.Lines.{result_front, operator_text, phi_entry_text}
 use Rattle.ir_reader.specs.declared.forms.Form.TheVariants as forms
+use Rattle.ir_reader.specs.Families.{statepoint_name, relocate_name, result_suffix, result_front as family_result_front, is_family_name}
 use Rattle.ir_reader.specs.Limits.{given_fits, entry_value_fits}
 use Rattle.ir_reader.specs.Lists.{Given, given, comma, passed_at, is_task_start, entry_at, begins_entry}
 use Rattle.ir_reader.specs.Marks.{is_mark, begins}
 use Rattle.ir_reader.specs.Slots as parts
 use Rattle.read_back.specs.Said.{word_of, value_says, passed_says, entry_says}
 use Rattle.read_back.proofs.Steps.{plain_bytes, numeral_digits}
+use Rattle.read_back.proofs.FormsIn.{gc_new_own, value_call_form, void_call_form}
 use Rattle.read_back.proofs.Listed.{SpellsElement}
 use Rattle.read_back.proofs.ListForms.{EndsAtMark, Anything, passed_element, passed_opens, function_element, function_opens, value_call_line, void_call_line, entry_element, phi_line}
-use Rattle.read_back.proofs.Operands.{HaveNames, IsNarrow, block-named, function-named, layout-named, type_spelled, type_allowed, type_fits_in, value_spelled, value_in_limit}
+use Rattle.read_back.proofs.Operands.{HaveNames, IsNarrow, block-named, function-named, function-own, layout-named, type_spelled, type_allowed, type_fits_in, value_spelled, value_in_limit}
 use Rattle.read_back.proofs.OneLine.{OneLine, made}
 
 -- ---- callees
@@ -70,6 +72,18 @@ callee-named names have callees.TaskStart low = refl
 callee-named names have callees.Poll low = refl
 callee-named names have callees.Check low = refl
 callee-named names have callees.Same low = refl
+
+-- and is the name of none of the three families
+pub callee-own : (names : Names) → HaveNames names → (callee : Callee) → CalleeThere names callee → is_family_name (callee_name names callee) ≡ false
+unfolding statepoint_name relocate_name result_suffix family_result_front
+callee-own names have (callees.Fun func) low = function-own names have func.0 low
+callee-own names have (callees.New layout) low = gc_new_own (layout_name names.layouts layout)
+callee-own names have callees.Print low = refl
+callee-own names have callees.Read low = refl
+callee-own names have callees.TaskStart low = refl
+callee-own names have callees.Poll low = refl
+callee-own names have callees.Check low = refl
+callee-own names have callees.Same low = refl
 
 -- ---- what a call passes
 
@@ -151,6 +165,8 @@ value_call_reads names have callee types n ty os is first narrow there all =
       stands = refl;
       counts = refl;
       kept = refl;
+      both = inr (rw (value_call_shape names callee types n ty os) (value_call_form n is (type_spelled ty first narrow) (callee_name names callee) (callee-named names have callee there) (callee-own names have callee there)
+          (joined (codes ", ") (map (passed_text names) (zip types os)) ++ codes ")")));
     }
 
 void_call_shape : (names : Names) (callee : Callee) (types : List Ty) (os : List Operand)
@@ -163,17 +179,20 @@ pub void_call_reads : (names : Names) → HaveNames names → (callee : Callee) 
     → CalleeThere names callee → AllByRecursion (PassedReads (is_task_start (callee_name names callee)) names) (zip types os)
     → OneLine names (made None (ast.Call callee types) tys.Void os [])
 void_call_reads names have callee types os there all =
-    let plain : Bool = is_task_start (callee_name names callee) in record {
+    let plain : Bool = is_task_start (callee_name names callee) in
+    let reads = void_call_line
+    (callee_name names callee) (callee-named names have callee there) (passed_text names) (passed_given names) (zip types os)
+    (All-from_recursion _ (zip types os) (each_element plain names (zip types os) all)) (All-from_recursion _ (zip types os) (each_opens plain names (zip types os) all)) in record {
       form = forms.VoidCall;
       items = parts.called (callee_name names callee) (map (passed_given names) (zip types os)) ∷ [];
-      reads = rw (void_call_shape names callee types os) (void_call_line
-          (callee_name names callee) (callee-named names have callee there) (passed_text names) (passed_given names) (zip types os)
-          (All-from_recursion _ (zip types os) (each_element plain names (zip types os) all)) (All-from_recursion _ (zip types os) (each_opens plain names (zip types os) all)));
+      reads = rw (void_call_shape names callee types os) reads;
       says = refl;
       fits = rw (each_fits plain names (zip types os) all) refl;
       stands = refl;
       counts = refl;
       kept = refl;
+      both = inr (rw (void_call_shape names callee types os) (void_call_form (callee_name names callee) (callee-named names have callee there) (callee-own names have callee there)
+          (joined (codes ", ") (map (passed_text names) (zip types os)) ++ codes ")") reads.form_is));
     }
 
 -- ---- phis
@@ -217,4 +236,5 @@ phi_reads names have n ty o os l ls is first narrow all = record {
   stands = refl;
   counts = refl;
   kept = refl;
+  both = inl refl;
 }

@@ -59,7 +59,8 @@ use Rattle.read_back.proofs.Functions.{answer_spelled, answer_allowed, answer_fi
 use Rattle.read_back.proofs.CallLines.{CalleeThere, PassedReads, passed_text, passed_given, callee-named, digits_named, each_element, each_fits}
 use Rattle.read_back.proofs.OneLine.{made}
 use Rattle.read_back.proofs.GroupSteps.{call_spelled, SpellsCall, live_element, live_opens}
-use Rattle.read_back.proofs.GroupForms.{ReadsIn, ResultNamed, statepoint_front, bare_statepoint_line, live_statepoint_line, result_line, relocate_line}
+use Rattle.read_back.proofs.FormsIn.{ReadsIn}
+use Rattle.read_back.proofs.GroupForms.{ResultNamed, statepoint_front, bare_statepoint_line, live_statepoint_line, result_line, relocate_line}
 
 -- A text is a line of the rewritten form, in a block, which says this and passes no limit of a line.
 pub record GroupLine (text : List ℕ) (statement : Statement) : Type 0 where

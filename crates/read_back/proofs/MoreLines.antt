@@ -1,5 +1,5 @@
 -- Conversions, selections, branches, returns and steps of addresses on their lines.
-use Rattle.std.proofs.Common.{◌≡◌, refl, ℕ, ◌<◌, ◌≤◌, true, false, List, [], ◌∷◌, ◌++◌, length, Some, None, arith, codes, decimal, append_assoc}
+use Rattle.std.proofs.Common.{◌≡◌, refl, ℕ, ◌<◌, ◌≤◌, true, false, List, [], ◌∷◌, ◌++◌, length, Some, None, arith, codes, decimal, append_assoc, inl}
 use Rattle.std.proofs.lemmas.Bool.{le-leb}
 use Rattle.std.proofs.lemmas.Fmt.{decimal_digit}
 use Rattle.sp_ids.specs.declared.ids.BlockId.{BlockId}
@@ -49,6 +49,7 @@ convert_reads names have op o n bits to a is narrow high a_is a_fits text say in
   stands = rw inside refl;
   counts = refl;
   kept = refl;
+  both = inl refl;
 }
 
 one_digit : decimal 1 ≡ 49 ∷ []
@@ -77,6 +78,7 @@ select_reads names have n ty c a b is first narrow c_is a_is b_is c_fits a_fits 
   stands = refl;
   counts = refl;
   kept = refl;
+  both = inl refl;
 }
 
 branch_shape : (names : Names) (ty : Ty) (c : Operand) (l m : BlockId)
@@ -97,6 +99,7 @@ branch_reads names have ty c l m c_is c_fits l_low m_low = record {
   stands = refl;
   counts = refl;
   kept = refl;
+  both = inl refl;
 }
 
 return_shape : (names : Names) (ty : Ty) (a : Operand) → is_first_class ty ≡ true
@@ -125,4 +128,5 @@ return_reads names have ty a first narrow a_is a_fits = record {
   stands = refl;
   counts = refl;
   kept = refl;
+  both = inl refl;
 }

@@ -1,9 +1,10 @@
 -- Instructions that are printed on one line: the line's form, and what it says.
-use Rattle.std.proofs.Common.{◌≡◌, refl, ap, ◌∙◌, ℕ, ◌<◌, ◌≤◌, true, false, cond, List, [], ◌∷◌, ◌++◌, length, Option, Some, None, codes, decimal, append_assoc}
+use Rattle.std.proofs.Common.{◌≡◌, refl, ap, ◌∙◌, ℕ, ◌<◌, ◌≤◌, true, false, cond, List, [], ◌∷◌, ◌++◌, length, Option, Some, None, codes, decimal, append_assoc, inl, inr}
+use Rattle.std.specs.Prelude.{◌⊎◌}
 use Rattle.std.specs.List.{list_all}
 use Rattle.std.proofs.lemmas.Bool.{le-leb}
 use Rattle.sp_ids.specs.declared.ids.BlockId.{BlockId}
-use Rattle.sp_text.specs.Tokens.{is_name}
+use Rattle.sp_text.specs.Tokens.{tokens, is_name}
 use Rattle.ir_ast.specs.declared.types.Ty.{Ty}
 use Rattle.ir_ast.specs.declared.types.Ty.TheVariants as tys
 use Rattle.ir_ast.specs.declared.ops.Pred.{Pred}
@@ -22,6 +23,9 @@ use Rattle.ir_printer.specs.Names.{Names, block_name}
 use Rattle.ir_printer.specs.Words.{type_text, predicate_word}
 use Rattle.ir_printer.specs.Operands.{value_text}
 use Rattle.ir_printer.specs.Lines.{result_front, operator_text, arithmetic_text}
+use Rattle.ir_ast.specs.declared.modules.Form.{Form as TextForm}
+use Rattle.ir_ast.specs.declared.modules.Form.TheVariants as text_forms
+use Rattle.ir_reader.specs.Forms.{form_in}
 use Rattle.ir_reader.specs.declared.forms.Form.{Form}
 use Rattle.ir_reader.specs.declared.forms.Form.TheVariants as forms
 use Rattle.ir_reader.specs.declared.forms.Counted.TheVariants as kinds
@@ -36,6 +40,7 @@ use Rattle.ir_reader.specs.Slots.{Item, name, width, ty, value, pred}
 use Rattle.ir_lines.specs.Statements.{stated}
 use Rattle.read_back.specs.Said.{word_of, value_says, instruction_says, operator_says, binary_says}
 use Rattle.read_back.proofs.Forms.{ReadsAs, binary_line, compare_line, load_line, store_line, jump_line, unreachable_line, return_void_line}
+use Rattle.read_back.proofs.FormsIn.{ReadsIn, names_function, in_both, in_source}
 use Rattle.read_back.proofs.Operands.{HaveNames, block-named, IsNarrow, type_spelled, type_allowed, type_fits_in, value_spelled, value_in_limit}
 
 -- where a block stands behind an instruction
@@ -52,6 +57,16 @@ pub record OneLine (names : Names) (inst : Instruction) : Type 0 where
   pub stands : behind_instruction form ≡ Some (place_after inst.op)
   pub counts : counts_as form items ≡ kinds.Instruction
   pub kept : is_dropped_form form ≡ false
+  -- and it is the same line in the rewritten form
+  pub both : (names_function form ≡ false) ⊎ (form_in text_forms.Rewritten (tokens (result_front inst.result ++ operator_text names inst.op inst)) ≡ Some form)
+
+-- the line, in a text of either form
+pub reads_in : (of : TextForm) (names : Names) (inst : Instruction) (one : OneLine names inst) → ReadsIn of (result_front inst.result ++ operator_text names inst.op inst) one.form one.items
+reads_in text_forms.Source names inst one = in_source one.reads
+reads_in text_forms.Rewritten names inst one = elim one.both [
+  | inl plain ↦ in_both text_forms.Rewritten plain one.reads
+  | inr is ↦ record { form_is = is; whole = one.reads.whole; clean = one.reads.clean }
+]
 
 -- an instruction without a bundle
 abbrev pub made : Option (List ℕ) → Op → Ty → List Operand → List BlockId → Instruction
@@ -79,6 +94,7 @@ binary_reads names have op o n bits a b is narrow a_is b_is a_fits b_fits text s
   stands = rw inside refl;
   counts = refl;
   kept = refl;
+  both = inl refl;
 }
 
 -- ---- comparisons and conversions
@@ -121,6 +137,7 @@ compare_reads names have p n of_type a b is first narrow a_is b_is a_fits b_fits
   stands = refl;
   counts = refl;
   kept = refl;
+  both = inl refl;
 }
 
 -- ---- memory
@@ -142,6 +159,7 @@ load_reads names have n of_type a is first narrow a_is a_fits = record {
   stands = refl;
   counts = refl;
   kept = refl;
+  both = inl refl;
 }
 
 store_shape : (names : Names) (ty : Ty) (a b : Operand)
@@ -162,6 +180,7 @@ store_reads names have of_type a b first narrow a_is b_is a_fits b_fits = record
   stands = refl;
   counts = refl;
   kept = refl;
+  both = inl refl;
 }
 
 -- ---- terminators
@@ -177,12 +196,13 @@ jump_reads names have l low = record {
   stands = refl;
   counts = refl;
   kept = refl;
+  both = inl refl;
 }
 
 -- `ret void`
 pub return_void_reads : (names : Names) → OneLine names (made None ast.Ret tys.Void [] [])
-return_void_reads names = record { form = forms.ReturnVoid; items = []; reads = return_void_line; says = refl; fits = refl; stands = refl; counts = refl; kept = refl }
+return_void_reads names = record { form = forms.ReturnVoid; items = []; reads = return_void_line; says = refl; fits = refl; stands = refl; counts = refl; kept = refl; both = inl refl }
 
 -- `unreachable`
 pub unreachable_reads : (names : Names) → OneLine names (made None ast.Unreachable tys.Void [] [])
-unreachable_reads names = record { form = forms.Unreachable; items = []; reads = unreachable_line; says = refl; fits = refl; stands = refl; counts = refl; kept = refl }
+unreachable_reads names = record { form = forms.Unreachable; items = []; reads = unreachable_line; says = refl; fits = refl; stands = refl; counts = refl; kept = refl; both = inl refl }

@@ -20,16 +20,20 @@ use Rattle.ir_ast.specs.Faults.TypeClash.{Fits}
 use Rattle.ir_printer.specs.Names.{Names, layout_name, function_name, block_name, value_name}
 use Rattle.ir_printer.specs.Words.{type_text}
 use Rattle.ir_printer.specs.Operands.{value_text}
+use Rattle.ir_reader.specs.Families.{is_family_name}
 use Rattle.ir_reader.specs.Limits.{value_fits, literal_fits, type_fits}
 use Rattle.ir_reader.specs.Parts.{is_value_type}
 use Rattle.ir_reader.specs.Parts as values
 use Rattle.read_back.specs.Said.{word_of, value_says, integer_value, literal_of}
 use Rattle.read_back.proofs.Spellings.{SpellsType, SpellsValue, Spellable, signed-spellable, integer_type, pointer_type, integer_spelled, local_value, null_value}
 
+tested_at : {X : Type 0} (P : List ℕ → Bool) (result : Bool) (g : X → List ℕ) (xs : List X) → All (λ x. P (g x) ≡ result) xs → (k : ℕ) → k < length xs → P (option_map_or g (slice_get xs k) []) ≡ result
+tested_at P result g [] all k low = absurd (omega arith)
+tested_at P result g (x ∷ xs) all zero low = All-head (λ x. P (g x) ≡ result) x xs all
+tested_at P result g (x ∷ xs) all (suc k) low = tested_at P result g xs (All-tail (λ x. P (g x) ≡ result) x xs all) k (omega arith)
+
 pub named_at : {X : Type 0} (g : X → List ℕ) (xs : List X) → All (λ x. is_name (g x) ≡ true) xs → (k : ℕ) → k < length xs → is_name (option_map_or g (slice_get xs k) []) ≡ true
-named_at g [] all k low = absurd (omega arith)
-named_at g (x ∷ xs) all zero low = All-head (λ x. is_name (g x) ≡ true) x xs all
-named_at g (x ∷ xs) all (suc k) low = named_at g xs (All-tail (λ x. is_name (g x) ≡ true) x xs all) k (omega arith)
+named_at g xs all k low = tested_at is_name true g xs all k low
 
 -- what a function's lines name has names of texts
 pub record HaveNames (names : Names) : Type 0 where
@@ -37,6 +41,8 @@ pub record HaveNames (names : Names) : Type 0 where
   pub blocks : All (λ block. is_name block.name ≡ true) names.func.blocks
   pub layouts : All (λ layout. is_name layout.name ≡ true) names.layouts
   pub functions : All (λ func. is_name func.name ≡ true) names.funcs
+  -- no function has the name of one of the three families
+  pub own : All (λ func. is_family_name func.name ≡ false) names.funcs
 
 pub value-named : (names : Names) → HaveNames names → (v : ℕ) → v < length (definitions_of names.func) → is_name (value_name names.func v) ≡ true
 unfolding value_name
@@ -50,6 +56,9 @@ layout-named names have l low = named_at (λ layout. layout.name) names.layouts 
 
 pub function-named : (names : Names) → HaveNames names → (f : ℕ) → f < length names.funcs → is_name (function_name names.funcs f) ≡ true
 function-named names have f low = named_at (λ func. func.name) names.funcs have.functions f low
+
+pub function-own : (names : Names) → HaveNames names → (f : ℕ) → f < length names.funcs → is_family_name (function_name names.funcs f) ≡ false
+function-own names have f low = tested_at is_family_name false (λ func. func.name) names.funcs have.own f low
 
 -- ---- types
 

@@ -20,6 +20,7 @@ use Rattle.read_back.specs.BlocksEnd.{BlocksEnd}
 use Rattle.read_back.specs.Said.{result_of}
 use Rattle.read_back.proofs.BackInsts.{IsPrinted, split_all}
 use Rattle.read_back.proofs.BackModules.{names_in, printed}
+use Rattle.read_back.proofs.FormsIn.{own_name}
 use Rattle.read_back.proofs.Operands.{HaveNames}
 use Rattle.read_back.proofs.SourceLines.{narrow_of, inst_read}
 use Rattle.read_back.proofs.Blocks.{AllSay, AllBlocksSay}
@@ -52,6 +53,7 @@ have_names content source func own = record {
   blocks = own.names.labels;
   layouts = source.layout_names;
   functions = λ k d low. (source.functions k d low).names.own;
+  own = λ k d low. own_name _ (source.no_fault.free k d low);
 }
 
 -- ---- blocks

@@ -1,5 +1,5 @@
 -- Steps of addresses on their lines.
-use Rattle.std.proofs.Common.{◌≡◌, refl, ℕ, ◌<◌, ◌≤◌, ◌^◌, true, false, List, [], ◌∷◌, ◌++◌, length, Some, None, codes, decimal, append_assoc, append-nil}
+use Rattle.std.proofs.Common.{◌≡◌, refl, ℕ, ◌<◌, ◌≤◌, ◌^◌, true, false, List, [], ◌∷◌, ◌++◌, length, Some, None, codes, decimal, append_assoc, append-nil, inl}
 use Rattle.std.proofs.lemmas.Bool.{le-leb}
 use Rattle.sp_text.specs.Tokens.{is_name}
 use Rattle.ir_ast.specs.declared.types.Ty.TheVariants as tys
@@ -42,6 +42,7 @@ integer_step_reads names have n of_width bits a b is most scalar narrow a_is b_i
   stands = refl;
   counts = refl;
   kept = refl;
+  both = inl refl;
 }
 
 -- `%x = getelementptr P, P V, iN V`
@@ -58,6 +59,7 @@ pointer_step_reads names have n bits a b is narrow a_is b_is a_fits b_fits = rec
   stands = refl;
   counts = refl;
   kept = refl;
+  both = inl refl;
 }
 
 -- `%x = getelementptr %T, P V, iN V`
@@ -74,6 +76,7 @@ layout_step_reads names have n layout bits a b is low narrow a_is b_is a_fits b_
   stands = refl;
   counts = refl;
   kept = refl;
+  both = inl refl;
 }
 
 field_shape : (names : Names) (layout : ℕ) (n : List ℕ) (bits field : ℕ) (a b : Operand)
@@ -95,4 +98,5 @@ field_step_reads names have n layout bits field a b is low narrow small a_is b_i
   stands = refl;
   counts = refl;
   kept = refl;
+  both = inl refl;
 }
