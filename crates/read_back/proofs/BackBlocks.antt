@@ -102,9 +102,6 @@ pub inner : (names : Names) (op : Op) (inst : Instruction) → AllByRecursion In
 inner names (ops.Gep elem width place) inst = (step_inner names elem width place inst, tt)
 inner names ops.Ret inst = (return_inner names inst.ty inst, tt)
 inner names ops.Switch inst = (refl, cases_inner names inst.ty (zip (drop 1 inst.operands) (drop 1 inst.labels)))
-inner names (ops.Statepoint id callee ts) inst = tt
-inner names ops.GcResult inst = tt
-inner names ops.GcRelocate inst = tt
 inner names _ inst = (refl, tt)
 
 pub insts_inner : (names : Names) (insts : List Instruction) → AllByRecursion InBlock (flat_map (instruction_says names) insts)

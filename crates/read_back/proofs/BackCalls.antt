@@ -385,9 +385,6 @@ inst_keeps scope names (ops.Call callee ts) inst calls = (ap not (calls callee t
 inst_keeps scope names (ops.Gep elem width place) inst calls = (step_keeps scope names elem width place inst, tt)
 inst_keeps scope names ops.Switch inst calls = (refl, cases_keep scope names inst.ty (zip (drop 1 inst.operands) (drop 1 inst.labels)))
 inst_keeps scope names ops.Ret inst calls = (return_keeps scope names inst.ty inst, tt)
-inst_keeps scope names (ops.Statepoint id callee ts) inst calls = tt
-inst_keeps scope names ops.GcResult inst calls = tt
-inst_keeps scope names ops.GcRelocate inst calls = tt
 inst_keeps scope names _ inst calls = (refl, tt)
 
 one_call : (content : ModuleContent) → IsSourceModule content → (lines : List Line) → said lines ≡ said_by content → (one : Definition) (func : Function)

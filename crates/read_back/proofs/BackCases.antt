@@ -76,9 +76,6 @@ inst_widths : (names : Names) (op : Op) (inst : Instruction) (rest : List Statem
 inst_widths names (ops.Gep elem index place) inst rest k w = step_widths names elem index place inst rest k w
 inst_widths names ops.Ret inst rest k w = return_widths names inst.ty inst rest k w
 inst_widths names ops.Switch inst rest k w = (tt, cases_widths names inst.ty (zip (drop 1 inst.operands) (drop 1 inst.labels)) rest k)
-inst_widths names (ops.Statepoint id callee ts) inst rest k w = k w
-inst_widths names ops.GcResult inst rest k w = k w
-inst_widths names ops.GcRelocate inst rest k w = k w
 inst_widths names _ inst rest k w = (tt, k w)
 
 insts_widths : (names : Names) (insts : List Instruction) (rest : List Statement) → ((w : ℕ) → CaseWidths w rest)

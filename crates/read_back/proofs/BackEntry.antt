@@ -107,9 +107,6 @@ inst_leaves scope names ops.CondBr inst p h =
 inst_leaves scope names ops.Switch inst p h =
     let parts = switch_leaves scope names inst.ty inst.operands inst.labels p.line.0.label_count p.line.1 (h refl) in
     (or_false (block_number scope (label_says names (lab inst.labels 0)) == 0) false parts.0 refl, parts.1)
-inst_leaves scope names (ops.Statepoint id callee ts) inst p h = tt
-inst_leaves scope names ops.GcResult inst p h = tt
-inst_leaves scope names ops.GcRelocate inst p h = tt
 inst_leaves scope names _ inst p h = (refl, tt)
 
 pub entry_has_pred-clear : (content : ModuleContent) → IsSourceModule content → BlocksEnd content → (lines : List Line) → said lines ≡ said_by content

@@ -17,6 +17,7 @@ use Rattle.ir_ast.specs.declared.ops.Elem.{Elem}
 use Rattle.ir_ast.specs.declared.ops.Elem.TheVariants as elements
 use Rattle.ir_ast.specs.declared.ops.Operand.{Operand}
 use Rattle.ir_ast.specs.Insts.{Instruction}
+use Rattle.ir_ast.specs.Lines.{is_rewritten}
 use Rattle.ir_ast.specs.Blocks.{BasicBlock}
 use Rattle.ir_ast.specs.Layouts.{ObjectLayout}
 use Rattle.ir_ast.specs.Funcs.{Function, instructions_of}
@@ -271,9 +272,6 @@ pub no_cast_inst : (names : Names) (op : Op) (inst : Instruction) → AllByRecur
 no_cast_inst names (ops.Gep elem width place) inst = (no_cast_step names elem width place inst, tt)
 no_cast_inst names ops.Ret inst = (no_cast_return names inst.ty inst, tt)
 no_cast_inst names ops.Switch inst = (refl, no_cast_cases names inst.ty (zip (drop 1 inst.operands) (drop 1 inst.labels)))
-no_cast_inst names (ops.Statepoint id callee ts) inst = tt
-no_cast_inst names ops.GcResult inst = tt
-no_cast_inst names ops.GcRelocate inst = tt
 no_cast_inst names _ inst = (refl, tt)
 
 -- nor is any of a statepoint group
@@ -292,14 +290,14 @@ no_group_return names (tys.Int w) inst = refl
 no_group_return names tys.Ptr inst = refl
 no_group_return names tys.Token inst = refl
 
-pub no_group_inst : (names : Names) (op : Op) (inst : Instruction) → AllByRecursion (Passes is_of_group) (operator_says names op inst)
-no_group_inst names (ops.Gep elem width place) inst = (no_group_step names elem width place inst, tt)
-no_group_inst names ops.Ret inst = (no_group_return names inst.ty inst, tt)
-no_group_inst names ops.Switch inst = (refl, no_group_cases names inst.ty (zip (drop 1 inst.operands) (drop 1 inst.labels)))
-no_group_inst names (ops.Statepoint id callee ts) inst = tt
-no_group_inst names ops.GcResult inst = tt
-no_group_inst names ops.GcRelocate inst = tt
-no_group_inst names _ inst = (refl, tt)
+pub no_group_inst : (names : Names) (op : Op) (inst : Instruction) → is_rewritten op ≡ false → AllByRecursion (Passes is_of_group) (operator_says names op inst)
+no_group_inst names (ops.Gep elem width place) inst plain = (no_group_step names elem width place inst, tt)
+no_group_inst names ops.Ret inst plain = (no_group_return names inst.ty inst, tt)
+no_group_inst names ops.Switch inst plain = (refl, no_group_cases names inst.ty (zip (drop 1 inst.operands) (drop 1 inst.labels)))
+no_group_inst names (ops.Statepoint id callee ts) inst plain = absurd (let bad : true ≡ false = plain in cc)
+no_group_inst names ops.GcResult inst plain = absurd (let bad : true ≡ false = plain in cc)
+no_group_inst names ops.GcRelocate inst plain = absurd (let bad : true ≡ false = plain in cc)
+no_group_inst names _ inst plain = (refl, tt)
 
 pub pointer_cast-clear : (content : ModuleContent) (lines : List Line) → said lines ≡ said_by content → (line : ℕ) → ¬ (PointerCast lines line)
 pointer_cast-clear content lines e line f =
@@ -342,9 +340,6 @@ no_order_inst names (ops.Icmp pred) inst e = (same_order pred inst.ty e, tt)
 no_order_inst names (ops.Gep elem width place) inst e = (no_order_step names elem width place inst, tt)
 no_order_inst names ops.Ret inst e = (no_order_return names inst.ty inst, tt)
 no_order_inst names ops.Switch inst e = (refl, no_order_cases names inst.ty (zip (drop 1 inst.operands) (drop 1 inst.labels)))
-no_order_inst names (ops.Statepoint id callee ts) inst e = tt
-no_order_inst names ops.GcResult inst e = tt
-no_order_inst names ops.GcRelocate inst e = tt
 no_order_inst names _ inst e = (refl, tt)
 
 pub pointer_order-clear : (content : ModuleContent) → IsSourceModule content → (lines : List Line) → said lines ≡ said_by content → (line : ℕ) → ¬ (PointerOrder lines line)

@@ -96,9 +96,6 @@ inst_keeps : (scope : Scope) (of : module_scope.Scope) (names : Names) → Field
 inst_keeps scope of names fit (ops.Gep elem width place) inst p rule = (step_keeps scope names of.fields fit elem width place inst p rule, tt)
 inst_keeps scope of names fit ops.Switch inst p rule = (refl, cases_keep scope names inst.ty (zip (drop 1 inst.operands) (drop 1 inst.labels)))
 inst_keeps scope of names fit ops.Ret inst p rule = (return_keeps scope names inst.ty inst, tt)
-inst_keeps scope of names fit (ops.Statepoint id callee ts) inst p rule = tt
-inst_keeps scope of names fit ops.GcResult inst p rule = tt
-inst_keeps scope of names fit ops.GcRelocate inst p rule = tt
 inst_keeps scope of names fit _ inst p rule = (refl, tt)
 
 fields-clear : (content : ModuleContent) → IsSourceModule content → (lines : List Line) → said lines ≡ said_by content → (line : ℕ) → ¬ (InBody lines line breaks_field)

@@ -9,7 +9,7 @@ use Rattle.std.proofs.lemmas.Nat.{pow-add}
 use Rattle.std.proofs.lemmas.Bool.Decides.{nat_tests, Decides-eqb}
 use Rattle.std.proofs.lemmas.Option.{slice_get-map, slice_get_within, same_Some}
 use Rattle.std.proofs.lemmas.List.{length-map}
-use Rattle.std.proofs.lemmas.List.Elements.{All-head, All-from_recursion, recursion_from_All}
+use Rattle.std.proofs.lemmas.List.Elements.{All-head, All-from_recursion, recursion_from_All, All-weaker, All-contains_itself}
 use Rattle.sp_ids.specs.Numbers.{wrapped, signed}
 use Rattle.sp_ids.specs.declared.ids.BlockId.{BlockId}
 use Rattle.sp_ids.specs.declared.ids.FuncId.{FuncId}
@@ -28,7 +28,7 @@ use Rattle.ir_ast.specs.Modules.{ModuleContent}
 use Rattle.ir_ast.specs.Lists.{Distinct}
 use Rattle.ir_ast.specs.Types.{is_void, is_integer, is_first_class, is_answer}
 use Rattle.ir_ast.specs.Operands.{is_value, functions_named as functions_in}
-use Rattle.ir_ast.specs.Lines.{Has}
+use Rattle.ir_ast.specs.Lines.{Has, is_rewritten}
 use Rattle.ir_ast.specs.Widths.{IsWidth, type_widths, operator_widths}
 use Rattle.ir_ast.specs.Values.{definition_name, definition_type, value_types}
 use Rattle.ir_ast.specs.Values as defs
@@ -158,15 +158,16 @@ no_casts names one e =
     lines [] h = tt
     lines (l ∷ ls) h = (no_cast_line l.says h.0, lines ls h.1)
 
-no_groups : (names : Names) (one : Definition) → said one.body ≡ flat_map (block_says names) names.func.blocks
+no_groups : (names : Names) (one : Definition) → AllByRecursion (λ (inst : Instruction). is_rewritten inst.op ≡ false) (instructions_of names.func.blocks) → said one.body ≡ flat_map (block_says names) names.func.blocks
     → AllByRecursion (λ l. is_of_group l.says ≡ false) one.body
-no_groups names one e =
+no_groups names one plain e =
     lines_all (λ (s : Statement). is_of_group s ≡ false) one.body (flat_map (block_says names) names.func.blocks) e
-    (blocks_pass names (λ (s : Statement). is_of_group s ≡ false) names.func.blocks (λ name. refl) (each (instructions_of names.func.blocks)))
+    (blocks_pass names (λ (s : Statement). is_of_group s ≡ false) names.func.blocks (λ name. refl) (each (instructions_of names.func.blocks) plain))
   where
-    each : (insts : List Instruction) → AllByRecursion (λ inst. AllByRecursion (λ (s : Statement). is_of_group s ≡ false) (instruction_says names inst)) insts
-    each [] = tt
-    each (i ∷ is) = (no_group_inst names i.op i, each is)
+    each : (insts : List Instruction) → AllByRecursion (λ (inst : Instruction). is_rewritten inst.op ≡ false) insts
+        → AllByRecursion (λ inst. AllByRecursion (λ (s : Statement). is_of_group s ≡ false) (instruction_says names inst)) insts
+    each [] plain = tt
+    each (i ∷ is) plain = (no_group_inst names i.op i plain.0, each is plain.1)
 
 all_typed : (content : ModuleContent) → IsSourceModule content → BlocksEnd content → (lines : List Line) → said lines ≡ said_by content
     → (one : Definition) (func : Function) → SaysDefinition content.layouts content.funcs one func → Contains content.funcs func
@@ -175,8 +176,12 @@ unfolding value_name
 all_typed content source ends lines e one func says c k ty there first =
     let s = setting_of content source ends lines e one func says c in
     let back = function-back content source (known_of lines one) one func says c s in
+    let insts : List Instruction = instructions_of func.blocks in
+    let plain : AllByRecursion (λ (inst : Instruction). is_rewritten inst.op ≡ false) insts =
+    recursion_from_All (λ (inst : Instruction). is_rewritten inst.op ≡ false) insts
+    (All-weaker (Contains insts) (λ (inst : Instruction). is_rewritten inst.op ≡ false) (λ inst d. (printed_inst content source func c inst d).plain) insts (All-contains_itself insts)) in
     let typed : map definition_type (defs.definitions_of func) ≡ map (λ (n : Naming). type_of n.ty) (values_of one) =
-    ap value_types (sym back) ∙ values-are (λ name ty. ty) (known_of lines one) one (no_groups (names_in content func) one says.body) (no_casts (names_in content func) one says.body) in
+    ap value_types (sym back) ∙ values-are (λ name ty. ty) (known_of lines one) one (no_groups (names_in content func) one plain says.body) (no_casts (names_in content func) one says.body) in
     naming_of (defs.definitions_of func) (values_of one) k ty s.values s.values_once typed there first
 
 -- ---- operands
@@ -410,9 +415,9 @@ inst_fit scope names k ops.Switch inst p =
 inst_fit scope names k ops.Ret inst p =
     (return_fit scope names k inst.ty inst p.line.type p.line.operand_count (all_good names inst p.line.values p.widths p.fits), tt)
 inst_fit scope names k ops.Unreachable inst p = (refl, tt)
-inst_fit scope names k (ops.Statepoint id callee ts) inst p = tt
-inst_fit scope names k ops.GcResult inst p = tt
-inst_fit scope names k ops.GcRelocate inst p = tt
+inst_fit scope names k (ops.Statepoint id callee ts) inst p = absurd (let bad : true ≡ false = p.plain in cc)
+inst_fit scope names k ops.GcResult inst p = absurd (let bad : true ≡ false = p.plain in cc)
+inst_fit scope names k ops.GcRelocate inst p = absurd (let bad : true ≡ false = p.plain in cc)
 
 -- ---- any line
 

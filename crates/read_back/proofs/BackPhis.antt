@@ -75,9 +75,6 @@ no_phi names ops.Phi inst e = absurd (let bad : true ≡ false = e in cc)
 no_phi names (ops.Gep elem width place) inst e = (no_phi_step names elem width place inst, tt)
 no_phi names ops.Ret inst e = (no_phi_return names inst.ty inst, tt)
 no_phi names ops.Switch inst e = (refl, no_phi_cases names inst.ty (zip (drop 1 inst.operands) (drop 1 inst.labels)))
-no_phi names (ops.Statepoint id callee ts) inst e = tt
-no_phi names ops.GcResult inst e = tt
-no_phi names ops.GcRelocate inst e = tt
 no_phi names _ inst e = (refl, tt)
 
 phi_only : (op : Op) → right.is_phi op ≡ true → op ≡ ops.Phi

@@ -17,6 +17,7 @@ use Rattle.ir_ast.specs.declared.ops.Elem.TheVariants as elements
 use Rattle.ir_ast.specs.declared.ops.Operand.{Operand}
 use Rattle.ir_ast.specs.Cells.{type_of}
 use Rattle.ir_ast.specs.Insts.{Instruction}
+use Rattle.ir_ast.specs.Lines.{is_rewritten}
 use Rattle.ir_ast.specs.Funcs.{instructions_of}
 use Rattle.ir_ast.specs.Modules.{ModuleContent}
 use Rattle.ir_ast.specs.Scope as module_scope
@@ -32,7 +33,7 @@ use Rattle.ir_lines.specs.InBody.{InBody}
 use Rattle.ir_lines.specs.Faults.TypeClash.{misfits, keeps_rule, clashes}
 use Rattle.read_back.specs.Said.{word_of, width_in, step_says, return_says, case_says, operator_says, said_by}
 use Rattle.read_back.proofs.BackLines.{said}
-use Rattle.read_back.proofs.BackModules.{names_in}
+use Rattle.read_back.proofs.BackModules.{names_in, printed_inst}
 use Rattle.read_back.proofs.BackFaults.{no_body_fault}
 
 -- a call that does not agree with its head, or a step to a field that there isn't
@@ -87,21 +88,19 @@ return_keeps scope names (tys.Int n) inst e = ap (λ (w : TypeWord). not (same_t
 return_keeps scope names tys.Ptr inst e = ap (λ (w : TypeWord). not (same_type Managed w)) e
 return_keeps scope names tys.Token inst e = ap (λ (w : TypeWord). not (same_type Void w)) e
 
-inst_keeps : (scope : Scope) (of : module_scope.Scope) (names : Names) (op : Op) (inst : Instruction) → RuleOf of op inst → scope.answer ≡ word_of of.answer
+inst_keeps : (scope : Scope) (of : module_scope.Scope) (names : Names) (op : Op) (inst : Instruction) → is_rewritten op ≡ false → RuleOf of op inst → scope.answer ≡ word_of of.answer
     → AllByRecursion (Keeps scope) (operator_says names op inst)
-inst_keeps scope of names (ops.Trunc to) inst rule answer = (ap not (narrower to inst.ty rule), tt)
-inst_keeps scope of names (ops.Zext to) inst rule answer = (ap not (wider to inst.ty rule), tt)
-inst_keeps scope of names (ops.Sext to) inst rule answer = (ap not (wider to inst.ty rule), tt)
-inst_keeps scope of names ops.Select inst rule answer = (ap not (same_type-refl (word_of inst.ty)), tt)
-inst_keeps scope of names (ops.Gep elem width place) inst rule answer = (step_keeps scope names elem width place inst, tt)
-inst_keeps scope of names ops.Load inst rule answer = (ap not (cell_is inst.ty rule), tt)
-inst_keeps scope of names ops.Store inst rule answer = (ap not (cell_is inst.ty rule), tt)
-inst_keeps scope of names ops.Switch inst rule answer = (refl, cases_keep scope names inst.ty (zip (drop 1 inst.operands) (drop 1 inst.labels)))
-inst_keeps scope of names ops.Ret inst rule answer = (return_keeps scope names inst.ty inst (answer ∙ ap word_of (sym rule)), tt)
-inst_keeps scope of names (ops.Statepoint id callee ts) inst rule answer = tt
-inst_keeps scope of names ops.GcResult inst rule answer = tt
-inst_keeps scope of names ops.GcRelocate inst rule answer = tt
-inst_keeps scope of names _ inst rule answer = (refl, tt)
+inst_keeps scope of names (ops.Trunc to) inst plain rule answer = (ap not (narrower to inst.ty rule), tt)
+inst_keeps scope of names (ops.Zext to) inst plain rule answer = (ap not (wider to inst.ty rule), tt)
+inst_keeps scope of names (ops.Sext to) inst plain rule answer = (ap not (wider to inst.ty rule), tt)
+inst_keeps scope of names ops.Select inst plain rule answer = (ap not (same_type-refl (word_of inst.ty)), tt)
+inst_keeps scope of names (ops.Gep elem width place) inst plain rule answer = (step_keeps scope names elem width place inst, tt)
+inst_keeps scope of names ops.Load inst plain rule answer = (ap not (cell_is inst.ty rule), tt)
+inst_keeps scope of names ops.Store inst plain rule answer = (ap not (cell_is inst.ty rule), tt)
+inst_keeps scope of names ops.Switch inst plain rule answer = (refl, cases_keep scope names inst.ty (zip (drop 1 inst.operands) (drop 1 inst.labels)))
+inst_keeps scope of names ops.Ret inst plain rule answer = (return_keeps scope names inst.ty inst (answer ∙ ap word_of (sym rule)), tt)
+inst_keeps scope of names (ops.Statepoint id callee ts) inst plain rule answer = absurd (let bad : true ≡ false = plain in cc)
+inst_keeps scope of names _ inst plain rule answer = (refl, tt)
 
 rules-clear : (content : ModuleContent) → IsSourceModule content → (lines : List Line) → said lines ≡ said_by content → (line : ℕ) → ¬ (InBody lines line breaks_rule)
 rules-clear content source lines e line f =
@@ -109,7 +108,7 @@ rules-clear content source lines e line f =
     (λ one func says c inst d.
     let typed = All-contains (λ g. FunctionIsTyped (module_scope.scope_of content g) g) content.funcs func source.no_fault.typed c in
     let fit = All-contains (IsTyped (module_scope.scope_of content func)) (instructions_of func.blocks) inst typed.lines d in
-    inst_keeps (scope_of lines one) (module_scope.scope_of content func) (names_in content func) inst.op inst fit.rule says.answer)
+    inst_keeps (scope_of lines one) (module_scope.scope_of content func) (names_in content func) inst.op inst (printed_inst content source func c inst d).plain fit.rule says.answer)
     (λ scope name. refl) line f
 
 -- a clash is an operand that does not fit, or a broken rule

@@ -347,9 +347,9 @@ inst_clear scope names k ops.Switch inst p there called = (
 )
 inst_clear scope names k ops.Ret inst p there called = (return_clear scope names k inst.ty inst there, tt)
 inst_clear scope names k ops.Unreachable inst p there called = (refl, tt)
-inst_clear scope names k (ops.Statepoint id callee ts) inst p there called = tt
-inst_clear scope names k ops.GcResult inst p there called = tt
-inst_clear scope names k ops.GcRelocate inst p there called = tt
+inst_clear scope names k (ops.Statepoint id callee ts) inst p there called = absurd (let bad : true ≡ false = p.plain in cc)
+inst_clear scope names k ops.GcResult inst p there called = absurd (let bad : true ≡ false = p.plain in cc)
+inst_clear scope names k ops.GcRelocate inst p there called = absurd (let bad : true ≡ false = p.plain in cc)
 
 -- ---- what a function of a module can name is found in its lines
 

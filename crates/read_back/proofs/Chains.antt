@@ -41,7 +41,7 @@ behind_all next (y ∷ ys) s = behind_all next ys (next y s)
 
 pub says-chain : {Y : Type 0} (text : Y → List ℕ) (say : Y → List Statement) (next : Y → State → State) (ok : Y → State → Type 0) → ((y : Y) (s : State) → ok y s → Says s (text y) (next y s) (say y))
     → (ys : List Y) (s : State) → AllOk ok next ys s → Says s (joined [] (map text ys)) (behind_all next ys s) (flat_map say ys)
-says-chain text say next ok each [] s all = says-nil s
+says-chain text say next ok each [] s all = says-nil (whole s)
 says-chain text say next ok each (y ∷ ys) s all =
     rw (joined-cons (text y) (map text ys)) (says-both (each y s all.0) (says-chain text say next ok each ys (next y s) all.1))
 
@@ -76,7 +76,7 @@ one_outcome names inst one s inside fit =
 pub one_says : (names : Names) (inst : Instruction) → OneLine names inst → InstSays names inst
 one_says names inst one s inside fit =
     rw (line_shape (result_front inst.result) (operator_text names inst.op inst)) (rw one.says
-    (says-line s (behind_inst inst s) (32 ∷ 32 ∷ (result_front inst.result ++ operator_text names inst.op inst)) (of_form one.form one.items)
+    (says-line (whole s) (whole (behind_inst inst s)) (32 ∷ 32 ∷ (result_front inst.result ++ operator_text names inst.op inst)) (of_form one.form one.items)
     (ends_none-clean (32 ∷ 32 ∷ (result_front inst.result ++ operator_text names inst.op inst)) one.reads.clean) (one_outcome names inst one s inside fit)))
 
 -- ---- blocks
@@ -100,5 +100,5 @@ pub block_read : (names : Names) (block : BasicBlock) (s : State) → is_name bl
     → AllOk (InstOk names) behind_inst block.insts (in_block s) → Says s (block_text names block) (behind_block block s) (block_says names block)
 block_read names block s is inside stands all =
     rw (label_shape block.name (joined [] (map (line_text names) block.insts)))
-    (says-both (says-line s (in_block s) (block.name ++ (58 ∷ [])) (label block.name) (label_ends block.name (name-clean block.name is)) (label_line s block.name places.Block is inside stands))
+    (says-both (says-line (whole s) (whole (in_block s)) (block.name ++ (58 ∷ [])) (label block.name) (label_ends block.name (name-clean block.name is)) (label_line s block.name places.Block is inside stands))
     (says-chain (line_text names) (instruction_says names) behind_inst (InstOk names) (λ inst s ok. ok.2 s ok.0 ok.1) block.insts (in_block s) all))

@@ -83,6 +83,6 @@ function_read layouts funcs func s l f i is top values room =
     let closed : last.place ≡ places.Closed = blocks_closed (names_in layouts funcs func) func.blocks (behind_head func s) is.has_block is.blocks in
     let end_room : Room l f 0 i last.counts = blocks_room func.blocks (behind_head func s) l f 0 i head_room in
     rw (function_shape layouts funcs func)
-    (says-both (says-line s (behind_head func s) (head_text func) (of_form forms.Define (head_items func)) (ends_none-clean (head_text func) (head_line layouts funcs func is).clean) (head_outcome layouts funcs func s is top (room-fits head_room)))
+    (says-both (says-line (whole s) (whole (behind_head func s)) (head_text func) (of_form forms.Define (head_items func)) (ends_none-clean (head_text func) (head_line layouts funcs func is).clean) (head_outcome layouts funcs func s is top (room-fits head_room)))
     (says-both (blocks_read (names_in layouts funcs func) func.blocks (behind_head func s) l f 0 i is.blocks (refl, refl) head_room)
-    (says-line last (behind_function func s) (codes "}") (of_form forms.Close []) refl (end_outcome last closed (room-fits end_room)))))
+    (says-line (whole last) (whole (behind_function func s)) (codes "}") (of_form forms.Close []) refl (end_outcome last closed (room-fits end_room)))))

@@ -4,6 +4,9 @@ pub mod PartSteps
 pub mod Forms
 pub mod Listed
 pub mod ListForms
+pub mod GroupSteps
+pub mod FormsIn
+pub mod GroupForms
 pub mod SourceStates
 pub mod LinesRead
 pub mod Operands
@@ -11,6 +14,7 @@ pub mod OneLine
 pub mod MoreLines
 pub mod StepLines
 pub mod CallLines
+pub mod GroupLines
 pub mod Chains
 pub mod SwitchLines
 pub mod Blocks

@@ -17,6 +17,9 @@ use Rattle.read_back.proofs.Steps.{IsClean, in_line}
 use Rattle.sp_text.proofs.TokenLemmas.{tokens-nil}
 use Rattle.sp_text.specs.Lines.{numbered}
 use Rattle.sp_text.specs.Labels.{label_of, is_metadata, is_colon}
+use Rattle.ir_ast.specs.declared.modules.Form.{Form as TextForm}
+use Rattle.ir_ast.specs.declared.modules.Form.TheVariants as text_forms
+use Rattle.ir_reader.specs.declared.forms.Counted.TheVariants as kinds
 use Rattle.ir_reader.specs.declared.forms.Form.{Form}
 use Rattle.ir_reader.specs.declared.forms.Place.{Place}
 use Rattle.ir_reader.specs.declared.forms.State.{State as WholeState}
@@ -73,10 +76,10 @@ before front (Ok more) = Ok (front ++ more)
 before front (Err fault) = Err fault
 
 -- From one state to another the text says this, line by line, whatever follows it.
-pub record Says (from : State) (text : List ℕ) (to : State) (statements : List Statement) : Type 0 where
+pub record SaysIn (from : WholeState) (text : List ℕ) (to : WholeState) (statements : List Statement) : Type 0 where
   pub read : ℕ → List Numbered
   pub next : ℕ → ℕ
-  pub reads : (number : ℕ) (rest : List ℕ) → readings (whole from) number (numbered number (lines (text ++ rest))) ≡ before (read number) (readings (whole to) (next number) (numbered (next number) (lines rest)))
+  pub reads : (number : ℕ) (rest : List ℕ) → readings from number (numbered number (lines (text ++ rest))) ≡ before (read number) (readings to (next number) (numbered (next number) (lines rest)))
   pub says : (number : ℕ) → map (λ one. stated one.said) (read number) ≡ statements
 
 before-nil : (found : Result (List Numbered) Fault) → found ≡ before [] found
@@ -87,14 +90,14 @@ before-before : (front more : List Numbered) (found : Result (List Numbered) Fau
 before-before front more (Ok end) = ap Ok (sym (append_assoc front more end))
 before-before front more (Err fault) = refl
 
-pub says-nil : (s : State) → Says s [] s []
-says-nil s = record { read = λ number. []; next = λ number. number; reads = λ number rest. before-nil (readings (whole s) number (numbered number (lines rest))); says = λ number. refl }
+pub says-nil : (s : WholeState) → SaysIn s [] s []
+says-nil s = record { read = λ number. []; next = λ number. number; reads = λ number rest. before-nil (readings s number (numbered number (lines rest))); says = λ number. refl }
 
 map-append : {A B : Type 0} (f : A → B) (xs ys : List A) → map f (xs ++ ys) ≡ map f xs ++ map f ys
 map-append f [] ys = refl
 map-append f (x ∷ xs) ys = ap (λ more. f x ∷ more) (map-append f xs ys)
 
-pub says-both : {s t u : State} {a b : List ℕ} {x y : List Statement} → Says s a t x → Says t b u y → Says s (a ++ b) u (x ++ y)
+pub says-both : {s t u : WholeState} {a b : List ℕ} {x y : List Statement} → SaysIn s a t x → SaysIn t b u y → SaysIn s (a ++ b) u (x ++ y)
 says-both {s} {t} {u} {a} {b} {x} {y} first second = record {
   read = λ number. first.read number ++ second.read (first.next number);
   next = λ number. second.next (first.next number);
@@ -108,7 +111,7 @@ with_first-before one (Ok more) = refl
 with_first-before one (Err fault) = refl
 
 -- a line that says something
-pub says-line : (s t : State) (line : List ℕ) (what : Said) → list_all ends_none line ≡ true → outcome (whole s) line ≡ said what (whole t) → Says s (line ++ (10 ∷ [])) t (stated what ∷ [])
+pub says-line : (s t : WholeState) (line : List ℕ) (what : Said) → list_all ends_none line ≡ true → outcome s line ≡ said what t → SaysIn s (line ++ (10 ∷ [])) t (stated what ∷ [])
 unfolding readings
 says-line s t line what clean is = record {
   read = λ number. record { line = number; said = what } ∷ [];
@@ -116,6 +119,20 @@ says-line s t line what clean is = record {
   reads = λ number rest. rw (append_assoc line (10 ∷ []) rest) (rw (lines-first line rest clean) (rw is (with_first-before _ _)));
   says = λ number. refl;
 }
+
+-- a line that says nothing
+pub says-nothing : (s : WholeState) (line : List ℕ) → list_all ends_none line ≡ true → outcome s line ≡ nothing → SaysIn s (line ++ (10 ∷ [])) s []
+unfolding readings
+says-nothing s line clean is = record {
+  read = λ number. [];
+  next = λ number. number + 1;
+  reads = λ number rest. rw (append_assoc line (10 ∷ []) rest) (rw (lines-first line rest clean) (rw is (before-nil _)));
+  says = λ number. refl;
+}
+
+-- the same of a text in the source form
+abbrev pub Says : State → List ℕ → State → List Statement → Type 0
+Says from text to statements = SaysIn (whole from) text (whole to) statements
 
 -- ---- lines of a form
 
@@ -144,56 +161,77 @@ clean-drop (suc count) (b ∷ bs) clean = clean-drop count bs (and_parts (in_lin
 label-none : (bs : List ℕ) → IsClean bs → label_of bs ≡ None
 label-none bs clean = rw (no_colon (drop (prefix_len is_blank bs) bs) (clean-drop (prefix_len is_blank bs) bs clean)) refl
 
-no_form : form_of [] ≡ None
-unfolding form_of
-no_form = refl
+no_form : (of : TextForm) → form_in of [] ≡ None
+unfolding form_in form_of
+no_form text_forms.Source = refl
+no_form text_forms.Rewritten = refl
 
 -- a reading that passes no limit
-within_said : (s : WholeState) (place : Place) (what : Said) (next : WholeState) → texts.next_state s place what ≡ next → said_fits what ≡ true → limits.counts_fit next.counts ≡ true
-    → within s place what ≡ said what next
-within_said s place what next same fits counts =
-    let here : limits.counts_fit (texts.next_state s place what).counts ≡ true = ap (λ (n : WholeState). limits.counts_fit n.counts) same ∙ counts in
-    rw (fits, here) (ap (said what) same)
+within_said : (s : WholeState) (place : Place) (what : Said) → said_fits what ≡ true → limits.counts_fit (texts.next_state s place what).counts ≡ true
+    → within s place what ≡ said what (texts.next_state s place what)
+within_said s place what fits counts = rw (fits, counts) refl
 
-tokens_said : (s : State) (ts : List Tok) (form : Form) (place : Place) (items : List Item) → form_of ts ≡ Some form → parse (slots form) ts ≡ Some (items, [])
-    → behind s.place form ≡ Some place → is_dropped_form form ≡ false → is_relocate (said_counts_as (of_form form items)) ≡ false
-    → said_fits (of_form form items) ≡ true → counts_fit (next_state s place (of_form form items)).counts ≡ true
-    → tokens_outcome (whole s) ts ≡ said (of_form form items) (whole (next_state s place (of_form form items)))
-unfolding tokens_outcome line_at after form_in
-tokens_said s [] form place items is fitting stands kept plain fits counts = let none = no_form in cc
-tokens_said s (t ∷ ts) form place items is fitting stands kept plain fits counts =
-    rw is (rw stands (rw fitting (rw kept
-    (within_said (whole s) place (of_form form items) (whole (next_state s place (of_form form items))) (next-whole s place (of_form form items) plain) fits counts))))
+tokens_said : (s : WholeState) (ts : List Tok) (form : Form) (place : Place) (items : List Item) → form_in s.form ts ≡ Some form → parse (slots form) ts ≡ Some (items, [])
+    → behind s.place form ≡ Some place → is_dropped_form form ≡ false → said_fits (of_form form items) ≡ true → limits.counts_fit (texts.next_state s place (of_form form items)).counts ≡ true
+    → tokens_outcome s ts ≡ said (of_form form items) (texts.next_state s place (of_form form items))
+unfolding tokens_outcome line_at after
+tokens_said s [] form place items is fitting stands kept fits counts = let none = no_form s.form in cc
+tokens_said s (t ∷ ts) form place items is fitting stands kept fits counts =
+    rw is (rw stands (rw fitting (rw kept (within_said s place (of_form form items) fits counts))))
+
+tokens_dropped : (s : WholeState) (ts : List Tok) (form : Form) (place : Place) (items : List Item) → form_in s.form ts ≡ Some form → parse (slots form) ts ≡ Some (items, [])
+    → behind s.place form ≡ Some place → is_dropped_form form ≡ true → tokens_outcome s ts ≡ nothing
+unfolding tokens_outcome line_at after
+tokens_dropped s [] form place items is fitting stands dropped = refl
+tokens_dropped s (t ∷ ts) form place items is fitting stands dropped = rw is (rw stands (rw fitting (rw dropped refl)))
 
 -- a line of a form, where it may stand and passes no limit
+pub formed_in : (s : WholeState) (line : List ℕ) (form : Form) (place : Place) (items : List Item) → IsClean line → (is_top s.place && is_metadata line) ≡ false
+    → form_in s.form (tokens line) ≡ Some form → parse (slots form) (tokens line) ≡ Some (items, [])
+    → behind s.place form ≡ Some place → is_dropped_form form ≡ false → said_fits (of_form form items) ≡ true → limits.counts_fit (texts.next_state s place (of_form form items)).counts ≡ true
+    → outcome s line ≡ said (of_form form items) (texts.next_state s place (of_form form items))
+unfolding outcome
+formed_in s line form place items clean other is fitting stands kept fits counts =
+    rw other (rw (label-none line clean) (tokens_said s (tokens line) form place items is fitting stands kept fits counts))
+
+-- a line of a form that is dropped, where it may stand
+pub dropped_in : (s : WholeState) (line : List ℕ) (form : Form) (place : Place) (items : List Item) → IsClean line → (is_top s.place && is_metadata line) ≡ false
+    → form_in s.form (tokens line) ≡ Some form → parse (slots form) (tokens line) ≡ Some (items, []) → behind s.place form ≡ Some place → is_dropped_form form ≡ true
+    → outcome s line ≡ nothing
+unfolding outcome
+dropped_in s line form place items clean other is fitting stands dropped =
+    rw other (rw (label-none line clean) (tokens_dropped s (tokens line) form place items is fitting stands dropped))
+
+-- and in a text of the source form
 pub formed_outcome : (s : State) (line : List ℕ) (form : Form) (place : Place) (items : List Item) → IsClean line → (is_top s.place && is_metadata line) ≡ false
     → form_of (tokens line) ≡ Some form → parse (slots form) (tokens line) ≡ Some (items, [])
     → behind s.place form ≡ Some place → is_dropped_form form ≡ false → is_relocate (said_counts_as (of_form form items)) ≡ false
     → said_fits (of_form form items) ≡ true → counts_fit (next_state s place (of_form form items)).counts ≡ true
     → outcome (whole s) line ≡ said (of_form form items) (whole (next_state s place (of_form form items)))
-unfolding outcome
+unfolding form_in
 formed_outcome s line form place items clean other is fitting stands kept plain fits counts =
-    rw other (rw (label-none line clean) (tokens_said s (tokens line) form place items is fitting stands kept plain fits counts))
+    let same = next-whole s place (of_form form items) plain in
+    let room : limits.counts_fit (texts.next_state (whole s) place (of_form form items)).counts ≡ true = ap (λ (n : WholeState). limits.counts_fit n.counts) same ∙ counts in
+    formed_in (whole s) line form place items clean other is fitting stands kept fits room ∙ ap (said (of_form form items)) same
+
+-- a label
+pub label_in : (s : WholeState) (name : List ℕ) (place : Place) → is_name name ≡ true → is_top s.place ≡ false → behind_label s.place ≡ Some place
+    → outcome s (name ++ (58 ∷ [])) ≡ said (label name) (record { form = s.form; place = place; counts = limits.counted kinds.Nothing s.counts })
+unfolding outcome
+label_in s name place is inside stands = rw inside (rw (label-spelled name is) (rw stands refl))
 
 pub label_line : (s : State) (name : List ℕ) (place : Place) → is_name name ≡ true → is_top s.place ≡ false → behind_label s.place ≡ Some place
     → outcome (whole s) (name ++ (58 ∷ [])) ≡ said (label name) (whole (record { place = place; counts = s.counts }))
-unfolding outcome
-label_line s name place is inside stands = rw inside (rw (label-spelled name is) (rw stands refl))
+label_line s name place is inside stands = label_in (whole s) name place is inside stands
 
 -- an empty line
-empty_outcome : (s : State) → outcome (whole s) [] ≡ nothing
+empty_outcome : (s : WholeState) → outcome s [] ≡ nothing
 unfolding outcome tokens_outcome
 empty_outcome s = by (is_top s.place)
   where
-    by : (top : Bool) → cond (top && is_metadata []) nothing (labelled (whole s) [] (label_of [])) ≡ nothing
+    by : (top : Bool) → cond (top && is_metadata []) nothing (labelled s [] (label_of [])) ≡ nothing
     by true = rw tokens-nil refl
     by false = rw tokens-nil refl
 
-pub says-empty : (s : State) → Says s (10 ∷ []) s []
-unfolding readings
-says-empty s = record {
-  read = λ number. [];
-  next = λ number. number + 1;
-  reads = λ number rest. rw (lines-first [] rest refl) (rw (empty_outcome s) (before-nil _));
-  says = λ number. refl;
-}
+pub says-empty : (s : WholeState) → SaysIn s (10 ∷ []) s []
+says-empty s = says-nothing s [] refl (empty_outcome s)

@@ -75,7 +75,7 @@ top_line : (c : Counts) (text : List ℕ) (form : Form) (items : List parts.Item
     → is_relocate (said_counts_as (of_form form items)) ≡ false → list_all item_fits items ≡ true → counts_fit (next_state (at_top c) places.Top (of_form form items)).counts ≡ true
     → Says (at_top c) (text ++ (10 ∷ [])) (next_state (at_top c) places.Top (of_form form items)) (stated (of_form form items) ∷ [])
 top_line c text form items reads other stands kept plain fits room =
-    says-line (at_top c) (next_state (at_top c) places.Top (of_form form items)) text (of_form form items) (ends_none-clean text reads.clean)
+    says-line (whole (at_top c)) (whole (next_state (at_top c) places.Top (of_form form items))) text (of_form form items) (ends_none-clean text reads.clean)
     (formed_outcome (at_top c) text form places.Top items reads.clean other reads.form_is reads.whole stands kept plain fits room)
 
 -- ---- layouts
@@ -131,7 +131,7 @@ layout_room l f v i c room = record { layouts = omega (arith, room.layouts); fun
 
 layouts_read : (layouts : List ObjectLayout) (f v i : ℕ) (c : Counts) → AllByRecursion LayoutReads layouts → Room (length layouts) f v i c
     → Says (at_top c) (joined [] (map layout_text layouts)) (at_top (behind_layouts layouts c)) (map layout_says layouts)
-layouts_read [] f v i c all room = says-nil (at_top c)
+layouts_read [] f v i c all room = says-nil (whole (at_top c))
 layouts_read (layout ∷ layouts) f v i c all room =
     let next : Room (length layouts) f v i (behind_layout c) = layout_room (length layouts) f v i c room in
     rw (joined-cons (layout_text layout) (map layout_text layouts))
@@ -264,14 +264,14 @@ if_called_read layouts funcs named c room e low not_there = by (calls funcs e) (
   where
     by : (called of_source : Bool) → calls funcs e ≡ called → is_of_source e ≡ of_source
         → Says (at_top c) (if called then declaration_text layouts e else []) (at_top c) (if called then declaration_says layouts e else [])
-    by false of_source is so = says-nil (at_top c)
+    by false of_source is so = says-nil (whole (at_top c))
     by true true is so = declaration_read layouts named c room e low so
     by true false is so = absurd (let bad : true ≡ false = sym is ∙ not_there so in cc)
 
 declarations_read : (layouts : List ObjectLayout) (funcs : List Function) → All (λ (layout : ObjectLayout). is_name layout.name ≡ true) layouts → (c : Counts) → counts_fit c ≡ true
     → ((e : External) → is_of_source e ≡ false → calls funcs e ≡ false) → (es : List External) → AllByRecursion (IsBelow (length layouts)) es
     → Says (at_top c) (flat_map (printed_declarations.declaration_if_called layouts funcs) es) (at_top c) (flat_map (declaration_if_called layouts funcs) es)
-declarations_read layouts funcs named c room not_there [] low = says-nil (at_top c)
+declarations_read layouts funcs named c room not_there [] low = says-nil (whole (at_top c))
 declarations_read layouts funcs named c room not_there (e ∷ es) low =
     says-both (if_called_read layouts funcs named c room e low.0 (not_there e)) (declarations_read layouts funcs named c room not_there es low.1)
 
@@ -301,16 +301,16 @@ split_room func funcs s room =
 led_read : (layouts : List ObjectLayout) (funcs : List Function) (fs : List Function) (s : State) → s.place ≡ places.Top → AllByRecursion (FunctionFits layouts funcs) fs
     → Room 0 (length fs) 0 (length (all_instructions fs)) s.counts
     → Says s (led (codes "\n") (map (function_text layouts funcs) fs)) (behind_all behind_function fs s) (flat_map (function_says layouts funcs) fs)
-led_read layouts funcs [] s top all room = says-nil s
+led_read layouts funcs [] s top all room = says-nil (whole s)
 led_read layouts funcs (f ∷ fs) s top all room =
     let here = split_room f fs s room in
-    says-both (says-both (says-empty s) (function_read layouts funcs f s 0 (length fs) (length (all_instructions fs)) all.0.reads top all.0.values here))
+    says-both (says-both (says-empty (whole s)) (function_read layouts funcs f s 0 (length fs) (length (all_instructions fs)) all.0.reads top all.0.values here))
     (led_read layouts funcs fs (behind_function f s) refl all.1 (function_room f s (length fs) (length (all_instructions fs)) all.0.values here))
 
 joined_read : (layouts : List ObjectLayout) (funcs : List Function) (fs : List Function) (s : State) → s.place ≡ places.Top → AllByRecursion (FunctionFits layouts funcs) fs
     → Room 0 (length fs) 0 (length (all_instructions fs)) s.counts
     → Says s (joined (codes "\n") (map (function_text layouts funcs) fs)) (behind_all behind_function fs s) (flat_map (function_says layouts funcs) fs)
-joined_read layouts funcs [] s top all room = says-nil s
+joined_read layouts funcs [] s top all room = says-nil (whole s)
 joined_read layouts funcs (f ∷ fs) s top all room =
     let here = split_room f fs s room in
     says-both (function_read layouts funcs f s 0 (length fs) (length (all_instructions fs)) all.0.reads top all.0.values here)

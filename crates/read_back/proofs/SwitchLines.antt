@@ -32,7 +32,7 @@ use Rattle.ir_lines.specs.Statements.{stated}
 use Rattle.read_back.specs.Said.{value_says, case_says, literal_of}
 use Rattle.read_back.proofs.Steps.{IsClean}
 use Rattle.read_back.proofs.Forms.{ReadsAs, switch_line, case_line, switch_end_line}
-use Rattle.read_back.proofs.SourceStates.{Counts, State, is_relocate, counted, counts_fit, next_state}
+use Rattle.read_back.proofs.SourceStates.{Counts, State, whole, is_relocate, counted, counts_fit, next_state}
 use Rattle.read_back.proofs.LinesRead.{Says, says-nil, says-both, says-line, formed_outcome, ends_none-clean}
 use Rattle.read_back.proofs.Operands.{HaveNames, block-named, value_spelled, value_in_limit}
 use Rattle.read_back.proofs.OneLine.{made}
@@ -44,7 +44,7 @@ pub inner_line : (s : State) (line text : List ℕ) (form : Form) (place : Place
     → is_top s.place ≡ false → behind s.place form ≡ Some place → is_dropped_form form ≡ false → is_relocate (said_counts_as (of_form form items)) ≡ false → list_all item_fits items ≡ true → counts_fit (next_state s place (of_form form items)).counts ≡ true
     → Says s (line ++ (10 ∷ [])) (next_state s place (of_form form items)) (stated (of_form form items) ∷ [])
 inner_line s line text form place items reads same clean inside stands kept plain fits counts =
-    says-line s (next_state s place (of_form form items)) line (of_form form items) (ends_none-clean line clean)
+    says-line (whole s) (whole (next_state s place (of_form form items))) line (of_form form items) (ends_none-clean line clean)
     (formed_outcome s line form place items clean (rw inside refl) (rw same reads.form_is) (rw same reads.whole) stands kept plain fits counts)
 
 -- among the cases
@@ -93,7 +93,7 @@ case_read names have bits narrow c room e fits =
 
 cases_read : (names : Names) → HaveNames names → (bits : ℕ) → (1 ≤ bits) × (bits ≤ 64) → (c : Counts) → counts_fit c ≡ true → (es : List (Operand × BlockId)) → AllByRecursion (CaseFits names (tys.Int bits)) es
     → Says (at_cases c) (joined [] (map (case_line_text names (tys.Int bits)) es)) (at_cases c) (map (case_says names (tys.Int bits)) es)
-cases_read names have bits narrow c room [] all = says-nil (at_cases c)
+cases_read names have bits narrow c room [] all = says-nil (whole (at_cases c))
 cases_read names have bits narrow c room (e ∷ es) all =
     rw (joined-cons (case_line_text names (tys.Int bits) e) (map (case_line_text names (tys.Int bits)) es))
     (says-both (case_read names have bits narrow c room e all.0) (cases_read names have bits narrow c room es all.1))
@@ -122,7 +122,7 @@ switch_says_so names have bits o os l ls narrow first all s inside room =
     let reads : ReadsAs text forms.Switch items = switch_line bits narrow.1 value target (block-named names have l.0 first.low) in
     let c : Counts = counted kinds.Instruction s.counts in
     rw (switch_shape names bits o os l ls)
-    (says-both {t = at_cases c} (inner_line s (32 ∷ 32 ∷ text) text forms.Switch places.Cases items reads (indented text) reads.clean (rw inside refl) (rw inside refl) refl refl
+    (says-both {t = whole (at_cases c)} (inner_line s (32 ∷ 32 ∷ text) text forms.Switch places.Cases items reads (indented text) reads.clean (rw inside refl) (rw inside refl) refl refl
     (rw (le-leb 1 bits narrow.0, le-leb bits 64 narrow.1, value_in_limit names (tys.Int bits) narrow o first.fits) refl) room)
     (says-both (cases_read names have bits narrow c room (zip os ls) all)
     (inner_line (at_cases c) (32 ∷ 32 ∷ 93 ∷ []) (codes "]") forms.SwitchEnd places.Closed [] switch_end_line (indented (93 ∷ [])) refl refl refl refl refl refl room)))

@@ -203,7 +203,7 @@ abbrev pub return_says : Names → Ty → Instruction → Statement
 return_says names tys.Void inst = says.ret_void
 return_says names ty inst = says.ret (word_of ty) (value_at names ty inst 0)
 
--- the lines of an instruction, by its operator; no source module has the other operators
+-- the lines of an instruction, by its operator
 abbrev pub operator_says : Names → Op → Instruction → List Statement
 operator_says names ops.Add inst = binary_says names binaries.Add inst ∷ []
 operator_says names ops.Sub inst = binary_says names binaries.Sub inst ∷ []
@@ -228,12 +228,14 @@ operator_says names (ops.Gep elem index_width place) inst = step_says names elem
 operator_says names ops.Load inst = load_says names inst ∷ []
 operator_says names ops.Store inst = store_says names inst ∷ []
 operator_says names (ops.Call callee tys) inst = call_says names callee tys inst ∷ []
+operator_says names (ops.Statepoint id callee takes) inst = statepoint_says names id callee takes inst ∷ []
+operator_says names ops.GcResult inst = gc_result_says names inst ∷ []
+operator_says names ops.GcRelocate inst = gc_relocate_says names inst ∷ []
 operator_says names ops.Br inst = jump_says names inst ∷ []
 operator_says names ops.CondBr inst = branch_says names inst ∷ []
 operator_says names ops.Switch inst = switch_says names inst
 operator_says names ops.Ret inst = return_says names inst.ty inst ∷ []
 operator_says names ops.Unreachable inst = says.unreachable ∷ []
-operator_says names _ inst = []
 
 abbrev pub instruction_says : Names → Instruction → List Statement
 instruction_says names inst = operator_says names inst.op inst
