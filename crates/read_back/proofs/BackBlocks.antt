@@ -1,9 +1,8 @@
 -- The sections of lines that a function is printed as: its blocks, and the names that it gives.
-use Rattle.std.proofs.Common.{◌≡◌, ◌∙◌, ℕ, zero, suc, ◌<◌, Bool, true, false, not, cond, if◌then◌else◌, List, [], ◌∷◌, ◌++◌, map, length, drop, refl, ap, sym, subst, arith, append_assoc}
-use Rattle.std.specs.Prelude.{Option, Some, None, is_some, unwrap_or, ⊤, flat_map, filter, take_while, decimal}
+use Rattle.std.proofs.Common.{◌≡◌, ◌∙◌, ℕ, Bool, true, false, cond, if◌then◌else◌, List, [], ◌∷◌, ◌++◌, map, drop, refl, ap, sym, subst, append_assoc}
+use Rattle.std.specs.Prelude.{Option, Some, None, is_some, unwrap_or, flat_map, filter, decimal}
 use Rattle.std.specs.List.{AllByRecursion, AllZip, zip}
 use Rattle.std.proofs.lemmas.List.{append-nil, map-append}
-use Rattle.std.proofs.lemmas.List.Sums.{take_while-cons}
 use Rattle.sp_ids.specs.declared.ids.BlockId.{BlockId}
 use Rattle.ir_ast.specs.declared.types.Ty.{Ty}
 use Rattle.ir_ast.specs.declared.types.Ty.TheVariants as tys
@@ -22,12 +21,12 @@ use Rattle.ir_ast.specs.Types.{is_first_class}
 use Rattle.ir_printer.specs.Names.{Names}
 use Rattle.ir_reader.specs.declared.readings.TypeWord.{TypeWord}
 use Rattle.ir_reader.specs.Lists.{Named}
-use Rattle.ir_lines.specs.Statements.{Line, Statement, layout, declare, define, close, label, switch_end, call}
+use Rattle.ir_lines.specs.Statements.{Line, Statement, layout, declare, define, close, label, switch_end}
 use Rattle.ir_lines.specs.Parts.{gives, given_by_call}
 use Rattle.ir_lines.specs.Sections.{Definition, Naming, BlockLines, arguments_named, result_named, values_of, is_label, label_said, until_label, block_at, labelled_blocks, first_block, blocks_of, count_numbered}
-use Rattle.ir_lines.specs.Modules.{Known, type_of, insts_of, block_of, argument_of}
+use Rattle.ir_lines.specs.Modules.{Known, insts_of, block_of, argument_of}
 use Rattle.module_laws.proofs.LawBodies.{until-other, until-label}
-use Rattle.read_back.specs.Said.{word_of, result_of, operator_says, instruction_says, block_says, argument_says, step_says, case_says, switch_says, return_says}
+use Rattle.read_back.specs.Said.{word_of, result_of, operator_says, instruction_says, block_says, argument_says, step_says, case_says, return_says}
 use Rattle.read_back.proofs.BackNames.{Setting}
 use Rattle.read_back.proofs.BackLines.{said, cons_parts, word-type}
 use Rattle.read_back.proofs.BackLists.{NamesAreFree}

@@ -1,7 +1,7 @@
 -- The lines that a source module is printed as have no fault: no line leads back to the first block.
-use Rattle.std.proofs.Common.{◌≡◌, ◌≢◌, ◌∙◌, ℕ, zero, suc, ◌<◌, Bool, true, false, not, ◌||◌, ◌==◌, List, [], ◌∷◌, ◌++◌, map, length, drop, refl, ap, sym, subst, arith}
-use Rattle.std.specs.Prelude.{Option, Some, None, ⊤}
-use Rattle.std.specs.List.{All, AllByRecursion, Contains, list_any, zip}
+use Rattle.std.proofs.Common.{◌≡◌, ◌≢◌, ◌∙◌, ℕ, ◌<◌, Bool, true, false, ◌||◌, ◌==◌, List, [], ◌∷◌, ◌++◌, map, length, drop, refl, ap, arith}
+use Rattle.std.specs.Prelude.{Option}
+use Rattle.std.specs.List.{AllByRecursion, Contains, zip}
 use Rattle.std.proofs.lemmas.List.Elements.{recursion_from_All, All-contains}
 use Rattle.std.proofs.lemmas.Bool.{ne_eqb}
 use Rattle.sp_ids.specs.declared.ids.BlockId.{BlockId}
@@ -14,7 +14,6 @@ use Rattle.ir_ast.specs.declared.ops.Elem.TheVariants as elements
 use Rattle.ir_ast.specs.declared.ops.Operand.{Operand}
 use Rattle.ir_ast.specs.Ops.{is_terminator}
 use Rattle.ir_ast.specs.Insts.{Instruction}
-use Rattle.ir_ast.specs.Blocks.{BasicBlock}
 use Rattle.ir_ast.specs.Funcs.{Function, instructions_of}
 use Rattle.ir_ast.specs.Modules.{ModuleContent}
 use Rattle.ir_ast.specs.Faultless.{FunctionHasNoFault}
@@ -22,18 +21,18 @@ use Rattle.ir_ast.specs.Faults.EntryHasPred as module_entry
 use Rattle.ir_cfg.specs.SourceModules.{IsSourceModule}
 use Rattle.ir_printer.specs.Names.{Names}
 use Rattle.ir_lines.specs.Statements.{Line, Statement, switch_end}
-use Rattle.ir_lines.specs.Sections.{Definition, definitions_of, blocks_of}
+use Rattle.ir_lines.specs.Sections.{Definition, definitions_of}
 use Rattle.ir_lines.specs.Scope.{Scope, scope_of, block_number}
-use Rattle.ir_lines.specs.Modules.{Known, known_of}
+use Rattle.ir_lines.specs.Modules.{known_of}
 use Rattle.ir_lines.specs.Faults.EntryHasPred.{names_entry, EntryHasPred}
 use Rattle.read_back.specs.BlocksEnd.{BlocksEnd}
 use Rattle.read_back.specs.Said.{operator_says, step_says, return_says, case_says, label_says, said_by}
 use Rattle.read_back.proofs.BackNames.{Setting, label-back}
 use Rattle.read_back.proofs.BackLines.{said, lab, one_label, two_labels}
-use Rattle.read_back.proofs.BackInsts.{IsPrinted, split_all}
+use Rattle.read_back.proofs.BackInsts.{IsPrinted}
 use Rattle.read_back.proofs.BackLists.{Below}
 use Rattle.read_back.proofs.BackSections.{SaysDefinition, definitions-are}
-use Rattle.read_back.proofs.BackModules.{names_in, printed, printed_inst, setting, few_in, function-names}
+use Rattle.read_back.proofs.BackModules.{names_in, printed_inst, setting, few_in, function-names}
 use Rattle.read_back.proofs.BackFaults.{no_body_fault}
 
 -- what the typer knows of a definition that a function is printed as

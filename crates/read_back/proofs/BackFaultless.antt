@@ -1,6 +1,5 @@
 -- The lines that a source module is printed as have no fault.
-use Rattle.std.proofs.Common.{◌≡◌, ℕ, List, true, false}
-use Rattle.ir_ast.specs.declared.modules.Form.{Form}
+use Rattle.std.proofs.Common.{◌≡◌, ℕ, List}
 use Rattle.ir_ast.specs.declared.modules.Form.TheVariants.{Source, Rewritten}
 use Rattle.ir_ast.specs.Modules.{ModuleContent}
 use Rattle.ir_cfg.specs.SourceModules.{IsSourceModule}

@@ -1,8 +1,8 @@
 -- The lines that a source module is printed as have no fault: the faults of single lines.
-use Rattle.std.proofs.Common.{◌≡◌, ◌∙◌, ℕ, zero, suc, ◌+◌, ◌<◌, ◌≤◌, Bool, true, false, not, ◌&&◌, ◌==◌, ◌≢◌, ◌⊎◌, inl, inr, get_or, if◌then◌else◌, List, [], ◌∷◌, ◌++◌, map, length, drop, refl, ap, sym, subst, arith, codes}
-use Rattle.std.specs.Prelude.{Option, Some, None, ⊤, flat_map, slice_get}
+use Rattle.std.proofs.Common.{◌≡◌, ◌∙◌, ℕ, zero, suc, ◌+◌, ◌<◌, ◌≤◌, Bool, true, false, not, ◌&&◌, ◌≢◌, ◌⊎◌, inl, inr, get_or, if◌then◌else◌, List, [], ◌∷◌, ◌++◌, map, length, drop, refl, ap, sym, subst, arith, codes}
+use Rattle.std.specs.Prelude.{Option, Some, ⊤, flat_map, slice_get}
 use Rattle.std.proofs.lemmas.Bool.{ne_eqb}
-use Rattle.std.specs.List.{All, AllByRecursion, AllZip, Contains, list_all, zip, range_with_len}
+use Rattle.std.specs.List.{AllByRecursion, AllZip, Contains, list_all, zip, range_with_len}
 use Rattle.std.proofs.lemmas.List.Elements.{recursion_from_All, All-from_recursion, All-contains, All-contains_itself, All-weaker, Contains-append_left, Contains-append_right}
 use Rattle.sp_ids.specs.declared.ids.BlockId.{BlockId}
 use Rattle.ir_ast.specs.declared.types.Ty.{Ty}
@@ -23,7 +23,7 @@ use Rattle.ir_ast.specs.Funcs.{Function, instructions_of}
 use Rattle.ir_ast.specs.Modules.{ModuleContent}
 use Rattle.ir_ast.specs.Faultless.{FunctionHasNoFault}
 use Rattle.ir_ast.specs.Faults.PointerOrder as module_order
-use Rattle.ir_cfg.specs.SourceModules.{IsSourceFunction, IsSourceModule}
+use Rattle.ir_cfg.specs.SourceModules.{IsSourceModule}
 use Rattle.ir_printer.specs.Names.{Names}
 use Rattle.ir_printer.specs.Declarations.{calls, externals, fixed_externals, integer_widths}
 use Rattle.ir_printer.specs.declared.declarations.External.{External}
@@ -45,12 +45,12 @@ use Rattle.ir_lines.specs.InBody.{InBody, InText}
 use Rattle.ir_lines.specs.Faults.BadLayout.{are_cells, is_bad_layout, BadLayout}
 use Rattle.ir_lines.specs.Faults.NoStrategy.{lacks_strategy, NoStrategy}
 use Rattle.ir_lines.specs.Faults.PointerCast.{is_cast, PointerCast}
-use Rattle.ir_lines.specs.Faults.PointerOrder.{is_order, orders, orders_pointers, PointerOrder}
-use Rattle.ir_lines.proofs.LawNames.{get_contained, contains_get, contains_cons, contains_map, get_some}
+use Rattle.ir_lines.specs.Faults.PointerOrder.{orders, orders_pointers, PointerOrder}
+use Rattle.ir_lines.proofs.LawNames.{contains_get, contains_cons, contains_map, get_some}
 use Rattle.read_back.specs.Said.{word_of, cell_word, operator_says, instruction_says, block_says, function_says, layout_says, argument_says, declaration_says, declaration_if_called, said_by, unnamed, step_says, return_says, case_says}
 use Rattle.read_back.proofs.BackLines.{said}
 use Rattle.read_back.proofs.BackInsts.{split_all}
-use Rattle.read_back.proofs.BackBlocks.{all_append, all_flat, lines_all}
+use Rattle.read_back.proofs.BackBlocks.{all_append, lines_all}
 use Rattle.read_back.proofs.BackSections.{SaysDefinition, definitions-are, layout-names, InBody as IsOfBody, in_body, blocks_inner}
 use Rattle.read_back.proofs.BackModules.{names_in}
 

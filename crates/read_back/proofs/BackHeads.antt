@@ -1,6 +1,6 @@
 -- The lines that a source module is printed as have no fault: no declaration has the name of a definition.
-use Rattle.std.proofs.Common.{◌≡◌, ◌∙◌, inl, inr, ℕ, true, false, List, [], ◌∷◌, ◌++◌, map, refl, ap, sym, subst, arith, codes}
-use Rattle.std.specs.List.{All, Contains}
+use Rattle.std.proofs.Common.{◌≡◌, ◌∙◌, inl, inr, ℕ, true, false, List, refl, ap, sym, subst, arith}
+use Rattle.std.specs.List.{Contains}
 use Rattle.std.proofs.lemmas.List.Elements.{All-contains}
 use Rattle.ir_ast.specs.Modules.{ModuleContent}
 use Rattle.ir_ast.specs.Faults.Reserved.{IsExternalName}
@@ -8,8 +8,8 @@ use Rattle.ir_cfg.specs.SourceModules.{IsSourceModule}
 use Rattle.ir_printer.specs.Names.{layout_name}
 use Rattle.ir_reader.specs.declared.readings.TypeWord.{TypeWord}
 use Rattle.ir_reader.specs.Lists.{Named}
-use Rattle.ir_lines.specs.Statements.{Line, Statement, declare}
-use Rattle.ir_lines.specs.Sections.{Definition, Head, heads_of}
+use Rattle.ir_lines.specs.Statements.{Line, declare}
+use Rattle.ir_lines.specs.Sections.{Head, heads_of}
 use Rattle.ir_lines.specs.Faults.NameTwice.{DeclaresDefined}
 use Rattle.module_laws.proofs.LawHeads.{HeadFrom, from_definition, from_declaration, heads-from}
 use Rattle.read_back.specs.Said.{said_by}

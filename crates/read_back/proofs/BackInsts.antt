@@ -1,6 +1,6 @@
 -- An instruction, by its operator.
-use Rattle.std.proofs.Common.{◌≡◌, ◌∙◌, ℕ, zero, suc, ◌^◌, ◌<◌, Bool, true, false, not, ◌&&◌, ◌||◌, ◌==◌, inl, inr, if◌then◌else◌, List, [], ◌∷◌, ◌++◌, map, length, drop, replicate, refl, ap, sym, subst, arith}
-use Rattle.std.specs.Prelude.{Option, Some, None, is_none, ⊤, ◌⊎◌, flat_map}
+use Rattle.std.proofs.Common.{◌≡◌, ◌∙◌, ℕ, zero, suc, ◌^◌, ◌<◌, true, false, ◌&&◌, ◌||◌, ◌==◌, inl, inr, List, [], ◌∷◌, ◌++◌, map, length, drop, replicate, refl, ap, sym, subst, arith}
+use Rattle.std.specs.Prelude.{Option, Some, None, is_none, ◌⊎◌, flat_map}
 use Rattle.std.specs.List.{All, AllByRecursion, AllZip, list_all, zip}
 use Rattle.std.proofs.lemmas.List.Elements.{All-from_recursion, recursion_from_All}
 use Rattle.sp_ids.specs.declared.ids.BlockId.{BlockId}
@@ -29,8 +29,8 @@ use Rattle.ir_reader.specs.declared.words.Binary.{Binary}
 use Rattle.ir_reader.specs.declared.words.Binary.TheVariants as binaries
 use Rattle.ir_reader.specs.declared.words.Conversion.{Conversion}
 use Rattle.ir_reader.specs.declared.words.Conversion.TheVariants as conversions
-use Rattle.ir_lines.specs.Statements.{Line, Statement, switch, switch_end, unreachable}
-use Rattle.ir_lines.specs.Modules.{Known, operand_of, label_of, instruction_said, insts_of, instruction, binary_of, conversion_of, case_values, case_labels}
+use Rattle.ir_lines.specs.Statements.{Line, switch, switch_end, unreachable}
+use Rattle.ir_lines.specs.Modules.{Known, operand_of, label_of, instruction_said, insts_of, binary_of, conversion_of, case_values, case_labels}
 use Rattle.module_laws.proofs.LawBodies.{insts_said, insts-cons}
 use Rattle.module_laws.proofs.LawFacts.{and-left, and-right}
 use Rattle.module_laws.proofs.LawCalls.{argument-value}

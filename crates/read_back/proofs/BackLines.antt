@@ -1,12 +1,10 @@
 -- Instructions: the lines that an instruction is printed as stand for it.
-use Rattle.std.proofs.Common.{◌≡◌, ◌∙◌, ℕ, zero, suc, ◌^◌, ◌<◌, ◌-◌, min, Bool, true, false, not, ◌||◌, ◌==◌, cond, if◌then◌else◌, List, [], ◌∷◌, ◌++◌, map, length, drop, replicate, refl, ap, sym, subst, arith, codes}
-use Rattle.std.specs.Prelude.{Option, Some, None, is_some, is_none, slice_get, unwrap_or, option_map, filter_map, ⊤}
-use Rattle.std.specs.List.{All, AllByRecursion, AllZip, list_all, zip, cons_option}
+use Rattle.std.proofs.Common.{◌≡◌, ◌∙◌, ℕ, ◌^◌, ◌<◌, ◌-◌, min, true, false, ◌||◌, ◌==◌, if◌then◌else◌, List, [], ◌∷◌, ◌++◌, map, length, replicate, refl, ap, sym, subst, arith}
+use Rattle.std.specs.Prelude.{Option, Some, None, is_some, is_none, slice_get, unwrap_or, option_map}
+use Rattle.std.specs.List.{AllByRecursion, AllZip}
 use Rattle.std.proofs.lemmas.List.{nil_from_length}
-use Rattle.std.proofs.lemmas.List.Elements.{All-head, recursion_from_All}
 use Rattle.std.proofs.lemmas.Bool.Decides.{Decides-eqb}
 use Rattle.sp_ids.specs.declared.ids.BlockId.{BlockId}
-use Rattle.sp_ids.specs.declared.ids.FuncId.{FuncId}
 use Rattle.ir_ast.specs.declared.types.Ty.{Ty}
 use Rattle.ir_ast.specs.declared.types.Ty.TheVariants as tys
 use Rattle.ir_ast.specs.declared.ops.Op.{Op}
@@ -16,12 +14,8 @@ use Rattle.ir_ast.specs.declared.ops.Operand.TheVariants as operands
 use Rattle.ir_ast.specs.declared.ops.Elem.{Elem}
 use Rattle.ir_ast.specs.declared.ops.Elem.TheVariants as elements
 use Rattle.ir_ast.specs.Insts.{Instruction}
-use Rattle.ir_ast.specs.Values.{value_types}
 use Rattle.ir_ast.specs.Types.{is_void, is_integer, is_condition, is_pointer, is_first_class, is_answer}
-use Rattle.ir_ast.specs.Operands.{is_value, is_literal}
 use Rattle.ir_ast.specs.Lines.{Has, is_element}
-use Rattle.ir_ast.specs.Widths.{IsWidth, type_widths}
-use Rattle.ir_ast.specs.Faults.TypeClash.{Fits}
 use Rattle.ir_printer.specs.Names.{Names}
 use Rattle.ir_printer.specs.Operands.{operand_at, label_at}
 use Rattle.ir_reader.specs.declared.readings.TypeWord.{TypeWord}
@@ -29,11 +23,10 @@ use Rattle.ir_reader.specs.declared.readings.TypeWord.TheVariants as types
 use Rattle.ir_reader.specs.declared.words.Binary.{Binary}
 use Rattle.ir_reader.specs.declared.words.Conversion.{Conversion}
 use Rattle.ir_lines.specs.Statements.{Line, Statement}
-use Rattle.ir_lines.specs.Sections.{is_case, cases_of}
 use Rattle.ir_lines.specs.Modules.{Known, type_of, operand_of, instruction_said, insts_of, place_of, label_of, binary_of, conversion_of, instruction}
 use Rattle.module_laws.proofs.LawBodies.{insts_said, insts-cons}
 use Rattle.module_laws.proofs.LawFacts.{and-right}
-use Rattle.read_back.specs.Said.{word_of, width_in, result_of, value_says, value_at, binary_says, compare_says, convert_says, select_says, load_says, store_says, jump_says, branch_says, return_says, step_says, place_says, target_at}
+use Rattle.read_back.specs.Said.{word_of, width_in, result_of, value_at, binary_says, compare_says, convert_says, select_says, load_says, store_says, jump_says, branch_says, return_says, step_says, place_says, target_at}
 use Rattle.read_back.proofs.BackNames.{Setting, Good, operand-back, label-back, layout-number}
 use Rattle.ir_ast.specs.declared.ops.Pred.{Pred}
 

@@ -1,14 +1,11 @@
 -- Instructions with lists: phis, calls, and switches with their cases.
-use Rattle.std.proofs.Common.{◌≡◌, ◌∙◌, ℕ, zero, suc, ◌^◌, ◌<◌, Bool, true, false, not, ◌&&◌, inl, inr, if◌then◌else◌, List, [], ◌∷◌, ◌++◌, map, length, drop, replicate, refl, ap, sym, subst, arith, codes}
-use Rattle.std.specs.Prelude.{Option, Some, None, is_some, slice_get, unwrap_or, filter_map, ⊤, ◌⊎◌}
-use Rattle.std.specs.List.{All, AllByRecursion, AllZip, list_all, zip, Contains}
-use Rattle.std.specs.Str.{bytes_eq}
-use Rattle.std.proofs.lemmas.List.{nil_from_length}
+use Rattle.std.proofs.Common.{◌≡◌, ◌∙◌, ℕ, ◌<◌, true, false, ◌&&◌, inl, inr, List, [], ◌∷◌, ◌++◌, map, length, replicate, refl, ap, sym, subst, arith, codes}
+use Rattle.std.specs.Prelude.{Some, None, filter_map, ⊤, ◌⊎◌}
+use Rattle.std.specs.List.{All, AllByRecursion, AllZip, zip, Contains}
 use Rattle.sp_ids.specs.declared.ids.BlockId.{BlockId}
 use Rattle.sp_ids.specs.declared.ids.FuncId.{FuncId}
 use Rattle.ir_ast.specs.declared.types.Ty.{Ty}
 use Rattle.ir_ast.specs.declared.types.Ty.TheVariants as tys
-use Rattle.ir_ast.specs.declared.ops.Op.{Op}
 use Rattle.ir_ast.specs.declared.ops.Op.TheVariants as ops
 use Rattle.ir_ast.specs.declared.ops.Operand.{Operand}
 use Rattle.ir_ast.specs.declared.ops.Operand.TheVariants as operands
@@ -16,29 +13,25 @@ use Rattle.ir_ast.specs.declared.ops.Callee.{Callee}
 use Rattle.ir_ast.specs.declared.ops.Callee.TheVariants as callees
 use Rattle.ir_ast.specs.Insts.{Instruction}
 use Rattle.ir_ast.specs.Values.{value_types}
-use Rattle.ir_ast.specs.Types.{is_void, is_integer, is_first_class, is_answer}
+use Rattle.ir_ast.specs.Types.{is_integer, is_first_class, is_answer}
 use Rattle.ir_ast.specs.Callees.{is_helper}
 use Rattle.ir_ast.specs.Operands.{is_value}
-use Rattle.ir_ast.specs.Lines.{Has, IsCall, is_argument}
+use Rattle.ir_ast.specs.Lines.{Has, IsCall}
 use Rattle.ir_ast.specs.Widths.{IsWidth, type_widths}
 use Rattle.ir_ast.specs.Faults.TypeClash.{Fits}
 use Rattle.ir_ast.specs.Faults.Reserved.{IsExternalName}
 use Rattle.ir_printer.specs.Names.{Names, function_name, layout_name}
-use Rattle.ir_printer.specs.Operands.{operand_at, label_at}
 use Rattle.ir_printer.specs.Calls.{callee_name}
 use Rattle.ir_reader.specs.declared.readings.TypeWord.{TypeWord}
-use Rattle.ir_reader.specs.declared.readings.TypeWord.TheVariants as types
-use Rattle.ir_reader.specs.Parts.{Val}
-use Rattle.ir_reader.specs.Lists.{Given}
 use Rattle.ir_lines.specs.Statements.{Line, Statement, switch_end}
-use Rattle.ir_lines.specs.Sections.{is_case, cases_of}
+use Rattle.ir_lines.specs.Sections.{cases_of}
 use Rattle.ir_lines.specs.Places.{place_in, number_of}
-use Rattle.ir_lines.specs.Modules.{Known, type_of, operand_in, operand_of, label_of, instruction_said, insts_of, instruction, entry_operand, entry_label, passed_operand, given_type, callee_of, callee_at, external_callee, case_value, case_label}
-use Rattle.module_laws.proofs.LawBodies.{insts_said, insts-cons}
+use Rattle.ir_lines.specs.Modules.{Known, type_of, operand_in, instruction_said, insts_of, entry_operand, entry_label, passed_operand, given_type, callee_of, callee_at, case_value, case_label}
+use Rattle.module_laws.proofs.LawBodies.{insts-cons}
 use Rattle.module_laws.proofs.LawFacts.{and-left, and-right}
-use Rattle.read_back.specs.Said.{word_of, width_in, result_of, value_says, value_at, label_says, target_at, entry_says, phi_says, passed_says, call_says, case_says, switch_says}
+use Rattle.read_back.specs.Said.{word_of, width_in, result_of, value_says, entry_says, phi_says, passed_says, call_says, case_says}
 use Rattle.read_back.proofs.BackNames.{Setting, Good, operand-back, label-back, layout-number, function-placed, function-number, unplaced-by}
-use Rattle.read_back.proofs.BackLines.{said, cons_parts, same-inst, result-is, no_result, integer-is, integer-word, word-type}
+use Rattle.read_back.proofs.BackLines.{said, cons_parts, same-inst, result-is, integer-word, word-type}
 
 -- ---- phis
 

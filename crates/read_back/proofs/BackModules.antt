@@ -1,13 +1,11 @@
 -- The lines that a source module is printed as stand for that module.
 use Rattle.std.proofs.Common.{◌≡◌, ◌∙◌, ℕ, zero, suc, ◌+◌, ◌^◌, ◌<◌, ◌≤◌, true, false, List, [], ◌∷◌, ◌++◌, map, length, refl, ap, sym, subst, arith, length-append}
-use Rattle.std.specs.Prelude.{Option, Some, None, IfSome, slice_get, ⊤, flat_map, is_some, filter}
+use Rattle.std.specs.Prelude.{Some, IfSome, slice_get, flat_map, is_some, filter}
 use Rattle.std.specs.List.{All, AllByRecursion, AllZip, Contains}
 use Rattle.std.proofs.lemmas.List.{length-map}
 use Rattle.std.proofs.lemmas.List.Sums.{length-filter, count_by-le-length}
 use Rattle.std.proofs.lemmas.List.Elements.{All-from_recursion, recursion_from_All, All-contains, All-contains_itself, All-weaker}
-use Rattle.std.proofs.lemmas.Option.{slice_get-map}
 use Rattle.ir_ast.specs.declared.types.Ty.{Ty}
-use Rattle.ir_ast.specs.declared.types.Ty.TheVariants as tys
 use Rattle.ir_ast.specs.declared.funcs.Arg.{Arg}
 use Rattle.ir_ast.specs.declared.modules.Form.{Form}
 use Rattle.ir_ast.specs.declared.modules.Form.TheVariants.{Source}
@@ -21,14 +19,13 @@ use Rattle.ir_ast.specs.Funcs.{Function, instructions_of}
 use Rattle.ir_ast.specs.Modules.{ModuleContent}
 use Rattle.ir_ast.specs.Values.{argument, outcome, definition_name}
 use Rattle.ir_ast.specs.Values as defs
-use Rattle.ir_ast.specs.Types.{is_answer, is_first_class}
+use Rattle.ir_ast.specs.Types.{is_first_class}
 use Rattle.ir_ast.specs.Widths.{IsWidth, type_widths, operator_widths, line_widths, widths_of}
 use Rattle.ir_ast.specs.Operands.{layouts_named, functions_named}
 use Rattle.ir_ast.specs.Faultless.{FunctionHasNoFault, OfForm}
 use Rattle.ir_ast.specs.Faults.TypeClash.{IsTyped, FunctionIsTyped, RuleOf}
 use Rattle.ir_ast.specs.Faults.Reserved.{IsExternalName, IsSource}
 use Rattle.ir_ast.specs.Faults.UnknownName.{NamesOfFunction, NamesOfModule}
-use Rattle.ir_ast.specs.Faults.DerivedEscapes.{DerivedStay}
 use Rattle.ir_ast.specs.Lines.{IsLine, is_rewritten}
 use Rattle.ir_ast.specs.Lists.{Distinct}
 use Rattle.ir_ast.specs.Scope.{scope_of}
@@ -36,15 +33,15 @@ use Rattle.ir_cfg.specs.SourceModules.{IsSourceFunction, IsSourceModule}
 use Rattle.ir_printer.specs.Names.{Names}
 use Rattle.ir_reader.specs.Lists.{Named}
 use Rattle.ir_lines.specs.Statements.{Line}
-use Rattle.ir_lines.specs.Sections.{Definition, layouts_of, definitions_of, arguments_named, values_of, blocks_of}
-use Rattle.ir_lines.specs.Modules.{Known, known_of, type_of, layout_of, argument_of, block_of, function_of, module_of}
+use Rattle.ir_lines.specs.Sections.{Definition, definitions_of, arguments_named, blocks_of}
+use Rattle.ir_lines.specs.Modules.{Known, known_of, type_of, argument_of, block_of, function_of, module_of}
 use Rattle.read_back.specs.BlocksEnd.{BlocksEnd}
-use Rattle.read_back.specs.Said.{word_of, argument_says, said_by}
+use Rattle.read_back.specs.Said.{said_by}
 use Rattle.read_back.proofs.BackNames.{Setting}
 use Rattle.read_back.proofs.BackLines.{said}
 use Rattle.read_back.proofs.BackLists.{NamesAreFree, answer-type}
 use Rattle.read_back.proofs.BackInsts.{IsPrinted, split_all}
-use Rattle.read_back.proofs.BackBlocks.{SaysBlock, blocks-are, blocks-back, block-names, arguments-back, value-names}
+use Rattle.read_back.proofs.BackBlocks.{blocks-are, blocks-back, block-names, arguments-back, value-names}
 use Rattle.read_back.proofs.BackSections.{SaysDefinition, definitions-are, layouts-back, layout-names}
 
 -- ---- the instructions of a source function

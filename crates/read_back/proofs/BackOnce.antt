@@ -1,8 +1,8 @@
 -- The lines that a source module is printed as have no fault: each head has a name of its own.
 use Rattle.std.proofs.Common.{◌≡◌, ◌≢◌, ◌∙◌, ◌⊎◌, inl, inr, ℕ, zero, suc, ◌+◌, ◌<◌, ◌≤◌, Bool, true, false, if◌then◌else◌, List, [], ◌∷◌, ◌++◌, map, length, drop, get_or, refl, ap, sym, subst, arith, codes}
-use Rattle.std.specs.Prelude.{⊤, flat_map, slice_get, Option, Some, None, option_map}
+use Rattle.std.specs.Prelude.{⊤, flat_map, Option, Some, option_map}
 use Rattle.std.specs.Option.{option_map_or}
-use Rattle.std.specs.List.{All, AllByRecursion, Contains, range_with_len}
+use Rattle.std.specs.List.{AllByRecursion, Contains, range_with_len}
 use Rattle.std.proofs.lemmas.List.{map-append, length-map}
 use Rattle.std.proofs.lemmas.List.Elements.{recursion_from_All, All-from_recursion, All-contains, Contains-append_cases}
 use Rattle.std.proofs.lemmas.Option.{slice_get-map}
@@ -19,11 +19,11 @@ use Rattle.ir_printer.specs.declared.declarations.External.TheVariants as extern
 use Rattle.ir_lines.specs.Statements.{Line, Statement, declare, define, close}
 use Rattle.ir_lines.specs.Sections.{Head, head_said, heads_of}
 use Rattle.ir_lines.specs.InBody.{Repeats}
-use Rattle.ir_lines.proofs.LawNames.{Apart, apart-distinct, distinct-apart, same_place, get_some, contains_cons}
+use Rattle.ir_lines.proofs.LawNames.{Apart, apart-distinct, distinct-apart, get_some}
 use Rattle.read_back.specs.Said.{function_says, layout_says, block_says, declaration_says, declaration_if_called, said_by}
 use Rattle.read_back.proofs.BackLines.{said}
 use Rattle.read_back.proofs.BackBlocks.{all_append, flat-append}
-use Rattle.read_back.proofs.BackSections.{InBody, in_body, blocks_inner}
+use Rattle.read_back.proofs.BackSections.{InBody, blocks_inner}
 use Rattle.read_back.proofs.BackTops.{no_repeat}
 
 abbrev pub head_names : Statement → List (List ℕ)

@@ -1,6 +1,6 @@
 -- The sections of lines that a module is printed as: its layouts and its definitions.
 use Rattle.std.proofs.Common.{◌≡◌, ◌∙◌, ℕ, Bool, true, false, not, cond, if◌then◌else◌, List, [], ◌∷◌, ◌++◌, map, refl, ap, sym, subst, append_assoc, codes}
-use Rattle.std.specs.Prelude.{Option, Some, None, ⊤, flat_map, take_while}
+use Rattle.std.specs.Prelude.{Some, flat_map, take_while}
 use Rattle.std.specs.List.{AllByRecursion, AllZip}
 use Rattle.std.proofs.lemmas.List.{append-nil, map-append}
 use Rattle.std.proofs.lemmas.List.Sums.{take_while-cons}
@@ -14,14 +14,12 @@ use Rattle.ir_printer.specs.Names.{Names}
 use Rattle.ir_printer.specs.Declarations.{calls, externals}
 use Rattle.ir_printer.specs.declared.declarations.External.{External}
 use Rattle.ir_printer.specs.declared.declarations.External.TheVariants as externs
-use Rattle.ir_reader.specs.declared.readings.TypeWord.{TypeWord}
-use Rattle.ir_reader.specs.Lists.{Named}
-use Rattle.ir_lines.specs.Statements.{Line, Statement, layout, declare, define, close, label}
+use Rattle.ir_lines.specs.Statements.{Line, Statement, layout, declare, define, close}
 use Rattle.ir_lines.specs.Sections.{LayoutLine, Definition, layout_said, layouts_of, is_close, definition_said, definitions_of}
 use Rattle.ir_lines.specs.Modules.{cell_of, layout_of}
 use Rattle.read_back.specs.Said.{word_of, argument_says, instruction_says, block_says, function_says, layout_says, cell_word, declaration_says, declaration_if_called, said_by}
 use Rattle.read_back.proofs.BackLines.{said, cons_parts}
-use Rattle.read_back.proofs.BackBlocks.{cut, nothing_said, all_append, all_flat, in_block, InBlock, insts_inner, lines_all, flat-append}
+use Rattle.read_back.proofs.BackBlocks.{cut, nothing_said, all_append, all_flat, InBlock, insts_inner, lines_all, flat-append}
 
 -- ---- bodies
 

@@ -151,7 +151,9 @@ no_form = refl
 -- a reading that passes no limit
 within_said : (s : WholeState) (place : Place) (what : Said) (next : WholeState) → texts.next_state s place what ≡ next → said_fits what ≡ true → limits.counts_fit next.counts ≡ true
     → within s place what ≡ said what next
-within_said s place what next same fits counts = rw same (rw (fits, counts) refl)
+within_said s place what next same fits counts =
+    let here : limits.counts_fit (texts.next_state s place what).counts ≡ true = ap (λ (n : WholeState). limits.counts_fit n.counts) same ∙ counts in
+    rw (fits, here) (ap (said what) same)
 
 tokens_said : (s : State) (ts : List Tok) (form : Form) (place : Place) (items : List Item) → form_of ts ≡ Some form → parse (slots form) ts ≡ Some (items, [])
     → behind s.place form ≡ Some place → is_dropped_form form ≡ false → is_relocate (said_counts_as (of_form form items)) ≡ false

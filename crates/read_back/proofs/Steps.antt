@@ -221,6 +221,7 @@ none_first what t (u ∷ us) none e = let same : u ≡ t = cc in rw same (none u
 
 none_end : (what : Dropped) (ts : List Tok) → first_of ts ≡ None → past_dropped what ts ≡ None
 none_end drops.Groups [] e = refl
+none_end drops.BesideElementType [] e = refl
 none_end drops.Attachments [] e = refl
 none_end drops.HeadAttachments [] e = refl
 none_end drops.Alignments [] e = refl
