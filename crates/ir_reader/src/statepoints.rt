@@ -3,6 +3,7 @@
 ghost use Rattle.std.specs.Prelude.{◌≡◌, codes, map, [], true};
 ghost use Rattle.std.specs.List.{list_any};
 ghost use Rattle.sp_text.specs.Tokens.{tok};
+ghost use Rattle.ir_reader.specs.Families.{statepoint_name, relocate_name};
 ghost use Rattle.ir_reader.specs.Gives.{Gives, Takes, one_at};
 ghost use Rattle.ir_reader.specs.Marks.{is_global, stands};
 ghost use Rattle.ir_reader.specs.Numbers.{literal_of};
@@ -487,6 +488,18 @@ impl<'a> Cursor<'a> {
 
     // ---- the lines
 
+    fn statepoint_function(&mut self) -> Result<(), Stop>
+        ensures { Gives (λ _. tt) result self.new (one_at (stands (is_global statepoint_name)) self.old) }
+    {
+        self.function(statepoint_name())
+    }
+
+    fn relocate_function(&mut self) -> Result<(), Stop>
+        ensures { Gives (λ _. tt) result self.new (one_at (stands (is_global relocate_name)) self.old) }
+    {
+        self.function(relocate_name())
+    }
+
     #[tactic(auto, unfolding(crate::specs::Seen::line_at, crate::specs::Slots::parse, crate::specs::Slots::part, crate::specs::Gives::after))]
     pub fn statepoint(&mut self, alloc: Global) -> Result<Reading<'a>, Stop>
         ensures { Gives seen result self.new (line_at Form.Statepoint self.old) }
@@ -497,7 +510,7 @@ impl<'a> Cursor<'a> {
         self.word(b"call")?;
         self.skip(Dropped::Groups);
         self.statepoint_type()?;
-        self.function(statepoint_name())?;
+        self.statepoint_function()?;
         self.mark(b"(")?;
         let call = self.guarded(alloc)?;
         self.skip(Dropped::Groups);
@@ -538,7 +551,7 @@ impl<'a> Cursor<'a> {
         self.word(b"call")?;
         self.skip(Dropped::Groups);
         self.managed()?;
-        self.function(relocate_name())?;
+        self.relocate_function()?;
         self.mark(b"(")?;
         let token = self.token_name()?;
         self.mark(b",")?;
