@@ -6,7 +6,7 @@ use Rattle.std.specs.Str.{bytes_eq}
 use Rattle.std.proofs.lemmas.Bool.{or_parts, or_cases}
 use Rattle.std.proofs.lemmas.Bool.Decides.{Decides-eqb}
 use Rattle.std.proofs.lemmas.Slice.Eq.{bytes_eq-Decides, starts_is}
-use Rattle.sp_text.specs.Tokens.{Tok, tok, tokens, is_name}
+use Rattle.sp_text.specs.Tokens.{Tok, tok, tokens, is_token, is_name}
 use Rattle.sp_text.specs.declared.tokens.Kind.TheVariants as kinds
 use Rattle.ir_ast.specs.declared.modules.Form.{Form as TextForm}
 use Rattle.ir_ast.specs.declared.modules.Form.TheVariants as text_forms
@@ -18,11 +18,12 @@ use Rattle.ir_reader.specs.declared.forms.Form.TheVariants as forms
 use Rattle.ir_reader.specs.declared.words.Dropped.TheVariants as drops
 use Rattle.ir_reader.specs.declared.words.Flags.TheVariants as flags
 use Rattle.ir_reader.specs.Families.{statepoint_name, relocate_name, result_front, result_suffix, is_suffix, is_result_name, is_family_name}
-use Rattle.ir_reader.specs.Forms.{slots, form_of, form_in, named_form, group_form, grouped_form, called_form, callee_of, first_global}
+use Rattle.ir_reader.specs.Forms.{slots, form_of, form_in, named_form, group_form, grouped_form, word_form, called_form, declared_form, callee_of, declared_of, first_global}
 use Rattle.ir_reader.specs.Slots.{Item, parse}
 use Rattle.read_back.proofs.Steps.{IsClean, past_all-none}
 use Rattle.read_back.proofs.Spellings.{SpellsType, void_type}
 use Rattle.read_back.proofs.Forms.{ReadsAs, result_tokens}
+use Rattle.read_back.proofs.ListForms.{word_none}
 use Rattle.read_back.proofs.GroupSteps.{as_is, token_then, blank_then}
 
 -- in a text of this form the text is a line of this form, and says this at the form's slots
@@ -92,12 +93,17 @@ void_in : (o : List ℕ) (ts : List Tok) → form_of ts ≡ Some forms.VoidCall 
 unfolding form_in group_form
 void_in o ts form is other = rw form (rw is (rw other refl))
 
-pub call_tokens : {spelled : List ℕ} {of_type : TypeWord} (t : SpellsType spelled of_type) (o : List ℕ) → is_name o ≡ true → (rest : List ℕ)
-    → tokens (codes "call " ++ (spelled ++ (32 ∷ 64 ∷ (o ++ (40 ∷ rest))))) ≡ tok kinds.Word (codes "call") ∷ tok kinds.Word t.first ∷ (t.more ++ (tok kinds.Global (64 ∷ o) ∷ tokens (40 ∷ rest)))
-call_tokens {spelled} t o is rest =
+-- a word, a type and a name
+named_tokens : (word : List ℕ) → is_token kinds.Word word ≡ true → {spelled : List ℕ} {of_type : TypeWord} (t : SpellsType spelled of_type) (o : List ℕ) → is_name o ≡ true → (rest : List ℕ)
+    → tokens (word ++ (32 ∷ (spelled ++ (32 ∷ 64 ∷ (o ++ (40 ∷ rest)))))) ≡ tok kinds.Word word ∷ tok kinds.Word t.first ∷ (t.more ++ (tok kinds.Global (64 ∷ o) ∷ tokens (40 ∷ rest)))
+named_tokens word word_is {spelled} t o is rest =
     let behind : tokens (spelled ++ (32 ∷ 64 ∷ (o ++ (40 ∷ rest)))) ≡ tok kinds.Word t.first ∷ (t.more ++ (tok kinds.Global (64 ∷ o) ∷ tokens (40 ∷ rest))) =
     t.spelled (32 ∷ 64 ∷ (o ++ (40 ∷ rest))) refl ∙ ap (λ ts. tok kinds.Word t.first ∷ (t.more ++ ts)) (blank_then (token_then kinds.Global (64 ∷ o) is refl (as_is (40 ∷ rest)))).is in
-    (token_then kinds.Word (codes "call") refl refl (blank_then (as_is (spelled ++ (32 ∷ 64 ∷ (o ++ (40 ∷ rest))))))).is ∙ ap (λ ts. tok kinds.Word (codes "call") ∷ ts) behind
+    (token_then kinds.Word word word_is refl (blank_then (as_is (spelled ++ (32 ∷ 64 ∷ (o ++ (40 ∷ rest))))))).is ∙ ap (λ ts. tok kinds.Word word ∷ ts) behind
+
+pub call_tokens : {spelled : List ℕ} {of_type : TypeWord} (t : SpellsType spelled of_type) (o : List ℕ) → is_name o ≡ true → (rest : List ℕ)
+    → tokens (codes "call " ++ (spelled ++ (32 ∷ 64 ∷ (o ++ (40 ∷ rest))))) ≡ tok kinds.Word (codes "call") ∷ tok kinds.Word t.first ∷ (t.more ++ (tok kinds.Global (64 ∷ o) ∷ tokens (40 ∷ rest)))
+call_tokens t o is rest = named_tokens (codes "call") refl t o is rest
 
 -- `%x = call T @f(..)` of another function
 pub value_call_form : (n : List ℕ) → is_name n ≡ true → {spelled : List ℕ} {answer : TypeWord} (t : SpellsType spelled answer) (o : List ℕ) → is_name o ≡ true → is_family_name o ≡ false → (rest : List ℕ)
@@ -111,6 +117,37 @@ pub void_call_form : (o : List ℕ) → is_name o ≡ true → is_family_name o 
     → form_in text_forms.Rewritten (tokens (codes "call void @" ++ (o ++ (40 ∷ rest)))) ≡ Some forms.VoidCall
 void_call_form o is other rest form =
     void_in o (tokens (codes "call void @" ++ (o ++ (40 ∷ rest)))) form (ap callee_of (call_tokens void_type o is rest) ∙ call_callee void_type o (tokens (40 ∷ rest))) other
+
+-- ---- the function that a declaration names
+
+pub declare_tokens : {spelled : List ℕ} {of_type : TypeWord} (t : SpellsType spelled of_type) (o : List ℕ) → is_name o ≡ true → (rest : List ℕ)
+    → tokens (codes "declare " ++ (spelled ++ (32 ∷ 64 ∷ (o ++ (40 ∷ rest))))) ≡ tok kinds.Word (codes "declare") ∷ tok kinds.Word t.first ∷ (t.more ++ (tok kinds.Global (64 ∷ o) ∷ tokens (40 ∷ rest)))
+declare_tokens t o is rest = named_tokens (codes "declare") refl t o is rest
+
+pub declared_name : {spelled : List ℕ} {of_type : TypeWord} (t : SpellsType spelled of_type) (o : List ℕ) (ts : List Tok)
+    → declared_of (tok kinds.Word (codes "declare") ∷ tok kinds.Word t.first ∷ (t.more ++ (tok kinds.Global (64 ∷ o) ∷ ts))) ≡ Some o
+unfolding declared_of
+declared_name t o ts =
+    let rest : List Tok = t.more ++ (tok kinds.Global (64 ∷ o) ∷ ts) in
+    rw (past_all-none drops.HeadAttachments (tok kinds.Word t.first ∷ rest) (word_none t.first rest))
+    (rw (past_all-none drops.Groups (tok kinds.Word t.first ∷ rest) (t.group rest)) (t.global (tok kinds.Global (64 ∷ o) ∷ ts) ∙ first_here o ts))
+
+pub declared_by : (o : List ℕ) (ts : List Tok) → declared_of (tok kinds.Word (codes "declare") ∷ ts) ≡ Some o
+    → form_in text_forms.Rewritten (tok kinds.Word (codes "declare") ∷ ts) ≡ Some (declared_form (Some o))
+unfolding form_in group_form form_of word_form
+declared_by o ts is = rw is refl
+
+-- `declare T @f(..)` of another function
+pub declare_in : (of : TextForm) {spelled : List ℕ} {answer : TypeWord} (t : SpellsType spelled answer) (o : List ℕ) → is_name o ≡ true → is_family_name o ≡ false → (rest : List ℕ) {items : List Item}
+    → ReadsAs (codes "declare " ++ (spelled ++ (32 ∷ 64 ∷ (o ++ (40 ∷ rest))))) forms.Declare items → ReadsIn of (codes "declare " ++ (spelled ++ (32 ∷ 64 ∷ (o ++ (40 ∷ rest))))) forms.Declare items
+declare_in text_forms.Source t o is other rest reads = in_source reads
+declare_in text_forms.Rewritten {spelled} t o is other rest reads = record { form_is = form_is; whole = reads.whole; clean = reads.clean }
+  where
+    plain : declared_form (Some o) ≡ forms.Declare
+    plain = rw other refl
+
+    form_is : form_in text_forms.Rewritten (tokens (codes "declare " ++ (spelled ++ (32 ∷ 64 ∷ (o ++ (40 ∷ rest)))))) ≡ Some forms.Declare
+    form_is = rw (declare_tokens t o is rest) (declared_by o (tok kinds.Word t.first ∷ (t.more ++ (tok kinds.Global (64 ∷ o) ∷ tokens (40 ∷ rest)))) (declared_name t o (tokens (40 ∷ rest))) ∙ ap Some plain)
 
 -- ---- names of the families
 

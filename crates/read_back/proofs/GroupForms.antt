@@ -16,11 +16,12 @@ use Rattle.ir_reader.specs.declared.forms.Form.TheVariants as forms
 use Rattle.ir_reader.specs.declared.forms.DroppedLine.TheVariants as drop_lines
 use Rattle.ir_reader.specs.declared.words.Dropped.TheVariants as drops
 use Rattle.ir_reader.specs.declared.words.Flags.TheVariants as flags
+use Rattle.ir_reader.specs.Drops.{after_bracket}
 use Rattle.ir_reader.specs.Families.{statepoint_name, relocate_name, result_front, result_suffix, is_suffix, is_result_name, is_family_name, is_result_of}
-use Rattle.ir_reader.specs.Forms.{slots, form_of, form_in, named_form, group_form, grouped_form, called_form, plain_form, callee_of, behind_result, first_global}
+use Rattle.ir_reader.specs.Forms.{slots, form_of, form_in, named_form, group_form, grouped_form, called_form, declared_form, callee_of, first_global}
 use Rattle.ir_reader.specs.Lists.{Given, comma, is_task_start, passed_at}
-use Rattle.ir_reader.specs.Marks.{is_mark, begins}
-use Rattle.ir_reader.specs.Parts.{Val, is_value_type}
+use Rattle.ir_reader.specs.Marks.{is_mark, is_word, begins}
+use Rattle.ir_reader.specs.Parts.{Val, is_value_type, is_answer_type}
 use Rattle.ir_reader.specs.Slots.{Item, name, ty, guarded, live, literal, dropped, a_live, parse}
 use Rattle.ir_reader.specs.Statepoints.{Guarded, live_entry_at, suffix_of}
 use Rattle.ir_printer.specs.Lists.{joined}
@@ -29,9 +30,9 @@ use Rattle.read_back.proofs.Spellings.{SpellsType, SpellsValue, SpellsLiteral, p
 use Rattle.read_back.proofs.PartSteps.{managed_step}
 use Rattle.read_back.proofs.Listed.{SpellsElement, others}
 use Rattle.read_back.proofs.Forms.{ReadsAs, result_tokens}
-use Rattle.read_back.proofs.ListForms.{EndsAtMark}
-use Rattle.read_back.proofs.FormsIn.{ReadsIn, call_callee, value_in, call_tokens}
-use Rattle.read_back.proofs.GroupSteps.{as_is, token_then, mark_then, blank_then, type_tokens, type_spelled, statepoint_type_step, global_step, token_step, place_step, call_spelled, SpellsCall, guarded_step, live_step, no_live, result_step}
+use Rattle.read_back.proofs.ListForms.{EndsAtMark, word_none}
+use Rattle.read_back.proofs.FormsIn.{ReadsIn, call_callee, value_in, call_tokens, declare_tokens, declared_name, declared_by}
+use Rattle.read_back.proofs.GroupSteps.{as_is, token_then, mark_then, blank_then, type_tokens, type_spelled, statepoint_type_step, global_step, token_step, place_step, call_spelled, SpellsCall, guarded_step, live_step, no_live, result_step, family_answer_step, family_step, bracketing_step}
 
 -- ---- statepoints
 
@@ -167,3 +168,22 @@ relocate_line n is token token_is {base} {derived} {b} {d} s u = record { form_i
     form_is : form_in text_forms.Rewritten (tokens (37 ∷ (n ++ (32 ∷ 61 ∷ 32 ∷ text)))) ≡ Some forms.GcRelocate
     form_is = rw (result_tokens n text is) (rw (call_tokens pointer_type o refl rest)
         (value_in (37 ∷ n) o (tok kinds.Word pointer_type.first ∷ (pointer_type.more ++ (tok kinds.Global (64 ∷ o) ∷ tokens (40 ∷ rest)))) (call_callee pointer_type o (tokens (40 ∷ rest))) ∙ ap Some relocate_called))
+
+-- ---- declarations of the three families, which are dropped
+
+-- the form of a declaration of one of them
+family_form : {spelled : List ℕ} {answer : TypeWord} (t : SpellsType spelled answer) (o : List ℕ) → is_name o ≡ true → is_family_name o ≡ true → (rest : List ℕ)
+    → form_in text_forms.Rewritten (tokens (codes "declare " ++ (spelled ++ (32 ∷ 64 ∷ (o ++ (40 ∷ rest)))))) ≡ Some (forms.Dropped drop_lines.Family)
+family_form t o named is rest =
+    let family : declared_form (Some o) ≡ forms.Dropped drop_lines.Family = rw is refl in
+    rw (declare_tokens t o named rest) (declared_by o (tok kinds.Word t.first ∷ (t.more ++ (tok kinds.Global (64 ∷ o) ∷ tokens (40 ∷ rest)))) (declared_name t o (tokens (40 ∷ rest))) ∙ ap Some family)
+
+-- `declare T @f(..)`
+pub family_line : {spelled : List ℕ} {answer : TypeWord} (t : SpellsType spelled answer) → is_answer_type answer ≡ true → is_word (codes "token") (tok kinds.Word t.first) ≡ false
+    → (o : List ℕ) → is_name o ≡ true → is_family_name o ≡ true → (text : List ℕ) → IsClean text → after_bracket 0 (tokens (text ++ [])) ≡ Some (tokens [])
+    → ReadsIn text_forms.Rewritten (codes "declare " ++ (spelled ++ (32 ∷ 64 ∷ (o ++ (40 ∷ (text ++ [])))))) (forms.Dropped drop_lines.Family) []
+family_line {spelled} t allow other o named is text clean e = record { form_is = family_form t o named is (text ++ []); whole = all.whole; clean = all.clean }
+  where
+    all : Reads (slots (forms.Dropped drop_lines.Family)) (codes "declare " ++ (spelled ++ (32 ∷ 64 ∷ (o ++ (40 ∷ (text ++ [])))))) (Some (tok kinds.Word (codes "declare"))) []
+    all = word (codes "declare") refl refl refl refl (spaced (drop_at drops.HeadAttachments (word_none t.first) (drop_at drops.Groups t.group (over_blank (family_answer_step t allow other refl
+        (space (family_step o named is refl (bracketing_step text clean e (drop_end drops.Groups end)))))))))

@@ -57,20 +57,10 @@ use Rattle.read_back.proofs.ListForms.{EndsAtMark, type_element, type_opens, pla
 use Rattle.read_back.proofs.Operands.{HaveNames, IsNarrow, value-named, type_spelled, type_allowed, type_fits_in, value_spelled, value_in_limit, spellable_fits}
 use Rattle.read_back.proofs.Functions.{answer_spelled, answer_allowed, answer_fits}
 use Rattle.read_back.proofs.CallLines.{CalleeThere, PassedReads, passed_text, passed_given, callee-named, digits_named, each_element, each_fits}
-use Rattle.read_back.proofs.OneLine.{made}
+use Rattle.read_back.proofs.OneLine.{LineIn, made}
 use Rattle.read_back.proofs.GroupSteps.{call_spelled, SpellsCall, live_element, live_opens}
 use Rattle.read_back.proofs.FormsIn.{ReadsIn}
 use Rattle.read_back.proofs.GroupForms.{ResultNamed, statepoint_front, bare_statepoint_line, live_statepoint_line, result_line, relocate_line}
-
--- A text is a line of the rewritten form, in a block, which says this and passes no limit of a line.
-pub record GroupLine (text : List ℕ) (statement : Statement) : Type 0 where
-  pub form : Form
-  pub items : List Item
-  pub reads : ReadsIn text_forms.Rewritten text form items
-  pub says : statement ≡ stated (of_form form items)
-  pub fits : list_all item_fits items ≡ true
-  pub stands : behind_instruction form ≡ Some places.Block
-  pub kept : is_dropped_form form ≡ false
 
 -- ---- numbers
 
@@ -212,8 +202,7 @@ live_in_limit names entries all few = rw (length-map entries (value_says names t
 
 -- `%t = call token (..) @llvm.experimental.gc.statepoint.p0(.. @f, .. T V, ..) [ "gc-live"(P V, ..) ]`
 pub statepoint_reads : (names : Names) → HaveNames names → (id : ℕ) (callee : Callee) (takes : List Ty) (n : List ℕ) (ty : Ty) (os : List Operand) → IsGuarded names callee takes n ty os
-    → GroupLine (result_front (Some n) ++ operator_text names (ast.Statepoint id callee takes) (made (Some n) (ast.Statepoint id callee takes) ty os []))
-    (statepoint_says names id callee takes (made (Some n) (ast.Statepoint id callee takes) ty os []))
+    → LineIn text_forms.Rewritten names (made (Some n) (ast.Statepoint id callee takes) ty os [])
 statepoint_reads names have id callee takes n ty os is = record {
   form = forms.Statepoint;
   items = parts.name n ∷ parts.guarded call ∷ parts.live (map (value_says names tys.Ptr) (drop (length takes) os)) ∷ [];
@@ -221,6 +210,7 @@ statepoint_reads names have id callee takes n ty os is = record {
   says = refl;
   fits = rw (guarded_in_limit names id callee takes n ty os is, live_in_limit names (drop (length takes) os) is.live is.few) refl;
   stands = refl;
+  counts = refl;
   kept = refl;
 }
   where
@@ -264,8 +254,7 @@ result_shape names n ty token = simp append_assoc
 
 -- `%x = call T @llvm.experimental.gc.result.S(token %t)`
 pub result_reads : (names : Names) → HaveNames names → (n : List ℕ) (ty : Ty) (token : ValueId) → is_name n ≡ true → is_first_class ty ≡ true → IsNarrow ty → token.0 < length (definitions_of names.func)
-    → GroupLine (result_front (Some n) ++ operator_text names ast.GcResult (made (Some n) ast.GcResult ty (operands.Value token ∷ []) []))
-    (gc_result_says names (made (Some n) ast.GcResult ty (operands.Value token ∷ []) []))
+    → LineIn text_forms.Rewritten names (made (Some n) ast.GcResult ty (operands.Value token ∷ []) [])
 result_reads names have n ty token is first narrow low = record {
   form = forms.GcResult;
   items = parts.name n ∷ parts.ty (word_of ty) ∷ parts.name (value_name names.func token.0) ∷ [];
@@ -273,6 +262,7 @@ result_reads names have n ty token is first narrow low = record {
   says = refl;
   fits = rw (type_fits_in ty first narrow) refl;
   stands = refl;
+  counts = refl;
   kept = refl;
 }
   where
@@ -307,8 +297,7 @@ relocate_shape names n token base derived =
 
 -- `%x = call P @llvm.experimental.gc.relocate.p1(token %t, i32 B, i32 D)`
 pub relocate_reads : (names : Names) → HaveNames names → (n : List ℕ) (token : ValueId) (base derived : ℕ) → is_name n ≡ true → token.0 < length (definitions_of names.func)
-    → GroupLine (result_front (Some n) ++ operator_text names ast.GcRelocate (made (Some n) ast.GcRelocate tys.Ptr (operands.Value token ∷ operands.Int base ∷ operands.Int derived ∷ []) []))
-    (gc_relocate_says names (made (Some n) ast.GcRelocate tys.Ptr (operands.Value token ∷ operands.Int base ∷ operands.Int derived ∷ []) []))
+    → LineIn text_forms.Rewritten names (made (Some n) ast.GcRelocate tys.Ptr (operands.Value token ∷ operands.Int base ∷ operands.Int derived ∷ []) [])
 relocate_reads names have n token base derived is low = record {
   form = forms.GcRelocate;
   items = parts.name n ∷ parts.name (value_name names.func token.0) ∷ parts.literal (literal_of (signed 32 base)) ∷ parts.literal (literal_of (signed 32 derived)) ∷ [];
@@ -316,5 +305,6 @@ relocate_reads names have n token base derived is low = record {
   says = refl;
   fits = rw (signed_fits 32 base (omega arith), signed_fits 32 derived (omega arith)) refl;
   stands = refl;
+  counts = refl;
   kept = refl;
 }

@@ -13,17 +13,17 @@ use Rattle.ir_reader.specs.declared.readings.TypeWord.{TypeWord}
 use Rattle.ir_reader.specs.declared.readings.TypeWord.TheVariants as types
 use Rattle.ir_reader.specs.declared.readings.Literal.{Literal}
 use Rattle.ir_reader.specs.declared.words.Dropped.TheVariants as drops
-use Rattle.ir_reader.specs.Drops.{past_all}
-use Rattle.ir_reader.specs.Families.{is_result_of}
+use Rattle.ir_reader.specs.Drops.{past_all, after_bracket}
+use Rattle.ir_reader.specs.Families.{is_result_of, is_family_name}
 use Rattle.ir_printer.specs.Lists.{joined}
 use Rattle.ir_reader.specs.Gives.{Found, after, one_at, with_rest}
 use Rattle.ir_reader.specs.Lists.{Given, given, comma, list_to, is_argument_type, is_task_start, passed_at, given_behind}
-use Rattle.ir_reader.specs.Marks.{is_mark, begins, stands}
+use Rattle.ir_reader.specs.Marks.{is_mark, is_word, begins, stands}
 use Rattle.ir_reader.specs.Numbers.{decimal_from}
 use Rattle.ir_reader.specs.Parts.{Val, mark_at, value_at, is_value_type, is_answer_type, is_managed, allowed_type_at, spelled_type_at}
 use Rattle.ir_reader.specs.Parts as values
-use Rattle.ir_reader.specs.Slots.{Item, name, ty, guarded, live, literal, Slot, g, a_statepoint_type, a_token, a_guarded, a_live, a_result, a_number, part, parse}
-use Rattle.ir_reader.specs.Statepoints.{Signature, Guarded, first_types_at, last_types_at, statepoint_type_at, number_at, is_zero, zero_at, token_at, signature_at, is_type_of, element_at, target_at, closing_at, begins_argument, handed_at, id_at, count_at, guarded_at, live_entry_at, bundle_at, live_at, suffix_of, result_at}
+use Rattle.ir_reader.specs.Slots.{Item, name, ty, guarded, live, literal, Slot, g, a_statepoint_type, a_family_answer, a_family, a_bracketing, a_token, a_guarded, a_live, a_result, a_number, part, parse}
+use Rattle.ir_reader.specs.Statepoints.{Signature, Guarded, first_types_at, last_types_at, statepoint_type_at, number_at, is_zero, zero_at, token_at, signature_at, is_type_of, element_at, target_at, closing_at, begins_argument, handed_at, id_at, count_at, guarded_at, live_entry_at, bundle_at, live_at, suffix_of, result_at, family_answer_at, bracketing_at}
 use Rattle.read_back.proofs.Steps.{Reads, Stops, IsClean, clean-both, name-clean, one, step, step_to, past_all-none, first_of, stops-kind}
 use Rattle.read_back.proofs.Spellings.{SpellsType, SpellsValue, SpellsLiteral, allowed, pointer_type}
 use Rattle.read_back.proofs.Listed.{SpellsElement, others, comma_spelled, clean_others, ends_others, listed, list_read, list_clean}
@@ -447,3 +447,59 @@ result_step {text = text} {rest = rest} {word = word} t allow suffix n same of_t
     (clean-both text (32 ∷ 64 ∷ (n ++ rest)) t.clean (clean-both n rest (name-clean n is) r.clean))
     (t.spelled (32 ∷ 64 ∷ (n ++ rest)) refl ∙ ap (λ ts. tok kinds.Word t.first ∷ (t.more ++ ts)) (blank_then (token_then kinds.Global (64 ∷ n) is stop (as_is rest))).is)
     (result_part t allow suffix n same of_type (tokens rest)) r
+
+-- ---- declarations of the three families
+
+family_answer_part : {text : List ℕ} {word : TypeWord} (t : SpellsType text word) → is_answer_type word ≡ true → is_word (codes "token") (tok kinds.Word t.first) ≡ false
+    → (ts : List Tok) → part a_family_answer (tok kinds.Word t.first ∷ (t.more ++ ts)) ≡ Some ([], ts)
+unfolding part after family_answer_at
+family_answer_part {text} {word} t allow other ts = rw other (rw (allowed text word t is_answer_type allow ts) refl)
+
+pub family_answer_step : {f : List Slot} {text rest : List ℕ} {word : TypeWord} {first : Option Tok} {items : List Item} (t : SpellsType text word) → is_answer_type word ≡ true → is_word (codes "token") (tok kinds.Word t.first) ≡ false
+    → Stops rest → Reads f rest first items → Reads (a_family_answer ∷ f) (text ++ rest) (Some (tok kinds.Word t.first)) items
+family_answer_step {text = text} {rest = rest} t allow other stop r =
+    step a_family_answer text (tok kinds.Word t.first) (t.more ++ tokens rest) [] t.clean (t.spelled rest stop) (family_answer_part t allow other (tokens rest)) r
+
+token_answer_part : (ts : List Tok) → part a_family_answer (tok kinds.Word (codes "token") ∷ ts) ≡ Some ([], ts)
+unfolding part after family_answer_at one_at
+token_answer_part ts = refl
+
+pub token_answer_step : {f : List Slot} {rest : List ℕ} {first : Option Tok} {items : List Item} → Stops rest → Reads f rest first items → Reads (a_family_answer ∷ f) (codes "token" ++ rest) (Some (tok kinds.Word (codes "token"))) items
+token_answer_step stop r = one a_family_answer kinds.Word (codes "token") [] refl refl stop token_answer_part r
+
+family_part : (o : List ℕ) → is_family_name o ≡ true → (ts : List Tok) → part a_family (tok kinds.Global (64 ∷ o) ∷ ts) ≡ Some ([], ts)
+unfolding part after one_at
+family_part o is ts = rw is refl
+
+pub family_step : {f : List Slot} {rest : List ℕ} {first : Option Tok} {items : List Item} (o : List ℕ) → is_name o ≡ true → is_family_name o ≡ true → Stops rest
+    → Reads f rest first items → Reads (a_family ∷ f) (64 ∷ (o ++ rest)) (Some (tok kinds.Global (64 ∷ o))) items
+family_step o named is stop r = one a_family kinds.Global (64 ∷ o) [] named (name-clean o named) stop (family_part o is) r
+
+bracketing_part : (ts us : List Tok) → after_bracket 0 ts ≡ Some us → part a_bracketing (tok kinds.Punct (codes "(") ∷ ts) ≡ Some ([], us)
+unfolding part after bracketing_at one_at
+bracketing_part ts us e = rw e refl
+
+-- any tokens in parentheses
+pub bracketing_step : {f : List Slot} {rest : List ℕ} {first : Option Tok} {items : List Item} (text : List ℕ) → IsClean text → after_bracket 0 (tokens (text ++ rest)) ≡ Some (tokens rest)
+    → Reads f rest first items → Reads (a_bracketing ∷ f) (40 ∷ (text ++ rest)) (Some (tok kinds.Punct (codes "("))) items
+bracketing_step {rest = rest} text clean e r =
+    step_to a_bracketing (40 ∷ (text ++ rest)) (tok kinds.Punct (codes "(")) (tokens (text ++ rest)) [] (clean-both text rest clean r.clean) (mark_then 40 refl (as_is (text ++ rest))).is
+    (bracketing_part (tokens (text ++ rest)) (tokens rest) e) r
+
+-- `i64, i32, ptr, i32, i32, ...)`
+pub statepoint_bracket : (rest : List ℕ) → after_bracket 0 (tokens (codes "i64, i32, ptr, i32, i32, ...)" ++ rest)) ≡ Some (tokens rest)
+unfolding after_bracket
+statepoint_bracket rest =
+    rw (token_then kinds.Word (codes "i64") refl refl (mark_then 44 refl (blank_then (token_then kinds.Word (codes "i32") refl refl (mark_then 44 refl (blank_then (token_then kinds.Word (codes "ptr") refl refl (mark_then 44 refl (blank_then
+    (token_then kinds.Word (codes "i32") refl refl (mark_then 44 refl (blank_then (token_then kinds.Word (codes "i32") refl refl (mark_then 44 refl (blank_then (token_then kinds.Word (codes "...") refl refl (mark_then 41 refl (as_is rest)))))))))))))))))).is refl
+
+-- `token, i32, i32)`
+pub relocate_bracket : (rest : List ℕ) → after_bracket 0 (tokens (codes "token, i32, i32)" ++ rest)) ≡ Some (tokens rest)
+unfolding after_bracket
+relocate_bracket rest =
+    rw (token_then kinds.Word (codes "token") refl refl (mark_then 44 refl (blank_then (token_then kinds.Word (codes "i32") refl refl (mark_then 44 refl (blank_then (token_then kinds.Word (codes "i32") refl refl (mark_then 41 refl (as_is rest))))))))).is refl
+
+-- `token)`
+pub result_bracket : (rest : List ℕ) → after_bracket 0 (tokens (codes "token)" ++ rest)) ≡ Some (tokens rest)
+unfolding after_bracket
+result_bracket rest = rw (token_then kinds.Word (codes "token") refl refl (mark_then 41 refl (as_is rest))).is refl

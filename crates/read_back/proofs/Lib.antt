@@ -7,7 +7,6 @@ pub mod ListForms
 pub mod GroupSteps
 pub mod FormsIn
 pub mod GroupForms
-pub mod SourceStates
 pub mod LinesRead
 pub mod Operands
 pub mod OneLine

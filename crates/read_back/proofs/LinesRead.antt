@@ -22,11 +22,10 @@ use Rattle.ir_ast.specs.declared.modules.Form.TheVariants as text_forms
 use Rattle.ir_reader.specs.declared.forms.Counted.TheVariants as kinds
 use Rattle.ir_reader.specs.declared.forms.Form.{Form}
 use Rattle.ir_reader.specs.declared.forms.Place.{Place}
-use Rattle.ir_reader.specs.declared.forms.State.{State as WholeState}
+use Rattle.ir_reader.specs.declared.forms.State.{State}
 use Rattle.ir_reader.specs.Seen.{Said, label, of_form, line_at}
 use Rattle.ir_reader.specs.Text.{nothing, said, outcome, Fault, Numbered, with_first, readings, is_top, within, labelled, tokens_outcome}
 use Rattle.ir_reader.specs.Text as texts
-use Rattle.read_back.proofs.SourceStates.{State, whole, is_relocate, counts_fit, next_state, next-whole}
 use Rattle.ir_lines.specs.Statements.{Statement, stated}
 
 abbrev pub newline : ℕ
@@ -76,7 +75,7 @@ before front (Ok more) = Ok (front ++ more)
 before front (Err fault) = Err fault
 
 -- From one state to another the text says this, line by line, whatever follows it.
-pub record SaysIn (from : WholeState) (text : List ℕ) (to : WholeState) (statements : List Statement) : Type 0 where
+pub record Says (from : State) (text : List ℕ) (to : State) (statements : List Statement) : Type 0 where
   pub read : ℕ → List Numbered
   pub next : ℕ → ℕ
   pub reads : (number : ℕ) (rest : List ℕ) → readings from number (numbered number (lines (text ++ rest))) ≡ before (read number) (readings to (next number) (numbered (next number) (lines rest)))
@@ -90,14 +89,14 @@ before-before : (front more : List Numbered) (found : Result (List Numbered) Fau
 before-before front more (Ok end) = ap Ok (sym (append_assoc front more end))
 before-before front more (Err fault) = refl
 
-pub says-nil : (s : WholeState) → SaysIn s [] s []
+pub says-nil : (s : State) → Says s [] s []
 says-nil s = record { read = λ number. []; next = λ number. number; reads = λ number rest. before-nil (readings s number (numbered number (lines rest))); says = λ number. refl }
 
 map-append : {A B : Type 0} (f : A → B) (xs ys : List A) → map f (xs ++ ys) ≡ map f xs ++ map f ys
 map-append f [] ys = refl
 map-append f (x ∷ xs) ys = ap (λ more. f x ∷ more) (map-append f xs ys)
 
-pub says-both : {s t u : WholeState} {a b : List ℕ} {x y : List Statement} → SaysIn s a t x → SaysIn t b u y → SaysIn s (a ++ b) u (x ++ y)
+pub says-both : {s t u : State} {a b : List ℕ} {x y : List Statement} → Says s a t x → Says t b u y → Says s (a ++ b) u (x ++ y)
 says-both {s} {t} {u} {a} {b} {x} {y} first second = record {
   read = λ number. first.read number ++ second.read (first.next number);
   next = λ number. second.next (first.next number);
@@ -111,7 +110,7 @@ with_first-before one (Ok more) = refl
 with_first-before one (Err fault) = refl
 
 -- a line that says something
-pub says-line : (s t : WholeState) (line : List ℕ) (what : Said) → list_all ends_none line ≡ true → outcome s line ≡ said what t → SaysIn s (line ++ (10 ∷ [])) t (stated what ∷ [])
+pub says-line : (s t : State) (line : List ℕ) (what : Said) → list_all ends_none line ≡ true → outcome s line ≡ said what t → Says s (line ++ (10 ∷ [])) t (stated what ∷ [])
 unfolding readings
 says-line s t line what clean is = record {
   read = λ number. record { line = number; said = what } ∷ [];
@@ -121,7 +120,7 @@ says-line s t line what clean is = record {
 }
 
 -- a line that says nothing
-pub says-nothing : (s : WholeState) (line : List ℕ) → list_all ends_none line ≡ true → outcome s line ≡ nothing → SaysIn s (line ++ (10 ∷ [])) s []
+pub says-nothing : (s : State) (line : List ℕ) → list_all ends_none line ≡ true → outcome s line ≡ nothing → Says s (line ++ (10 ∷ [])) s []
 unfolding readings
 says-nothing s line clean is = record {
   read = λ number. [];
@@ -129,10 +128,6 @@ says-nothing s line clean is = record {
   reads = λ number rest. rw (append_assoc line (10 ∷ []) rest) (rw (lines-first line rest clean) (rw is (before-nil _)));
   says = λ number. refl;
 }
-
--- the same of a text in the source form
-abbrev pub Says : State → List ℕ → State → List Statement → Type 0
-Says from text to statements = SaysIn (whole from) text (whole to) statements
 
 -- ---- lines of a form
 
@@ -167,11 +162,11 @@ no_form text_forms.Source = refl
 no_form text_forms.Rewritten = refl
 
 -- a reading that passes no limit
-within_said : (s : WholeState) (place : Place) (what : Said) → said_fits what ≡ true → limits.counts_fit (texts.next_state s place what).counts ≡ true
+within_said : (s : State) (place : Place) (what : Said) → said_fits what ≡ true → limits.counts_fit (texts.next_state s place what).counts ≡ true
     → within s place what ≡ said what (texts.next_state s place what)
 within_said s place what fits counts = rw (fits, counts) refl
 
-tokens_said : (s : WholeState) (ts : List Tok) (form : Form) (place : Place) (items : List Item) → form_in s.form ts ≡ Some form → parse (slots form) ts ≡ Some (items, [])
+tokens_said : (s : State) (ts : List Tok) (form : Form) (place : Place) (items : List Item) → form_in s.form ts ≡ Some form → parse (slots form) ts ≡ Some (items, [])
     → behind s.place form ≡ Some place → is_dropped_form form ≡ false → said_fits (of_form form items) ≡ true → limits.counts_fit (texts.next_state s place (of_form form items)).counts ≡ true
     → tokens_outcome s ts ≡ said (of_form form items) (texts.next_state s place (of_form form items))
 unfolding tokens_outcome line_at after
@@ -179,14 +174,14 @@ tokens_said s [] form place items is fitting stands kept fits counts = let none 
 tokens_said s (t ∷ ts) form place items is fitting stands kept fits counts =
     rw is (rw stands (rw fitting (rw kept (within_said s place (of_form form items) fits counts))))
 
-tokens_dropped : (s : WholeState) (ts : List Tok) (form : Form) (place : Place) (items : List Item) → form_in s.form ts ≡ Some form → parse (slots form) ts ≡ Some (items, [])
+tokens_dropped : (s : State) (ts : List Tok) (form : Form) (place : Place) (items : List Item) → form_in s.form ts ≡ Some form → parse (slots form) ts ≡ Some (items, [])
     → behind s.place form ≡ Some place → is_dropped_form form ≡ true → tokens_outcome s ts ≡ nothing
 unfolding tokens_outcome line_at after
 tokens_dropped s [] form place items is fitting stands dropped = refl
 tokens_dropped s (t ∷ ts) form place items is fitting stands dropped = rw is (rw stands (rw fitting (rw dropped refl)))
 
 -- a line of a form, where it may stand and passes no limit
-pub formed_in : (s : WholeState) (line : List ℕ) (form : Form) (place : Place) (items : List Item) → IsClean line → (is_top s.place && is_metadata line) ≡ false
+pub formed_in : (s : State) (line : List ℕ) (form : Form) (place : Place) (items : List Item) → IsClean line → (is_top s.place && is_metadata line) ≡ false
     → form_in s.form (tokens line) ≡ Some form → parse (slots form) (tokens line) ≡ Some (items, [])
     → behind s.place form ≡ Some place → is_dropped_form form ≡ false → said_fits (of_form form items) ≡ true → limits.counts_fit (texts.next_state s place (of_form form items)).counts ≡ true
     → outcome s line ≡ said (of_form form items) (texts.next_state s place (of_form form items))
@@ -195,37 +190,21 @@ formed_in s line form place items clean other is fitting stands kept fits counts
     rw other (rw (label-none line clean) (tokens_said s (tokens line) form place items is fitting stands kept fits counts))
 
 -- a line of a form that is dropped, where it may stand
-pub dropped_in : (s : WholeState) (line : List ℕ) (form : Form) (place : Place) (items : List Item) → IsClean line → (is_top s.place && is_metadata line) ≡ false
+pub dropped_in : (s : State) (line : List ℕ) (form : Form) (place : Place) (items : List Item) → IsClean line → (is_top s.place && is_metadata line) ≡ false
     → form_in s.form (tokens line) ≡ Some form → parse (slots form) (tokens line) ≡ Some (items, []) → behind s.place form ≡ Some place → is_dropped_form form ≡ true
     → outcome s line ≡ nothing
 unfolding outcome
 dropped_in s line form place items clean other is fitting stands dropped =
     rw other (rw (label-none line clean) (tokens_dropped s (tokens line) form place items is fitting stands dropped))
 
--- and in a text of the source form
-pub formed_outcome : (s : State) (line : List ℕ) (form : Form) (place : Place) (items : List Item) → IsClean line → (is_top s.place && is_metadata line) ≡ false
-    → form_of (tokens line) ≡ Some form → parse (slots form) (tokens line) ≡ Some (items, [])
-    → behind s.place form ≡ Some place → is_dropped_form form ≡ false → is_relocate (said_counts_as (of_form form items)) ≡ false
-    → said_fits (of_form form items) ≡ true → counts_fit (next_state s place (of_form form items)).counts ≡ true
-    → outcome (whole s) line ≡ said (of_form form items) (whole (next_state s place (of_form form items)))
-unfolding form_in
-formed_outcome s line form place items clean other is fitting stands kept plain fits counts =
-    let same = next-whole s place (of_form form items) plain in
-    let room : limits.counts_fit (texts.next_state (whole s) place (of_form form items)).counts ≡ true = ap (λ (n : WholeState). limits.counts_fit n.counts) same ∙ counts in
-    formed_in (whole s) line form place items clean other is fitting stands kept fits room ∙ ap (said (of_form form items)) same
-
 -- a label
-pub label_in : (s : WholeState) (name : List ℕ) (place : Place) → is_name name ≡ true → is_top s.place ≡ false → behind_label s.place ≡ Some place
+pub label_line : (s : State) (name : List ℕ) (place : Place) → is_name name ≡ true → is_top s.place ≡ false → behind_label s.place ≡ Some place
     → outcome s (name ++ (58 ∷ [])) ≡ said (label name) (record { form = s.form; place = place; counts = limits.counted kinds.Nothing s.counts })
 unfolding outcome
-label_in s name place is inside stands = rw inside (rw (label-spelled name is) (rw stands refl))
-
-pub label_line : (s : State) (name : List ℕ) (place : Place) → is_name name ≡ true → is_top s.place ≡ false → behind_label s.place ≡ Some place
-    → outcome (whole s) (name ++ (58 ∷ [])) ≡ said (label name) (whole (record { place = place; counts = s.counts }))
-label_line s name place is inside stands = label_in (whole s) name place is inside stands
+label_line s name place is inside stands = rw inside (rw (label-spelled name is) (rw stands refl))
 
 -- an empty line
-empty_outcome : (s : WholeState) → outcome s [] ≡ nothing
+empty_outcome : (s : State) → outcome s [] ≡ nothing
 unfolding outcome tokens_outcome
 empty_outcome s = by (is_top s.place)
   where
@@ -233,5 +212,5 @@ empty_outcome s = by (is_top s.place)
     by true = rw tokens-nil refl
     by false = rw tokens-nil refl
 
-pub says-empty : (s : WholeState) → SaysIn s (10 ∷ []) s []
+pub says-empty : (s : State) → Says s (10 ∷ []) s []
 says-empty s = says-nothing s [] refl (empty_outcome s)

@@ -384,7 +384,7 @@ declare_form : (more : List Tok) → word_form (codes "declare") more ≡ Some f
 unfolding word_form
 declare_form more = refl
 
-word_none : (spelled : List ℕ) (more : List Tok) → past_dropped drops.HeadAttachments (tok kinds.Word spelled ∷ more) ≡ None
+pub word_none : (spelled : List ℕ) (more : List Tok) → past_dropped drops.HeadAttachments (tok kinds.Word spelled ∷ more) ≡ None
 word_none spelled [] = refl
 word_none spelled (t ∷ ts) = refl
 

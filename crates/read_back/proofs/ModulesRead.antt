@@ -25,7 +25,7 @@ use Rattle.ir_ast.specs.Funcs.{Function, instructions_of}
 use Rattle.ir_ast.specs.Modules.{ModuleContent}
 use Rattle.ir_ast.specs.Lines.{is_rewritten}
 use Rattle.ir_ast.specs.Callees.{is_helper}
-use Rattle.ir_cfg.specs.SourceModules.{IsSourceFunction, IsSourceModule}
+use Rattle.ir_cfg.specs.SourceModules.{IsSourceModule}
 use Rattle.ir_printer.specs.declared.declarations.External.{External}
 use Rattle.ir_printer.specs.declared.declarations.External.TheVariants as externs
 use Rattle.ir_printer.specs.Declarations as printed_declarations
@@ -39,14 +39,18 @@ use Rattle.ir_reader.specs.declared.forms.Form.{Form}
 use Rattle.ir_reader.specs.declared.forms.Form.TheVariants as forms
 use Rattle.ir_reader.specs.declared.forms.Counted.TheVariants as kinds
 use Rattle.ir_reader.specs.declared.forms.Place.TheVariants as places
-use Rattle.ir_reader.specs.Limits.{item_fits, type_fits, said_counts_as}
+use Rattle.ir_ast.specs.declared.modules.Form.{Form as TextForm}
+use Rattle.ir_ast.specs.declared.modules.Form.TheVariants as text_forms
+use Rattle.ir_reader.specs.declared.forms.Counts.{Counts}
+use Rattle.ir_reader.specs.declared.forms.State.{State}
+use Rattle.ir_reader.specs.Limits.{item_fits, type_fits, counted, counted_in, counts_fit}
 use Rattle.ir_reader.specs.Lists.{Named, comma, argument_at, is_task_start}
 use Rattle.ir_reader.specs.Marks.{is_mark, begins}
 use Rattle.ir_reader.specs.Parts.{is_value_type, is_answer_type}
 use Rattle.ir_reader.specs.Places.{behind, is_dropped_form}
 use Rattle.ir_reader.specs.Seen.{of_form}
 use Rattle.ir_reader.specs.Slots as parts
-use Rattle.ir_reader.specs.Text.{Numbered, readings, readings_in, text_readings}
+use Rattle.ir_reader.specs.Text.{Numbered, readings, readings_in, next_state, opening}
 use Rattle.ir_lines.specs.Statements.{Line, Statement, stated}
 use Rattle.ir_lines.specs.Statements as statements
 use Rattle.read_back.specs.BlocksEnd.{BlocksEnd}
@@ -58,25 +62,33 @@ use Rattle.read_back.proofs.Spellings.{SpellsType, integer_type, pointer_type, v
 use Rattle.read_back.proofs.Forms.{ReadsAs}
 use Rattle.read_back.proofs.Listed.{SpellsElement}
 use Rattle.read_back.proofs.ListForms.{EndsAtMark, field_element, type_opens, layout_line, parameter_element, plain_element, plain_opens, declare_line}
-use Rattle.read_back.proofs.SourceStates.{Counts, State, whole, is_relocate, counted, counts_fit, next_state, opening}
-use Rattle.read_back.proofs.LinesRead.{Says, says-nil, says-both, says-line, says-empty, formed_outcome, ends_none-clean, before}
+use Rattle.read_back.proofs.FormsIn.{ReadsIn, in_both, in_source}
+use Rattle.read_back.proofs.LinesRead.{Says, says-nil, says-both, says-line, says-empty, formed_in, ends_none-clean, before}
 use Rattle.read_back.proofs.CallLines.{new-named}
 use Rattle.read_back.proofs.Operands.{named_at}
 use Rattle.read_back.proofs.Chains.{joined-cons, behind_all}
-use Rattle.read_back.proofs.Blocks.{Room, room-fits, blocks_room}
-use Rattle.read_back.proofs.FunctionsRead.{FunctionReads, behind_function, behind_head, function_read}
+use Rattle.read_back.proofs.Blocks.{Room, room-fits, room_as}
+use Rattle.read_back.proofs.FunctionsRead.{FunctionReads, behind_function, function_read, function_form, function_room}
 use Rattle.read_back.proofs.SourceFunctions.{function_reads}
 
 -- outside functions
-abbrev at_top : Counts → State
-at_top c = record { place = places.Top; counts = c }
+abbrev at_top : TextForm → Counts → State
+at_top of c = record { form = of; place = places.Top; counts = c }
 
-top_line : (c : Counts) (text : List ℕ) (form : Form) (items : List parts.Item) → ReadsAs text form items → is_metadata text ≡ false → behind places.Top form ≡ Some places.Top → is_dropped_form form ≡ false
-    → is_relocate (said_counts_as (of_form form items)) ≡ false → list_all item_fits items ≡ true → counts_fit (next_state (at_top c) places.Top (of_form form items)).counts ≡ true
-    → Says (at_top c) (text ++ (10 ∷ [])) (next_state (at_top c) places.Top (of_form form items)) (stated (of_form form items) ∷ [])
-top_line c text form items reads other stands kept plain fits room =
-    says-line (whole (at_top c)) (whole (next_state (at_top c) places.Top (of_form form items))) text (of_form form items) (ends_none-clean text reads.clean)
-    (formed_outcome (at_top c) text form places.Top items reads.clean other reads.form_is reads.whole stands kept plain fits room)
+top_line : (of : TextForm) (c : Counts) (text : List ℕ) (form : Form) (items : List parts.Item) → ReadsIn of text form items → is_metadata text ≡ false → behind places.Top form ≡ Some places.Top → is_dropped_form form ≡ false
+    → list_all item_fits items ≡ true → counts_fit (next_state (at_top of c) places.Top (of_form form items)).counts ≡ true
+    → Says (at_top of c) (text ++ (10 ∷ [])) (next_state (at_top of c) places.Top (of_form form items)) (stated (of_form form items) ∷ [])
+top_line of c text form items reads other stands kept fits room =
+    says-line (at_top of c) (next_state (at_top of c) places.Top (of_form form items)) text (of_form form items) (ends_none-clean text reads.clean)
+    (formed_in (at_top of c) text form places.Top items reads.clean other reads.form_is reads.whole stands kept fits room)
+
+-- a line that counts as nothing changes nothing
+abbrev IsStill : TextForm → Counts → Type 0
+IsStill of c = counted (counted_in of kinds.Nothing) c ≡ c
+
+still_by : (of : TextForm) (c : Counts) → c.relocates ≡ 0 → IsStill of c
+still_by text_forms.Source c none = ap (λ (r : ℕ). record c { relocates = r }) (sym none)
+still_by text_forms.Rewritten c none = ap (λ (r : ℕ). record c { relocates = r }) (sym none)
 
 -- ---- layouts
 
@@ -108,38 +120,50 @@ record LayoutReads (layout : ObjectLayout) : Type 0 where
 layout_bytes : (n body : List ℕ) → 37 ∷ (n ++ (codes " = type { " ++ (body ++ codes " }\n"))) ≡ (37 ∷ (n ++ (codes " = type { " ++ (body ++ codes " }")))) ++ (10 ∷ [])
 layout_bytes n body = simp append_assoc
 
-abbrev behind_layout : Counts → Counts
-behind_layout c = counted kinds.Layout c
+abbrev behind_layout : TextForm → Counts → Counts
+behind_layout of c = counted (counted_in of kinds.Layout) c
 
-layout_read : (layout : ObjectLayout) (c : Counts) → LayoutReads layout → counts_fit (behind_layout c) ≡ true
-    → Says (at_top c) (layout_text layout) (at_top (behind_layout c)) (layout_says layout ∷ [])
-layout_read layout c is room =
+layout_read : (of : TextForm) (layout : ObjectLayout) (c : Counts) → LayoutReads layout → counts_fit (behind_layout of c) ≡ true
+    → Says (at_top of c) (layout_text layout) (at_top of (behind_layout of c)) (layout_says layout ∷ [])
+layout_read of layout c is room =
     let text : List ℕ = 37 ∷ (layout.name ++ (codes " = type { " ++ (joined (codes ", ") (map word_of layout.fields) ++ codes " }"))) in
     let items : List parts.Item = parts.layout_name layout.name ∷ parts.fields (map cell_word layout.fields) ∷ [] in
     let reads : ReadsAs text forms.Layout items = layout_line layout.name is.named word_of cell_word layout.fields
     (λ k d low. field_element (cell_spelled _) (cell_value _)) (λ k d low rest ends. type_opens (cell_spelled _) (codes "}") rest ends) in
     let count : length (map cell_word layout.fields) ≡ length layout.fields = length-map layout.fields cell_word in
     let fits : list_all item_fits items ≡ true = rw (le-leb (length layout.name) 4096 is.short, count, le-leb (length layout.fields) 64 is.few, cells_fit layout.fields) refl in
-    rw (layout_bytes layout.name (joined (codes ", ") (map word_of layout.fields))) (top_line c text forms.Layout items reads refl refl refl refl fits room)
+    rw (layout_bytes layout.name (joined (codes ", ") (map word_of layout.fields))) (top_line of c text forms.Layout items (in_both of refl reads) refl refl refl fits room)
 
-abbrev behind_layouts : List ObjectLayout → Counts → Counts
-behind_layouts [] c = c
-behind_layouts (layout ∷ layouts) c = behind_layouts layouts (behind_layout c)
+abbrev behind_layouts : TextForm → List ObjectLayout → Counts → Counts
+behind_layouts of [] c = c
+behind_layouts of (layout ∷ layouts) c = behind_layouts of layouts (behind_layout of c)
 
-layout_room : (l f v i : ℕ) (c : Counts) → Room (suc l) f v i c → Room l f v i (behind_layout c)
-layout_room l f v i c room = record { layouts = omega (arith, room.layouts); functions = room.functions; values = room.values; instructions = room.instructions }
+layout_room : (of : TextForm) (l f v i : ℕ) (c : Counts) → Room of (suc l) f v i c → Room of l f v i (behind_layout of c)
+layout_room text_forms.Source l f v i c room = record { layouts = omega (arith, room.layouts); functions = room.functions; values = room.values; instructions = room.instructions }
+layout_room text_forms.Rewritten l f v i c room = record { layouts = omega (arith, room.layouts); functions = room.functions; values = room.values; instructions = room.instructions }
 
-layouts_read : (layouts : List ObjectLayout) (f v i : ℕ) (c : Counts) → AllByRecursion LayoutReads layouts → Room (length layouts) f v i c
-    → Says (at_top c) (joined [] (map layout_text layouts)) (at_top (behind_layouts layouts c)) (map layout_says layouts)
-layouts_read [] f v i c all room = says-nil (whole (at_top c))
-layouts_read (layout ∷ layouts) f v i c all room =
-    let next : Room (length layouts) f v i (behind_layout c) = layout_room (length layouts) f v i c room in
+layout_still : (of : TextForm) (c : Counts) → (behind_layout of c).relocates ≡ 0
+layout_still text_forms.Source c = refl
+layout_still text_forms.Rewritten c = refl
+
+few : (c : Counts) → c.relocates ≡ 0 → c.relocates ≤ 16384
+few c none = omega arith
+
+layouts_read : (of : TextForm) (layouts : List ObjectLayout) (f v i : ℕ) (c : Counts) → AllByRecursion LayoutReads layouts → Room of (length layouts) f v i c
+    → Says (at_top of c) (joined [] (map layout_text layouts)) (at_top of (behind_layouts of layouts c)) (map layout_says layouts)
+layouts_read of [] f v i c all room = says-nil (at_top of c)
+layouts_read of (layout ∷ layouts) f v i c all room =
+    let next : Room of (length layouts) f v i (behind_layout of c) = layout_room of (length layouts) f v i c room in
     rw (joined-cons (layout_text layout) (map layout_text layouts))
-    (says-both (layout_read layout c all.0 (room-fits next)) (layouts_read layouts f v i (behind_layout c) all.1 next))
+    (says-both (layout_read of layout c all.0 (room-fits next (few (behind_layout of c) (layout_still of c)))) (layouts_read of layouts f v i (behind_layout of c) all.1 next))
 
-layouts_room : (layouts : List ObjectLayout) (f v i : ℕ) (c : Counts) → Room (length layouts) f v i c → Room 0 f v i (behind_layouts layouts c)
-layouts_room [] f v i c room = room
-layouts_room (layout ∷ layouts) f v i c room = layouts_room layouts f v i (behind_layout c) (layout_room (length layouts) f v i c room)
+layouts_room : (of : TextForm) (layouts : List ObjectLayout) (f v i : ℕ) (c : Counts) → Room of (length layouts) f v i c → Room of 0 f v i (behind_layouts of layouts c)
+layouts_room of [] f v i c room = room
+layouts_room of (layout ∷ layouts) f v i c room = layouts_room of layouts f v i (behind_layout of c) (layout_room of (length layouts) f v i c room)
+
+layouts_still : (of : TextForm) (layouts : List ObjectLayout) (c : Counts) → c.relocates ≡ 0 → (behind_layouts of layouts c).relocates ≡ 0
+layouts_still of [] c none = none
+layouts_still of (layout ∷ layouts) c none = layouts_still of layouts (behind_layout of c) (layout_still of c)
 
 -- ---- declarations
 
@@ -192,31 +216,38 @@ is_of_source externs.Read = true
 is_of_source externs.TaskStart = true
 is_of_source _ = false
 
-declaration_read : (layouts : List ObjectLayout) → All (λ (layout : ObjectLayout). is_name layout.name ≡ true) layouts → (c : Counts) → counts_fit c ≡ true → (e : External) → IsBelow (length layouts) e → is_of_source e ≡ true
-    → Says (at_top c) (declaration_text layouts e) (at_top c) (declaration_says layouts e)
+-- a declaration, in a text of the source form
+declared_top : (c : Counts) → IsStill text_forms.Source c → (text : List ℕ) (items : List parts.Item) → ReadsAs text forms.Declare items → is_metadata text ≡ false → list_all item_fits items ≡ true → counts_fit c ≡ true
+    → Says (at_top text_forms.Source c) (text ++ (10 ∷ [])) (at_top text_forms.Source c) (stated (of_form forms.Declare items) ∷ [])
+declared_top c same text items reads other fits room =
+    subst (λ (s : State). Says (at_top text_forms.Source c) (text ++ (10 ∷ [])) s (stated (of_form forms.Declare items) ∷ [])) (ap (at_top text_forms.Source) same)
+    (top_line text_forms.Source c text forms.Declare items (in_source reads) other refl refl fits (ap counts_fit same ∙ room))
+
+declaration_read : (layouts : List ObjectLayout) → All (λ (layout : ObjectLayout). is_name layout.name ≡ true) layouts → (c : Counts) → IsStill text_forms.Source c → counts_fit c ≡ true → (e : External) → IsBelow (length layouts) e → is_of_source e ≡ true
+    → Says (at_top text_forms.Source c) (declaration_text layouts e) (at_top text_forms.Source c) (declaration_says layouts e)
 unfolding fixed_declaration
-declaration_read layouts named c room (externs.New number) low is =
+declaration_read layouts named c same room (externs.New number) low is =
     let n : List ℕ = codes "gc_new." ++ layout_name layouts number in
     let n_is : is_name n ≡ true = new-named (layout_name layouts number) (named_at (λ (layout : ObjectLayout). layout.name) layouts named number low) in
     rw (new_bytes (layout_name layouts number))
-    (top_line c (codes "declare ptr addrspace(1) @gc_new." ++ (layout_name layouts number ++ codes "(i64)")) forms.Declare (parts.ty types.Managed ∷ parts.declared n (unnamed (types.Int 64 ∷ [])) ∷ [])
-    (declared_line pointer_type refl n n_is (types.Int 64 ∷ []) (wide_parameter (is_task_start n), tt)) refl refl refl refl refl room)
-declaration_read layouts named c room externs.Print low is =
-    top_line c (codes "declare void @print_i64(i64)") forms.Declare (parts.ty types.Void ∷ parts.declared (codes "print_i64") (unnamed (types.Int 64 ∷ [])) ∷ [])
-    (declared_line void_type refl (codes "print_i64") refl (types.Int 64 ∷ []) (wide_parameter false, tt)) refl refl refl refl refl room
-declaration_read layouts named c room externs.Read low is =
-    top_line c (codes "declare i64 @read_i64()") forms.Declare (parts.ty (types.Int 64) ∷ parts.declared (codes "read_i64") (unnamed []) ∷ [])
-    (declared_line wide_type refl (codes "read_i64") refl [] tt) refl refl refl refl refl room
-declaration_read layouts named c room externs.TaskStart low is =
-    top_line c (codes "declare void @task_start(ptr, ptr addrspace(1))") forms.Declare (parts.ty types.Void ∷ parts.declared (codes "task_start") (unnamed (types.Plain ∷ types.Managed ∷ [])) ∷ [])
-    (declared_line void_type refl (codes "task_start") refl (types.Plain ∷ types.Managed ∷ []) (plain_parameter, (managed_parameter true, tt))) refl refl refl refl refl room
-declaration_read layouts named c room externs.Poll low is = absurd (let bad : false ≡ true = is in cc)
-declaration_read layouts named c room externs.Check low is = absurd (let bad : false ≡ true = is in cc)
-declaration_read layouts named c room externs.Same low is = absurd (let bad : false ≡ true = is in cc)
-declaration_read layouts named c room externs.StatepointFamily low is = absurd (let bad : false ≡ true = is in cc)
-declaration_read layouts named c room externs.RelocateFamily low is = absurd (let bad : false ≡ true = is in cc)
-declaration_read layouts named c room (externs.ResultOf width) low is = absurd (let bad : false ≡ true = is in cc)
-declaration_read layouts named c room externs.ResultPointer low is = absurd (let bad : false ≡ true = is in cc)
+    (declared_top c same (codes "declare ptr addrspace(1) @gc_new." ++ (layout_name layouts number ++ codes "(i64)")) (parts.ty types.Managed ∷ parts.declared n (unnamed (types.Int 64 ∷ [])) ∷ [])
+    (declared_line pointer_type refl n n_is (types.Int 64 ∷ []) (wide_parameter (is_task_start n), tt)) refl refl room)
+declaration_read layouts named c same room externs.Print low is =
+    declared_top c same (codes "declare void @print_i64(i64)") (parts.ty types.Void ∷ parts.declared (codes "print_i64") (unnamed (types.Int 64 ∷ [])) ∷ [])
+    (declared_line void_type refl (codes "print_i64") refl (types.Int 64 ∷ []) (wide_parameter false, tt)) refl refl room
+declaration_read layouts named c same room externs.Read low is =
+    declared_top c same (codes "declare i64 @read_i64()") (parts.ty (types.Int 64) ∷ parts.declared (codes "read_i64") (unnamed []) ∷ [])
+    (declared_line wide_type refl (codes "read_i64") refl [] tt) refl refl room
+declaration_read layouts named c same room externs.TaskStart low is =
+    declared_top c same (codes "declare void @task_start(ptr, ptr addrspace(1))") (parts.ty types.Void ∷ parts.declared (codes "task_start") (unnamed (types.Plain ∷ types.Managed ∷ [])) ∷ [])
+    (declared_line void_type refl (codes "task_start") refl (types.Plain ∷ types.Managed ∷ []) (plain_parameter, (managed_parameter true, tt))) refl refl room
+declaration_read layouts named c same room externs.Poll low is = absurd (let bad : false ≡ true = is in cc)
+declaration_read layouts named c same room externs.Check low is = absurd (let bad : false ≡ true = is in cc)
+declaration_read layouts named c same room externs.Same low is = absurd (let bad : false ≡ true = is in cc)
+declaration_read layouts named c same room externs.StatepointFamily low is = absurd (let bad : false ≡ true = is in cc)
+declaration_read layouts named c same room externs.RelocateFamily low is = absurd (let bad : false ≡ true = is in cc)
+declaration_read layouts named c same room (externs.ResultOf width) low is = absurd (let bad : false ≡ true = is in cc)
+declaration_read layouts named c same room externs.ResultPointer low is = absurd (let bad : false ≡ true = is in cc)
 
 -- what no source module calls
 
@@ -257,74 +288,62 @@ not_in content e other funcs all =
     none_any (λ (block : BasicBlock). AllByRecursion (λ (inst : Instruction). IsPrinted (names_in content func) inst.op inst) block.insts) _ (λ block is.
     none_any (λ (inst : Instruction). IsPrinted (names_in content func) inst.op inst) (λ inst. is_call_of e inst.op inst.ty) (λ inst is. not_called e inst.op inst.ty other is.plain) block.insts is) func.blocks is) funcs all
 
-if_called_read : (layouts : List ObjectLayout) (funcs : List Function) → All (λ (layout : ObjectLayout). is_name layout.name ≡ true) layouts → (c : Counts) → counts_fit c ≡ true → (e : External) → IsBelow (length layouts) e
+if_called_read : (layouts : List ObjectLayout) (funcs : List Function) → All (λ (layout : ObjectLayout). is_name layout.name ≡ true) layouts → (c : Counts) → IsStill text_forms.Source c → counts_fit c ≡ true → (e : External) → IsBelow (length layouts) e
     → (is_of_source e ≡ false → calls funcs e ≡ false)
-    → Says (at_top c) (printed_declarations.declaration_if_called layouts funcs e) (at_top c) (declaration_if_called layouts funcs e)
-if_called_read layouts funcs named c room e low not_there = by (calls funcs e) (is_of_source e) refl refl
+    → Says (at_top text_forms.Source c) (printed_declarations.declaration_if_called layouts funcs e) (at_top text_forms.Source c) (declaration_if_called layouts funcs e)
+if_called_read layouts funcs named c same room e low not_there = by (calls funcs e) (is_of_source e) refl refl
   where
     by : (called of_source : Bool) → calls funcs e ≡ called → is_of_source e ≡ of_source
-        → Says (at_top c) (if called then declaration_text layouts e else []) (at_top c) (if called then declaration_says layouts e else [])
-    by false of_source is so = says-nil (whole (at_top c))
-    by true true is so = declaration_read layouts named c room e low so
+        → Says (at_top text_forms.Source c) (if called then declaration_text layouts e else []) (at_top text_forms.Source c) (if called then declaration_says layouts e else [])
+    by false of_source is so = says-nil (at_top text_forms.Source c)
+    by true true is so = declaration_read layouts named c same room e low so
     by true false is so = absurd (let bad : true ≡ false = sym is ∙ not_there so in cc)
 
-declarations_read : (layouts : List ObjectLayout) (funcs : List Function) → All (λ (layout : ObjectLayout). is_name layout.name ≡ true) layouts → (c : Counts) → counts_fit c ≡ true
+declarations_read : (layouts : List ObjectLayout) (funcs : List Function) → All (λ (layout : ObjectLayout). is_name layout.name ≡ true) layouts → (c : Counts) → IsStill text_forms.Source c → counts_fit c ≡ true
     → ((e : External) → is_of_source e ≡ false → calls funcs e ≡ false) → (es : List External) → AllByRecursion (IsBelow (length layouts)) es
-    → Says (at_top c) (flat_map (printed_declarations.declaration_if_called layouts funcs) es) (at_top c) (flat_map (declaration_if_called layouts funcs) es)
-declarations_read layouts funcs named c room not_there [] low = says-nil (whole (at_top c))
-declarations_read layouts funcs named c room not_there (e ∷ es) low =
-    says-both (if_called_read layouts funcs named c room e low.0 (not_there e)) (declarations_read layouts funcs named c room not_there es low.1)
+    → Says (at_top text_forms.Source c) (flat_map (printed_declarations.declaration_if_called layouts funcs) es) (at_top text_forms.Source c) (flat_map (declaration_if_called layouts funcs) es)
+declarations_read layouts funcs named c same room not_there [] low = says-nil (at_top text_forms.Source c)
+declarations_read layouts funcs named c same room not_there (e ∷ es) low =
+    says-both (if_called_read layouts funcs named c same room e low.0 (not_there e)) (declarations_read layouts funcs named c same room not_there es low.1)
 
 -- ---- functions
-
--- what is asked of a function of the module
-record FunctionFits (layouts : List ObjectLayout) (funcs : List Function) (func : Function) : Type 0 where
-  pub reads : FunctionReads layouts funcs func
-  pub values : length func.args + length (instructions_of func.blocks) ≤ 4096
 
 abbrev all_instructions : List Function → List Instruction
 all_instructions funcs = flat_map (λ func. instructions_of func.blocks) funcs
 
-function_room : (func : Function) (s : State) (f i : ℕ) → length func.args + length (instructions_of func.blocks) ≤ 4096
-    → Room 0 (suc f) 0 (length (instructions_of func.blocks) + i) s.counts → Room 0 f 0 i (behind_function func s).counts
-function_room func s f i values room =
-    let head_room : Room 0 f (length (instructions_of func.blocks) + 0) (length (instructions_of func.blocks) + i) (behind_head func s).counts =
-    record { layouts = room.layouts; functions = omega (arith, room.functions); values = omega (arith, values); instructions = room.instructions } in
-    blocks_room func.blocks (behind_head func s) 0 f 0 i head_room
-
-split_room : (func : Function) (funcs : List Function) (s : State) → Room 0 (suc (length funcs)) 0 (length (all_instructions (func ∷ funcs))) s.counts
-    → Room 0 (suc (length funcs)) 0 (length (instructions_of func.blocks) + length (all_instructions funcs)) s.counts
+split_room : (func : Function) (funcs : List Function) (s : State) → Room s.form 0 (suc (length funcs)) 0 (length (all_instructions (func ∷ funcs))) s.counts
+    → Room s.form 0 (suc (length funcs)) 0 (length (instructions_of func.blocks) + length (all_instructions funcs)) s.counts
 split_room func funcs s room =
     let split : length (all_instructions (func ∷ funcs)) ≡ length (instructions_of func.blocks) + length (all_instructions funcs) = length-append (instructions_of func.blocks) (all_instructions funcs) in
-    record { layouts = room.layouts; functions = room.functions; values = room.values; instructions = omega (arith, split, room.instructions) }
+    room_as s.form _ _ refl (sym split) room
 
-led_read : (layouts : List ObjectLayout) (funcs : List Function) (fs : List Function) (s : State) → s.place ≡ places.Top → AllByRecursion (FunctionFits layouts funcs) fs
-    → Room 0 (length fs) 0 (length (all_instructions fs)) s.counts
+led_read : (of : TextForm) (layouts : List ObjectLayout) (funcs : List Function) (fs : List Function) (s : State) → s.form ≡ of → s.place ≡ places.Top → AllByRecursion (FunctionReads of layouts funcs) fs
+    → Room s.form 0 (length fs) 0 (length (all_instructions fs)) s.counts
     → Says s (led (codes "\n") (map (function_text layouts funcs) fs)) (behind_all behind_function fs s) (flat_map (function_says layouts funcs) fs)
-led_read layouts funcs [] s top all room = says-nil (whole s)
-led_read layouts funcs (f ∷ fs) s top all room =
+led_read of layouts funcs [] s formed top all room = says-nil s
+led_read of layouts funcs (f ∷ fs) s formed top all room =
     let here = split_room f fs s room in
-    says-both (says-both (says-empty (whole s)) (function_read layouts funcs f s 0 (length fs) (length (all_instructions fs)) all.0.reads top all.0.values here))
-    (led_read layouts funcs fs (behind_function f s) refl all.1 (function_room f s (length fs) (length (all_instructions fs)) all.0.values here))
+    says-both (says-both (says-empty s) (function_read of layouts funcs f s 0 (length fs) (length (all_instructions fs)) all.0 formed top here))
+    (led_read of layouts funcs fs (behind_function f s) (function_form f s ∙ formed) refl all.1 (function_room of layouts funcs f s 0 (length fs) (length (all_instructions fs)) all.0 formed here))
 
-joined_read : (layouts : List ObjectLayout) (funcs : List Function) (fs : List Function) (s : State) → s.place ≡ places.Top → AllByRecursion (FunctionFits layouts funcs) fs
-    → Room 0 (length fs) 0 (length (all_instructions fs)) s.counts
+joined_read : (of : TextForm) (layouts : List ObjectLayout) (funcs : List Function) (fs : List Function) (s : State) → s.form ≡ of → s.place ≡ places.Top → AllByRecursion (FunctionReads of layouts funcs) fs
+    → Room s.form 0 (length fs) 0 (length (all_instructions fs)) s.counts
     → Says s (joined (codes "\n") (map (function_text layouts funcs) fs)) (behind_all behind_function fs s) (flat_map (function_says layouts funcs) fs)
-joined_read layouts funcs [] s top all room = says-nil (whole s)
-joined_read layouts funcs (f ∷ fs) s top all room =
+joined_read of layouts funcs [] s formed top all room = says-nil s
+joined_read of layouts funcs (f ∷ fs) s formed top all room =
     let here = split_room f fs s room in
-    says-both (function_read layouts funcs f s 0 (length fs) (length (all_instructions fs)) all.0.reads top all.0.values here)
-    (led_read layouts funcs fs (behind_function f s) refl all.1 (function_room f s (length fs) (length (all_instructions fs)) all.0.values here))
+    says-both (function_read of layouts funcs f s 0 (length fs) (length (all_instructions fs)) all.0 formed top here)
+    (led_read of layouts funcs fs (behind_function f s) (function_form f s ∙ formed) refl all.1 (function_room of layouts funcs f s 0 (length fs) (length (all_instructions fs)) all.0 formed here))
 
-functions_read : (layouts : List ObjectLayout) (funcs : List Function) (s : State) → s.place ≡ places.Top → AllByRecursion (FunctionFits layouts funcs) funcs
-    → Room 0 (length funcs) 0 (length (all_instructions funcs)) s.counts
+functions_read : (of : TextForm) (layouts : List ObjectLayout) (funcs : List Function) (s : State) → s.form ≡ of → s.place ≡ places.Top → AllByRecursion (FunctionReads of layouts funcs) funcs
+    → Room s.form 0 (length funcs) 0 (length (all_instructions funcs)) s.counts
     → Says s (functions_text layouts funcs) (behind_all behind_function funcs s) (flat_map (function_says layouts funcs) funcs)
-functions_read layouts funcs s top all room = by (has_top layouts funcs)
+functions_read of layouts funcs s formed top all room = by (has_top layouts funcs)
   where
     by : (above : Bool) → Says s (if above then led (codes "\n") (map (function_text layouts funcs) funcs) else joined (codes "\n") (map (function_text layouts funcs) funcs))
         (behind_all behind_function funcs s) (flat_map (function_says layouts funcs) funcs)
-    by true = led_read layouts funcs funcs s top all room
-    by false = joined_read layouts funcs funcs s top all room
+    by true = led_read of layouts funcs funcs s formed top all room
+    by false = joined_read of layouts funcs funcs s formed top all room
 
 functions_top : (fs : List Function) (s : State) → s.place ≡ places.Top → (behind_all behind_function fs s).place ≡ places.Top
 functions_top [] s top = top
@@ -340,15 +359,16 @@ each_of {X} xs P each = over xs (recursion_from_All (Contains xs) xs (All-contai
     over (y ∷ ys) all = (each y all.0, over ys all.1)
 
 -- the state behind the module's text
-abbrev behind_module : ModuleContent → State
-behind_module content = behind_all behind_function content.funcs (at_top (behind_layouts content.layouts opening.counts))
+abbrev behind_module : TextForm → ModuleContent → State
+behind_module of content = behind_all behind_function content.funcs (at_top of (behind_layouts of content.layouts (opening of).counts))
 
-pub module_read : (content : ModuleContent) → IsSourceModule content → BlocksEnd content → Says opening (text_of content) (behind_module content) (said_by content)
+pub module_read : (content : ModuleContent) → IsSourceModule content → BlocksEnd content → Says (opening text_forms.Source) (text_of content) (behind_module text_forms.Source content) (said_by content)
 unfolding text_of said_by declarations_text
 module_read content source ends =
-    says-both (layouts_read content.layouts (length content.funcs) 0 (length (all_instructions content.funcs)) opening.counts layouts_fit room)
-    (says-both (declarations_read content.layouts content.funcs source.layout_names behind_counts (room-fits later) (λ e other. not_in content e other content.funcs functions_printed) (externals content.layouts) (externals_below content.layouts))
-    (functions_read content.layouts content.funcs (at_top behind_counts) refl functions_fit later))
+    says-both (layouts_read text_forms.Source content.layouts (length content.funcs) 0 (length (all_instructions content.funcs)) (opening text_forms.Source).counts layouts_fit room)
+    (says-both (declarations_read content.layouts content.funcs source.layout_names behind_counts (still_by text_forms.Source behind_counts none) (room-fits later (few behind_counts none))
+    (λ e other. not_in content e other content.funcs functions_printed) (externals content.layouts) (externals_below content.layouts))
+    (functions_read text_forms.Source content.layouts content.funcs (at_top text_forms.Source behind_counts) refl refl functions_fit later))
   where
     layouts_fit : AllByRecursion LayoutReads content.layouts
     layouts_fit = each_of content.layouts LayoutReads (λ layout c. record {
@@ -357,7 +377,7 @@ module_read content source ends =
       few = All-contains (λ (one : ObjectLayout). length one.fields ≤ 64) content.layouts layout source.limits.fields c;
     })
 
-    room : Room (length content.layouts) (length content.funcs) 0 (length (all_instructions content.funcs)) opening.counts
+    room : Room text_forms.Source (length content.layouts) (length content.funcs) 0 (length (all_instructions content.funcs)) (opening text_forms.Source).counts
     room =
         let layouts = source.limits.layouts in
         let functions = source.limits.functions in
@@ -365,27 +385,27 @@ module_read content source ends =
         record { layouts = omega arith; functions = omega arith; values = omega arith; instructions = omega arith }
 
     behind_counts : Counts
-    behind_counts = behind_layouts content.layouts opening.counts
+    behind_counts = behind_layouts text_forms.Source content.layouts (opening text_forms.Source).counts
 
-    later : Room 0 (length content.funcs) 0 (length (all_instructions content.funcs)) behind_counts
-    later = layouts_room content.layouts (length content.funcs) 0 (length (all_instructions content.funcs)) opening.counts room
+    none : behind_counts.relocates ≡ 0
+    none = layouts_still text_forms.Source content.layouts (opening text_forms.Source).counts refl
+
+    later : Room text_forms.Source 0 (length content.funcs) 0 (length (all_instructions content.funcs)) behind_counts
+    later = layouts_room text_forms.Source content.layouts (length content.funcs) 0 (length (all_instructions content.funcs)) (opening text_forms.Source).counts room
 
     functions_printed : AllByRecursion (FunctionIsPrinted content) content.funcs
     functions_printed = each_of content.funcs (FunctionIsPrinted content) (λ func c. printed content source func c)
 
-    functions_fit : AllByRecursion (FunctionFits content.layouts content.funcs) content.funcs
-    functions_fit = each_of content.funcs (FunctionFits content.layouts content.funcs) (λ func c. record {
-      reads = function_reads content source ends func c;
-      values = (All-contains IsSourceFunction content.funcs func source.functions c).values;
-    })
+    functions_fit : AllByRecursion (FunctionReads text_forms.Source content.layouts content.funcs) content.funcs
+    functions_fit = each_of content.funcs (FunctionReads text_forms.Source content.layouts content.funcs) (λ func c. function_reads content source ends func c)
 
--- readings of a text whose lines say this
-pub record TextReads (text : List ℕ) (says : List Statement) : Type 0 where
+-- readings of a text of this form whose lines say this
+pub record TextReads (of : TextForm) (text : List ℕ) (says : List Statement) : Type 0 where
   pub found : List Numbered
-  pub reads : text_readings text ≡ Ok found
+  pub reads : readings_in of text ≡ Ok found
   pub same : map (λ (l : Line). l.says) (statements.lines_of found) ≡ says
 
-ended_top : (s : State) (number : ℕ) → s.place ≡ places.Top → readings (whole s) number [] ≡ Ok []
+ended_top : (s : State) (number : ℕ) → s.place ≡ places.Top → readings s number [] ≡ Ok []
 unfolding readings
 ended_top s number top = rw top refl
 
@@ -393,15 +413,16 @@ says_lines : (found : List Numbered) → map (λ (l : Line). l.says) (statements
 says_lines [] = refl
 says_lines (one ∷ found) = ap (λ (more : List Statement). stated one.said ∷ more) (says_lines found)
 
-text_reads : (text : List ℕ) (last : State) (says : List Statement) → last.place ≡ places.Top → Says opening text last says → TextReads text says
+text_reads : (of : TextForm) (text : List ℕ) (last : State) (says : List Statement) → last.place ≡ places.Top → Says (opening of) text last says → TextReads of text says
 unfolding readings_in lines_of
-text_reads text last says top read = record {
+text_reads of text last says top read = record {
   found = read.read 1;
-  reads = ap (λ (bs : List ℕ). readings (whole opening) 1 (numbered 1 (lines bs))) (sym (append-nil text)) ∙ read.reads 1 [] ∙ ap (before (read.read 1)) (ended_top last (read.next 1) top) ∙ ap Ok (append-nil (read.read 1));
+  reads = ap (λ (bs : List ℕ). readings (opening of) 1 (numbered 1 (lines bs))) (sym (append-nil text)) ∙ read.reads 1 [] ∙ ap (before (read.read 1)) (ended_top last (read.next 1) top) ∙ ap Ok (append-nil (read.read 1));
   same = says_lines (read.read 1) ∙ read.says 1;
 }
 
 -- the printed text of a source module says what the module does
-pub source_text_reads : (content : ModuleContent) → IsSourceModule content → BlocksEnd content → TextReads (text_of content) (said_by content)
+pub source_text_reads : (content : ModuleContent) → IsSourceModule content → BlocksEnd content → TextReads text_forms.Source (text_of content) (said_by content)
 source_text_reads content source ends =
-    text_reads (text_of content) (behind_module content) (said_by content) (functions_top content.funcs (at_top (behind_layouts content.layouts opening.counts)) refl) (module_read content source ends)
+    text_reads text_forms.Source (text_of content) (behind_module text_forms.Source content) (said_by content)
+    (functions_top content.funcs (at_top text_forms.Source (behind_layouts text_forms.Source content.layouts (opening text_forms.Source).counts)) refl) (module_read content source ends)

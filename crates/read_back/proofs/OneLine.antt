@@ -1,5 +1,5 @@
 -- Instructions that are printed on one line: the line's form, and what it says.
-use Rattle.std.proofs.Common.{◌≡◌, refl, ap, ◌∙◌, ℕ, ◌<◌, ◌≤◌, true, false, cond, List, [], ◌∷◌, ◌++◌, length, Option, Some, None, codes, decimal, append_assoc, inl, inr}
+use Rattle.std.proofs.Common.{◌≡◌, refl, ap, sym, ◌∙◌, ℕ, ◌<◌, ◌≤◌, true, false, cond, List, [], ◌∷◌, ◌++◌, length, Option, Some, None, codes, decimal, append_assoc, inl, inr}
 use Rattle.std.specs.Prelude.{◌⊎◌}
 use Rattle.std.specs.List.{list_all}
 use Rattle.std.proofs.lemmas.Bool.{le-leb}
@@ -28,6 +28,7 @@ use Rattle.ir_ast.specs.declared.modules.Form.TheVariants as text_forms
 use Rattle.ir_reader.specs.Forms.{form_in}
 use Rattle.ir_reader.specs.declared.forms.Form.{Form}
 use Rattle.ir_reader.specs.declared.forms.Form.TheVariants as forms
+use Rattle.ir_reader.specs.declared.forms.Counted.{Counted}
 use Rattle.ir_reader.specs.declared.forms.Counted.TheVariants as kinds
 use Rattle.ir_reader.specs.declared.forms.Place.{Place}
 use Rattle.ir_reader.specs.declared.forms.Place.TheVariants as places
@@ -67,6 +68,34 @@ reads_in text_forms.Rewritten names inst one = elim one.both [
   | inl plain ↦ in_both text_forms.Rewritten plain one.reads
   | inr is ↦ record { form_is = is; whole = one.reads.whole; clean = one.reads.clean }
 ]
+
+-- what an instruction counts as
+abbrev pub counted_as : Op → Counted
+counted_as ast.GcRelocate = kinds.Relocate
+counted_as _ = kinds.Instruction
+
+-- The instruction is printed as a line of a form in a text of this form, which says what the instruction says and passes no limit of a line.
+pub record LineIn (of : TextForm) (names : Names) (inst : Instruction) : Type 0 where
+  pub form : Form
+  pub items : List Item
+  pub reads : ReadsIn of (result_front inst.result ++ operator_text names inst.op inst) form items
+  pub says : instruction_says names inst ≡ stated (of_form form items) ∷ []
+  pub fits : list_all item_fits items ≡ true
+  pub stands : behind_instruction form ≡ Some (place_after inst.op)
+  pub counts : counts_as form items ≡ counted_as inst.op
+  pub kept : is_dropped_form form ≡ false
+
+pub one_in : (of : TextForm) (names : Names) (inst : Instruction) → counted_as inst.op ≡ kinds.Instruction → OneLine names inst → LineIn of names inst
+one_in of names inst alone one = record {
+  form = one.form;
+  items = one.items;
+  reads = reads_in of names inst one;
+  says = one.says;
+  fits = one.fits;
+  stands = one.stands;
+  counts = one.counts ∙ sym alone;
+  kept = one.kept;
+}
 
 -- an instruction without a bundle
 abbrev pub made : Option (List ℕ) → Op → Ty → List Operand → List BlockId → Instruction

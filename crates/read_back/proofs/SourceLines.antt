@@ -30,6 +30,8 @@ use Rattle.ir_ast.specs.Faults.TypeClash.{Fits}
 use Rattle.ir_printer.specs.Names.{Names}
 use Rattle.ir_printer.specs.Calls.{callee_name}
 use Rattle.ir_printer.specs.Lines.{operator_text, arithmetic_text, conversion_text}
+use Rattle.ir_ast.specs.declared.modules.Form.{Form as TextForm}
+use Rattle.ir_reader.specs.declared.forms.Counted.TheVariants as kinds
 use Rattle.ir_reader.specs.declared.readings.TypeWord.TheVariants as types
 use Rattle.ir_reader.specs.declared.words.Binary.{Binary}
 use Rattle.ir_reader.specs.declared.words.Binary.TheVariants as binaries
@@ -42,12 +44,12 @@ use Rattle.read_back.specs.Said.{width_in, result_of, operator_says, binary_says
 use Rattle.read_back.proofs.BackInsts.{IsPrinted, split_all}
 use Rattle.read_back.proofs.BackLines.{result-is, no_result, integer-is, void-is, pointer-is, condition-is}
 use Rattle.read_back.proofs.Operands.{HaveNames, IsNarrow}
-use Rattle.read_back.proofs.OneLine.{OneLine, made, binary_reads, compare_reads, load_reads, store_reads, jump_reads, return_void_reads, unreachable_reads}
+use Rattle.read_back.proofs.OneLine.{OneLine, counted_as, one_in, made, binary_reads, compare_reads, load_reads, store_reads, jump_reads, return_void_reads, unreachable_reads}
 use Rattle.read_back.proofs.MoreLines.{convert_reads, select_reads, branch_reads, return_reads}
 use Rattle.read_back.proofs.StepLines.{integer_step_reads, pointer_step_reads, layout_step_reads, field_step_reads}
 use Rattle.read_back.proofs.CallLines.{CalleeThere, PassedReads, value_passed, function_passed, value_call_reads, void_call_reads, EntryFits, phi_reads}
 use Rattle.read_back.proofs.SwitchLines.{CaseFits, switch_says_so}
-use Rattle.read_back.proofs.Chains.{InstSays, one_says}
+use Rattle.read_back.proofs.Chains.{InstSays, line_says}
 
 -- an instruction by its parts
 made_is : (inst : Instruction) (result : Option (List ℕ)) (op : Op) (ty : Ty) (os : List Operand) (labels : List BlockId)
@@ -332,8 +334,8 @@ phi_case names have inst p =
     subst (Reads names) (made_is inst (Some (result_of inst)) ops.Phi inst.ty (os.0 ∷ os.1) (ls.0 ∷ ls.1) (result-is inst.result has.result) p.printed.is refl os.2 ls.2 has.no_bundle)
     (phi_reads names have (result_of inst) inst.ty os.0 os.1 ls.0 ls.1 (p.named has.result) has.type (narrow_of inst.ty p.printed.widths) here)
 
-switch_case : (names : Names) → HaveNames names → (inst : Instruction) → IsPrintable names ops.Switch inst → InstSays names inst
-switch_case names have inst p =
+switch_case : (of : TextForm) (names : Names) → HaveNames names → (inst : Instruction) → IsPrintable names ops.Switch inst → InstSays of names inst
+switch_case of names have inst p =
     let has = p.printed.line.0 in
     let bits : ℕ = width_in inst.ty in
     let same : tys.Int bits ≡ inst.ty = integer-is inst.ty has.type in
@@ -348,8 +350,8 @@ switch_case names have inst p =
     let sized : AllByRecursion (EntryFits names (tys.Int bits)) (zip (os.0 ∷ os.1) (ls.0 ∷ ls.1)) =
     subst (λ (t : Ty). AllByRecursion (EntryFits names t) (zip (os.0 ∷ os.1) (ls.0 ∷ ls.1))) (sym same) here in
     let literal : list_all is_literal os.1 ≡ true = subst (λ (xs : List Operand). list_all is_literal (drop 1 xs) ≡ true) (sym os.2) p.printed.line.2 in
-    subst (InstSays names) (made_is inst None ops.Switch (tys.Int bits) (os.0 ∷ os.1) (ls.0 ∷ ls.1) (no_result inst.result has.result) p.printed.is same os.2 ls.2 has.no_bundle)
-    (switch_says_so names have bits os.0 os.1 ls.0 ls.1 (integer_narrow inst.ty has.type p.printed.widths) sized.0 (cases_of names (tys.Int bits) os.1 ls.1 literal sized.1))
+    subst (InstSays of names) (made_is inst None ops.Switch (tys.Int bits) (os.0 ∷ os.1) (ls.0 ∷ ls.1) (no_result inst.result has.result) p.printed.is same os.2 ls.2 has.no_bundle)
+    (switch_says_so of names have bits os.0 os.1 ls.0 ls.1 (integer_narrow inst.ty has.type p.printed.widths) sized.0 (cases_of names (tys.Int bits) os.1 ls.1 literal sized.1))
 
 -- ---- terminators
 
@@ -438,35 +440,39 @@ own_width : (w : ℕ) → All IsWidth (w ∷ []) → (1 ≤ w) × (w ≤ 64)
 own_width w widths = All-head IsWidth w [] widths
 
 -- each instruction is read
-pub inst_read : (names : Names) → HaveNames names → (op : Op) (inst : Instruction) → IsPrintable names op inst → InstSays names inst
-inst_read names have ops.Add inst p = one_says names inst (binary_case names have binaries.Add ops.Add inst p p.printed.line p.printed.fits (λ n bits a b. refl) (λ n bits a b. refl) refl)
-inst_read names have ops.Sub inst p = one_says names inst (binary_case names have binaries.Sub ops.Sub inst p p.printed.line p.printed.fits (λ n bits a b. refl) (λ n bits a b. refl) refl)
-inst_read names have ops.Mul inst p = one_says names inst (binary_case names have binaries.Mul ops.Mul inst p p.printed.line p.printed.fits (λ n bits a b. refl) (λ n bits a b. refl) refl)
-inst_read names have ops.Udiv inst p = one_says names inst (binary_case names have binaries.Udiv ops.Udiv inst p p.printed.line p.printed.fits (λ n bits a b. refl) (λ n bits a b. refl) refl)
-inst_read names have ops.Sdiv inst p = one_says names inst (binary_case names have binaries.Sdiv ops.Sdiv inst p p.printed.line p.printed.fits (λ n bits a b. refl) (λ n bits a b. refl) refl)
-inst_read names have ops.Urem inst p = one_says names inst (binary_case names have binaries.Urem ops.Urem inst p p.printed.line p.printed.fits (λ n bits a b. refl) (λ n bits a b. refl) refl)
-inst_read names have ops.Srem inst p = one_says names inst (binary_case names have binaries.Srem ops.Srem inst p p.printed.line p.printed.fits (λ n bits a b. refl) (λ n bits a b. refl) refl)
-inst_read names have ops.And inst p = one_says names inst (binary_case names have binaries.And ops.And inst p p.printed.line p.printed.fits (λ n bits a b. refl) (λ n bits a b. refl) refl)
-inst_read names have ops.Or inst p = one_says names inst (binary_case names have binaries.Or ops.Or inst p p.printed.line p.printed.fits (λ n bits a b. refl) (λ n bits a b. refl) refl)
-inst_read names have ops.Xor inst p = one_says names inst (binary_case names have binaries.Xor ops.Xor inst p p.printed.line p.printed.fits (λ n bits a b. refl) (λ n bits a b. refl) refl)
-inst_read names have ops.Shl inst p = one_says names inst (binary_case names have binaries.Shl ops.Shl inst p p.printed.line p.printed.fits (λ n bits a b. refl) (λ n bits a b. refl) refl)
-inst_read names have ops.Lshr inst p = one_says names inst (binary_case names have binaries.Lshr ops.Lshr inst p p.printed.line p.printed.fits (λ n bits a b. refl) (λ n bits a b. refl) refl)
-inst_read names have ops.Ashr inst p = one_says names inst (binary_case names have binaries.Ashr ops.Ashr inst p p.printed.line p.printed.fits (λ n bits a b. refl) (λ n bits a b. refl) refl)
-inst_read names have (ops.Icmp pred) inst p = one_says names inst (compare_case names have pred inst p)
-inst_read names have (ops.Trunc to) inst p = one_says names inst (convert_case names have conversions.Trunc (ops.Trunc to) to inst p p.printed.line p.printed.fits (own_width to p.printed.own_widths) (λ n bits a. refl) (λ n bits a. refl) refl)
-inst_read names have (ops.Zext to) inst p = one_says names inst (convert_case names have conversions.Zext (ops.Zext to) to inst p p.printed.line p.printed.fits (own_width to p.printed.own_widths) (λ n bits a. refl) (λ n bits a. refl) refl)
-inst_read names have (ops.Sext to) inst p = one_says names inst (convert_case names have conversions.Sext (ops.Sext to) to inst p p.printed.line p.printed.fits (own_width to p.printed.own_widths) (λ n bits a. refl) (λ n bits a. refl) refl)
-inst_read names have ops.Select inst p = one_says names inst (select_case names have inst p)
-inst_read names have ops.Phi inst p = one_says names inst (phi_case names have inst p)
-inst_read names have (ops.Gep elem bits place) inst p = one_says names inst (step_reads names have elem bits place inst p)
-inst_read names have ops.Load inst p = one_says names inst (load_case names have inst p)
-inst_read names have ops.Store inst p = one_says names inst (store_case names have inst p)
-inst_read names have (ops.Call callee ts) inst p = one_says names inst (call_reads names have callee ts inst p)
-inst_read names have (ops.Statepoint id callee ts) inst p = absurd (let bad : true ≡ false = p.printed.plain in cc)
-inst_read names have ops.GcResult inst p = absurd (let bad : true ≡ false = p.printed.plain in cc)
-inst_read names have ops.GcRelocate inst p = absurd (let bad : true ≡ false = p.printed.plain in cc)
-inst_read names have ops.Br inst p = one_says names inst (jump_case names have inst p)
-inst_read names have ops.CondBr inst p = one_says names inst (branch_case names have inst p)
-inst_read names have ops.Switch inst p = switch_case names have inst p
-inst_read names have ops.Ret inst p = one_says names inst (return_case names have inst p)
-inst_read names have ops.Unreachable inst p = one_says names inst (unreachable_case names inst p)
+-- a line that is no relocate
+alone : {names : Names} {op : Op} {inst : Instruction} → IsPrintable names op inst → counted_as op ≡ kinds.Instruction → counted_as inst.op ≡ kinds.Instruction
+alone p plain = ap counted_as (sym p.printed.is) ∙ plain
+
+pub inst_read : (of : TextForm) (names : Names) → HaveNames names → (op : Op) (inst : Instruction) → IsPrintable names op inst → InstSays of names inst
+inst_read of names have ops.Add inst p = line_says of names inst (one_in of names inst (alone p refl) (binary_case names have binaries.Add ops.Add inst p p.printed.line p.printed.fits (λ n bits a b. refl) (λ n bits a b. refl) refl))
+inst_read of names have ops.Sub inst p = line_says of names inst (one_in of names inst (alone p refl) (binary_case names have binaries.Sub ops.Sub inst p p.printed.line p.printed.fits (λ n bits a b. refl) (λ n bits a b. refl) refl))
+inst_read of names have ops.Mul inst p = line_says of names inst (one_in of names inst (alone p refl) (binary_case names have binaries.Mul ops.Mul inst p p.printed.line p.printed.fits (λ n bits a b. refl) (λ n bits a b. refl) refl))
+inst_read of names have ops.Udiv inst p = line_says of names inst (one_in of names inst (alone p refl) (binary_case names have binaries.Udiv ops.Udiv inst p p.printed.line p.printed.fits (λ n bits a b. refl) (λ n bits a b. refl) refl))
+inst_read of names have ops.Sdiv inst p = line_says of names inst (one_in of names inst (alone p refl) (binary_case names have binaries.Sdiv ops.Sdiv inst p p.printed.line p.printed.fits (λ n bits a b. refl) (λ n bits a b. refl) refl))
+inst_read of names have ops.Urem inst p = line_says of names inst (one_in of names inst (alone p refl) (binary_case names have binaries.Urem ops.Urem inst p p.printed.line p.printed.fits (λ n bits a b. refl) (λ n bits a b. refl) refl))
+inst_read of names have ops.Srem inst p = line_says of names inst (one_in of names inst (alone p refl) (binary_case names have binaries.Srem ops.Srem inst p p.printed.line p.printed.fits (λ n bits a b. refl) (λ n bits a b. refl) refl))
+inst_read of names have ops.And inst p = line_says of names inst (one_in of names inst (alone p refl) (binary_case names have binaries.And ops.And inst p p.printed.line p.printed.fits (λ n bits a b. refl) (λ n bits a b. refl) refl))
+inst_read of names have ops.Or inst p = line_says of names inst (one_in of names inst (alone p refl) (binary_case names have binaries.Or ops.Or inst p p.printed.line p.printed.fits (λ n bits a b. refl) (λ n bits a b. refl) refl))
+inst_read of names have ops.Xor inst p = line_says of names inst (one_in of names inst (alone p refl) (binary_case names have binaries.Xor ops.Xor inst p p.printed.line p.printed.fits (λ n bits a b. refl) (λ n bits a b. refl) refl))
+inst_read of names have ops.Shl inst p = line_says of names inst (one_in of names inst (alone p refl) (binary_case names have binaries.Shl ops.Shl inst p p.printed.line p.printed.fits (λ n bits a b. refl) (λ n bits a b. refl) refl))
+inst_read of names have ops.Lshr inst p = line_says of names inst (one_in of names inst (alone p refl) (binary_case names have binaries.Lshr ops.Lshr inst p p.printed.line p.printed.fits (λ n bits a b. refl) (λ n bits a b. refl) refl))
+inst_read of names have ops.Ashr inst p = line_says of names inst (one_in of names inst (alone p refl) (binary_case names have binaries.Ashr ops.Ashr inst p p.printed.line p.printed.fits (λ n bits a b. refl) (λ n bits a b. refl) refl))
+inst_read of names have (ops.Icmp pred) inst p = line_says of names inst (one_in of names inst (alone p refl) (compare_case names have pred inst p))
+inst_read of names have (ops.Trunc to) inst p = line_says of names inst (one_in of names inst (alone p refl) (convert_case names have conversions.Trunc (ops.Trunc to) to inst p p.printed.line p.printed.fits (own_width to p.printed.own_widths) (λ n bits a. refl) (λ n bits a. refl) refl))
+inst_read of names have (ops.Zext to) inst p = line_says of names inst (one_in of names inst (alone p refl) (convert_case names have conversions.Zext (ops.Zext to) to inst p p.printed.line p.printed.fits (own_width to p.printed.own_widths) (λ n bits a. refl) (λ n bits a. refl) refl))
+inst_read of names have (ops.Sext to) inst p = line_says of names inst (one_in of names inst (alone p refl) (convert_case names have conversions.Sext (ops.Sext to) to inst p p.printed.line p.printed.fits (own_width to p.printed.own_widths) (λ n bits a. refl) (λ n bits a. refl) refl))
+inst_read of names have ops.Select inst p = line_says of names inst (one_in of names inst (alone p refl) (select_case names have inst p))
+inst_read of names have ops.Phi inst p = line_says of names inst (one_in of names inst (alone p refl) (phi_case names have inst p))
+inst_read of names have (ops.Gep elem bits place) inst p = line_says of names inst (one_in of names inst (alone p refl) (step_reads names have elem bits place inst p))
+inst_read of names have ops.Load inst p = line_says of names inst (one_in of names inst (alone p refl) (load_case names have inst p))
+inst_read of names have ops.Store inst p = line_says of names inst (one_in of names inst (alone p refl) (store_case names have inst p))
+inst_read of names have (ops.Call callee ts) inst p = line_says of names inst (one_in of names inst (alone p refl) (call_reads names have callee ts inst p))
+inst_read of names have (ops.Statepoint id callee ts) inst p = absurd (let bad : true ≡ false = p.printed.plain in cc)
+inst_read of names have ops.GcResult inst p = absurd (let bad : true ≡ false = p.printed.plain in cc)
+inst_read of names have ops.GcRelocate inst p = absurd (let bad : true ≡ false = p.printed.plain in cc)
+inst_read of names have ops.Br inst p = line_says of names inst (one_in of names inst (alone p refl) (jump_case names have inst p))
+inst_read of names have ops.CondBr inst p = line_says of names inst (one_in of names inst (alone p refl) (branch_case names have inst p))
+inst_read of names have ops.Switch inst p = switch_case of names have inst p
+inst_read of names have ops.Ret inst p = line_says of names inst (one_in of names inst (alone p refl) (return_case names have inst p))
+inst_read of names have ops.Unreachable inst p = line_says of names inst (one_in of names inst (alone p refl) (unreachable_case names inst p))

@@ -1,5 +1,5 @@
 -- A `switch` on its lines: the first line, a line for each case, and the last line.
-use Rattle.std.proofs.Common.{◌≡◌, refl, ap, ◌∙◌, ℕ, ◌≤◌, Bool, true, false, cond, List, [], ◌∷◌, ◌++◌, map, Some, None, codes, decimal, append_assoc}
+use Rattle.std.proofs.Common.{◌≡◌, refl, ap, subst, ◌∙◌, ℕ, ◌≤◌, Bool, true, false, cond, List, [], ◌∷◌, ◌++◌, map, Some, None, codes, decimal, append_assoc}
 use Rattle.std.specs.Prelude.{◌==◌, not}
 use Rattle.std.specs.List.{AllByRecursion, list_all, zip}
 use Rattle.std.proofs.lemmas.Bool.{le-leb}
@@ -21,35 +21,48 @@ use Rattle.ir_reader.specs.declared.forms.Form.TheVariants as forms
 use Rattle.ir_reader.specs.declared.forms.Counted.TheVariants as kinds
 use Rattle.ir_reader.specs.declared.forms.Place.{Place}
 use Rattle.ir_reader.specs.declared.forms.Place.TheVariants as places
-use Rattle.ir_reader.specs.Limits.{item_fits, said_counts_as}
+use Rattle.ir_ast.specs.declared.modules.Form.{Form as TextForm}
+use Rattle.ir_ast.specs.declared.modules.Form.TheVariants as text_forms
+use Rattle.ir_reader.specs.declared.forms.Counts.{Counts}
+use Rattle.ir_reader.specs.declared.forms.State.{State}
+use Rattle.ir_reader.specs.Limits.{item_fits, counted, counted_in, counts_fit}
 use Rattle.ir_reader.specs.Parts.{is_case_value}
 use Rattle.ir_reader.specs.Parts as values
 use Rattle.ir_reader.specs.Places.{behind, is_dropped_form}
 use Rattle.ir_reader.specs.Seen.{of_form}
 use Rattle.ir_reader.specs.Slots as parts
-use Rattle.ir_reader.specs.Text.{is_top}
-use Rattle.ir_lines.specs.Statements.{stated}
+use Rattle.ir_reader.specs.Text.{is_top, next_state}
+use Rattle.ir_lines.specs.Statements.{stated, switch_end}
 use Rattle.read_back.specs.Said.{value_says, case_says, literal_of}
 use Rattle.read_back.proofs.Steps.{IsClean}
 use Rattle.read_back.proofs.Forms.{ReadsAs, switch_line, case_line, switch_end_line}
-use Rattle.read_back.proofs.SourceStates.{Counts, State, whole, is_relocate, counted, counts_fit, next_state}
-use Rattle.read_back.proofs.LinesRead.{Says, says-nil, says-both, says-line, formed_outcome, ends_none-clean}
+use Rattle.read_back.proofs.FormsIn.{ReadsIn, names_function, in_both}
+use Rattle.read_back.proofs.LinesRead.{Says, says-nil, says-both, says-line, formed_in, ends_none-clean}
 use Rattle.read_back.proofs.Operands.{HaveNames, block-named, value_spelled, value_in_limit}
 use Rattle.read_back.proofs.OneLine.{made}
 use Rattle.read_back.proofs.CallLines.{EntryFits}
 use Rattle.read_back.proofs.Chains.{joined-cons, indented, InstSays}
 
 -- a line behind blanks, inside a function
-pub inner_line : (s : State) (line text : List ℕ) (form : Form) (place : Place) (items : List parts.Item) → ReadsAs text form items → tokens line ≡ tokens text → IsClean line
-    → is_top s.place ≡ false → behind s.place form ≡ Some place → is_dropped_form form ≡ false → is_relocate (said_counts_as (of_form form items)) ≡ false → list_all item_fits items ≡ true → counts_fit (next_state s place (of_form form items)).counts ≡ true
+pub inner_line : (s : State) (line text : List ℕ) (form : Form) (place : Place) (items : List parts.Item) → ReadsAs text form items → names_function form ≡ false → tokens line ≡ tokens text → IsClean line
+    → is_top s.place ≡ false → behind s.place form ≡ Some place → is_dropped_form form ≡ false → list_all item_fits items ≡ true → counts_fit (next_state s place (of_form form items)).counts ≡ true
     → Says s (line ++ (10 ∷ [])) (next_state s place (of_form form items)) (stated (of_form form items) ∷ [])
-inner_line s line text form place items reads same clean inside stands kept plain fits counts =
-    says-line (whole s) (whole (next_state s place (of_form form items))) line (of_form form items) (ends_none-clean line clean)
-    (formed_outcome s line form place items clean (rw inside refl) (rw same reads.form_is) (rw same reads.whole) stands kept plain fits counts)
+inner_line s line text form place items reads plain same clean inside stands kept fits counts =
+    let both : ReadsIn s.form text form items = in_both s.form plain reads in
+    says-line s (next_state s place (of_form form items)) line (of_form form items) (ends_none-clean line clean)
+    (formed_in s line form place items clean (rw inside refl) (rw same both.form_is) (rw same both.whole) stands kept fits counts)
 
 -- among the cases
-abbrev at_cases : Counts → State
-at_cases c = record { place = places.Cases; counts = c }
+abbrev at_cases : TextForm → Counts → State
+at_cases of c = record { form = of; place = places.Cases; counts = c }
+
+-- a line that counts as nothing changes nothing behind one that is no relocate
+abbrev IsStill : TextForm → Counts → Type 0
+IsStill of c = counted (counted_in of kinds.Nothing) c ≡ c
+
+still : (of : TextForm) (c : Counts) → IsStill of (counted (counted_in of kinds.Instruction) c)
+still text_forms.Source c = refl
+still text_forms.Rewritten c = refl
 
 case_value : (names : Names) (bits : ℕ) (o : Operand) → is_literal o ≡ true → is_case_value (value_says names (tys.Int bits) o) ≡ true
 case_value names bits (operands.Int number) is = by (bits == 1)
@@ -77,26 +90,28 @@ case_shape : (names : Names) (bits : ℕ) (o : Operand) (l : BlockId)
     ≡ (32 ∷ 32 ∷ 32 ∷ 32 ∷ 105 ∷ (decimal bits ++ (32 ∷ (value_text names (tys.Int bits) o ++ (codes ", label %" ++ block_name names.func l.0))))) ++ (10 ∷ [])
 case_shape names bits o l = ap (λ t. 32 ∷ 32 ∷ 32 ∷ 32 ∷ 105 ∷ t) (case_bytes (decimal bits) (value_text names (tys.Int bits) o) (block_name names.func l.0))
 
-case_read : (names : Names) → HaveNames names → (bits : ℕ) → (1 ≤ bits) × (bits ≤ 64) → (c : Counts) → counts_fit c ≡ true → (e : Operand × BlockId) → CaseFits names (tys.Int bits) e
-    → Says (at_cases c) (case_line_text names (tys.Int bits) e) (at_cases c) (case_says names (tys.Int bits) e ∷ [])
-case_read names have bits narrow c room e fits =
-    let of : EntryFits names (tys.Int bits) e = fits.fit in
-    let value = value_spelled names have (tys.Int bits) narrow e.0 of.value of.fits in
+case_read : (of : TextForm) (names : Names) → HaveNames names → (bits : ℕ) → (1 ≤ bits) × (bits ≤ 64) → (c : Counts) → IsStill of c → counts_fit c ≡ true → (e : Operand × BlockId) → CaseFits names (tys.Int bits) e
+    → Says (at_cases of c) (case_line_text names (tys.Int bits) e) (at_cases of c) (case_says names (tys.Int bits) e ∷ [])
+case_read of names have bits narrow c same room e fits =
+    let fit : EntryFits names (tys.Int bits) e = fits.fit in
+    let value = value_spelled names have (tys.Int bits) narrow e.0 fit.value fit.fits in
     let l : List ℕ = block_name names.func e.1.0 in
     let text : List ℕ = 105 ∷ (decimal bits ++ (32 ∷ (value_text names (tys.Int bits) e.0 ++ (codes ", label %" ++ l)))) in
-    let reads : ReadsAs text forms.Case (parts.width bits ∷ parts.value (value_says names (tys.Int bits) e.0) ∷ parts.name l ∷ []) =
-    case_line bits narrow.1 value (case_value names bits e.0 fits.literal) l (block-named names have e.1.0 of.low) in
-    rw (case_shape names bits e.0 e.1)
-    (inner_line (at_cases c) (32 ∷ 32 ∷ 32 ∷ 32 ∷ text) text forms.Case places.Cases (parts.width bits ∷ parts.value (value_says names (tys.Int bits) e.0) ∷ parts.name l ∷ []) reads
-    (indented (32 ∷ 32 ∷ text) ∙ indented text) reads.clean refl refl refl refl
-    (rw (le-leb 1 bits narrow.0, le-leb bits 64 narrow.1, value_in_limit names (tys.Int bits) narrow e.0 of.fits) refl) room)
+    let items : List parts.Item = parts.width bits ∷ parts.value (value_says names (tys.Int bits) e.0) ∷ parts.name l ∷ [] in
+    let reads : ReadsAs text forms.Case items = case_line bits narrow.1 value (case_value names bits e.0 fits.literal) l (block-named names have e.1.0 fit.low) in
+    let next : next_state (at_cases of c) places.Cases (of_form forms.Case items) ≡ at_cases of c = ap (at_cases of) same in
+    let line : Says (at_cases of c) ((32 ∷ 32 ∷ 32 ∷ 32 ∷ text) ++ (10 ∷ [])) (next_state (at_cases of c) places.Cases (of_form forms.Case items)) (case_says names (tys.Int bits) e ∷ []) =
+    inner_line (at_cases of c) (32 ∷ 32 ∷ 32 ∷ 32 ∷ text) text forms.Case places.Cases items reads refl
+    (indented (32 ∷ 32 ∷ text) ∙ indented text) reads.clean refl refl refl
+    (rw (le-leb 1 bits narrow.0, le-leb bits 64 narrow.1, value_in_limit names (tys.Int bits) narrow e.0 fit.fits) refl) (ap counts_fit same ∙ room) in
+    rw (case_shape names bits e.0 e.1) (subst (λ (s : State). Says (at_cases of c) ((32 ∷ 32 ∷ 32 ∷ 32 ∷ text) ++ (10 ∷ [])) s (case_says names (tys.Int bits) e ∷ [])) next line)
 
-cases_read : (names : Names) → HaveNames names → (bits : ℕ) → (1 ≤ bits) × (bits ≤ 64) → (c : Counts) → counts_fit c ≡ true → (es : List (Operand × BlockId)) → AllByRecursion (CaseFits names (tys.Int bits)) es
-    → Says (at_cases c) (joined [] (map (case_line_text names (tys.Int bits)) es)) (at_cases c) (map (case_says names (tys.Int bits)) es)
-cases_read names have bits narrow c room [] all = says-nil (whole (at_cases c))
-cases_read names have bits narrow c room (e ∷ es) all =
+cases_read : (of : TextForm) (names : Names) → HaveNames names → (bits : ℕ) → (1 ≤ bits) × (bits ≤ 64) → (c : Counts) → IsStill of c → counts_fit c ≡ true → (es : List (Operand × BlockId)) → AllByRecursion (CaseFits names (tys.Int bits)) es
+    → Says (at_cases of c) (joined [] (map (case_line_text names (tys.Int bits)) es)) (at_cases of c) (map (case_says names (tys.Int bits)) es)
+cases_read of names have bits narrow c same room [] all = says-nil (at_cases of c)
+cases_read of names have bits narrow c same room (e ∷ es) all =
     rw (joined-cons (case_line_text names (tys.Int bits) e) (map (case_line_text names (tys.Int bits)) es))
-    (says-both (case_read names have bits narrow c room e all.0) (cases_read names have bits narrow c room es all.1))
+    (says-both (case_read of names have bits narrow c same room e all.0) (cases_read of names have bits narrow c same room es all.1))
 
 switch_bytes : (ds v l cases : List ℕ)
     → ((ds ++ (32 ∷ v)) ++ (codes ", label " ++ ((37 ∷ l) ++ (codes " [\n" ++ (cases ++ codes "  ]"))))) ++ codes "\n"
@@ -111,18 +126,23 @@ switch_shape names bits o os l ls =
     ap (λ t. codes "  switch i" ++ t) (switch_bytes (decimal bits) (value_text names (tys.Int bits) o) (block_name names.func l.0) (joined [] (map (case_line_text names (tys.Int bits)) (zip os ls))))
 
 -- `switch iN V, label %l [`, `iN C, label %m` .. and `]`
-pub switch_says_so : (names : Names) → HaveNames names → (bits : ℕ) (o : Operand) (os : List Operand) (l : BlockId) (ls : List BlockId) → (1 ≤ bits) × (bits ≤ 64)
+pub switch_says_so : (of : TextForm) (names : Names) → HaveNames names → (bits : ℕ) (o : Operand) (os : List Operand) (l : BlockId) (ls : List BlockId) → (1 ≤ bits) × (bits ≤ 64)
     → EntryFits names (tys.Int bits) (o, l) → AllByRecursion (CaseFits names (tys.Int bits)) (zip os ls)
-    → InstSays names (made None ast.Switch (tys.Int bits) (o ∷ os) (l ∷ ls))
-switch_says_so names have bits o os l ls narrow first all s inside room =
+    → InstSays of names (made None ast.Switch (tys.Int bits) (o ∷ os) (l ∷ ls))
+switch_says_so of names have bits o os l ls narrow first all s formed inside room =
     let value = value_spelled names have (tys.Int bits) narrow o first.value first.fits in
     let target : List ℕ = block_name names.func l.0 in
     let text : List ℕ = codes "switch i" ++ (decimal bits ++ (32 ∷ (value_text names (tys.Int bits) o ++ (codes ", label %" ++ (target ++ codes " ["))))) in
     let items : List parts.Item = parts.width bits ∷ parts.value (value_says names (tys.Int bits) o) ∷ parts.name target ∷ [] in
     let reads : ReadsAs text forms.Switch items = switch_line bits narrow.1 value target (block-named names have l.0 first.low) in
-    let c : Counts = counted kinds.Instruction s.counts in
+    let c : Counts = counted (counted_in s.form kinds.Instruction) s.counts in
+    let same : IsStill s.form c = still s.form s.counts in
+    let ends : State = record { form = s.form; place = places.Closed; counts = c } in
+    let next : next_state (at_cases s.form c) places.Closed (of_form forms.SwitchEnd []) ≡ ends = ap (λ (d : Counts). record { form = s.form; place = places.Closed; counts = d }) same in
+    let last : Says (at_cases s.form c) ((32 ∷ 32 ∷ 93 ∷ []) ++ (10 ∷ [])) ends (switch_end ∷ []) =
+    subst (λ (t : State). Says (at_cases s.form c) ((32 ∷ 32 ∷ 93 ∷ []) ++ (10 ∷ [])) t (switch_end ∷ [])) next
+    (inner_line (at_cases s.form c) (32 ∷ 32 ∷ 93 ∷ []) (codes "]") forms.SwitchEnd places.Closed [] switch_end_line refl (indented (93 ∷ [])) refl refl refl refl refl (ap counts_fit same ∙ room)) in
     rw (switch_shape names bits o os l ls)
-    (says-both {t = whole (at_cases c)} (inner_line s (32 ∷ 32 ∷ text) text forms.Switch places.Cases items reads (indented text) reads.clean (rw inside refl) (rw inside refl) refl refl
+    (says-both {t = at_cases s.form c} (inner_line s (32 ∷ 32 ∷ text) text forms.Switch places.Cases items reads refl (indented text) reads.clean (rw inside refl) (rw inside refl) refl
     (rw (le-leb 1 bits narrow.0, le-leb bits 64 narrow.1, value_in_limit names (tys.Int bits) narrow o first.fits) refl) room)
-    (says-both (cases_read names have bits narrow c room (zip os ls) all)
-    (inner_line (at_cases c) (32 ∷ 32 ∷ 93 ∷ []) (codes "]") forms.SwitchEnd places.Closed [] switch_end_line (indented (93 ∷ [])) refl refl refl refl refl refl room)))
+    (says-both (cases_read s.form names have bits narrow c same room (zip os ls) all) last))
