@@ -292,9 +292,9 @@ inst_names names (ops.Gep elem width place) inst p =
 inst_names names ops.Load inst p = named_result inst.result p.line.result
 inst_names names ops.Store inst p = unnamed_result inst.result p.line.result
 inst_names names (ops.Call callee ts) inst p = call_name inst.result (word_of inst.ty)
-inst_names names (ops.Statepoint id callee ts) inst p = absurd (let bad : true ≡ false = p.plain in cc)
-inst_names names ops.GcResult inst p = absurd (let bad : true ≡ false = p.plain in cc)
-inst_names names ops.GcRelocate inst p = absurd (let bad : true ≡ false = p.plain in cc)
+inst_names names (ops.Statepoint id callee ts) inst p = absurd (let bad : true ≡ false = p.plain refl in cc)
+inst_names names ops.GcResult inst p = absurd (let bad : true ≡ false = p.plain refl in cc)
+inst_names names ops.GcRelocate inst p = absurd (let bad : true ≡ false = p.plain refl in cc)
 inst_names names ops.Br inst p = unnamed_result inst.result p.line.result
 inst_names names ops.CondBr inst p = unnamed_result inst.result p.line.result
 inst_names names ops.Switch inst p =

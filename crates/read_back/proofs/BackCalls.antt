@@ -397,10 +397,10 @@ one_call content source lines e one func k c inst d op has p rule callee ts is =
     let q : IsPrinted names (ops.Call callee ts) inst = subst (λ (o : Op). IsPrinted names o inst) is p in
     let call_rule : IsCallOf (module_scope.scope_of content func) callee ts inst = subst (λ (o : Op). RuleOf (module_scope.scope_of content func) o inst) is rule in
     let below = callee_parts names callee ts inst q.layouts q.functions in
-    let found = callee_found (scope_of lines one) names k callee below.0 q.plain
+    let found = callee_found (scope_of lines one) names k callee below.0 (q.plain refl)
     (λ x called. is_called content.funcs func inst x c d
     (subst (λ (o : Op). is_call_of x o inst.ty ≡ true) (sym is ∙ has) called)) in
-    call_keeps content source lines e one func k callee below.0 q.plain found ts inst q.fits call_rule
+    call_keeps content source lines e one func k callee below.0 (q.plain refl) found ts inst q.fits call_rule
 
 pub calls-clear : (content : ModuleContent) → IsSourceModule content → (lines : List Line) → said lines ≡ said_by content → (line : ℕ) → ¬ (InBody lines line breaks_call)
 calls-clear content source lines e line f =

@@ -179,7 +179,7 @@ all_typed content source ends lines e one func says c k ty there first =
     let insts : List Instruction = instructions_of func.blocks in
     let plain : AllByRecursion (λ (inst : Instruction). is_rewritten inst.op ≡ false) insts =
     recursion_from_All (λ (inst : Instruction). is_rewritten inst.op ≡ false) insts
-    (All-weaker (Contains insts) (λ (inst : Instruction). is_rewritten inst.op ≡ false) (λ inst d. (printed_inst content source func c inst d).plain) insts (All-contains_itself insts)) in
+    (All-weaker (Contains insts) (λ (inst : Instruction). is_rewritten inst.op ≡ false) (λ inst d. (printed_inst content source func c inst d).plain refl) insts (All-contains_itself insts)) in
     let typed : map definition_type (defs.definitions_of func) ≡ map (λ (n : Naming). type_of n.ty) (values_of one) =
     ap value_types (sym back) ∙ values-are (λ name ty. ty) (known_of lines one) one (no_groups (names_in content func) one plain says.body) (no_casts (names_in content func) one says.body) in
     naming_of (defs.definitions_of func) (values_of one) k ty s.values s.values_once typed there first
@@ -415,9 +415,9 @@ inst_fit scope names k ops.Switch inst p =
 inst_fit scope names k ops.Ret inst p =
     (return_fit scope names k inst.ty inst p.line.type p.line.operand_count (all_good names inst p.line.values p.widths p.fits), tt)
 inst_fit scope names k ops.Unreachable inst p = (refl, tt)
-inst_fit scope names k (ops.Statepoint id callee ts) inst p = absurd (let bad : true ≡ false = p.plain in cc)
-inst_fit scope names k ops.GcResult inst p = absurd (let bad : true ≡ false = p.plain in cc)
-inst_fit scope names k ops.GcRelocate inst p = absurd (let bad : true ≡ false = p.plain in cc)
+inst_fit scope names k (ops.Statepoint id callee ts) inst p = absurd (let bad : true ≡ false = p.plain refl in cc)
+inst_fit scope names k ops.GcResult inst p = absurd (let bad : true ≡ false = p.plain refl in cc)
+inst_fit scope names k ops.GcRelocate inst p = absurd (let bad : true ≡ false = p.plain refl in cc)
 
 -- ---- any line
 

@@ -15,6 +15,8 @@ use Rattle.ir_ast.specs.declared.ops.Elem.{Elem}
 use Rattle.ir_ast.specs.declared.ops.Elem.TheVariants as elements
 use Rattle.ir_ast.specs.declared.ops.Callee.{Callee}
 use Rattle.ir_ast.specs.declared.ops.Callee.TheVariants as callees
+use Rattle.ir_ast.specs.declared.modules.Form.{Form as TextForm}
+use Rattle.ir_ast.specs.declared.modules.Form.TheVariants as text_forms
 use Rattle.ir_ast.specs.Insts.{Instruction}
 use Rattle.ir_ast.specs.Values.{value_types}
 use Rattle.ir_ast.specs.Types.{is_integer, is_first_class}
@@ -41,11 +43,11 @@ use Rattle.read_back.proofs.BackLines.{said, cons_parts, single, same-inst, no_r
 use Rattle.read_back.proofs.BackLists.{Below, each_given, phi-back, Passes, NamesAreFree, CalleeBelow, call-back, Cases, cases-back}
 use Rattle.std.proofs.lemmas.List.{nil_from_length}
 
--- what is known of an instruction that a source module has
-pub record IsPrinted (names : Names) (op : Op) (inst : Instruction) : Type 0 where
+-- what is known of an instruction that a module of this form has
+pub record IsPrintedIn (of : TextForm) (names : Names) (op : Op) (inst : Instruction) : Type 0 where
   pub is : op ≡ inst.op
   pub line : LineOf op inst
-  pub plain : is_rewritten op ≡ false
+  pub plain : of ≡ text_forms.Source → is_rewritten op ≡ false
   pub fits : AllZip (Fits (value_types names.func)) inst.operands (asked op inst.ty (length inst.operands))
   pub widths : All IsWidth (type_widths inst.ty)
   pub own_widths : All IsWidth (operator_widths op)
@@ -54,6 +56,10 @@ pub record IsPrinted (names : Names) (op : Op) (inst : Instruction) : Type 0 whe
   pub functions : AllByRecursion (λ named. named < length names.funcs) (functions_named (record inst { op = op }))
   pub place : (layout width n : ℕ) → op ≡ ops.Gep (elements.Layout layout) width (Some n) → n < 2 ^ 32
   pub bundle : inst.bundle ≡ []
+
+-- and a source module
+abbrev pub IsPrinted : Names → Op → Instruction → Type 0
+IsPrinted names op inst = IsPrintedIn text_forms.Source names op inst
 
 pub split_all : {X : Type 0} (P : X → Type 0) (xs ys : List X) → AllByRecursion P (xs ++ ys) → AllByRecursion P xs × AllByRecursion P ys
 split_all P [] ys h = (tt, h)
@@ -144,7 +150,7 @@ call_case names known s free callee ts inst p rest =
     let passed : FunctionsOf (λ named. named < length names.funcs) inst.operands =
     subst (λ (b : List (Ty × Operand)). AllByRecursion (λ named. named < length names.funcs)
     (functions_named (record { result = inst.result; op = ops.Load; ty = inst.ty; operands = inst.operands; labels = inst.labels; bundle = b }))) p.bundle parts.1 in
-    call-back names known s free callee ts rest inst p.is p.line p.bundle parts.0 p.plain
+    call-back names known s free callee ts rest inst p.is p.line p.bundle parts.0 (p.plain refl)
     (passes_zip names callee inst.operands ts p.fits p.line.arguments passed (recursion_from_All IsWidth (flat_map type_widths ts) p.own_widths))
 
 -- ---- switches
@@ -273,9 +279,9 @@ inst-back names known s free ops.Store inst p here rest e =
     (store-back names known s rest inst p.is p.line (good_zip names inst.operands (inst.ty ∷ tys.Ptr ∷ []) p.fits p.line.values (p.widths, (pointer_width, tt))))
 inst-back names known s free (ops.Call callee ts) inst p here rest e =
     single known here rest (call_says names callee ts inst) inst e (call_case names known s free callee ts inst p rest)
-inst-back names known s free (ops.Statepoint id callee ts) inst p here rest e = absurd (let bad : true ≡ false = p.plain in cc)
-inst-back names known s free ops.GcResult inst p here rest e = absurd (let bad : true ≡ false = p.plain in cc)
-inst-back names known s free ops.GcRelocate inst p here rest e = absurd (let bad : true ≡ false = p.plain in cc)
+inst-back names known s free (ops.Statepoint id callee ts) inst p here rest e = absurd (let bad : true ≡ false = p.plain refl in cc)
+inst-back names known s free ops.GcResult inst p here rest e = absurd (let bad : true ≡ false = p.plain refl in cc)
+inst-back names known s free ops.GcRelocate inst p here rest e = absurd (let bad : true ≡ false = p.plain refl in cc)
 inst-back names known s free ops.Br inst p here rest e =
     single known here rest (jump_says names inst) inst e (jump-back names known s rest inst p.is p.line p.labels)
 inst-back names known s free ops.CondBr inst p here rest e =

@@ -111,7 +111,7 @@ printed_inst content source func c inst d = one
         record {
           is = refl;
           line = All-contains IsLine insts inst own.lines d;
-          plain = All-contains (λ (i : Instruction). is_rewritten i.op ≡ false) insts inst plain.lines d;
+          plain = λ is. All-contains (λ (i : Instruction). is_rewritten i.op ≡ false) insts inst plain.lines d;
           fits = fit.operands;
           widths = All-from_recursion IsWidth (type_widths inst.ty) parts.1;
           own_widths = All-from_recursion IsWidth (operator_widths inst.op) parts.0;

@@ -108,7 +108,7 @@ rules-clear content source lines e line f =
     (λ one func says c inst d.
     let typed = All-contains (λ g. FunctionIsTyped (module_scope.scope_of content g) g) content.funcs func source.no_fault.typed c in
     let fit = All-contains (IsTyped (module_scope.scope_of content func)) (instructions_of func.blocks) inst typed.lines d in
-    inst_keeps (scope_of lines one) (module_scope.scope_of content func) (names_in content func) inst.op inst (printed_inst content source func c inst d).plain fit.rule says.answer)
+    inst_keeps (scope_of lines one) (module_scope.scope_of content func) (names_in content func) inst.op inst ((printed_inst content source func c inst d).plain refl) fit.rule says.answer)
     (λ scope name. refl) line f
 
 -- a clash is an operand that does not fit, or a broken rule

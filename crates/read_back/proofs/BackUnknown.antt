@@ -293,7 +293,7 @@ call_clear scope names k callee ts inst p there called =
     (functions_in (record { result = inst.result; op = ops.Load; ty = inst.ty; operands = inst.operands; labels = inst.labels; bundle = b }))) p.bundle parts.1 in
     let passes = passes_zip names callee inst.operands ts p.fits p.line.arguments functions (recursion_from_All IsWidth (flat_map type_widths ts) p.own_widths) in
     clear_by scope (call_says names callee ts inst) (passed_uses scope names k inst.operands ts passes there) tt
-    (callee_found scope names k callee parts.0 p.plain called, passed_heads scope names k inst.operands ts passes) tt
+    (callee_found scope names k callee parts.0 (p.plain refl) called, passed_heads scope names k inst.operands ts passes) tt
 
 -- ---- any instruction
 
@@ -347,9 +347,9 @@ inst_clear scope names k ops.Switch inst p there called = (
 )
 inst_clear scope names k ops.Ret inst p there called = (return_clear scope names k inst.ty inst there, tt)
 inst_clear scope names k ops.Unreachable inst p there called = (refl, tt)
-inst_clear scope names k (ops.Statepoint id callee ts) inst p there called = absurd (let bad : true ≡ false = p.plain in cc)
-inst_clear scope names k ops.GcResult inst p there called = absurd (let bad : true ≡ false = p.plain in cc)
-inst_clear scope names k ops.GcRelocate inst p there called = absurd (let bad : true ≡ false = p.plain in cc)
+inst_clear scope names k (ops.Statepoint id callee ts) inst p there called = absurd (let bad : true ≡ false = p.plain refl in cc)
+inst_clear scope names k ops.GcResult inst p there called = absurd (let bad : true ≡ false = p.plain refl in cc)
+inst_clear scope names k ops.GcRelocate inst p there called = absurd (let bad : true ≡ false = p.plain refl in cc)
 
 -- ---- what a function of a module can name is found in its lines
 

@@ -286,7 +286,7 @@ unfolding calls
 not_in content e other funcs all =
     none_any (FunctionIsPrinted content) _ (λ func is.
     none_any (λ (block : BasicBlock). AllByRecursion (λ (inst : Instruction). IsPrinted (names_in content func) inst.op inst) block.insts) _ (λ block is.
-    none_any (λ (inst : Instruction). IsPrinted (names_in content func) inst.op inst) (λ inst. is_call_of e inst.op inst.ty) (λ inst is. not_called e inst.op inst.ty other is.plain) block.insts is) func.blocks is) funcs all
+    none_any (λ (inst : Instruction). IsPrinted (names_in content func) inst.op inst) (λ inst. is_call_of e inst.op inst.ty) (λ inst is. not_called e inst.op inst.ty other (is.plain refl)) block.insts is) func.blocks is) funcs all
 
 if_called_read : (layouts : List ObjectLayout) (funcs : List Function) → All (λ (layout : ObjectLayout). is_name layout.name ≡ true) layouts → (c : Counts) → IsStill text_forms.Source c → counts_fit c ≡ true → (e : External) → IsBelow (length layouts) e
     → (is_of_source e ≡ false → calls funcs e ≡ false)

@@ -98,7 +98,7 @@ integer_fits width number most = by (width == 1)
     by true = refl
     by false = spellable_fits (signed width number) (signed-spellable width number most)
 
-in_types : (names : Names) (v : ℕ) (ty : Ty) → slice_get (value_types names.func) v ≡ Some ty → v < length (definitions_of names.func)
+pub in_types : (names : Names) (v : ℕ) (ty : Ty) → slice_get (value_types names.func) v ≡ Some ty → v < length (definitions_of names.func)
 in_types names v ty is = rw (length-map (definitions_of names.func) definition_type) at (slice_get_within (value_types names.func) v ty is)
 
 pub value_spelled : (names : Names) → HaveNames names → (ty : Ty) → IsNarrow ty → (operand : Operand) → is_value operand ≡ true → Fits (value_types names.func) operand ty

@@ -1,11 +1,14 @@
 -- Each function of a source module is printed as a text that is read.
-use Rattle.std.proofs.Common.{◌≡◌, refl, sym, ◌∙◌, ℕ, ◌≤◌, arith, Bool, true, false, cond, List, [], ◌∷◌, ◌++◌, length, map}
+use Rattle.std.proofs.Common.{◌≡◌, refl, ap, sym, ◌∙◌, ℕ, ◌≤◌, ◌<◌, ◌^◌, arith, Bool, true, false, cond, List, [], ◌∷◌, ◌++◌, length, map}
 use Rattle.std.specs.Prelude.{is_some, filter, flat_map}
 use Rattle.std.specs.List.{All, AllByRecursion, Contains}
 use Rattle.std.proofs.lemmas.List.Elements.{All-from_recursion, recursion_from_All, All-contains}
 use Rattle.sp_text.specs.Tokens.{is_name}
 use Rattle.ir_ast.specs.declared.funcs.Arg.{Arg}
-use Rattle.ir_ast.specs.declared.modules.Form.{Form as TextForm}
+use Rattle.ir_ast.specs.declared.types.Ty.{Ty}
+use Rattle.ir_ast.specs.declared.ops.Callee.{Callee}
+use Rattle.ir_ast.specs.declared.ops.Operand.{Operand}
+use Rattle.ir_ast.specs.Faults.GroupShape.{live_entries}
 use Rattle.ir_ast.specs.declared.modules.Form.TheVariants.{Source}
 use Rattle.ir_ast.specs.declared.ops.Op.{Op}
 use Rattle.ir_ast.specs.declared.ops.Op.TheVariants as ops
@@ -63,10 +66,19 @@ have_names content source func own = record {
 
 -- ---- blocks
 
-insts_say : (of : TextForm) (names : Names) → HaveNames names → (insts : List Instruction) → AllByRecursion (λ inst. IsPrinted names inst.op inst) insts → AllByRecursion ResultIsNamed insts → AllSay of names insts
-insts_say of names have [] printed named = tt
-insts_say of names have (inst ∷ insts) printed named =
-    (inst_read of names have inst.op inst (record { printed = printed.0; named = named.0 }), insts_say of names have insts printed.1 named.1)
+-- no instruction of the source form is a statepoint
+live_plain : (op : Op) (os : List Operand) → is_rewritten op ≡ false → length (live_entries op os) ≤ 16384
+live_plain (ops.Statepoint id callee takes) os plain = absurd (let bad : true ≡ false = plain in cc)
+live_plain _ os plain = omega arith
+
+counted_plain : (op : Op) → is_rewritten op ≡ false → (id : ℕ) (callee : Callee) (takes : List Ty) → op ≡ ops.Statepoint id callee takes → length takes < 2 ^ 64
+counted_plain op plain id callee takes is = absurd (let bad : true ≡ false = sym (ap is_rewritten is) ∙ plain in cc)
+
+insts_say : (names : Names) → HaveNames names → (insts : List Instruction) → AllByRecursion (λ inst. IsPrinted names inst.op inst) insts → AllByRecursion ResultIsNamed insts → AllSay Source names insts
+insts_say names have [] printed named = tt
+insts_say names have (inst ∷ insts) printed named =
+    let plain : is_rewritten inst.op ≡ false = printed.0.plain refl in
+    (inst_read Source names have inst.op inst (record { printed = printed.0; named = named.0; few = live_plain inst.op inst.operands plain; counted = counted_plain inst.op plain }), insts_say names have insts printed.1 named.1)
 
 -- no instruction of the source form is a relocate
 run_plain : (op : Op) (r : ℕ) → is_rewritten op ≡ false → run op r ≡ 0
@@ -76,15 +88,15 @@ run_plain _ r plain = refl
 runs_plain : (names : Names) (insts : List Instruction) (r : ℕ) → AllByRecursion (λ inst. IsPrinted names inst.op inst) insts → RunsFit r insts
 runs_plain names [] r printed = tt
 runs_plain names (inst ∷ insts) r printed =
-    let none : run inst.op r ≡ 0 = run_plain inst.op r printed.0.plain in (omega arith, runs_plain names insts (run inst.op r) printed.1)
+    let none : run inst.op r ≡ 0 = run_plain inst.op r (printed.0.plain refl) in (omega arith, runs_plain names insts (run inst.op r) printed.1)
 
-blocks_say : (of : TextForm) (names : Names) → HaveNames names → (blocks : List BasicBlock) → AllByRecursion (λ block. is_name block.name ≡ true) blocks → AllByRecursion (λ block. EndsAtTerminator block.insts) blocks
-    → AllByRecursion (λ block. AllByRecursion (λ inst. IsPrinted names inst.op inst) block.insts) blocks → AllByRecursion ResultIsNamed (instructions_of blocks) → AllBlocksSay of names blocks
-blocks_say of names have [] labels ends printed named = tt
-blocks_say of names have (block ∷ blocks) labels ends printed named =
+blocks_say : (names : Names) → HaveNames names → (blocks : List BasicBlock) → AllByRecursion (λ block. is_name block.name ≡ true) blocks → AllByRecursion (λ block. EndsAtTerminator block.insts) blocks
+    → AllByRecursion (λ block. AllByRecursion (λ inst. IsPrinted names inst.op inst) block.insts) blocks → AllByRecursion ResultIsNamed (instructions_of blocks) → AllBlocksSay Source names blocks
+blocks_say names have [] labels ends printed named = tt
+blocks_say names have (block ∷ blocks) labels ends printed named =
     let parts = split_all ResultIsNamed block.insts (instructions_of blocks) named in (
-      record { name = labels.0; ends = ends.0; insts = insts_say of names have block.insts printed.0 parts.0; runs = runs_plain names block.insts 0 printed.0 },
-      blocks_say of names have blocks labels.1 ends.1 printed.1 parts.1,
+      record { name = labels.0; ends = ends.0; insts = insts_say names have block.insts printed.0 parts.0; runs = runs_plain names block.insts 0 printed.0 },
+      blocks_say names have blocks labels.1 ends.1 printed.1 parts.1,
     )
 
 -- ---- arguments
@@ -109,7 +121,7 @@ function_reads content source ends func c = record {
   args = All-from_recursion ArgumentSays func.args (arguments_say func.args (recursion_from_All (λ (arg : Arg). is_first_class arg.ty ≡ true) func.args typed.args) heads.1 values.0);
   few = All-contains (λ (f : Function). length f.args ≤ 64) content.funcs func source.limits.arguments c;
   has_block = own.has_block;
-  blocks = blocks_say Source (names_in content func) (have_names content source func own) func.blocks
+  blocks = blocks_say (names_in content func) (have_names content source func own) func.blocks
       (recursion_from_All (λ (block : BasicBlock). is_name block.name ≡ true) func.blocks own.names.labels)
       (recursion_from_All (λ (block : BasicBlock). EndsAtTerminator block.insts) func.blocks (All-contains (λ (f : Function). All (λ (block : BasicBlock). EndsAtTerminator block.insts) f.blocks) content.funcs func ends c))
       (printed content source func c) (results_named insts values.1);

@@ -1,8 +1,8 @@
 -- Each instruction of a source module is printed on lines that are read.
-use Rattle.std.proofs.Common.{◌≡◌, refl, ap, sym, ◌∙◌, subst, ℕ, ◌<◌, ◌≤◌, ◌^◌, Bool, true, false, not, ◌||◌, ◌==◌, if◌then◌else◌, List, [], ◌∷◌, length, drop, replicate, Option, Some, None, arith}
-use Rattle.std.specs.Prelude.{is_some, flat_map}
-use Rattle.std.specs.List.{All, AllByRecursion, AllZip, list_all, zip}
-use Rattle.std.proofs.lemmas.Bool.{and_parts}
+use Rattle.std.proofs.Common.{◌≡◌, refl, ap, sym, ◌∙◌, subst, ℕ, zero, suc, ◌-◌, ◌<◌, ◌≤◌, ◌^◌, Bool, true, false, not, ◌||◌, ◌==◌, if◌then◌else◌, List, [], ◌∷◌, ◌++◌, map, length, drop, replicate, Option, Some, None, arith}
+use Rattle.std.specs.Prelude.{is_some, flat_map, take}
+use Rattle.std.specs.List.{All, AllByRecursion, AllZip, list_all, list_any, zip}
+use Rattle.std.proofs.lemmas.Bool.{and_parts, or_right}
 use Rattle.std.proofs.lemmas.List.{nil_from_length}
 use Rattle.std.proofs.lemmas.List.Elements.{All-head, All-from_recursion, recursion_from_All}
 use Rattle.sp_ids.specs.declared.ids.BlockId.{BlockId}
@@ -20,7 +20,8 @@ use Rattle.ir_ast.specs.declared.ops.Operand.TheVariants as operands
 use Rattle.ir_ast.specs.declared.ops.Op.{Op}
 use Rattle.ir_ast.specs.declared.ops.Op.TheVariants as ops
 use Rattle.ir_ast.specs.Insts.{Instruction}
-use Rattle.ir_ast.specs.Lines.{Has, Arguments, is_argument, is_element}
+use Rattle.ir_ast.specs.Lines.{Has, Arguments, is_argument, is_element, is_rewritten}
+use Rattle.ir_ast.specs.Faults.GroupShape.{live_entries}
 use Rattle.ir_ast.specs.Operands.{is_value, is_literal, functions_named, layouts_named}
 use Rattle.ir_ast.specs.Ops.{is_terminator}
 use Rattle.ir_ast.specs.Types.{is_void, is_integer, is_first_class, is_answer}
@@ -31,6 +32,8 @@ use Rattle.ir_printer.specs.Names.{Names}
 use Rattle.ir_printer.specs.Calls.{callee_name}
 use Rattle.ir_printer.specs.Lines.{operator_text, arithmetic_text, conversion_text}
 use Rattle.ir_ast.specs.declared.modules.Form.{Form as TextForm}
+use Rattle.ir_ast.specs.declared.modules.Form.TheVariants as text_forms
+use Rattle.ir_reader.specs.Statepoints.{is_plain}
 use Rattle.ir_reader.specs.declared.forms.Counted.TheVariants as kinds
 use Rattle.ir_reader.specs.declared.readings.TypeWord.TheVariants as types
 use Rattle.ir_reader.specs.declared.words.Binary.{Binary}
@@ -40,14 +43,15 @@ use Rattle.ir_reader.specs.declared.words.Conversion.TheVariants as conversions
 use Rattle.ir_reader.specs.Forms.{binary_word, conversion_word}
 use Rattle.ir_reader.specs.Lists.{is_task_start}
 use Rattle.ir_reader.specs.Parts.{is_scalar_type}
-use Rattle.read_back.specs.Said.{width_in, result_of, operator_says, binary_says, convert_says}
-use Rattle.read_back.proofs.BackInsts.{IsPrinted, split_all}
+use Rattle.read_back.specs.Said.{width_in, result_of, parameter_says, operator_says, binary_says, convert_says}
+use Rattle.read_back.proofs.BackInsts.{IsPrintedIn, split_all}
 use Rattle.read_back.proofs.BackLines.{result-is, no_result, integer-is, void-is, pointer-is, condition-is}
-use Rattle.read_back.proofs.Operands.{HaveNames, IsNarrow}
-use Rattle.read_back.proofs.OneLine.{OneLine, counted_as, one_in, made, binary_reads, compare_reads, load_reads, store_reads, jump_reads, return_void_reads, unreachable_reads}
+use Rattle.read_back.proofs.Operands.{HaveNames, IsNarrow, in_types}
+use Rattle.read_back.proofs.OneLine.{OneLine, LineIn, counted_as, one_in, made, binary_reads, compare_reads, load_reads, store_reads, jump_reads, return_void_reads, unreachable_reads}
 use Rattle.read_back.proofs.MoreLines.{convert_reads, select_reads, branch_reads, return_reads}
 use Rattle.read_back.proofs.StepLines.{integer_step_reads, pointer_step_reads, layout_step_reads, field_step_reads}
 use Rattle.read_back.proofs.CallLines.{CalleeThere, PassedReads, value_passed, function_passed, value_call_reads, void_call_reads, EntryFits, phi_reads}
+use Rattle.read_back.proofs.GroupLines.{IsTaken, IsLive, IsGuarded, statepoint_reads, result_reads, relocate_reads}
 use Rattle.read_back.proofs.SwitchLines.{CaseFits, switch_says_so}
 use Rattle.read_back.proofs.Chains.{InstSays, line_says}
 
@@ -104,9 +108,12 @@ narrow_of tys.Ptr widths = tt
 narrow_of tys.Token widths = tt
 
 -- what is known of an instruction, and that its result has a name of texts
-pub record IsPrintable (names : Names) (op : Op) (inst : Instruction) : Type 0 where
-  pub printed : IsPrinted names op inst
+pub record IsPrintable (of : TextForm) (names : Names) (op : Op) (inst : Instruction) : Type 0 where
+  pub printed : IsPrintedIn of names op inst
   pub named : is_some inst.result ≡ true → is_name (result_of inst) ≡ true
+  -- of a statepoint
+  pub few : length (live_entries op inst.operands) ≤ 16384
+  pub counted : (id : ℕ) (callee : Callee) (takes : List Ty) → op ≡ ops.Statepoint id callee takes → length takes < 2 ^ 64
 
 abbrev Reads : Names → Instruction → Type 0
 Reads names inst = OneLine names inst
@@ -121,7 +128,7 @@ integer_narrow tys.Token is widths = absurd cc
 refit : (names : Names) (o : Operand) (t u : Ty) → t ≡ u → Fits (value_types names.func) o u → Fits (value_types names.func) o t
 refit names o t u same fit = subst (λ (x : Ty). Fits (value_types names.func) o x) (sym same) fit
 
-binary_case : (names : Names) → HaveNames names → (op : Binary) (o : Op) (inst : Instruction) → IsPrintable names o inst → Has true is_integer 2 0 inst
+binary_case : {of : TextForm} (names : Names) → HaveNames names → (op : Binary) (o : Op) (inst : Instruction) → IsPrintable of names o inst → Has true is_integer 2 0 inst
     → AllZip (Fits (value_types names.func)) inst.operands (replicate (length inst.operands) inst.ty)
     → ((n : List ℕ) (bits : ℕ) (a b : Operand) → operator_text names o (made (Some n) o (tys.Int bits) (a ∷ b ∷ []) []) ≡ arithmetic_text names (binary_word op) (made (Some n) o (tys.Int bits) (a ∷ b ∷ []) []))
     → ((n : List ℕ) (bits : ℕ) (a b : Operand) → operator_says names o (made (Some n) o (tys.Int bits) (a ∷ b ∷ []) []) ≡ binary_says names op (made (Some n) o (tys.Int bits) (a ∷ b ∷ []) []) ∷ [])
@@ -135,7 +142,7 @@ binary_case names have op o inst p has fits text say inside =
     (binary_reads names have op o n bits two.0 two.1 (p.named has.result) (integer_narrow inst.ty has.type p.printed.widths) two.3.0 two.4.0
     (refit names two.0 (tys.Int bits) inst.ty same two.3.1) (refit names two.1 (tys.Int bits) inst.ty same two.4.1) (text n bits two.0 two.1) (say n bits two.0 two.1) inside)
 
-convert_case : (names : Names) → HaveNames names → (op : Conversion) (o : Op) (to : ℕ) (inst : Instruction) → IsPrintable names o inst → Has true is_integer 1 0 inst
+convert_case : {of : TextForm} (names : Names) → HaveNames names → (op : Conversion) (o : Op) (to : ℕ) (inst : Instruction) → IsPrintable of names o inst → Has true is_integer 1 0 inst
     → AllZip (Fits (value_types names.func)) inst.operands (replicate (length inst.operands) inst.ty) → (1 ≤ to) × (to ≤ 64)
     → ((n : List ℕ) (bits : ℕ) (a : Operand) → operator_text names o (made (Some n) o (tys.Int bits) (a ∷ []) []) ≡ conversion_text names (conversion_word op) to (made (Some n) o (tys.Int bits) (a ∷ []) []))
     → ((n : List ℕ) (bits : ℕ) (a : Operand) → operator_says names o (made (Some n) o (tys.Int bits) (a ∷ []) []) ≡ convert_says names op to (made (Some n) o (tys.Int bits) (a ∷ []) []) ∷ [])
@@ -164,14 +171,14 @@ abbrev StepParts : Names → Elem → ℕ → Option ℕ → Instruction → Typ
 StepParts names elem bits place inst = (a : Operand) → (b : Operand) → Fit names a tys.Ptr → Fit names b (tys.Int bits)
     → OneLine names (made (Some (result_of inst)) (ops.Gep elem bits place) tys.Ptr (a ∷ b ∷ []) [])
 
-step_case : (names : Names) (elem : Elem) (bits : ℕ) (place : Option ℕ) (inst : Instruction) → IsPrintable names (ops.Gep elem bits place) inst → StepParts names elem bits place inst → Reads names inst
+step_case : {of : TextForm} (names : Names) (elem : Elem) (bits : ℕ) (place : Option ℕ) (inst : Instruction) → IsPrintable of names (ops.Gep elem bits place) inst → StepParts names elem bits place inst → Reads names inst
 step_case names elem bits place inst p parts =
     let has = p.printed.line.0 in
     let two = two_fit names inst.operands tys.Ptr (tys.Int bits) (fit_each names inst.operands (tys.Ptr ∷ tys.Int bits ∷ []) p.printed.fits has.values) in
     subst (Reads names) (made_is inst (Some (result_of inst)) (ops.Gep elem bits place) tys.Ptr (two.0 ∷ two.1 ∷ []) [] (result-is inst.result has.result) p.printed.is (pointer-is inst.ty has.type) two.2
     (sym (nil_from_length inst.labels has.label_count)) has.no_bundle) (parts two.0 two.1 two.3 two.4)
 
-step_reads : (names : Names) → HaveNames names → (elem : Elem) (bits : ℕ) (place : Option ℕ) (inst : Instruction) → IsPrintable names (ops.Gep elem bits place) inst → Reads names inst
+step_reads : {of : TextForm} (names : Names) → HaveNames names → (elem : Elem) (bits : ℕ) (place : Option ℕ) (inst : Instruction) → IsPrintable of names (ops.Gep elem bits place) inst → Reads names inst
 step_reads names have (elements.Int w) bits None inst p =
     let widths = recursion_from_All IsWidth (w ∷ bits ∷ []) p.printed.own_widths in
     let scalar = scalar_width w None p.printed.line.1 in
@@ -274,7 +281,7 @@ answer_is (tys.Int w) answers value = refl
 answer_is tys.Ptr answers value = refl
 answer_is tys.Token answers value = cc
 
-call_reads : (names : Names) → HaveNames names → (callee : Callee) (ts : List Ty) (inst : Instruction) → IsPrintable names (ops.Call callee ts) inst → Reads names inst
+call_reads : {of : TextForm} (names : Names) → HaveNames names → (callee : Callee) (ts : List Ty) (inst : Instruction) → IsPrintable of names (ops.Call callee ts) inst → Reads names inst
 call_reads names have callee ts inst p = by (is_void inst.ty) refl
   where
     there : CalleeThere names callee × AllByRecursion (λ named. named < length names.funcs) (functions_named (record inst { op = ops.Load }))
@@ -320,7 +327,7 @@ opened : {X : Type 0} (xs : List X) → 0 < length xs → (x : X) × (more : Lis
 opened [] some = absurd (omega arith)
 opened (x ∷ more) some = (x, more, refl)
 
-phi_case : (names : Names) → HaveNames names → (inst : Instruction) → IsPrintable names ops.Phi inst → Reads names inst
+phi_case : {of : TextForm} (names : Names) → HaveNames names → (inst : Instruction) → IsPrintable of names ops.Phi inst → Reads names inst
 phi_case names have inst p =
     let has = p.printed.line.0 in
     let count : length inst.labels ≡ length inst.operands = has.label_count in
@@ -334,7 +341,7 @@ phi_case names have inst p =
     subst (Reads names) (made_is inst (Some (result_of inst)) ops.Phi inst.ty (os.0 ∷ os.1) (ls.0 ∷ ls.1) (result-is inst.result has.result) p.printed.is refl os.2 ls.2 has.no_bundle)
     (phi_reads names have (result_of inst) inst.ty os.0 os.1 ls.0 ls.1 (p.named has.result) has.type (narrow_of inst.ty p.printed.widths) here)
 
-switch_case : (of : TextForm) (names : Names) → HaveNames names → (inst : Instruction) → IsPrintable names ops.Switch inst → InstSays of names inst
+switch_case : (of : TextForm) (names : Names) → HaveNames names → (inst : Instruction) → IsPrintable of names ops.Switch inst → InstSays of names inst
 switch_case of names have inst p =
     let has = p.printed.line.0 in
     let bits : ℕ = width_in inst.ty in
@@ -355,7 +362,7 @@ switch_case of names have inst p =
 
 -- ---- terminators
 
-jump_case : (names : Names) → HaveNames names → (inst : Instruction) → IsPrintable names ops.Br inst → Reads names inst
+jump_case : {of : TextForm} (names : Names) → HaveNames names → (inst : Instruction) → IsPrintable of names ops.Br inst → Reads names inst
 jump_case names have inst p =
     let has = p.printed.line in
     let count : length inst.labels ≡ 1 = has.label_count in
@@ -373,7 +380,7 @@ two_labels (l ∷ []) count = absurd (omega arith)
 two_labels (l ∷ m ∷ []) count = (l, m, refl)
 two_labels (l ∷ m ∷ n ∷ ls) count = absurd (omega arith)
 
-branch_case : (names : Names) → HaveNames names → (inst : Instruction) → IsPrintable names ops.CondBr inst → Reads names inst
+branch_case : {of : TextForm} (names : Names) → HaveNames names → (inst : Instruction) → IsPrintable of names ops.CondBr inst → Reads names inst
 branch_case names have inst p =
     let has = p.printed.line in
     let same : tys.Int 1 ≡ inst.ty = condition-is inst.ty has.type in
@@ -383,7 +390,7 @@ branch_case names have inst p =
     subst (Reads names) (made_is inst None ops.CondBr inst.ty (one.0 ∷ []) (two.0 ∷ two.1 ∷ []) (no_result inst.result has.result) p.printed.is refl one.1 two.2 has.no_bundle)
     (branch_reads names have inst.ty one.0 two.0 two.1 one.2.0 (refit names one.0 (tys.Int 1) inst.ty same one.2.1) low.0 low.1.0)
 
-return_case : (names : Names) → HaveNames names → (inst : Instruction) → IsPrintable names ops.Ret inst → Reads names inst
+return_case : {of : TextForm} (names : Names) → HaveNames names → (inst : Instruction) → IsPrintable of names ops.Ret inst → Reads names inst
 return_case names have inst p = by (is_void inst.ty) refl
   where
     has : Has false is_answer (if is_void inst.ty then 0 else 1) 0 inst
@@ -402,35 +409,35 @@ return_case names have inst p = by (is_void inst.ty) refl
 
 -- ---- the others
 
-compare_case : (names : Names) → HaveNames names → (pred : Pred) (inst : Instruction) → IsPrintable names (ops.Icmp pred) inst → Reads names inst
+compare_case : {of : TextForm} (names : Names) → HaveNames names → (pred : Pred) (inst : Instruction) → IsPrintable of names (ops.Icmp pred) inst → Reads names inst
 compare_case names have pred inst p =
     let has = p.printed.line in
     let two = two_fit names inst.operands inst.ty inst.ty (same_fit names inst 2 has.operand_count has.values p.printed.fits) in
     subst (Reads names) (made_is inst (Some (result_of inst)) (ops.Icmp pred) inst.ty (two.0 ∷ two.1 ∷ []) [] (result-is inst.result has.result) p.printed.is refl two.2 (sym (nil_from_length inst.labels has.label_count)) has.no_bundle)
     (compare_reads names have pred (result_of inst) inst.ty two.0 two.1 (p.named has.result) has.type (narrow_of inst.ty p.printed.widths) two.3.0 two.4.0 two.3.1 two.4.1)
 
-select_case : (names : Names) → HaveNames names → (inst : Instruction) → IsPrintable names ops.Select inst → Reads names inst
+select_case : {of : TextForm} (names : Names) → HaveNames names → (inst : Instruction) → IsPrintable of names ops.Select inst → Reads names inst
 select_case names have inst p =
     let has = p.printed.line in
     let three = three_fit names inst.operands (tys.Int 1) inst.ty inst.ty (fit_each names inst.operands (tys.Int 1 ∷ inst.ty ∷ inst.ty ∷ []) p.printed.fits has.values) in
     subst (Reads names) (made_is inst (Some (result_of inst)) ops.Select inst.ty (three.0 ∷ three.1 ∷ three.2 ∷ []) [] (result-is inst.result has.result) p.printed.is refl three.3 (sym (nil_from_length inst.labels has.label_count)) has.no_bundle)
     (select_reads names have (result_of inst) inst.ty three.0 three.1 three.2 (p.named has.result) has.type (narrow_of inst.ty p.printed.widths) three.4.0 three.5.0 three.6.0 three.4.1 three.5.1 three.6.1)
 
-load_case : (names : Names) → HaveNames names → (inst : Instruction) → IsPrintable names ops.Load inst → Reads names inst
+load_case : {of : TextForm} (names : Names) → HaveNames names → (inst : Instruction) → IsPrintable of names ops.Load inst → Reads names inst
 load_case names have inst p =
     let has = p.printed.line in
     let one = one_fit names inst.operands tys.Ptr (fit_each names inst.operands (tys.Ptr ∷ []) p.printed.fits has.values) in
     subst (Reads names) (made_is inst (Some (result_of inst)) ops.Load inst.ty (one.0 ∷ []) [] (result-is inst.result has.result) p.printed.is refl one.1 (sym (nil_from_length inst.labels has.label_count)) has.no_bundle)
     (load_reads names have (result_of inst) inst.ty one.0 (p.named has.result) has.type (narrow_of inst.ty p.printed.widths) one.2.0 one.2.1)
 
-store_case : (names : Names) → HaveNames names → (inst : Instruction) → IsPrintable names ops.Store inst → Reads names inst
+store_case : {of : TextForm} (names : Names) → HaveNames names → (inst : Instruction) → IsPrintable of names ops.Store inst → Reads names inst
 store_case names have inst p =
     let has = p.printed.line in
     let two = two_fit names inst.operands inst.ty tys.Ptr (fit_each names inst.operands (inst.ty ∷ tys.Ptr ∷ []) p.printed.fits has.values) in
     subst (Reads names) (made_is inst None ops.Store inst.ty (two.0 ∷ two.1 ∷ []) [] (no_result inst.result has.result) p.printed.is refl two.2 (sym (nil_from_length inst.labels has.label_count)) has.no_bundle)
     (store_reads names have inst.ty two.0 two.1 has.type (narrow_of inst.ty p.printed.widths) two.3.0 two.4.0 two.3.1 two.4.1)
 
-unreachable_case : (names : Names) (inst : Instruction) → IsPrintable names ops.Unreachable inst → Reads names inst
+unreachable_case : {of : TextForm} (names : Names) (inst : Instruction) → IsPrintable of names ops.Unreachable inst → Reads names inst
 unreachable_case names inst p =
     let has = p.printed.line in
     subst (Reads names) (made_is inst None ops.Unreachable tys.Void [] [] (no_result inst.result has.result) p.printed.is (void-is inst.ty has.type) (sym (nil_from_length inst.operands has.operand_count)) (sym (nil_from_length inst.labels has.label_count)) has.no_bundle)
@@ -440,11 +447,151 @@ own_width : (w : ℕ) → All IsWidth (w ∷ []) → (1 ≤ w) × (w ≤ 64)
 own_width w widths = All-head IsWidth w [] widths
 
 -- each instruction is read
+-- ---- statepoint groups
+
+-- the arguments first, and then the live entries
+front_fit : (F : Operand → Ty → Type 0) (os : List Operand) (ts us : List Ty) → AllZip F os (ts ++ us) → AllZip F (take (length ts) os) ts × AllZip F (drop (length ts) os) us
+front_fit F os [] us fit = (tt, fit)
+front_fit F [] (t ∷ ts) us fit = absurd fit
+front_fit F (o ∷ os) (t ∷ ts) us fit = let more = front_fit F os ts us fit.1 in ((fit.0, more.0), more.1)
+
+zip_take : (ts : List Ty) (os : List Operand) → zip ts (take (length ts) os) ≡ zip ts os
+zip_take [] os = refl
+zip_take (t ∷ ts) [] = refl
+zip_take (t ∷ ts) (o ∷ os) = ap (λ (more : List (Ty × Operand)). (t, o) ∷ more) (zip_take ts os)
+
+join_functions : (P : ℕ → Type 0) (o : Operand) (os rest : List Operand) → FunctionsOf P (o ∷ os) → FunctionsOf P rest → FunctionsOf P (o ∷ rest)
+join_functions P (operands.Fun f) os rest all more = (all.0, more)
+join_functions P (operands.Value v) os rest all more = more
+join_functions P (operands.Int n) os rest all more = more
+join_functions P operands.Null os rest all more = more
+
+front_functions : (P : ℕ → Type 0) (n : ℕ) (os : List Operand) → FunctionsOf P os → FunctionsOf P (take n os)
+front_functions P zero os all = tt
+front_functions P (suc n) [] all = tt
+front_functions P (suc n) (o ∷ os) all = join_functions P o os (take n os) all (front_functions P n os (later_functions P o os all))
+
+live_fits : (names : Names) (os : List Operand) (k : ℕ) → AllZip (Fits (value_types names.func)) os (replicate k tys.Ptr) → list_all is_value os ≡ true → AllByRecursion (IsLive names) os
+live_fits names [] k fit value = tt
+live_fits names (o ∷ os) zero fit value = absurd fit
+live_fits names (o ∷ os) (suc k) fit value =
+    let both = and_parts (is_value o) (list_all is_value os) value in (record { value = both.0; fits = fit.0 }, live_fits names os k fit.1 both.1)
+
+-- an argument that isn't the name of a function is of a first class type
+argument_first : (callee : Callee) (o : Operand) (ty : Ty) → is_argument callee o ty ≡ true → ¬ (callee ≡ callees.TaskStart) → is_first_class ty ≡ true
+argument_first callee (operands.Fun f) ty is other = absurd (other (function_is callee f ty is).0)
+argument_first callee (operands.Value v) ty is other = value_is callee (operands.Value v) ty refl is
+argument_first callee (operands.Int n) ty is other = value_is callee (operands.Int n) ty refl is
+argument_first callee operands.Null ty is other = value_is callee operands.Null ty refl is
+
+token_passed : (callee : Callee) (o : Operand) → is_argument callee o tys.Token ≡ true → ⊥
+token_passed callee (operands.Fun f) is = let void : tys.Token ≡ tys.Void = (function_is callee f tys.Token is).1 in cc
+token_passed callee (operands.Value v) is = let bad : false ≡ true = value_is callee (operands.Value v) tys.Token refl is in cc
+token_passed callee (operands.Int n) is = let bad : false ≡ true = value_is callee (operands.Int n) tys.Token refl is in cc
+token_passed callee operands.Null is = let bad : false ≡ true = value_is callee operands.Null tys.Token refl is in cc
+
+taken_is : (callee : Callee) (o : Operand) (ty : Ty) → is_argument callee o ty ≡ true → IsNarrow ty → IsTaken ty
+taken_is callee o tys.Void is narrow = tt
+taken_is callee o (tys.Int width) is narrow = (refl, narrow)
+taken_is callee o tys.Ptr is narrow = (refl, tt)
+taken_is callee o tys.Token is narrow = absurd (token_passed callee o is)
+
+all_taken : (callee : Callee) (os : List Operand) (ts : List Ty) → Arguments callee os ts → AllByRecursion IsWidth (flat_map type_widths ts) → AllByRecursion IsTaken ts
+all_taken callee [] [] arguments widths = tt
+all_taken callee [] (t ∷ ts) arguments widths = absurd arguments
+all_taken callee (o ∷ os) [] arguments widths = absurd arguments
+all_taken callee (o ∷ os) (t ∷ ts) arguments widths =
+    let w = split_all IsWidth (type_widths t) (flat_map type_widths ts) widths in
+    (taken_is callee o t arguments.0 (narrow_of t (All-from_recursion IsWidth (type_widths t) w.0)), all_taken callee os ts arguments.1 w.1)
+
+first_other : (ty : Ty) → is_first_class ty ≡ true → is_plain (parameter_says ty) ≡ false
+first_other tys.Void first = absurd (let bad : false ≡ true = first in cc)
+first_other (tys.Int width) first = refl
+first_other tys.Ptr first = refl
+first_other tys.Token first = refl
+
+none_plain : (callee : Callee) (os : List Operand) (ts : List Ty) → ¬ (callee ≡ callees.TaskStart) → Arguments callee os ts → list_any is_plain (map parameter_says ts) ≡ false
+none_plain callee [] [] other arguments = refl
+none_plain callee [] (t ∷ ts) other arguments = absurd arguments
+none_plain callee (o ∷ os) [] other arguments = refl
+none_plain callee (o ∷ os) (t ∷ ts) other arguments = rw (first_other t (argument_first callee o t arguments.0 other)) (none_plain callee os ts other arguments.1)
+
+type_of_callee : (names : Names) (callee : Callee) (os : List Operand) (ts : List Ty) → Arguments callee os ts
+    → (is_task_start (callee_name names callee) || not (list_any is_plain (map parameter_says ts))) ≡ true
+type_of_callee names callees.TaskStart os ts arguments = refl
+type_of_callee names (callees.Fun g) os ts arguments = or_right (is_task_start (callee_name names (callees.Fun g))) _ (ap not (none_plain (callees.Fun g) os ts (λ e. cc) arguments))
+type_of_callee names (callees.New l) os ts arguments = or_right (is_task_start (callee_name names (callees.New l))) _ (ap not (none_plain (callees.New l) os ts (λ e. cc) arguments))
+type_of_callee names callees.Print os ts arguments = ap not (none_plain callees.Print os ts (λ e. cc) arguments)
+type_of_callee names callees.Read os ts arguments = ap not (none_plain callees.Read os ts (λ e. cc) arguments)
+type_of_callee names callees.Poll os ts arguments = ap not (none_plain callees.Poll os ts (λ e. cc) arguments)
+type_of_callee names callees.Check os ts arguments = ap not (none_plain callees.Check os ts (λ e. cc) arguments)
+type_of_callee names callees.Same os ts arguments = ap not (none_plain callees.Same os ts (λ e. cc) arguments)
+
+statepoint_case : {of : TextForm} (names : Names) → HaveNames names → (id : ℕ) (callee : Callee) (takes : List Ty) (inst : Instruction) → IsPrintable of names (ops.Statepoint id callee takes) inst → LineIn text_forms.Rewritten names inst
+statepoint_case names have id callee takes inst p =
+    subst (LineIn text_forms.Rewritten names) (made_is inst (Some (result_of inst)) (ops.Statepoint id callee takes) inst.ty inst.operands [] (result-is inst.result p.printed.line.result) p.printed.is refl refl (sym p.printed.line.no_labels) p.printed.bundle)
+    (statepoint_reads names have id callee takes (result_of inst) inst.ty inst.operands guarded)
+  where
+    there : CalleeThere names callee × AllByRecursion (λ named. named < length names.funcs) (functions_named (record inst { op = ops.Load }))
+    there = callee_parts names callee takes inst p.printed.layouts p.printed.functions
+
+    functions : FunctionsOf (λ named. named < length names.funcs) inst.operands
+    functions = subst (λ (b : List (Ty × Operand)). AllByRecursion (λ named. named < length names.funcs)
+        (functions_named (record { result = inst.result; op = ops.Load; ty = inst.ty; operands = inst.operands; labels = inst.labels; bundle = b }))) p.printed.bundle there.1
+
+    front : List Operand
+    front = take (length takes) inst.operands
+
+    fits : AllZip (Fits (value_types names.func)) front takes × AllZip (Fits (value_types names.func)) (drop (length takes) inst.operands) (replicate (length inst.operands - length takes) tys.Ptr)
+    fits = front_fit (Fits (value_types names.func)) inst.operands takes (replicate (length inst.operands - length takes) tys.Ptr) p.printed.fits
+
+    widths : AllByRecursion IsWidth (flat_map type_widths takes)
+    widths = recursion_from_All IsWidth (flat_map type_widths takes) p.printed.own_widths
+
+    guarded : IsGuarded names callee takes (result_of inst) inst.ty inst.operands
+    guarded = record {
+      named = p.named p.printed.line.result;
+      answers = p.printed.line.type;
+      narrow = narrow_of inst.ty p.printed.widths;
+      there = there.0;
+      taken = all_taken callee front takes p.printed.line.arguments widths;
+      typed = type_of_callee names callee front takes p.printed.line.arguments;
+      passed = subst (AllByRecursion (PassedReads (is_task_start (callee_name names callee)) names)) (zip_take takes inst.operands)
+          (arguments_read names have callee front takes fits.0 p.printed.line.arguments (front_functions (λ named. named < length names.funcs) (length takes) inst.operands functions) widths);
+      live = live_fits names (drop (length takes) inst.operands) (length inst.operands - length takes) fits.1 p.printed.line.entries;
+      few = p.few;
+      counted = p.counted id callee takes refl;
+    }
+
+result_case : {of : TextForm} (names : Names) → HaveNames names → (inst : Instruction) → IsPrintable of names ops.GcResult inst → LineIn text_forms.Rewritten names inst
+result_case names have inst p =
+    let has = p.printed.line.0 in
+    let token = p.printed.line.1 in
+    let fit : AllZip (Fits (value_types names.func)) (operands.Value token.0 ∷ []) (tys.Token ∷ []) = subst (λ (os : List Operand). AllZip (Fits (value_types names.func)) os (tys.Token ∷ [])) token.1 p.printed.fits in
+    subst (LineIn text_forms.Rewritten names) (made_is inst (Some (result_of inst)) ops.GcResult inst.ty (operands.Value token.0 ∷ []) [] (result-is inst.result has.result) p.printed.is refl (sym token.1) (sym (nil_from_length inst.labels has.label_count)) has.no_bundle)
+    (result_reads names have (result_of inst) inst.ty token.0 (p.named has.result) has.type (narrow_of inst.ty p.printed.widths) (in_types names token.0.0 tys.Token fit.0))
+
+relocate_case : {of : TextForm} (names : Names) → HaveNames names → (inst : Instruction) → IsPrintable of names ops.GcRelocate inst → LineIn text_forms.Rewritten names inst
+relocate_case names have inst p =
+    let has = p.printed.line.0 in
+    let places = p.printed.line.1 in
+    let token = places.2 in
+    let fit : AllZip (Fits (value_types names.func)) (operands.Value token.0 ∷ operands.Int places.0 ∷ operands.Int places.1 ∷ []) (tys.Token ∷ tys.Int 32 ∷ tys.Int 32 ∷ []) =
+    subst (λ (os : List Operand). AllZip (Fits (value_types names.func)) os (tys.Token ∷ tys.Int 32 ∷ tys.Int 32 ∷ [])) token.1 p.printed.fits in
+    subst (LineIn text_forms.Rewritten names) (made_is inst (Some (result_of inst)) ops.GcRelocate tys.Ptr (operands.Value token.0 ∷ operands.Int places.0 ∷ operands.Int places.1 ∷ []) [] (result-is inst.result has.result) p.printed.is
+    (pointer-is inst.ty has.type) (sym token.1) (sym (nil_from_length inst.labels has.label_count)) has.no_bundle)
+    (relocate_reads names have (result_of inst) token.0 places.0 places.1 (p.named has.result) (in_types names token.0.0 tys.Token fit.0))
+
+-- a line that only the rewritten form has, in a text of it
+group_says : (of : TextForm) (names : Names) (op : Op) (inst : Instruction) → IsPrintable of names op inst → is_rewritten op ≡ true → LineIn text_forms.Rewritten names inst → InstSays of names inst
+group_says text_forms.Source names op inst p is line = absurd (let bad : true ≡ false = sym is ∙ p.printed.plain refl in cc)
+group_says text_forms.Rewritten names op inst p is line = line_says text_forms.Rewritten names inst line
+
 -- a line that is no relocate
-alone : {names : Names} {op : Op} {inst : Instruction} → IsPrintable names op inst → counted_as op ≡ kinds.Instruction → counted_as inst.op ≡ kinds.Instruction
+alone : {of : TextForm} {names : Names} {op : Op} {inst : Instruction} → IsPrintable of names op inst → counted_as op ≡ kinds.Instruction → counted_as inst.op ≡ kinds.Instruction
 alone p plain = ap counted_as (sym p.printed.is) ∙ plain
 
-pub inst_read : (of : TextForm) (names : Names) → HaveNames names → (op : Op) (inst : Instruction) → IsPrintable names op inst → InstSays of names inst
+pub inst_read : (of : TextForm) (names : Names) → HaveNames names → (op : Op) (inst : Instruction) → IsPrintable of names op inst → InstSays of names inst
 inst_read of names have ops.Add inst p = line_says of names inst (one_in of names inst (alone p refl) (binary_case names have binaries.Add ops.Add inst p p.printed.line p.printed.fits (λ n bits a b. refl) (λ n bits a b. refl) refl))
 inst_read of names have ops.Sub inst p = line_says of names inst (one_in of names inst (alone p refl) (binary_case names have binaries.Sub ops.Sub inst p p.printed.line p.printed.fits (λ n bits a b. refl) (λ n bits a b. refl) refl))
 inst_read of names have ops.Mul inst p = line_says of names inst (one_in of names inst (alone p refl) (binary_case names have binaries.Mul ops.Mul inst p p.printed.line p.printed.fits (λ n bits a b. refl) (λ n bits a b. refl) refl))
@@ -468,9 +615,9 @@ inst_read of names have (ops.Gep elem bits place) inst p = line_says of names in
 inst_read of names have ops.Load inst p = line_says of names inst (one_in of names inst (alone p refl) (load_case names have inst p))
 inst_read of names have ops.Store inst p = line_says of names inst (one_in of names inst (alone p refl) (store_case names have inst p))
 inst_read of names have (ops.Call callee ts) inst p = line_says of names inst (one_in of names inst (alone p refl) (call_reads names have callee ts inst p))
-inst_read of names have (ops.Statepoint id callee ts) inst p = absurd (let bad : true ≡ false = p.printed.plain in cc)
-inst_read of names have ops.GcResult inst p = absurd (let bad : true ≡ false = p.printed.plain in cc)
-inst_read of names have ops.GcRelocate inst p = absurd (let bad : true ≡ false = p.printed.plain in cc)
+inst_read of names have (ops.Statepoint id callee ts) inst p = group_says of names (ops.Statepoint id callee ts) inst p refl (statepoint_case names have id callee ts inst p)
+inst_read of names have ops.GcResult inst p = group_says of names ops.GcResult inst p refl (result_case names have inst p)
+inst_read of names have ops.GcRelocate inst p = group_says of names ops.GcRelocate inst p refl (relocate_case names have inst p)
 inst_read of names have ops.Br inst p = line_says of names inst (one_in of names inst (alone p refl) (jump_case names have inst p))
 inst_read of names have ops.CondBr inst p = line_says of names inst (one_in of names inst (alone p refl) (branch_case names have inst p))
 inst_read of names have ops.Switch inst p = switch_case of names have inst p
