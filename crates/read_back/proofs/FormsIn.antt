@@ -1,6 +1,6 @@
 -- A line of the source form in a text of the rewritten form: the same line, since no call of it names a function of the three families.
-use Rattle.std.proofs.Common.{◌≡◌, refl, ap, ◌∙◌, ℕ, Bool, true, false, cond, ◌||◌, inl, inr, List, [], ◌∷◌, ◌++◌, length, Option, Some, None, codes}
-use Rattle.std.specs.Prelude.{◌⊎◌, drop, nat_eq}
+use Rattle.std.proofs.Common.{◌≡◌, refl, ap, ◌∙◌, ℕ, Bool, true, false, cond, ◌||◌, inl, inr, List, [], ◌∷◌, ◌++◌, length, Some, None, codes}
+use Rattle.std.specs.Prelude.{drop, nat_eq}
 use Rattle.std.specs.List.{starts_with}
 use Rattle.std.specs.Str.{bytes_eq}
 use Rattle.std.proofs.lemmas.Bool.{or_parts, or_cases}
@@ -18,7 +18,7 @@ use Rattle.ir_reader.specs.declared.forms.Form.TheVariants as forms
 use Rattle.ir_reader.specs.declared.words.Dropped.TheVariants as drops
 use Rattle.ir_reader.specs.declared.words.Flags.TheVariants as flags
 use Rattle.ir_reader.specs.Families.{statepoint_name, relocate_name, result_front, result_suffix, is_suffix, is_result_name, is_family_name}
-use Rattle.ir_reader.specs.Forms.{slots, form_of, form_in, named_form, group_form, grouped_form, word_form, called_form, declared_form, callee_of, declared_of, first_global}
+use Rattle.ir_reader.specs.Forms.{slots, form_of, form_in, named_form, group_form, word_form, called_form, declared_form, callee_of, declared_of, first_global}
 use Rattle.ir_reader.specs.Slots.{Item, parse}
 use Rattle.read_back.proofs.Steps.{IsClean, past_all-none}
 use Rattle.read_back.proofs.Spellings.{SpellsType, void_type}

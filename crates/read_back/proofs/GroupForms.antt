@@ -1,38 +1,34 @@
 -- The lines of both forms of texts: a line of the source form is one of the rewritten form too, and the lines that the rewritten form has besides.
-use Rattle.std.proofs.Common.{◌≡◌, refl, ap, ◌∙◌, ℕ, ◌≤◌, Bool, true, false, ◌||◌, List, [], ◌∷◌, ◌++◌, map, Option, Some, None, arith, codes, decimal, append_assoc}
+use Rattle.std.proofs.Common.{◌≡◌, refl, ap, ◌∙◌, ℕ, true, false, List, [], ◌∷◌, ◌++◌, map, Option, Some, codes}
 use Rattle.std.specs.List.{All}
 use Rattle.std.specs.Str.{bytes_eq}
-use Rattle.std.proofs.lemmas.Bool.{or_parts}
 use Rattle.std.proofs.lemmas.Slice.Eq.{bytes_eq-Decides}
-use Rattle.sp_text.specs.Tokens.{Tok, tok, tokens, is_token, is_name}
+use Rattle.sp_text.specs.Tokens.{Tok, tok, tokens, is_name}
 use Rattle.sp_text.specs.declared.tokens.Kind.TheVariants as kinds
-use Rattle.ir_ast.specs.declared.modules.Form.{Form as TextForm}
 use Rattle.ir_ast.specs.declared.modules.Form.TheVariants as text_forms
 use Rattle.ir_reader.specs.declared.readings.TypeWord.{TypeWord}
-use Rattle.ir_reader.specs.declared.readings.TypeWord.TheVariants as types
 use Rattle.ir_reader.specs.declared.readings.Literal.{Literal}
-use Rattle.ir_reader.specs.declared.forms.Form.{Form}
 use Rattle.ir_reader.specs.declared.forms.Form.TheVariants as forms
 use Rattle.ir_reader.specs.declared.forms.DroppedLine.TheVariants as drop_lines
 use Rattle.ir_reader.specs.declared.words.Dropped.TheVariants as drops
 use Rattle.ir_reader.specs.declared.words.Flags.TheVariants as flags
 use Rattle.ir_reader.specs.Drops.{after_bracket}
-use Rattle.ir_reader.specs.Families.{statepoint_name, relocate_name, result_front, result_suffix, is_suffix, is_result_name, is_family_name, is_result_of}
-use Rattle.ir_reader.specs.Forms.{slots, form_of, form_in, named_form, group_form, grouped_form, called_form, declared_form, callee_of, first_global}
-use Rattle.ir_reader.specs.Lists.{Given, comma, is_task_start, passed_at}
+use Rattle.ir_reader.specs.Families.{statepoint_name, relocate_name, result_front, result_suffix, is_suffix, is_family_name, is_result_of}
+use Rattle.ir_reader.specs.Forms.{slots, form_in, called_form, declared_form, callee_of, first_global}
+use Rattle.ir_reader.specs.Lists.{Given, comma}
 use Rattle.ir_reader.specs.Marks.{is_mark, is_word, begins}
 use Rattle.ir_reader.specs.Parts.{Val, is_value_type, is_answer_type}
-use Rattle.ir_reader.specs.Slots.{Item, name, ty, guarded, live, literal, dropped, a_live, parse}
+use Rattle.ir_reader.specs.Slots.{Item, name, ty, guarded, live, literal, dropped, a_live}
 use Rattle.ir_reader.specs.Statepoints.{Guarded, live_entry_at, suffix_of}
 use Rattle.ir_printer.specs.Lists.{joined}
-use Rattle.read_back.proofs.Steps.{Reads, IsClean, past_all-none, first_of, end, mark, word, local, spaced, space, over_blank, drop_at, drop_end}
-use Rattle.read_back.proofs.Spellings.{SpellsType, SpellsValue, SpellsLiteral, pointer_type, void_type}
+use Rattle.read_back.proofs.Steps.{Reads, IsClean, past_all-none, end, mark, word, local, spaced, space, over_blank, drop_at, drop_end}
+use Rattle.read_back.proofs.Spellings.{SpellsType, SpellsLiteral, pointer_type}
 use Rattle.read_back.proofs.PartSteps.{managed_step}
 use Rattle.read_back.proofs.Listed.{SpellsElement, others}
-use Rattle.read_back.proofs.Forms.{ReadsAs, result_tokens}
+use Rattle.read_back.proofs.Forms.{result_tokens}
 use Rattle.read_back.proofs.ListForms.{EndsAtMark, word_none}
 use Rattle.read_back.proofs.FormsIn.{ReadsIn, call_callee, value_in, call_tokens, declare_tokens, declared_name, declared_by}
-use Rattle.read_back.proofs.GroupSteps.{as_is, token_then, mark_then, blank_then, type_tokens, type_spelled, statepoint_type_step, global_step, token_step, place_step, call_spelled, SpellsCall, guarded_step, live_step, no_live, result_step, family_answer_step, family_step, bracketing_step}
+use Rattle.read_back.proofs.GroupSteps.{as_is, token_then, blank_then, type_tokens, type_spelled, statepoint_type_step, global_step, token_step, place_step, call_spelled, SpellsCall, guarded_step, live_step, no_live, result_step, family_answer_step, family_step, bracketing_step}
 
 -- ---- statepoints
 

@@ -1,8 +1,8 @@
 -- The instructions of statepoint groups: their lines, and what they say.
-use Rattle.std.proofs.Common.{◌≡◌, refl, ap, ◌∙◌, subst, ℕ, ◌<◌, ◌≤◌, ◌^◌, Bool, true, false, not, ◌||◌, List, [], ◌∷◌, ◌++◌, length, map, Some, arith, codes, decimal, append_assoc}
+use Rattle.std.proofs.Common.{◌≡◌, refl, ap, ◌∙◌, ℕ, ◌<◌, ◌≤◌, ◌^◌, true, false, not, ◌||◌, List, [], ◌∷◌, ◌++◌, length, map, Some, arith, codes, decimal, append_assoc}
 use Rattle.std.specs.Prelude.{drop, pos, ◌==◌, if◌then◌else◌}
 use Rattle.std.specs.Fmt.{signed_decimal}
-use Rattle.std.specs.List.{All, AllByRecursion, list_all, list_any, zip}
+use Rattle.std.specs.List.{AllByRecursion, list_all, list_any, zip}
 use Rattle.std.proofs.lemmas.Bool.{le-leb, ne_eqb, or_right}
 use Rattle.std.proofs.lemmas.Fmt.{decimal_digit, decimal_step}
 use Rattle.std.proofs.lemmas.List.{length-map}
@@ -16,9 +16,7 @@ use Rattle.ir_ast.specs.declared.types.Ty.TheVariants as tys
 use Rattle.ir_ast.specs.declared.ops.Callee.{Callee}
 use Rattle.ir_ast.specs.declared.ops.Operand.{Operand}
 use Rattle.ir_ast.specs.declared.ops.Operand.TheVariants as operands
-use Rattle.ir_ast.specs.declared.ops.Op.{Op}
 use Rattle.ir_ast.specs.declared.ops.Op.TheVariants as ast
-use Rattle.ir_ast.specs.Insts.{Instruction}
 use Rattle.ir_ast.specs.Operands.{is_value}
 use Rattle.ir_ast.specs.Types.{is_answer, is_first_class}
 use Rattle.ir_ast.specs.Values.{value_types, definitions_of}
@@ -29,32 +27,26 @@ use Rattle.ir_ast.specs.Faults.TypeClash.{Fits}
 use Rattle.ir_printer.specs.Lists.{joined}
 use Rattle.ir_printer.specs.Names.{Names, value_name}
 use Rattle.ir_printer.specs.Words.{type_text, integer_text}
-use Rattle.ir_printer.specs.Operands.{parameter_text, value_text, typed_text}
+use Rattle.ir_printer.specs.Operands.{parameter_text, value_text}
 use Rattle.ir_printer.specs.Calls.{callee_name, statepoint_words, elementtype_words, end_words, result_words, relocate_words, bundles_text, result_suffix}
 use Rattle.ir_printer.specs.Lines.{result_front, operator_text}
-use Rattle.ir_reader.specs.declared.readings.TypeWord.{TypeWord}
 use Rattle.ir_reader.specs.declared.readings.TypeWord.TheVariants as types
-use Rattle.ir_reader.specs.declared.forms.Form.{Form}
 use Rattle.ir_reader.specs.declared.forms.Form.TheVariants as forms
-use Rattle.ir_reader.specs.declared.forms.Place.TheVariants as places
 use Rattle.ir_reader.specs.Families.{is_suffix}
 use Rattle.ir_reader.specs.Gives.{after}
-use Rattle.ir_reader.specs.Limits.{item_fits, type_fits, value_fits, given_fits, literal_fits}
-use Rattle.ir_reader.specs.Lists.{Given, comma, is_argument_type, is_task_start, passed_at}
+use Rattle.ir_reader.specs.Limits.{item_fits, type_fits, value_fits, literal_fits}
+use Rattle.ir_reader.specs.Lists.{comma, is_argument_type, is_task_start}
 use Rattle.ir_reader.specs.Marks.{is_mark, begins}
-use Rattle.ir_reader.specs.Parts.{Val, allowed_type_at, spelled_type_at, pointer_at}
-use Rattle.ir_reader.specs.Places.{behind_instruction, is_dropped_form}
-use Rattle.ir_reader.specs.Seen.{of_form}
+use Rattle.ir_reader.specs.Parts.{allowed_type_at, spelled_type_at, pointer_at}
 use Rattle.ir_reader.specs.Slots.{Item}
 use Rattle.ir_reader.specs.Slots as parts
-use Rattle.ir_reader.specs.Statepoints.{Guarded, is_plain, is_type_of, live_entry_at}
-use Rattle.ir_lines.specs.Statements.{Statement, stated}
-use Rattle.read_back.specs.Said.{word_of, value_says, passed_says, literal_of, parameter_says, number_says, token_says, made_says, statepoint_says, gc_result_says, gc_relocate_says}
+use Rattle.ir_reader.specs.Statepoints.{Guarded, is_plain, live_entry_at}
+use Rattle.read_back.specs.Said.{word_of, value_says, literal_of, parameter_says, made_says}
 use Rattle.read_back.proofs.Steps.{first_of}
-use Rattle.read_back.proofs.Spellings.{SpellsType, SpellsValue, SpellsLiteral, allowed, literal_token, signed-spellable, integer_suffix, integer_type, pointer_type, decimal-is, decimal-digits}
+use Rattle.read_back.proofs.Spellings.{SpellsLiteral, literal_token, signed-spellable, integer_suffix, integer_type, pointer_type, decimal-is, decimal-digits}
 use Rattle.read_back.proofs.Listed.{SpellsElement, others}
 use Rattle.read_back.proofs.ListForms.{EndsAtMark, type_element, type_opens, plain_opens, plain_spelled, goes_by_comma}
-use Rattle.read_back.proofs.Operands.{HaveNames, IsNarrow, value-named, type_spelled, type_allowed, type_fits_in, value_spelled, value_in_limit, spellable_fits}
+use Rattle.read_back.proofs.Operands.{HaveNames, IsNarrow, value-named, type_fits_in, value_spelled, value_in_limit, spellable_fits}
 use Rattle.read_back.proofs.Functions.{answer_spelled, answer_allowed, answer_fits}
 use Rattle.read_back.proofs.CallLines.{CalleeThere, PassedReads, passed_text, passed_given, callee-named, digits_named, each_element, each_fits}
 use Rattle.read_back.proofs.OneLine.{LineIn, made}
