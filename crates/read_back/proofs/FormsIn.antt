@@ -174,7 +174,6 @@ family_front name is = elim (or_cases (is_result_name name) (bytes_eq name state
   ]
 ]
 
-
 pub gc_new_own : (n : List ℕ) → is_family_name (codes "gc_new." ++ n) ≡ false
 unfolding statepoint_name relocate_name result_suffix result_front
 gc_new_own n = refl

@@ -14,6 +14,7 @@ pub mod MoreLines
 pub mod StepLines
 pub mod CallLines
 pub mod GroupLines
+pub mod GroupDeclarations
 pub mod Chains
 pub mod SwitchLines
 pub mod Blocks

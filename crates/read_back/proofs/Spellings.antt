@@ -170,6 +170,11 @@ pub integer_suffix : (n : ℕ) (most : n ≤ 64) (ts : List Tok) → suffix_of (
 unfolding integer_type
 integer_suffix n most ts = refl
 
+-- and it is no token
+pub integer_other : (n : ℕ) (most : n ≤ 64) → is_word (codes "token") (tok kinds.Word (integer_type n most).first) ≡ false
+unfolding integer_type
+integer_other n most = refl
+
 pointer_spelled : (rest : List ℕ) → tokens (codes "ptr addrspace(1)" ++ rest) ≡ tok kinds.Word (codes "ptr") ∷ tok kinds.Word (codes "addrspace") ∷ tok kinds.Punct (codes "(") ∷ tok kinds.Number (codes "1") ∷ tok kinds.Punct (codes ")") ∷ tokens rest
 pointer_spelled rest =
     tokens-spelled kinds.Word (codes "ptr") (codes " addrspace(1)" ++ rest) refl refl
@@ -213,6 +218,10 @@ pointer_type = record {
   other = λ allow. refl;
   global = pointer_global;
 }
+
+pub pointer_other : is_word (codes "token") (tok kinds.Word pointer_type.first) ≡ false
+unfolding pointer_type
+pointer_other = refl
 
 void_flag : (which : Flags) (ts : List Tok) → past_one_of (flag_words which) (tok kinds.Word (codes "void") ∷ ts) ≡ None
 void_flag flags.Calling ts = refl
