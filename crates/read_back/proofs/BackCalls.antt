@@ -136,6 +136,9 @@ external_head content source lines e one due answer parameters external each fou
 other_first : (m n : List ℕ) → get_or m 0 0 ≢ get_or n 0 0 → m ≢ n
 other_first m n differ e = differ (ap (λ (x : List ℕ). get_or x 0 0) e)
 
+other_at : (k : ℕ) (m n : List ℕ) → get_or m k 0 ≢ get_or n k 0 → m ≢ n
+other_at k m n differ e = differ (ap (λ (x : List ℕ). get_or x k 0) e)
+
 print_declared : (content : ModuleContent) → Each (IfDeclares (SaysOf (codes "print_i64") types.Void (types.Int 64 ∷ []))) content
 print_declared content =
     each_declaration (SaysOf (codes "print_i64") types.Void (types.Int 64 ∷ [])) content
@@ -143,6 +146,9 @@ print_declared content =
     (λ same. (refl, refl))
     (λ same. absurd (other_first (codes "read_i64") (codes "print_i64") (λ e. omega (arith, e)) same))
     (λ same. absurd (other_first (codes "task_start") (codes "print_i64") (λ e. omega (arith, e)) same))
+    (λ called same. absurd (other_at 0 (codes "gc.safepoint_poll") (codes "print_i64") (λ e. omega (arith, e)) same))
+    (λ called same. absurd (other_at 0 (codes "gc_check") (codes "print_i64") (λ e. omega (arith, e)) same))
+    (λ called same. absurd (other_at 0 (codes "gc_same") (codes "print_i64") (λ e. omega (arith, e)) same))
 
 read_declared : (content : ModuleContent) → Each (IfDeclares (SaysOf (codes "read_i64") (types.Int 64) [])) content
 read_declared content =
@@ -151,6 +157,9 @@ read_declared content =
     (λ same. absurd (other_first (codes "print_i64") (codes "read_i64") (λ e. omega (arith, e)) same))
     (λ same. (refl, refl))
     (λ same. absurd (other_first (codes "task_start") (codes "read_i64") (λ e. omega (arith, e)) same))
+    (λ called same. absurd (other_at 0 (codes "gc.safepoint_poll") (codes "read_i64") (λ e. omega (arith, e)) same))
+    (λ called same. absurd (other_at 0 (codes "gc_check") (codes "read_i64") (λ e. omega (arith, e)) same))
+    (λ called same. absurd (other_at 0 (codes "gc_same") (codes "read_i64") (λ e. omega (arith, e)) same))
 
 start_declared : (content : ModuleContent) → Each (IfDeclares (SaysOf (codes "task_start") types.Void (types.Plain ∷ types.Managed ∷ []))) content
 start_declared content =
@@ -159,6 +168,9 @@ start_declared content =
     (λ same. absurd (other_first (codes "print_i64") (codes "task_start") (λ e. omega (arith, e)) same))
     (λ same. absurd (other_first (codes "read_i64") (codes "task_start") (λ e. omega (arith, e)) same))
     (λ same. (refl, refl))
+    (λ called same. absurd (other_at 0 (codes "gc.safepoint_poll") (codes "task_start") (λ e. omega (arith, e)) same))
+    (λ called same. absurd (other_at 0 (codes "gc_check") (codes "task_start") (λ e. omega (arith, e)) same))
+    (λ called same. absurd (other_at 0 (codes "gc_same") (codes "task_start") (λ e. omega (arith, e)) same))
 
 made_declared : (content : ModuleContent) (layout : List ℕ) → Each (IfDeclares (SaysOf (codes "gc_new." ++ layout) types.Managed (types.Int 64 ∷ []))) content
 made_declared content layout =
@@ -167,6 +179,9 @@ made_declared content layout =
     (λ same. absurd (other_first (codes "print_i64") (codes "gc_new." ++ layout) (λ e. omega (arith, e)) same))
     (λ same. absurd (other_first (codes "read_i64") (codes "gc_new." ++ layout) (λ e. omega (arith, e)) same))
     (λ same. absurd (other_first (codes "task_start") (codes "gc_new." ++ layout) (λ e. omega (arith, e)) same))
+    (λ called same. absurd (other_at 2 (codes "gc.safepoint_poll") (codes "gc_new." ++ layout) (λ e. omega (arith, e)) same))
+    (λ called same. absurd (other_at 3 (codes "gc_check") (codes "gc_new." ++ layout) (λ e. omega (arith, e)) same))
+    (λ called same. absurd (other_at 3 (codes "gc_same") (codes "gc_new." ++ layout) (λ e. omega (arith, e)) same))
 
 -- ---- what is passed
 

@@ -12,6 +12,7 @@ use Rattle.read_back.specs.BlocksEnd.{BlocksEnd}
 use Rattle.read_back.specs.Said.{said_by}
 use Rattle.read_back.proofs.BackLines.{said}
 use Rattle.read_back.proofs.BackFaults.{no_strategy-clear, bad_layout-clear, pointer_cast-clear, pointer_order-clear, unknown_extern-clear, declares_free}
+use Rattle.read_back.proofs.NotCalled.{not_called_in}
 use Rattle.read_back.proofs.BackTops.{layouts_once, labels_once, values_once, definitions_free, values_free, labels_free, no_main-clear}
 use Rattle.read_back.proofs.BackEntry.{entry_has_pred-clear}
 use Rattle.read_back.proofs.BackHeads.{declares_defined-clear}
@@ -35,7 +36,7 @@ names_clear content source lines e line (value_again func c r) = values_once con
 reserved_clear : (content : ModuleContent) → IsSourceModule content → (lines : List Line) → said lines ≡ said_by content
     → (line : ℕ) → Reserved Source lines line → ⊥
 reserved_clear content source lines e line (defines_external func c at external) = definitions_free content source lines e func c external
-reserved_clear content source lines e line (declares_helper is answer name parameters c h) = declares_free content lines e line answer name parameters c h
+reserved_clear content source lines e line (declares_helper is answer name parameters c h) = declares_free content (not_called_in content source) lines e line answer name parameters c h
 reserved_clear content source lines e line (names_value is func one c d at inserted) = values_free content source lines e func c one d inserted
 reserved_clear content source lines e line (names_label is func one c d at inserted) = labels_free content source lines e func c one d inserted
 

@@ -54,6 +54,7 @@ use Rattle.read_back.proofs.BackInsts.{split_all}
 use Rattle.read_back.proofs.BackBlocks.{all_append, lines_all}
 use Rattle.read_back.proofs.BackSections.{SaysDefinition, definitions-are, layout-names, InBody as IsOfBody, in_body, blocks_inner}
 use Rattle.read_back.proofs.BackModules.{names_in}
+use Rattle.read_back.proofs.NotCalled.{is_of_source}
 
 -- ---- lines of the whole text
 
@@ -95,7 +96,7 @@ externals_below layouts =
 -- what holds of all parts of a module
 pub record Each (P : Statement → Type 0) (content : ModuleContent) : Type 0 where
   pub layouts : AllByRecursion P (map layout_says content.layouts)
-  pub declarations : (external : External) → IsBelow (length content.layouts) external → AllByRecursion P (declaration_says content.layouts external)
+  pub declarations : (external : External) → IsBelow (length content.layouts) external → calls content.funcs external ≡ true → AllByRecursion P (declaration_says content.layouts external)
   pub heads : (func : Function) → Contains content.funcs func → P (define (word_of func.answer) func.name (map argument_says func.args) (Some (codes "statepoint-example")))
   pub bodies : (s : Statement) → in_body s ≡ true → P s
   pub ends : P close
@@ -109,15 +110,15 @@ each_said P content each =
     (declared (externals content.layouts) (externals_below content.layouts))
     (functions content.funcs (recursion_from_All (Contains content.funcs) content.funcs (All-contains_itself content.funcs))))
   where
-    by : (external : External) (b : Bool) → IsBelow (length content.layouts) external → AllByRecursion P (if b then declaration_says content.layouts external else [])
-    by external true below = each.declarations external below
-    by external false below = tt
+    by : (external : External) (b : Bool) → calls content.funcs external ≡ b → IsBelow (length content.layouts) external → AllByRecursion P (if b then declaration_says content.layouts external else [])
+    by external true called below = each.declarations external below called
+    by external false called below = tt
 
     declared : (es : List External) → AllByRecursion (IsBelow (length content.layouts)) es → AllByRecursion P (flat_map (declaration_if_called content.layouts content.funcs) es)
     declared [] below = tt
     declared (e ∷ es) below =
         all_append P (declaration_if_called content.layouts content.funcs e) (flat_map (declaration_if_called content.layouts content.funcs) es)
-        (by e (calls content.funcs e) below.0) (declared es below.1)
+        (by e (calls content.funcs e) refl below.0) (declared es below.1)
 
     body : (ss : List Statement) → AllByRecursion IsOfBody ss → AllByRecursion P ss
     body [] h = tt
@@ -142,7 +143,7 @@ line_said P content lines e each l c =
 pub no_strategy-clear : (content : ModuleContent) (lines : List Line) → said lines ≡ said_by content → (line : ℕ) → ¬ (NoStrategy lines line)
 no_strategy-clear content lines e line f =
     no_text_fault lacks_strategy lines (said_by content) e
-    (each_said (Passes lacks_strategy) content (record { layouts = layouts content.layouts; declarations = λ external below. declarations external; heads = λ func c. refl; bodies = bodies; ends = refl })) line f
+    (each_said (Passes lacks_strategy) content (record { layouts = layouts content.layouts; declarations = λ external below called. declarations external; heads = λ func c. refl; bodies = bodies; ends = refl })) line f
   where
     layouts : (ls : List ObjectLayout) → AllByRecursion (Passes lacks_strategy) (map layout_says ls)
     layouts [] = tt
@@ -153,6 +154,9 @@ no_strategy-clear content lines e line f =
     declarations externs.Print = (refl, tt)
     declarations externs.Read = (refl, tt)
     declarations externs.TaskStart = (refl, tt)
+    declarations externs.Poll = (refl, tt)
+    declarations externs.Check = (refl, tt)
+    declarations externs.Same = (refl, tt)
     declarations _ = tt
 
     bodies : (s : Statement) → in_body s ≡ true → lacks_strategy s ≡ false
@@ -177,7 +181,7 @@ bad_layout-clear content source lines e line f =
     no_text_fault is_bad_layout lines (said_by content) e
     (each_said (Passes is_bad_layout) content (record {
       layouts = layouts content.layouts (recursion_from_All (λ (l : ObjectLayout). 0 < length l.fields) content.layouts source.no_fault.fields);
-      declarations = λ external below. declarations external;
+      declarations = λ external below called. declarations external;
       heads = λ func c. refl;
       bodies = bodies;
       ends = refl;
@@ -192,6 +196,9 @@ bad_layout-clear content source lines e line f =
     declarations externs.Print = (refl, tt)
     declarations externs.Read = (refl, tt)
     declarations externs.TaskStart = (refl, tt)
+    declarations externs.Poll = (refl, tt)
+    declarations externs.Check = (refl, tt)
+    declarations externs.Same = (refl, tt)
     declarations _ = tt
 
     bodies : (s : Statement) → in_body s ≡ true → is_bad_layout s ≡ false
@@ -395,8 +402,11 @@ pub each_declaration : (R : TypeWord → List ℕ → List Named → Type 0) (co
     → ((number : ℕ) → number < length content.layouts → R types.Managed (codes "gc_new." ++ layout_name content.layouts number) (unnamed (types.Int 64 ∷ [])))
     → R types.Void (codes "print_i64") (unnamed (types.Int 64 ∷ [])) → R (types.Int 64) (codes "read_i64") []
     → R types.Void (codes "task_start") (unnamed (types.Plain ∷ types.Managed ∷ []))
+    → (calls content.funcs externs.Poll ≡ true → R types.Void (codes "gc.safepoint_poll") [])
+    → (calls content.funcs externs.Check ≡ true → R types.Void (codes "gc_check") (unnamed (types.Managed ∷ types.Managed ∷ types.Int 64 ∷ [])))
+    → (calls content.funcs externs.Same ≡ true → R (types.Int 1) (codes "gc_same") (unnamed (types.Managed ∷ types.Managed ∷ types.Managed ∷ types.Managed ∷ [])))
     → Each (IfDeclares R) content
-each_declaration R content made print read start = record {
+each_declaration R content made print read start poll check same = record {
   layouts = layouts content.layouts;
   declarations = declarations;
   heads = λ func c. tt;
@@ -408,27 +418,33 @@ each_declaration R content made print read start = record {
     layouts [] = tt
     layouts (l ∷ ls) = (tt, layouts ls)
 
-    declarations : (external : External) → IsBelow (length content.layouts) external → AllByRecursion (IfDeclares R) (declaration_says content.layouts external)
-    declarations (externs.New number) below = (made number below, tt)
-    declarations externs.Print below = (print, tt)
-    declarations externs.Read below = (read, tt)
-    declarations externs.TaskStart below = (start, tt)
-    declarations _ below = tt
+    declarations : (external : External) → IsBelow (length content.layouts) external → calls content.funcs external ≡ true → AllByRecursion (IfDeclares R) (declaration_says content.layouts external)
+    declarations (externs.New number) below called = (made number below, tt)
+    declarations externs.Print below called = (print, tt)
+    declarations externs.Read below called = (read, tt)
+    declarations externs.TaskStart below called = (start, tt)
+    declarations externs.Poll below called = (poll called, tt)
+    declarations externs.Check below called = (check called, tt)
+    declarations externs.Same below called = (same called, tt)
+    declarations _ below called = tt
 
     bodies : (s : Statement) → in_body s ≡ true → IfDeclares R s
     bodies (declare answer name parameters) h = absurd (let bad : false ≡ true = h in cc)
     bodies _ h = tt
 
-pub declares_free : (content : ModuleContent) (lines : List Line) → said lines ≡ said_by content → (line : ℕ) (answer : TypeWord) (name : List ℕ) (parameters : List Named)
+pub declares_free : (content : ModuleContent) → ((e : External) → is_of_source e ≡ false → calls content.funcs e ≡ false) → (lines : List Line) → said lines ≡ said_by content → (line : ℕ) (answer : TypeWord) (name : List ℕ) (parameters : List Named)
     → Contains lines (record { number = line; says = declare answer name parameters })
     → ¬ (Contains helpers name ⊎ HasFront (codes "llvm.") name)
-declares_free content lines e line answer name parameters c =
+declares_free content uncalled lines e line answer name parameters c =
     line_said (IfDeclares (λ a n ps. ¬ (Contains helpers n ⊎ HasFront (codes "llvm.") n))) content lines e
     (each_declaration (λ a n ps. ¬ (Contains helpers n ⊎ HasFront (codes "llvm.") n)) content
     (λ number below. made_not_reserved (layout_name content.layouts number))
     (not_reserved (codes "print_i64") (λ e. omega (arith, e)) (λ e. omega (arith, e)))
     (not_reserved (codes "read_i64") (λ e. omega (arith, e)) (λ e. omega (arith, e)))
-    (not_reserved (codes "task_start") (λ e. omega (arith, e)) (λ e. omega (arith, e))))
+    (not_reserved (codes "task_start") (λ e. omega (arith, e)) (λ e. omega (arith, e)))
+    (λ called. absurd (let bad : true ≡ false = sym called ∙ uncalled externs.Poll refl in cc))
+    (λ called. absurd (let bad : true ≡ false = sym called ∙ uncalled externs.Check refl in cc))
+    (λ called. absurd (let bad : true ≡ false = sym called ∙ uncalled externs.Same refl in cc)))
     (record { number = line; says = declare answer name parameters }) c
 
 -- ---- code 12
@@ -444,7 +460,10 @@ unknown_extern-clear content lines e line f =
     (each_declaration (IsExtern names) content (made names content.layouts refl)
     (own names 0 (external (codes "print_i64") types.Void (types.Int 64 ∷ [])) refl)
     (own names 1 (external (codes "read_i64") (types.Int 64) []) refl)
-    (own names 2 (external (codes "task_start") types.Void (types.Plain ∷ types.Managed ∷ [])) refl))
+    (own names 2 (external (codes "task_start") types.Void (types.Plain ∷ types.Managed ∷ [])) refl)
+    (λ called. own names 3 (external (codes "gc.safepoint_poll") types.Void []) refl)
+    (λ called. own names 4 (external (codes "gc_check") types.Void (types.Managed ∷ types.Managed ∷ types.Int 64 ∷ [])) refl)
+    (λ called. own names 5 (external (codes "gc_same") (types.Int 1) (types.Managed ∷ types.Managed ∷ types.Managed ∷ types.Managed ∷ [])) refl))
     (record { number = line; says = declare f.answer f.name f.parameters }) f.stands in
     f.unknown (subst (λ (ns : List (List ℕ)). IsExtern ns f.answer f.name f.parameters) (sym (layout-names content lines e)) there)
   where

@@ -24,7 +24,8 @@ declares_external content lines e l c answer name parameters says =
     (line_said (IfDeclares (λ a n ps. IsExternalName n)) content lines e
     (each_declaration (λ a n ps. IsExternalName n) content
     (λ layout below. inr (inl (layout_name content.layouts layout, refl)))
-    (inl (0, omega arith, refl)) (inl (1, omega arith, refl)) (inl (2, omega arith, refl))) l c)
+    (inl (0, omega arith, refl)) (inl (1, omega arith, refl)) (inl (2, omega arith, refl))
+    (λ called. inl (3, omega arith, refl)) (λ called. inl (4, omega arith, refl)) (λ called. inl (5, omega arith, refl))) l c)
 
 pub declares_defined-clear : (content : ModuleContent) → IsSourceModule content → (lines : List Line) → said lines ≡ said_by content → (line : ℕ) → ¬ (DeclaresDefined lines line)
 declares_defined-clear content source lines e line d =

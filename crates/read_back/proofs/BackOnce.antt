@@ -113,6 +113,9 @@ single_names layouts (externs.New k) = refl
 single_names layouts externs.Print = refl
 single_names layouts externs.Read = refl
 single_names layouts externs.TaskStart = refl
+single_names layouts externs.Poll = refl
+single_names layouts externs.Check = refl
+single_names layouts externs.Same = refl
 single_names layouts _ = tt
 
 add_names : (ns rest : List (List ℕ)) → IsSingle ns → AllByRecursion (λ n. AllByRecursion (λ m. m ≢ n) rest) ns → Apart rest → Apart (ns ++ rest)
@@ -148,6 +151,9 @@ all_apart layouts funcs (e ∷ es) h = by (calls funcs e) (all_apart layouts fun
 first_other : (m n : List ℕ) → get_or m 0 0 ≢ get_or n 0 0 → m ≢ n
 first_other m n differ e = differ (ap (λ (x : List ℕ). get_or x 0 0) e)
 
+other_at : (k : ℕ) (m n : List ℕ) → get_or m k 0 ≢ get_or n k 0 → AllByRecursion (λ x. AllByRecursion (λ y. y ≢ x) (m ∷ [])) (n ∷ [])
+other_at k m n differ = ((λ e. differ (ap (λ (x : List ℕ). get_or x k 0) e), tt), tt)
+
 layout_other : (layouts : List ObjectLayout) → Distinct (map (λ layout. layout.name) layouts) → (j k : ℕ) → j < k → k < length layouts
     → codes "gc_new." ++ layout_name layouts k ≢ codes "gc_new." ++ layout_name layouts j
 layout_other layouts once j k less below e =
@@ -169,6 +175,9 @@ made_fixed layouts k (externs.New j) h = absurd h
 made_fixed layouts k externs.Print h = ((first_other (codes "print_i64") (codes "gc_new." ++ layout_name layouts k) (λ e. omega (arith, e)), tt), tt)
 made_fixed layouts k externs.Read h = ((first_other (codes "read_i64") (codes "gc_new." ++ layout_name layouts k) (λ e. omega (arith, e)), tt), tt)
 made_fixed layouts k externs.TaskStart h = ((first_other (codes "task_start") (codes "gc_new." ++ layout_name layouts k) (λ e. omega (arith, e)), tt), tt)
+made_fixed layouts k externs.Poll h = other_at 2 (codes "gc.safepoint_poll") (codes "gc_new." ++ layout_name layouts k) (λ e. omega (arith, e))
+made_fixed layouts k externs.Check h = other_at 3 (codes "gc_check") (codes "gc_new." ++ layout_name layouts k) (λ e. omega (arith, e))
+made_fixed layouts k externs.Same h = other_at 3 (codes "gc_same") (codes "gc_new." ++ layout_name layouts k) (λ e. omega (arith, e))
 made_fixed layouts k _ h = (tt, tt)
 
 all_fixed : (layouts : List ObjectLayout) (k : ℕ) (fs : List External) → AllByRecursion IsFixed fs → AllByRecursion (Other layouts (externs.New k)) fs
@@ -195,6 +204,9 @@ IsSilent (externs.New k) = ⊥
 IsSilent externs.Print = ⊥
 IsSilent externs.Read = ⊥
 IsSilent externs.TaskStart = ⊥
+IsSilent externs.Poll = ⊥
+IsSilent externs.Check = ⊥
+IsSilent externs.Same = ⊥
 IsSilent _ = ⊤
 
 silent_names : (layouts : List ObjectLayout) (e : External) → IsSilent e → declared_names layouts e ≡ []
@@ -202,6 +214,9 @@ silent_names layouts (externs.New k) h = absurd h
 silent_names layouts externs.Print h = absurd h
 silent_names layouts externs.Read h = absurd h
 silent_names layouts externs.TaskStart h = absurd h
+silent_names layouts externs.Poll h = absurd h
+silent_names layouts externs.Check h = absurd h
+silent_names layouts externs.Same h = absurd h
 silent_names layouts _ h = refl
 
 silent_other : (layouts : List ObjectLayout) (e f : External) → IsSilent f → Other layouts e f
@@ -232,28 +247,37 @@ silent_results [] = (tt, tt)
 silent_results (w ∷ ws) = (tt, silent_results ws)
 
 abbrev silent_tail : List External
-silent_tail = externs.Poll ∷ externs.Check ∷ externs.Same ∷ externs.StatepointFamily ∷ externs.RelocateFamily ∷ (map externs.ResultOf integer_widths ++ externs.ResultPointer ∷ [])
+silent_tail = externs.StatepointFamily ∷ externs.RelocateFamily ∷ (map externs.ResultOf integer_widths ++ externs.ResultPointer ∷ [])
 
 tail_silent : AllByRecursion IsSilent silent_tail
-tail_silent = (tt, (tt, (tt, (tt, (tt, silent_results integer_widths)))))
+tail_silent = (tt, (tt, silent_results integer_widths))
 
-fixed_others : (layouts : List ObjectLayout) → Others layouts (externs.Print ∷ externs.Read ∷ externs.TaskStart ∷ silent_tail)
-fixed_others layouts = (
-  (
-    ((first_other (codes "read_i64") (codes "print_i64") (λ e. omega (arith, e)), tt), tt),
-    (((first_other (codes "task_start") (codes "print_i64") (λ e. omega (arith, e)), tt), tt), after_silent layouts externs.Print silent_tail tail_silent),
-  ),
-  (
-    (((first_other (codes "task_start") (codes "read_i64") (λ e. omega (arith, e)), tt), tt), after_silent layouts externs.Read silent_tail tail_silent),
-    (after_silent layouts externs.TaskStart silent_tail tail_silent, silent_others layouts silent_tail tail_silent),
-  ),
-)
+print_others : (layouts : List ObjectLayout) → AllByRecursion (Other layouts externs.Print) (externs.Read ∷ externs.TaskStart ∷ externs.Poll ∷ externs.Check ∷ externs.Same ∷ silent_tail)
+print_others layouts = (other_at 0 (codes "read_i64") (codes "print_i64") (λ e. omega (arith, e)), (other_at 0 (codes "task_start") (codes "print_i64") (λ e. omega (arith, e)), (other_at 0 (codes "gc.safepoint_poll") (codes "print_i64") (λ e. omega (arith, e)), (other_at 0 (codes "gc_check") (codes "print_i64") (λ e. omega (arith, e)), (other_at 0 (codes "gc_same") (codes "print_i64") (λ e. omega (arith, e)), after_silent layouts externs.Print silent_tail tail_silent)))))
+
+read_others : (layouts : List ObjectLayout) → AllByRecursion (Other layouts externs.Read) (externs.TaskStart ∷ externs.Poll ∷ externs.Check ∷ externs.Same ∷ silent_tail)
+read_others layouts = (other_at 0 (codes "task_start") (codes "read_i64") (λ e. omega (arith, e)), (other_at 0 (codes "gc.safepoint_poll") (codes "read_i64") (λ e. omega (arith, e)), (other_at 0 (codes "gc_check") (codes "read_i64") (λ e. omega (arith, e)), (other_at 0 (codes "gc_same") (codes "read_i64") (λ e. omega (arith, e)), after_silent layouts externs.Read silent_tail tail_silent))))
+
+taskstart_others : (layouts : List ObjectLayout) → AllByRecursion (Other layouts externs.TaskStart) (externs.Poll ∷ externs.Check ∷ externs.Same ∷ silent_tail)
+taskstart_others layouts = (other_at 0 (codes "gc.safepoint_poll") (codes "task_start") (λ e. omega (arith, e)), (other_at 0 (codes "gc_check") (codes "task_start") (λ e. omega (arith, e)), (other_at 0 (codes "gc_same") (codes "task_start") (λ e. omega (arith, e)), after_silent layouts externs.TaskStart silent_tail tail_silent)))
+
+poll_others : (layouts : List ObjectLayout) → AllByRecursion (Other layouts externs.Poll) (externs.Check ∷ externs.Same ∷ silent_tail)
+poll_others layouts = (other_at 2 (codes "gc_check") (codes "gc.safepoint_poll") (λ e. omega (arith, e)), (other_at 2 (codes "gc_same") (codes "gc.safepoint_poll") (λ e. omega (arith, e)), after_silent layouts externs.Poll silent_tail tail_silent))
+
+check_others : (layouts : List ObjectLayout) → AllByRecursion (Other layouts externs.Check) (externs.Same ∷ silent_tail)
+check_others layouts = (other_at 3 (codes "gc_same") (codes "gc_check") (λ e. omega (arith, e)), after_silent layouts externs.Check silent_tail tail_silent)
+
+same_others : (layouts : List ObjectLayout) → AllByRecursion (Other layouts externs.Same) (silent_tail)
+same_others layouts = after_silent layouts externs.Same silent_tail tail_silent
+
+fixed_others : (layouts : List ObjectLayout) → Others layouts (externs.Print ∷ externs.Read ∷ externs.TaskStart ∷ externs.Poll ∷ externs.Check ∷ externs.Same ∷ silent_tail)
+fixed_others layouts = (print_others layouts, (read_others layouts, (taskstart_others layouts, (poll_others layouts, (check_others layouts, (same_others layouts, silent_others layouts silent_tail tail_silent))))))
 
 externals_others : (layouts : List ObjectLayout) → Distinct (map (λ layout. layout.name) layouts) → Others layouts (externals layouts)
 unfolding fixed_externals
 externals_others layouts once =
-    each_made layouts once 0 (length layouts) (omega arith) (externs.Print ∷ externs.Read ∷ externs.TaskStart ∷ silent_tail)
-    (tt, (tt, (tt, silent_fixed silent_tail tail_silent))) (fixed_others layouts)
+    each_made layouts once 0 (length layouts) (omega arith) (externs.Print ∷ externs.Read ∷ externs.TaskStart ∷ externs.Poll ∷ externs.Check ∷ externs.Same ∷ silent_tail)
+    (tt, (tt, (tt, (tt, (tt, (tt, silent_fixed silent_tail tail_silent)))))) (fixed_others layouts)
 
 -- ---- all heads
 
@@ -262,6 +286,9 @@ external_names layouts (externs.New k) = (inr (inl (layout_name layouts k, refl)
 external_names layouts externs.Print = (inl (0, omega arith, refl), tt)
 external_names layouts externs.Read = (inl (1, omega arith, refl), tt)
 external_names layouts externs.TaskStart = (inl (2, omega arith, refl), tt)
+external_names layouts externs.Poll = (inl (3, omega arith, refl), tt)
+external_names layouts externs.Check = (inl (4, omega arith, refl), tt)
+external_names layouts externs.Same = (inl (5, omega arith, refl), tt)
 external_names layouts _ = tt
 
 every_external : (layouts : List ObjectLayout) (es : List External) → AllByRecursion (λ e. AllByRecursion IsExternalName (declared_names layouts e)) es

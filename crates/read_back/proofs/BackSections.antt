@@ -170,6 +170,9 @@ declared_no_define layouts (externs.New number) = (refl, tt)
 declared_no_define layouts externs.Print = (refl, tt)
 declared_no_define layouts externs.Read = (refl, tt)
 declared_no_define layouts externs.TaskStart = (refl, tt)
+declared_no_define layouts externs.Poll = (refl, tt)
+declared_no_define layouts externs.Check = (refl, tt)
+declared_no_define layouts externs.Same = (refl, tt)
 declared_no_define layouts _ = tt
 
 if_called_no_define : (layouts : List ObjectLayout) (funcs : List Function) (external : External) → AllByRecursion NoDefine (declaration_if_called layouts funcs external)
@@ -251,6 +254,9 @@ declared_no_layout layouts (externs.New number) = (refl, tt)
 declared_no_layout layouts externs.Print = (refl, tt)
 declared_no_layout layouts externs.Read = (refl, tt)
 declared_no_layout layouts externs.TaskStart = (refl, tt)
+declared_no_layout layouts externs.Poll = (refl, tt)
+declared_no_layout layouts externs.Check = (refl, tt)
+declared_no_layout layouts externs.Same = (refl, tt)
 declared_no_layout layouts _ = tt
 
 if_called_no_layout : (layouts : List ObjectLayout) (funcs : List Function) (external : External) → AllByRecursion NoLayout (declaration_if_called layouts funcs external)

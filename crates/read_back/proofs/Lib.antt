@@ -31,6 +31,7 @@ pub mod BackInsts
 pub mod BackBlocks
 pub mod BackSections
 pub mod BackModules
+pub mod NotCalled
 pub mod BackFaults
 pub mod BackTops
 pub mod BackEntry

@@ -69,6 +69,7 @@ use Rattle.read_back.proofs.Operands.{named_at}
 use Rattle.read_back.proofs.Chains.{joined-cons, behind_all}
 use Rattle.read_back.proofs.Blocks.{Room, room-fits, room_as}
 use Rattle.read_back.proofs.FunctionsRead.{FunctionReads, behind_function, function_read, function_form, function_room}
+use Rattle.read_back.proofs.NotCalled.{is_of_source, each_of, not_called_in}
 use Rattle.read_back.proofs.SourceFunctions.{function_reads}
 
 -- outside functions
@@ -208,14 +209,6 @@ new_bytes : (n : List ℕ) → new_words ++ (n ++ codes "(i64)\n") ≡ (codes "d
 unfolding new_words
 new_bytes n = simp append_assoc
 
--- the declaration of an external of source modules
-abbrev is_of_source : External → Bool
-is_of_source (externs.New number) = true
-is_of_source externs.Print = true
-is_of_source externs.Read = true
-is_of_source externs.TaskStart = true
-is_of_source _ = false
-
 -- a declaration, in a text of the source form
 declared_top : (c : Counts) → IsStill text_forms.Source c → (text : List ℕ) (items : List parts.Item) → ReadsAs text forms.Declare items → is_metadata text ≡ false → list_all item_fits items ≡ true → counts_fit c ≡ true
     → Says (at_top text_forms.Source c) (text ++ (10 ∷ [])) (at_top text_forms.Source c) (stated (of_form forms.Declare items) ∷ [])
@@ -248,45 +241,6 @@ declaration_read layouts named c same room externs.StatepointFamily low is = abs
 declaration_read layouts named c same room externs.RelocateFamily low is = absurd (let bad : false ≡ true = is in cc)
 declaration_read layouts named c same room (externs.ResultOf width) low is = absurd (let bad : false ≡ true = is in cc)
 declaration_read layouts named c same room externs.ResultPointer low is = absurd (let bad : false ≡ true = is in cc)
-
--- what no source module calls
-
-not_helper : (e : External) (callee : Callee) → is_of_source e ≡ false → is_helper callee ≡ false → is_callee e callee ≡ false
-not_helper (externs.New number) callee other plain = cc
-not_helper externs.Print callee other plain = cc
-not_helper externs.Read callee other plain = cc
-not_helper externs.TaskStart callee other plain = cc
-not_helper externs.Poll callees.Poll other plain = cc
-not_helper externs.Poll _ other plain = refl
-not_helper externs.Check callees.Check other plain = cc
-not_helper externs.Check _ other plain = refl
-not_helper externs.Same callees.Same other plain = cc
-not_helper externs.Same _ other plain = refl
-not_helper externs.StatepointFamily _ other plain = refl
-not_helper externs.RelocateFamily _ other plain = refl
-not_helper (externs.ResultOf width) _ other plain = refl
-not_helper externs.ResultPointer _ other plain = refl
-
-not_called : (e : External) (op : Op) (ty : Ty) → is_of_source e ≡ false → is_rewritten op ≡ false → is_call_of e op ty ≡ false
-not_called e (ops.Call callee types) ty other plain = not_helper e callee other plain
-not_called e (ops.Statepoint id callee types) ty other plain = cc
-not_called e ops.GcResult ty other plain = cc
-not_called e ops.GcRelocate ty other plain = cc
-not_called e _ ty other plain = refl
-
-none_any : {X : Type 0} (P : X → Type 0) (f : X → Bool) → ((x : X) → P x → f x ≡ false) → (xs : List X) → AllByRecursion P xs → list_any f xs ≡ false
-none_any P f each [] all = refl
-none_any P f each (x ∷ xs) all = rw (each x all.0) (none_any P f each xs all.1)
-
-abbrev FunctionIsPrinted : ModuleContent → Function → Type 0
-FunctionIsPrinted content func = AllByRecursion (λ (block : BasicBlock). AllByRecursion (λ (inst : Instruction). IsPrinted (names_in content func) inst.op inst) block.insts) func.blocks
-
-not_in : (content : ModuleContent) (e : External) → is_of_source e ≡ false → (funcs : List Function) → AllByRecursion (FunctionIsPrinted content) funcs → calls funcs e ≡ false
-unfolding calls
-not_in content e other funcs all =
-    none_any (FunctionIsPrinted content) _ (λ func is.
-    none_any (λ (block : BasicBlock). AllByRecursion (λ (inst : Instruction). IsPrinted (names_in content func) inst.op inst) block.insts) _ (λ block is.
-    none_any (λ (inst : Instruction). IsPrinted (names_in content func) inst.op inst) (λ inst. is_call_of e inst.op inst.ty) (λ inst is. not_called e inst.op inst.ty other (is.plain refl)) block.insts is) func.blocks is) funcs all
 
 if_called_read : (layouts : List ObjectLayout) (funcs : List Function) → All (λ (layout : ObjectLayout). is_name layout.name ≡ true) layouts → (c : Counts) → IsStill text_forms.Source c → counts_fit c ≡ true → (e : External) → IsBelow (length layouts) e
     → (is_of_source e ≡ false → calls funcs e ≡ false)
@@ -351,13 +305,6 @@ functions_top (f ∷ fs) s top = functions_top fs (behind_function f s) refl
 
 -- ---- the module
 
-each_of : {X : Type 0} (xs : List X) (P : X → Type 0) → ((x : X) → Contains xs x → P x) → AllByRecursion P xs
-each_of {X} xs P each = over xs (recursion_from_All (Contains xs) xs (All-contains_itself xs))
-  where
-    over : (ys : List X) → AllByRecursion (Contains xs) ys → AllByRecursion P ys
-    over [] all = tt
-    over (y ∷ ys) all = (each y all.0, over ys all.1)
-
 -- the state behind the module's text
 abbrev behind_module : TextForm → ModuleContent → State
 behind_module of content = behind_all behind_function content.funcs (at_top of (behind_layouts of content.layouts (opening of).counts))
@@ -367,7 +314,7 @@ unfolding text_of said_by declarations_text
 module_read content source ends =
     says-both (layouts_read text_forms.Source content.layouts (length content.funcs) 0 (length (all_instructions content.funcs)) (opening text_forms.Source).counts layouts_fit room)
     (says-both (declarations_read content.layouts content.funcs source.layout_names behind_counts (still_by text_forms.Source behind_counts none) (room-fits later (few behind_counts none))
-    (λ e other. not_in content e other content.funcs functions_printed) (externals content.layouts) (externals_below content.layouts))
+    (not_called_in content source) (externals content.layouts) (externals_below content.layouts))
     (functions_read text_forms.Source content.layouts content.funcs (at_top text_forms.Source behind_counts) refl refl functions_fit later))
   where
     layouts_fit : AllByRecursion LayoutReads content.layouts
@@ -392,9 +339,6 @@ module_read content source ends =
 
     later : Room text_forms.Source 0 (length content.funcs) 0 (length (all_instructions content.funcs)) behind_counts
     later = layouts_room text_forms.Source content.layouts (length content.funcs) 0 (length (all_instructions content.funcs)) (opening text_forms.Source).counts room
-
-    functions_printed : AllByRecursion (FunctionIsPrinted content) content.funcs
-    functions_printed = each_of content.funcs (FunctionIsPrinted content) (λ func c. printed content source func c)
 
     functions_fit : AllByRecursion (FunctionReads text_forms.Source content.layouts content.funcs) content.funcs
     functions_fit = each_of content.funcs (FunctionReads text_forms.Source content.layouts content.funcs) (λ func c. function_reads content source ends func c)

@@ -263,13 +263,16 @@ layout_says layout = says.layout layout.name (map cell_word layout.fields)
 abbrev pub unnamed : List TypeWord → List Named
 unnamed words = map (λ ty. record { ty = ty; name = None }) words
 
--- the declaration of an external that a source module can call
+-- the declaration of an external; those of the three families are dropped
 abbrev pub declaration_says : List ObjectLayout → External → List Statement
 declaration_says layouts (externs.New layout) =
     says.declare types.Managed (codes "gc_new." ++ layout_name layouts layout) (unnamed (types.Int 64 ∷ [])) ∷ []
 declaration_says layouts externs.Print = says.declare types.Void (codes "print_i64") (unnamed (types.Int 64 ∷ [])) ∷ []
 declaration_says layouts externs.Read = says.declare (types.Int 64) (codes "read_i64") [] ∷ []
 declaration_says layouts externs.TaskStart = says.declare types.Void (codes "task_start") (unnamed (types.Plain ∷ types.Managed ∷ [])) ∷ []
+declaration_says layouts externs.Poll = says.declare types.Void (codes "gc.safepoint_poll") [] ∷ []
+declaration_says layouts externs.Check = says.declare types.Void (codes "gc_check") (unnamed (types.Managed ∷ types.Managed ∷ types.Int 64 ∷ [])) ∷ []
+declaration_says layouts externs.Same = says.declare (types.Int 1) (codes "gc_same") (unnamed (types.Managed ∷ types.Managed ∷ types.Managed ∷ types.Managed ∷ [])) ∷ []
 declaration_says layouts _ = []
 
 abbrev pub declaration_if_called : List ObjectLayout → List Function → External → List Statement
