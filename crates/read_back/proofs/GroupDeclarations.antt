@@ -1,18 +1,13 @@
 -- The declarations of the three families, as they are printed: they are read and dropped.
-use Rattle.std.proofs.Common.{◌≡◌, refl, ap, ◌∙◌, ℕ, ◌≤◌, true, false, List, [], ◌∷◌, ◌++◌, Some, arith, codes, decimal, append-nil}
+use Rattle.std.proofs.Common.{◌≡◌, refl, ap, ◌∙◌, ℕ, ◌≤◌, true, List, [], ◌∷◌, ◌++◌, Some, arith, codes, decimal}
 use Rattle.std.specs.List.{list_all}
 use Rattle.std.specs.Char.{is_ascii_digit}
 use Rattle.sp_text.specs.Tokens.{Tok, tok, tokens, is_name, are_digits}
 use Rattle.sp_text.specs.declared.tokens.Kind.TheVariants as kinds
 use Rattle.ir_ast.specs.declared.modules.Form.TheVariants as text_forms
-use Rattle.ir_ast.specs.Layouts.{ObjectLayout}
-use Rattle.ir_printer.specs.declared.declarations.External.{External}
-use Rattle.ir_printer.specs.declared.declarations.External.TheVariants as externs
-use Rattle.ir_printer.specs.Declarations.{declaration_text, fixed_declaration, result_of_words}
 use Rattle.ir_reader.specs.declared.forms.Form.TheVariants as forms
 use Rattle.ir_reader.specs.declared.forms.DroppedLine.TheVariants as drop_lines
 use Rattle.ir_reader.specs.declared.words.Dropped.TheVariants as drops
-use Rattle.ir_reader.specs.Drops.{past_all}
 use Rattle.ir_reader.specs.Families.{statepoint_name, relocate_name, result_suffix, result_front, is_family_name}
 use Rattle.ir_reader.specs.Forms.{slots, form_in, declared_form, declared_of, first_global}
 use Rattle.read_back.proofs.Steps.{Reads, past_all-none, end, word, spaced, space, over_blank, drop_at, drop_end}

@@ -1,35 +1,28 @@
--- The text of a source module is read: its layouts, its declarations and its functions.
+-- The text of a module is read: its layouts, its declarations and its functions.
 use Rattle.std.proofs.Common.{◌≡◌, refl, ap, sym, ◌∙◌, subst, ℕ, suc, ◌+◌, ◌≤◌, Bool, true, false, if◌then◌else◌, List, [], ◌∷◌, ◌++◌, length, map, Some, None, Ok, arith, codes, decimal, append_assoc, append-nil, length-append}
 use Rattle.std.specs.Prelude.{flat_map}
-use Rattle.std.specs.List.{All, AllByRecursion, Contains, list_all, list_any}
+use Rattle.std.specs.List.{All, AllByRecursion, list_all}
 use Rattle.std.specs.Str.Lines.{lines}
 use Rattle.std.proofs.lemmas.Bool.{le-leb}
 use Rattle.std.proofs.lemmas.Fmt.{decimal_digit, decimal_step}
 use Rattle.std.proofs.lemmas.List.{length-map}
-use Rattle.std.proofs.lemmas.List.Elements.{All-from_recursion, recursion_from_All, All-contains, All-contains_itself}
+use Rattle.std.proofs.lemmas.List.Elements.{All-from_recursion, All-contains}
 use Rattle.sp_text.specs.Tokens.{tokens, is_name}
 use Rattle.sp_text.specs.Labels.{is_metadata}
 use Rattle.sp_text.specs.Lines.{numbered, lines_of}
-use Rattle.ir_ast.specs.declared.types.Ty.{Ty}
 use Rattle.ir_ast.specs.declared.cells.Cell.{Cell}
 use Rattle.ir_ast.specs.declared.cells.Cell.TheVariants as cells
-use Rattle.ir_ast.specs.declared.ops.Callee.{Callee}
-use Rattle.ir_ast.specs.declared.ops.Callee.TheVariants as callees
-use Rattle.ir_ast.specs.declared.ops.Op.{Op}
-use Rattle.ir_ast.specs.declared.ops.Op.TheVariants as ops
 use Rattle.ir_ast.specs.Cells.{word_of}
 use Rattle.ir_ast.specs.Insts.{Instruction}
-use Rattle.ir_ast.specs.Blocks.{BasicBlock}
 use Rattle.ir_ast.specs.Layouts.{ObjectLayout}
 use Rattle.ir_ast.specs.Funcs.{Function, instructions_of}
 use Rattle.ir_ast.specs.Modules.{ModuleContent}
-use Rattle.ir_ast.specs.Lines.{is_rewritten}
-use Rattle.ir_ast.specs.Callees.{is_helper}
+use Rattle.ir_cfg.specs.Limits.{IsWithinLimits, LayoutsHaveNames}
 use Rattle.ir_cfg.specs.SourceModules.{IsSourceModule}
 use Rattle.ir_printer.specs.declared.declarations.External.{External}
 use Rattle.ir_printer.specs.declared.declarations.External.TheVariants as externs
 use Rattle.ir_printer.specs.Declarations as printed_declarations
-use Rattle.ir_printer.specs.Declarations.{is_callee, is_call_of, calls, new_words, fixed_declaration, declaration_text, externals, declarations_text, has_top}
+use Rattle.ir_printer.specs.Declarations.{calls, new_words, result_of_words, fixed_declaration, declaration_text, externals, declarations_text, has_top}
 use Rattle.ir_printer.specs.Lists.{joined, led}
 use Rattle.ir_printer.specs.Names.{layout_name}
 use Rattle.ir_printer.specs.Texts.{layout_text, function_text, functions_text, text_of}
@@ -37,6 +30,8 @@ use Rattle.ir_reader.specs.declared.readings.TypeWord.{TypeWord}
 use Rattle.ir_reader.specs.declared.readings.TypeWord.TheVariants as types
 use Rattle.ir_reader.specs.declared.forms.Form.{Form}
 use Rattle.ir_reader.specs.declared.forms.Form.TheVariants as forms
+use Rattle.ir_reader.specs.declared.forms.DroppedLine.TheVariants as drop_lines
+use Rattle.ir_reader.specs.Families.{statepoint_name, relocate_name, result_suffix, result_front, is_family_name}
 use Rattle.ir_reader.specs.declared.forms.Counted.TheVariants as kinds
 use Rattle.ir_reader.specs.declared.forms.Place.TheVariants as places
 use Rattle.ir_ast.specs.declared.modules.Form.{Form as TextForm}
@@ -55,19 +50,18 @@ use Rattle.ir_lines.specs.Statements.{Line, Statement, stated}
 use Rattle.ir_lines.specs.Statements as statements
 use Rattle.read_back.specs.BlocksEnd.{BlocksEnd}
 use Rattle.read_back.specs.Said.{cell_word, layout_says, unnamed, declaration_says, declaration_if_called, function_says, said_by}
-use Rattle.read_back.proofs.BackInsts.{IsPrinted}
-use Rattle.read_back.proofs.BackModules.{names_in, printed}
 use Rattle.read_back.proofs.BackFaults.{IsBelow, externals_below}
 use Rattle.read_back.proofs.Spellings.{SpellsType, integer_type, pointer_type, void_type}
 use Rattle.read_back.proofs.Forms.{ReadsAs}
 use Rattle.read_back.proofs.Listed.{SpellsElement}
 use Rattle.read_back.proofs.ListForms.{EndsAtMark, field_element, type_opens, layout_line, parameter_element, plain_element, plain_opens, declare_line}
-use Rattle.read_back.proofs.FormsIn.{ReadsIn, in_both, in_source}
-use Rattle.read_back.proofs.LinesRead.{Says, says-nil, says-both, says-line, says-empty, formed_in, ends_none-clean, before}
+use Rattle.read_back.proofs.FormsIn.{ReadsIn, in_both, declare_in, gc_new_own}
+use Rattle.read_back.proofs.GroupDeclarations.{IsDropped, statepoint_declared, relocate_declared, integer_declared, pointer_declared}
+use Rattle.read_back.proofs.LinesRead.{Says, says-nothing, dropped_in, says-nil, says-both, says-line, says-empty, formed_in, ends_none-clean, before}
 use Rattle.read_back.proofs.CallLines.{new-named}
 use Rattle.read_back.proofs.Operands.{named_at}
 use Rattle.read_back.proofs.Chains.{joined-cons, behind_all}
-use Rattle.read_back.proofs.Blocks.{Room, room-fits, room_as}
+use Rattle.read_back.proofs.Blocks.{weight, Room, room-fits, room_as}
 use Rattle.read_back.proofs.FunctionsRead.{FunctionReads, behind_function, function_read, function_form, function_room}
 use Rattle.read_back.proofs.NotCalled.{is_of_source, each_of, not_called_in}
 use Rattle.read_back.proofs.SourceFunctions.{function_reads}
@@ -209,56 +203,103 @@ new_bytes : (n : List ℕ) → new_words ++ (n ++ codes "(i64)\n") ≡ (codes "d
 unfolding new_words
 new_bytes n = simp append_assoc
 
--- a declaration, in a text of the source form
-declared_top : (c : Counts) → IsStill text_forms.Source c → (text : List ℕ) (items : List parts.Item) → ReadsAs text forms.Declare items → is_metadata text ≡ false → list_all item_fits items ≡ true → counts_fit c ≡ true
-    → Says (at_top text_forms.Source c) (text ++ (10 ∷ [])) (at_top text_forms.Source c) (stated (of_form forms.Declare items) ∷ [])
-declared_top c same text items reads other fits room =
-    subst (λ (s : State). Says (at_top text_forms.Source c) (text ++ (10 ∷ [])) s (stated (of_form forms.Declare items) ∷ [])) (ap (at_top text_forms.Source) same)
-    (top_line text_forms.Source c text forms.Declare items (in_source reads) other refl refl fits (ap counts_fit same ∙ room))
+-- a declaration
+declared_top : (of : TextForm) (c : Counts) → IsStill of c → (text : List ℕ) (items : List parts.Item) → ReadsIn of text forms.Declare items → is_metadata text ≡ false → list_all item_fits items ≡ true → counts_fit c ≡ true
+    → Says (at_top of c) (text ++ (10 ∷ [])) (at_top of c) (stated (of_form forms.Declare items) ∷ [])
+declared_top of c same text items reads other fits room =
+    subst (λ (s : State). Says (at_top of c) (text ++ (10 ∷ [])) s (stated (of_form forms.Declare items) ∷ [])) (ap (at_top of) same)
+    (top_line of c text forms.Declare items reads other refl refl fits (ap counts_fit same ∙ room))
 
-declaration_read : (layouts : List ObjectLayout) → All (λ (layout : ObjectLayout). is_name layout.name ≡ true) layouts → (c : Counts) → IsStill text_forms.Source c → counts_fit c ≡ true → (e : External) → IsBelow (length layouts) e → is_of_source e ≡ true
-    → Says (at_top text_forms.Source c) (declaration_text layouts e) (at_top text_forms.Source c) (declaration_says layouts e)
-unfolding fixed_declaration
-declaration_read layouts named c same room (externs.New number) low is =
+declared_in : (of : TextForm) {spelled : List ℕ} {answer : TypeWord} (t : SpellsType spelled answer) → is_answer_type answer ≡ true → (n : List ℕ) → is_name n ≡ true → is_family_name n ≡ false → (tys : List TypeWord) → AllByRecursion (ParameterReads (is_task_start n)) tys
+    → ReadsIn of (codes "declare " ++ (spelled ++ (32 ∷ 64 ∷ (n ++ (40 ∷ (joined (codes ", ") (map parameter_word tys) ++ codes ")")))))) forms.Declare (parts.ty answer ∷ parts.declared n (unnamed tys) ∷ [])
+declared_in of t allow n is own tys all = declare_in of t n is own (joined (codes ", ") (map parameter_word tys) ++ codes ")") (declared_line t allow n is tys all)
+
+-- one of the three families, in a text of the rewritten form
+dropped_top : (c : Counts) (text : List ℕ) → IsDropped text → is_metadata text ≡ false → Says (at_top text_forms.Rewritten c) (text ++ (10 ∷ [])) (at_top text_forms.Rewritten c) []
+dropped_top c text reads other =
+    says-nothing (at_top text_forms.Rewritten c) text (ends_none-clean text reads.clean)
+    (dropped_in (at_top text_forms.Rewritten c) text (forms.Dropped drop_lines.Family) places.Top [] reads.clean other reads.form_is reads.whole refl refl)
+
+bit_type : SpellsType (codes "i1") (types.Int 1)
+bit_type = subst (λ (ds : List ℕ). SpellsType (105 ∷ ds) (types.Int 1)) (decimal_digit 1 (omega arith)) (integer_type 1 (omega arith))
+
+result_bytes : (ds : List ℕ) → codes "declare i" ++ (ds ++ (result_of_words ++ (ds ++ codes "(token)\n"))) ≡ (codes "declare i" ++ (ds ++ (codes " @llvm.experimental.gc.result.i" ++ (ds ++ codes "(token)")))) ++ (10 ∷ [])
+unfolding result_of_words
+result_bytes ds = simp append_assoc
+
+-- a family is declared in the rewritten form alone
+family_read : (of : TextForm) (e : External) → (of ≡ text_forms.Source → is_of_source e ≡ true) → is_of_source e ≡ false → {A : Type 0} → (of ≡ text_forms.Rewritten → A) → A
+family_read text_forms.Source e may other rewritten = absurd (let bad : true ≡ false = sym (may refl) ∙ other in cc)
+family_read text_forms.Rewritten e may other rewritten = rewritten refl
+
+dropped_read : (of : TextForm) (c : Counts) (text : List ℕ) → of ≡ text_forms.Rewritten → IsDropped text → is_metadata text ≡ false → Says (at_top of c) (text ++ (10 ∷ [])) (at_top of c) []
+dropped_read text_forms.Source c text is reads other = absurd cc
+dropped_read text_forms.Rewritten c text is reads other = dropped_top c text reads other
+
+declaration_read : (of : TextForm) (layouts : List ObjectLayout) → All (λ (layout : ObjectLayout). is_name layout.name ≡ true) layouts → (c : Counts) → IsStill of c → counts_fit c ≡ true → (e : External) → IsBelow (length layouts) e
+    → (of ≡ text_forms.Source → is_of_source e ≡ true)
+    → Says (at_top of c) (declaration_text layouts e) (at_top of c) (declaration_says layouts e)
+unfolding fixed_declaration statepoint_name relocate_name result_suffix result_front
+declaration_read of layouts named c same room (externs.New number) low may =
     let n : List ℕ = codes "gc_new." ++ layout_name layouts number in
     let n_is : is_name n ≡ true = new-named (layout_name layouts number) (named_at (λ (layout : ObjectLayout). layout.name) layouts named number low) in
     rw (new_bytes (layout_name layouts number))
-    (declared_top c same (codes "declare ptr addrspace(1) @gc_new." ++ (layout_name layouts number ++ codes "(i64)")) (parts.ty types.Managed ∷ parts.declared n (unnamed (types.Int 64 ∷ [])) ∷ [])
-    (declared_line pointer_type refl n n_is (types.Int 64 ∷ []) (wide_parameter (is_task_start n), tt)) refl refl room)
-declaration_read layouts named c same room externs.Print low is =
-    declared_top c same (codes "declare void @print_i64(i64)") (parts.ty types.Void ∷ parts.declared (codes "print_i64") (unnamed (types.Int 64 ∷ [])) ∷ [])
-    (declared_line void_type refl (codes "print_i64") refl (types.Int 64 ∷ []) (wide_parameter false, tt)) refl refl room
-declaration_read layouts named c same room externs.Read low is =
-    declared_top c same (codes "declare i64 @read_i64()") (parts.ty (types.Int 64) ∷ parts.declared (codes "read_i64") (unnamed []) ∷ [])
-    (declared_line wide_type refl (codes "read_i64") refl [] tt) refl refl room
-declaration_read layouts named c same room externs.TaskStart low is =
-    declared_top c same (codes "declare void @task_start(ptr, ptr addrspace(1))") (parts.ty types.Void ∷ parts.declared (codes "task_start") (unnamed (types.Plain ∷ types.Managed ∷ [])) ∷ [])
-    (declared_line void_type refl (codes "task_start") refl (types.Plain ∷ types.Managed ∷ []) (plain_parameter, (managed_parameter true, tt))) refl refl room
-declaration_read layouts named c same room externs.Poll low is = absurd (let bad : false ≡ true = is in cc)
-declaration_read layouts named c same room externs.Check low is = absurd (let bad : false ≡ true = is in cc)
-declaration_read layouts named c same room externs.Same low is = absurd (let bad : false ≡ true = is in cc)
-declaration_read layouts named c same room externs.StatepointFamily low is = absurd (let bad : false ≡ true = is in cc)
-declaration_read layouts named c same room externs.RelocateFamily low is = absurd (let bad : false ≡ true = is in cc)
-declaration_read layouts named c same room (externs.ResultOf width) low is = absurd (let bad : false ≡ true = is in cc)
-declaration_read layouts named c same room externs.ResultPointer low is = absurd (let bad : false ≡ true = is in cc)
+    (declared_top of c same (codes "declare ptr addrspace(1) @gc_new." ++ (layout_name layouts number ++ codes "(i64)")) (parts.ty types.Managed ∷ parts.declared n (unnamed (types.Int 64 ∷ [])) ∷ [])
+    (declared_in of pointer_type refl n n_is (gc_new_own (layout_name layouts number)) (types.Int 64 ∷ []) (wide_parameter (is_task_start n), tt)) refl refl room)
+declaration_read of layouts named c same room externs.Print low may =
+    declared_top of c same (codes "declare void @print_i64(i64)") (parts.ty types.Void ∷ parts.declared (codes "print_i64") (unnamed (types.Int 64 ∷ [])) ∷ [])
+    (declared_in of void_type refl (codes "print_i64") refl refl (types.Int 64 ∷ []) (wide_parameter false, tt)) refl refl room
+declaration_read of layouts named c same room externs.Read low may =
+    declared_top of c same (codes "declare i64 @read_i64()") (parts.ty (types.Int 64) ∷ parts.declared (codes "read_i64") (unnamed []) ∷ [])
+    (declared_in of wide_type refl (codes "read_i64") refl refl [] tt) refl refl room
+declaration_read of layouts named c same room externs.TaskStart low may =
+    declared_top of c same (codes "declare void @task_start(ptr, ptr addrspace(1))") (parts.ty types.Void ∷ parts.declared (codes "task_start") (unnamed (types.Plain ∷ types.Managed ∷ [])) ∷ [])
+    (declared_in of void_type refl (codes "task_start") refl refl (types.Plain ∷ types.Managed ∷ []) (plain_parameter, (managed_parameter true, tt))) refl refl room
+declaration_read of layouts named c same room externs.Poll low may =
+    declared_top of c same (codes "declare void @gc.safepoint_poll()") (parts.ty types.Void ∷ parts.declared (codes "gc.safepoint_poll") (unnamed []) ∷ [])
+    (declared_in of void_type refl (codes "gc.safepoint_poll") refl refl [] tt) refl refl room
+declaration_read of layouts named c same room externs.Check low may =
+    declared_top of c same (codes "declare void @gc_check(ptr addrspace(1), ptr addrspace(1), i64)") (parts.ty types.Void ∷ parts.declared (codes "gc_check") (unnamed (types.Managed ∷ types.Managed ∷ types.Int 64 ∷ [])) ∷ [])
+    (declared_in of void_type refl (codes "gc_check") refl refl (types.Managed ∷ types.Managed ∷ types.Int 64 ∷ []) (managed_parameter false, (managed_parameter false, (wide_parameter false, tt)))) refl refl room
+declaration_read of layouts named c same room externs.Same low may =
+    declared_top of c same (codes "declare i1 @gc_same(ptr addrspace(1), ptr addrspace(1), ptr addrspace(1), ptr addrspace(1))")
+    (parts.ty (types.Int 1) ∷ parts.declared (codes "gc_same") (unnamed (types.Managed ∷ types.Managed ∷ types.Managed ∷ types.Managed ∷ [])) ∷ [])
+    (declared_in of bit_type refl (codes "gc_same") refl refl (types.Managed ∷ types.Managed ∷ types.Managed ∷ types.Managed ∷ [])
+    (managed_parameter false, (managed_parameter false, (managed_parameter false, (managed_parameter false, tt))))) refl refl room
+declaration_read of layouts named c same room externs.StatepointFamily low may =
+    family_read of externs.StatepointFamily may refl (λ is. dropped_read of c (codes "declare token @llvm.experimental.gc.statepoint.p0(i64, i32, ptr, i32, i32, ...)") is statepoint_declared refl)
+declaration_read of layouts named c same room externs.RelocateFamily low may =
+    family_read of externs.RelocateFamily may refl (λ is. dropped_read of c (codes "declare ptr addrspace(1) @llvm.experimental.gc.relocate.p1(token, i32, i32)") is relocate_declared refl)
+declaration_read of layouts named c same room (externs.ResultOf width) low may =
+    rw (result_bytes (decimal width)) (family_read of (externs.ResultOf width) may refl (λ is.
+    dropped_read of c (codes "declare i" ++ (decimal width ++ (codes " @llvm.experimental.gc.result.i" ++ (decimal width ++ codes "(token)")))) is (integer_declared width low) refl))
+declaration_read of layouts named c same room externs.ResultPointer low may =
+    family_read of externs.ResultPointer may refl (λ is. dropped_read of c (codes "declare ptr addrspace(1) @llvm.experimental.gc.result.p1(token)") is pointer_declared refl)
 
-if_called_read : (layouts : List ObjectLayout) (funcs : List Function) → All (λ (layout : ObjectLayout). is_name layout.name ≡ true) layouts → (c : Counts) → IsStill text_forms.Source c → counts_fit c ≡ true → (e : External) → IsBelow (length layouts) e
-    → (is_of_source e ≡ false → calls funcs e ≡ false)
-    → Says (at_top text_forms.Source c) (printed_declarations.declaration_if_called layouts funcs e) (at_top text_forms.Source c) (declaration_if_called layouts funcs e)
-if_called_read layouts funcs named c same room e low not_there = by (calls funcs e) (is_of_source e) refl refl
+-- what a text of the source form doesn't declare
+abbrev Uncalled : TextForm → List Function → Type 0
+Uncalled of funcs = of ≡ text_forms.Source → (e : External) → is_of_source e ≡ false → calls funcs e ≡ false
+
+if_called_read : (of : TextForm) (layouts : List ObjectLayout) (funcs : List Function) → All (λ (layout : ObjectLayout). is_name layout.name ≡ true) layouts → (c : Counts) → IsStill of c → counts_fit c ≡ true → (e : External) → IsBelow (length layouts) e
+    → Uncalled of funcs
+    → Says (at_top of c) (printed_declarations.declaration_if_called layouts funcs e) (at_top of c) (declaration_if_called layouts funcs e)
+if_called_read of layouts funcs named c same room e low uncalled = by (calls funcs e) refl
   where
-    by : (called of_source : Bool) → calls funcs e ≡ called → is_of_source e ≡ of_source
-        → Says (at_top text_forms.Source c) (if called then declaration_text layouts e else []) (at_top text_forms.Source c) (if called then declaration_says layouts e else [])
-    by false of_source is so = says-nil (at_top text_forms.Source c)
-    by true true is so = declaration_read layouts named c same room e low so
-    by true false is so = absurd (let bad : true ≡ false = sym is ∙ not_there so in cc)
+    may : calls funcs e ≡ true → (of_source : Bool) → is_of_source e ≡ of_source → of ≡ text_forms.Source → is_of_source e ≡ true
+    may called true so is = so
+    may called false so is = absurd (let bad : true ≡ false = sym called ∙ uncalled is e so in cc)
 
-declarations_read : (layouts : List ObjectLayout) (funcs : List Function) → All (λ (layout : ObjectLayout). is_name layout.name ≡ true) layouts → (c : Counts) → IsStill text_forms.Source c → counts_fit c ≡ true
-    → ((e : External) → is_of_source e ≡ false → calls funcs e ≡ false) → (es : List External) → AllByRecursion (IsBelow (length layouts)) es
-    → Says (at_top text_forms.Source c) (flat_map (printed_declarations.declaration_if_called layouts funcs) es) (at_top text_forms.Source c) (flat_map (declaration_if_called layouts funcs) es)
-declarations_read layouts funcs named c same room not_there [] low = says-nil (at_top text_forms.Source c)
-declarations_read layouts funcs named c same room not_there (e ∷ es) low =
-    says-both (if_called_read layouts funcs named c same room e low.0 (not_there e)) (declarations_read layouts funcs named c same room not_there es low.1)
+    by : (called : Bool) → calls funcs e ≡ called
+        → Says (at_top of c) (if called then declaration_text layouts e else []) (at_top of c) (if called then declaration_says layouts e else [])
+    by false is = says-nil (at_top of c)
+    by true is = declaration_read of layouts named c same room e low (may is (is_of_source e) refl)
+
+declarations_read : (of : TextForm) (layouts : List ObjectLayout) (funcs : List Function) → All (λ (layout : ObjectLayout). is_name layout.name ≡ true) layouts → (c : Counts) → IsStill of c → counts_fit c ≡ true
+    → Uncalled of funcs → (es : List External) → AllByRecursion (IsBelow (length layouts)) es
+    → Says (at_top of c) (flat_map (printed_declarations.declaration_if_called layouts funcs) es) (at_top of c) (flat_map (declaration_if_called layouts funcs) es)
+declarations_read of layouts funcs named c same room uncalled [] low = says-nil (at_top of c)
+declarations_read of layouts funcs named c same room uncalled (e ∷ es) low =
+    says-both (if_called_read of layouts funcs named c same room e low.0 uncalled) (declarations_read of layouts funcs named c same room uncalled es low.1)
 
 -- ---- functions
 
@@ -309,39 +350,48 @@ functions_top (f ∷ fs) s top = functions_top fs (behind_function f s) refl
 abbrev behind_module : TextForm → ModuleContent → State
 behind_module of content = behind_all behind_function content.funcs (at_top of (behind_layouts of content.layouts (opening of).counts))
 
-pub module_read : (content : ModuleContent) → IsSourceModule content → BlocksEnd content → Says (opening text_forms.Source) (text_of content) (behind_module text_forms.Source content) (said_by content)
+-- what is asked of a module so that its text is read as one of this form
+pub record ModuleReads (of : TextForm) (content : ModuleContent) : Type 0 where
+  pub layout_names : LayoutsHaveNames content
+  pub limits : IsWithinLimits content
+  pub instructions : weight of (length (all_instructions content.funcs)) ≤ 65536
+  pub uncalled : Uncalled of content.funcs
+  pub functions : AllByRecursion (FunctionReads of content.layouts content.funcs) content.funcs
+
+no_weight : (of : TextForm) → weight of 0 ≡ 0
+no_weight text_forms.Source = refl
+no_weight text_forms.Rewritten = refl
+
+module_read : (of : TextForm) (content : ModuleContent) → ModuleReads of content → Says (opening of) (text_of content) (behind_module of content) (said_by content)
 unfolding text_of said_by declarations_text
-module_read content source ends =
-    says-both (layouts_read text_forms.Source content.layouts (length content.funcs) 0 (length (all_instructions content.funcs)) (opening text_forms.Source).counts layouts_fit room)
-    (says-both (declarations_read content.layouts content.funcs source.layout_names behind_counts (still_by text_forms.Source behind_counts none) (room-fits later (few behind_counts none))
-    (not_called_in content source) (externals content.layouts) (externals_below content.layouts))
-    (functions_read text_forms.Source content.layouts content.funcs (at_top text_forms.Source behind_counts) refl refl functions_fit later))
+module_read of content is =
+    says-both (layouts_read of content.layouts (length content.funcs) 0 (length (all_instructions content.funcs)) (opening of).counts layouts_fit room)
+    (says-both (declarations_read of content.layouts content.funcs is.layout_names behind_counts (still_by of behind_counts none) (room-fits later (few behind_counts none)) is.uncalled (externals content.layouts) (externals_below content.layouts))
+    (functions_read of content.layouts content.funcs (at_top of behind_counts) refl refl is.functions later))
   where
     layouts_fit : AllByRecursion LayoutReads content.layouts
     layouts_fit = each_of content.layouts LayoutReads (λ layout c. record {
-      named = All-contains (λ (one : ObjectLayout). is_name one.name ≡ true) content.layouts layout source.layout_names c;
-      short = All-contains (λ (one : ObjectLayout). length one.name ≤ 4096) content.layouts layout source.limits.layout_names c;
-      few = All-contains (λ (one : ObjectLayout). length one.fields ≤ 64) content.layouts layout source.limits.fields c;
+      named = All-contains (λ (one : ObjectLayout). is_name one.name ≡ true) content.layouts layout is.layout_names c;
+      short = All-contains (λ (one : ObjectLayout). length one.name ≤ 4096) content.layouts layout is.limits.layout_names c;
+      few = All-contains (λ (one : ObjectLayout). length one.fields ≤ 64) content.layouts layout is.limits.fields c;
     })
 
-    room : Room text_forms.Source (length content.layouts) (length content.funcs) 0 (length (all_instructions content.funcs)) (opening text_forms.Source).counts
+    room : Room of (length content.layouts) (length content.funcs) 0 (length (all_instructions content.funcs)) (opening of).counts
     room =
-        let layouts = source.limits.layouts in
-        let functions = source.limits.functions in
-        let instructions = source.instructions in
+        let layouts = is.limits.layouts in
+        let functions = is.limits.functions in
+        let instructions = is.instructions in
+        let none = no_weight of in
         record { layouts = omega arith; functions = omega arith; values = omega arith; instructions = omega arith }
 
     behind_counts : Counts
-    behind_counts = behind_layouts text_forms.Source content.layouts (opening text_forms.Source).counts
+    behind_counts = behind_layouts of content.layouts (opening of).counts
 
     none : behind_counts.relocates ≡ 0
-    none = layouts_still text_forms.Source content.layouts (opening text_forms.Source).counts refl
+    none = layouts_still of content.layouts (opening of).counts refl
 
-    later : Room text_forms.Source 0 (length content.funcs) 0 (length (all_instructions content.funcs)) behind_counts
-    later = layouts_room text_forms.Source content.layouts (length content.funcs) 0 (length (all_instructions content.funcs)) (opening text_forms.Source).counts room
-
-    functions_fit : AllByRecursion (FunctionReads text_forms.Source content.layouts content.funcs) content.funcs
-    functions_fit = each_of content.funcs (FunctionReads text_forms.Source content.layouts content.funcs) (λ func c. function_reads content source ends func c)
+    later : Room of 0 (length content.funcs) 0 (length (all_instructions content.funcs)) behind_counts
+    later = layouts_room of content.layouts (length content.funcs) 0 (length (all_instructions content.funcs)) (opening of).counts room
 
 -- readings of a text of this form whose lines say this
 pub record TextReads (of : TextForm) (text : List ℕ) (says : List Statement) : Type 0 where
@@ -365,8 +415,17 @@ text_reads of text last says top read = record {
   same = says_lines (read.read 1) ∙ read.says 1;
 }
 
--- the printed text of a source module says what the module does
+-- the text says what the module does
+pub module_text_reads : (of : TextForm) (content : ModuleContent) → ModuleReads of content → TextReads of (text_of content) (said_by content)
+module_text_reads of content is =
+    text_reads of (text_of content) (behind_module of content) (said_by content) (functions_top content.funcs (at_top of (behind_layouts of content.layouts (opening of).counts)) refl) (module_read of content is)
+
+-- and so does that of a source module
 pub source_text_reads : (content : ModuleContent) → IsSourceModule content → BlocksEnd content → TextReads text_forms.Source (text_of content) (said_by content)
-source_text_reads content source ends =
-    text_reads text_forms.Source (text_of content) (behind_module text_forms.Source content) (said_by content)
-    (functions_top content.funcs (at_top text_forms.Source (behind_layouts text_forms.Source content.layouts (opening text_forms.Source).counts)) refl) (module_read content source ends)
+source_text_reads content source ends = module_text_reads text_forms.Source content (record {
+  layout_names = source.layout_names;
+  limits = source.limits;
+  instructions = source.instructions;
+  uncalled = λ is. not_called_in content source;
+  functions = each_of content.funcs (FunctionReads text_forms.Source content.layouts content.funcs) (λ func c. function_reads content source ends func c);
+})
