@@ -22,7 +22,10 @@ use Rattle.ir_ast.specs.Values as defs
 use Rattle.ir_ast.specs.Types.{is_first_class}
 use Rattle.ir_ast.specs.Widths.{IsWidth, type_widths, operator_widths, line_widths, widths_of}
 use Rattle.ir_ast.specs.Operands.{layouts_named, functions_named}
-use Rattle.ir_ast.specs.Faultless.{FunctionHasNoFault, OfForm}
+use Rattle.ir_ast.specs.Faultless.{HasNoFault, FunctionHasNoFault, OfForm}
+use Rattle.ir_ast.specs.Bundles.{HasNoBundle}
+use Rattle.ir_cfg.specs.Limits.{IsWithinLimits}
+use Rattle.ir_cfg.specs.TargetModules.{IsTargetModule}
 use Rattle.ir_ast.specs.Faults.TypeClash.{IsTyped, FunctionIsTyped, RuleOf}
 use Rattle.ir_ast.specs.Faults.Reserved.{IsExternalName, IsSource}
 use Rattle.ir_ast.specs.Faults.UnknownName.{NamesOfFunction, NamesOfModule}
@@ -40,7 +43,7 @@ use Rattle.read_back.specs.Said.{said_by}
 use Rattle.read_back.proofs.BackNames.{Setting}
 use Rattle.read_back.proofs.BackLines.{said}
 use Rattle.read_back.proofs.BackLists.{NamesAreFree, answer-type}
-use Rattle.read_back.proofs.BackInsts.{IsPrinted, split_all}
+use Rattle.read_back.proofs.BackInsts.{IsPrinted, IsPrintedIn, split_all}
 use Rattle.read_back.proofs.BackBlocks.{blocks-are, blocks-back, block-names, arguments-back, value-names}
 use Rattle.read_back.proofs.BackSections.{SaysDefinition, definitions-are, layouts-back, layout-names}
 
@@ -74,31 +77,52 @@ small_place content func inst few typed layout width n e named =
     at (l ∷ ls) (suc k) few below rule = at ls k few.1 (omega arith) rule
 
 -- each instruction of a source function
-pub printed_inst : (content : ModuleContent) → IsSourceModule content → (func : Function) → Contains content.funcs func
-    → (inst : Instruction) → Contains (instructions_of func.blocks) inst → IsPrinted (names_in content func) inst.op inst
-printed_inst content source func c inst d = one
+-- what modules of both kinds have
+pub record IsShaped (content : ModuleContent) : Type 0 where
+  pub no_fault : HasNoFault content
+  pub lines : All (λ (func : Function). All IsLine (instructions_of func.blocks)) content.funcs
+  pub widths : All (λ (func : Function). All IsWidth (widths_of func)) content.funcs
+  pub no_bundle : All HasNoBundle content.funcs
+  pub limits : IsWithinLimits content
+
+pub source_shaped : (content : ModuleContent) → IsSourceModule content → IsShaped content
+source_shaped content source = record {
+  no_fault = source.no_fault;
+  lines = λ k d low. (source.functions k d low).lines;
+  widths = λ k d low. (source.functions k d low).widths;
+  no_bundle = λ k d low. (source.functions k d low).no_bundle;
+  limits = source.limits;
+}
+
+pub target_shaped : (content : ModuleContent) → IsTargetModule content → IsShaped content
+target_shaped content target = record {
+  no_fault = target.no_fault;
+  lines = λ k d low. (target.functions k d low).lines;
+  widths = λ k d low. (target.functions k d low).widths;
+  no_bundle = λ k d low. (target.functions k d low).no_bundle;
+  limits = target.limits;
+}
+
+pub printed_in : (of : Form) (content : ModuleContent) → IsShaped content → (func : Function) → Contains content.funcs func
+    → (of ≡ Source → All (λ (inst : Instruction). is_rewritten inst.op ≡ false) (instructions_of func.blocks))
+    → (inst : Instruction) → Contains (instructions_of func.blocks) inst → IsPrintedIn of (names_in content func) inst.op inst
+printed_in of content shaped func c plain inst d = one
   where
     insts : List Instruction
     insts = instructions_of func.blocks
 
-    own : IsSourceFunction func
-    own = All-contains IsSourceFunction content.funcs func source.functions c
-
     clean : FunctionHasNoFault content func
-    clean = All-contains (FunctionHasNoFault content) content.funcs func source.no_fault.functions c
+    clean = All-contains (FunctionHasNoFault content) content.funcs func shaped.no_fault.functions c
 
     typed : FunctionIsTyped (scope_of content func) func
-    typed = All-contains (λ f. FunctionIsTyped (scope_of content f) f) content.funcs func source.no_fault.typed c
-
-    plain : IsSource func
-    plain = form_of content.form func source.form clean.form
+    typed = All-contains (λ f. FunctionIsTyped (scope_of content f) f) content.funcs func shaped.no_fault.typed c
 
     widths : AllByRecursion (λ inst. AllByRecursion IsWidth (line_widths inst)) insts
     widths = split_flat line_widths IsWidth insts
         (split_all IsWidth (type_widths func.answer ++ flat_map (λ (arg : Arg). type_widths arg.ty) func.args) (flat_map line_widths insts)
-        (recursion_from_All IsWidth (widths_of func) own.widths)).1
+        (recursion_from_All IsWidth (widths_of func) (All-contains (λ (f : Function). All IsWidth (widths_of f)) content.funcs func shaped.widths c))).1
 
-    one : IsPrinted (names_in content func) inst.op inst
+    one : IsPrintedIn of (names_in content func) inst.op inst
     one =
         let local = All-contains (NamesOfFunction func) insts inst clean.local d in
         let global = All-contains (NamesOfModule content) insts inst clean.global d in
@@ -110,18 +134,24 @@ printed_inst content source func c inst d = one
         let named = recursion_from_All (λ (l : ℕ). l < length content.layouts) (layouts_named inst) global.layouts in
         record {
           is = refl;
-          line = All-contains IsLine insts inst own.lines d;
-          plain = λ is. All-contains (λ (i : Instruction). is_rewritten i.op ≡ false) insts inst plain.lines d;
+          line = All-contains IsLine insts inst (All-contains (λ (f : Function). All IsLine (instructions_of f.blocks)) content.funcs func shaped.lines c) d;
+          plain = λ is. All-contains (λ (i : Instruction). is_rewritten i.op ≡ false) insts inst (plain is) d;
           fits = fit.operands;
           widths = All-from_recursion IsWidth (type_widths inst.ty) parts.1;
           own_widths = All-from_recursion IsWidth (operator_widths inst.op) parts.0;
           labels = recursion_from_All (λ label. label.0 < length func.blocks) inst.labels local.blocks;
           layouts = named;
           functions = recursion_from_All (λ (n : ℕ). n < length content.funcs) (functions_named inst) global.functions;
-          place = λ layout width n e. small_place content func inst (recursion_from_All (λ (l : ObjectLayout). length l.fields ≤ 64) content.layouts source.limits.fields)
+          place = λ layout width n e. small_place content func inst (recursion_from_All (λ (l : ObjectLayout). length l.fields ≤ 64) content.layouts shaped.limits.fields)
               fit layout width n e named;
-          bundle = All-contains (λ (i : Instruction). i.bundle ≡ []) insts inst own.no_bundle d;
+          bundle = All-contains (λ (i : Instruction). i.bundle ≡ []) insts inst (All-contains HasNoBundle content.funcs func shaped.no_bundle c) d;
         }
+
+pub printed_inst : (content : ModuleContent) → IsSourceModule content → (func : Function) → Contains content.funcs func
+    → (inst : Instruction) → Contains (instructions_of func.blocks) inst → IsPrinted (names_in content func) inst.op inst
+printed_inst content source func c inst d =
+    let clean : FunctionHasNoFault content func = All-contains (FunctionHasNoFault content) content.funcs func source.no_fault.functions c in
+    printed_in Source content (source_shaped content source) func c (λ is. (form_of content.form func source.form clean.form).lines) inst d
 
 pub printed : (content : ModuleContent) → IsSourceModule content → (func : Function) → Contains content.funcs func
     → AllByRecursion (λ block. AllByRecursion (λ inst. IsPrinted (names_in content func) inst.op inst) block.insts) func.blocks
