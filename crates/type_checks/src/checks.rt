@@ -61,25 +61,6 @@ fn note_body(
     note_by_form(alloc, scope, func, first)
 }
 
-// Notes the faults of the lines of a definition with these values, but those of its names.
-fn note_local(
-    alloc: Global,
-    form: Form,
-    top: &Top,
-    local: &Local,
-    func: &Definition,
-    blocks: &[BlockLines],
-    first: &mut First,
-) -> Result<(), AllocError>
-    requires local { IsLocal (seen_definition func.now) local.now }
-    requires blocks { map seen_block blocks.now ≡ blocks_of (seen_definition func.now) }
-    ensures { (lines : List Line) → IsTop lines top.now
-        → OnOk result (Notes first.old.found first.new.found (FoundWithin form (scope_of lines (seen_definition func.now)) (seen_definition func.now))) }
-{
-    let scope = Scope { form, top, local };
-    note_body(alloc, &scope, func, blocks, first)
-}
-
 // Notes the faults of a definition with these names and blocks.
 fn note_named<'t, 'n, 'a: 'n>(
     alloc: Global,
@@ -97,7 +78,12 @@ fn note_named<'t, 'n, 'a: 'n>(
         → OnOk result (Notes first.old.found first.new.found (FoundInFunction form (scope_of lines (seen_definition func.now)) (seen_definition func.now))) }
 {
     let local = Local::of(alloc, form, func, names, blocks, first)?;
-    note_local(alloc, form, top, &local, func, blocks, first)
+    let scope = Scope {
+        form,
+        top,
+        local: &local,
+    };
+    note_body(alloc, &scope, func, blocks, first)
 }
 
 // Notes the faults of a definition.

@@ -4,7 +4,7 @@ use Rattle.type_checks.proofs.checks.note_named.Goals as goal
 
 pub returns : goal.returns
 returns c = λ lines top.
-    on-ok c.note_local.result _ _
-    (λ within. notes-function c.args.form lines (seen_definition c.args.func.now) c.args.first.now.found c.of.new.first.found c.note_local.new.first.found
+    on-ok c.note_body.result _ _
+    (λ within. notes-function c.args.form lines (seen_definition c.args.func.now) c.args.first.now.found c.of.new.first.found c.note_body.new.first.found
     c.in_ok-local.ensures.noted within)
-    (c.note_local.ensures lines top)
+    (c.note_body.ensures lines top)
