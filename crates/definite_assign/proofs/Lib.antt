@@ -3,6 +3,7 @@ pub mod EdgeLemmas
 pub mod PathLemmas
 pub mod StampLemmas
 pub mod WalkLemmas
+pub mod SpanLemmas
 pub mod TextLemmas
 pub mod HomeLemmas
 pub mod AskedLemmas
