@@ -1,7 +1,7 @@
 pub mod ListLemmas
 pub mod EdgeLemmas
 pub mod PathLemmas
-pub mod StampLemmas
+pub mod VisitLemmas
 pub mod WalkLemmas
 pub mod SpanLemmas
 pub mod TextLemmas
