@@ -1,5 +1,6 @@
 pub mod RowLemmas
 pub mod NameLemmas
+pub mod WaypointLemmas
 pub mod IntegerLemmas
 pub mod CallLemmas
 pub mod LineLemmas

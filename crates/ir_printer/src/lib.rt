@@ -9,6 +9,7 @@ mod operands;
 mod pieces;
 mod rows;
 mod texts;
+mod waypoints;
 mod words;
 
 pub use declarations::External;
