@@ -5,4 +5,5 @@ pub mod IntegerLemmas
 pub mod CallLemmas
 pub mod LineLemmas
 pub mod DeclarationLemmas
+pub mod CalledLemmas
 pub mod TextLemmas

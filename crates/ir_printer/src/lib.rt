@@ -1,6 +1,7 @@
 //! The printed text of a module.
 #![tactic(auto)]
 
+mod called;
 mod calls;
 mod declarations;
 mod lines;
