@@ -1,4 +1,4 @@
-use Rattle.std.proofs.Common.{◌≡◌, ◌+◌, ◌||◌, false, get_or, sym, ap, ◌∙◌}
+use Rattle.std.proofs.Common.{◌||◌, false, get_or, sym, ap, ◌∙◌}
 use Rattle.ir_ast.specs.Funcs.{content_of}
 use Rattle.ir_printer.specs.Declarations.{calls}
 use Rattle.ir_printer.proofs.DeclarationLemmas.{list_any-map}
