@@ -11,8 +11,8 @@ use Rattle.ir_types.proofs.typing.checked.Goals as goal
 pub returns-in_err-fault-clause-answers : goal.returns-in_err-fault-clause-answers
 returns-in_err-fault-clause-answers c = let p = err_from_is_err_and c.from_residual.result c.from_residual.ensures.1 in rw (p.1, p.2) tt
 
-pub with_paths-requires-plain : goal.with_paths-requires-plain
-with_paths-requires-plain c =
+pub with_paths-requires-clause-plain : goal.with_paths-requires-clause-plain
+with_paths-requires-clause-plain c =
     let form = c.args.raw.now.form in
     let lines = seen_lines c.args.raw.now.lines in
     let noted : Notes None c.in_ok-fault.field-0 (λ line code. HasPlainFault form lines line code) =
