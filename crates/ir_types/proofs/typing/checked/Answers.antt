@@ -16,7 +16,7 @@ with_paths-requires-clause-plain c =
     let form = c.args.raw.now.form in
     let lines = seen_lines c.args.raw.now.lines in
     let noted : Notes None c.in_ok-fault.field-0 (λ line code. HasPlainFault form lines line code) =
-    rw (← c.form.ensures, ← c.lines.ensures.lines) c.in_ok-fault.ensures in
+    rw (← c.form-form.ensures, ← c.lines.ensures.lines) c.in_ok-fault.ensures in
     notes-none form lines
     (subst (λ (found : Option Fault). Notes None found (λ line code. HasPlainFault form lines line code)) c.in-None.is noted)
 
@@ -25,7 +25,7 @@ returns-in-Some-clause-answers c =
     let form = c.args.raw.now.form in
     let lines = seen_lines c.args.raw.now.lines in
     let noted : Notes None c.in_ok-fault.field-0 (λ line code. HasPlainFault form lines line code) =
-    rw (← c.form.ensures, ← c.lines.ensures.lines) c.in_ok-fault.ensures in
+    rw (← c.form-form.ensures, ← c.lines.ensures.lines) c.in_ok-fault.ensures in
     plain-least form lines c.in-Some.fault.line c.in-Some.fault.code
     (notes-least form lines c.in-Some.fault
     (subst (λ (found : Option Fault). Notes None found (λ line code. HasPlainFault form lines line code)) c.in-Some.is noted))
