@@ -1,8 +1,9 @@
 pub mod ListLemmas
 pub mod EdgeLemmas
 pub mod PathLemmas
-pub mod StampLemmas
+pub mod VisitLemmas
 pub mod WalkLemmas
+pub mod SpanLemmas
 pub mod TextLemmas
 pub mod HomeLemmas
 pub mod AskedLemmas

@@ -4,4 +4,5 @@ pub mod Asked
 pub mod FarUses
 pub mod Missed
 pub mod Searches
+pub mod Spans
 pub mod Tiny

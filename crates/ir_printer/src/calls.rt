@@ -8,7 +8,7 @@ ghost use Rattle.ir_printer.specs.Calls.{callee_name, deopt_text, live_text, bun
 use crate::names::Scope;
 use crate::operands::{Argument, ParameterWord, Typed, Value, operand_of};
 use crate::pieces::{Bytes, Piece};
-use crate::rows::{Each, Joined, Led, PairPrinter, Pairs, Printer};
+use crate::rows::{Each, Joined, Led, PairPrinter, Pairs, Printer, after};
 use crate::words::{Decimal, Integer, TypeWord};
 use ir_ast::{Callee, Inst, Operand, Ty};
 use tool_io::{Failed, Sink};
@@ -349,17 +349,6 @@ impl Piece for Statepoint<'_> {
             bundles,
         )
             .put_into(out)
-    }
-}
-
-// The operands after the first `count`.
-fn after(operands: &[Operand], count: usize) -> &[Operand]
-    ensures { result.now ≡ drop count operands.now }
-{
-    if count <= operands.len() {
-        &operands[count..]
-    } else {
-        &[]
     }
 }
 

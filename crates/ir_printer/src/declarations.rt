@@ -1,11 +1,13 @@
 //! Declarations of the externals that a module calls.
-ghost use Rattle.std.specs.Prelude.{◌≡◌, ◌++◌, ℕ, List, [], ◌∷◌, ◌||◌, ◌^◌, ◌<◌, ◌≤◌, ◌-◌, codes, map, length, OnOk, OnErr};
+ghost use Rattle.std.specs.Prelude.{◌≡◌, ◌++◌, ℕ, List, [], ◌∷◌, ◌||◌, ◌^◌, ◌<◌, ◌≤◌, ◌+◌, ◌-◌, codes, map, length, OnOk, OnErr};
 ghost use Rattle.tool_io.specs.Counts.{Rose};
 ghost use Rattle.tool_io.specs.Sink.{append_known, AppendsFront};
 ghost use Rattle.std.specs.List.{range_with_len, list_any};
 ghost use Rattle.ir_ast.specs.Funcs.{content_of};
+ghost use Rattle.ir_printer.specs.Called.{calls_new, AreCalled, news_text};
 ghost use Rattle.ir_printer.specs.Declarations.{is_callee, is_result, is_statepoints, is_relocates, is_call_of, calls, new_words, result_of_words, fixed_declaration, declaration_text, declaration_if_called, fixed_externals, integer_widths, declarations_text, has_top};
 
+use crate::called::mark_called;
 use crate::names::name_of_layout;
 use crate::pieces::{Bytes, Piece};
 use crate::rows::{Each, Joined, Printer, Row};
@@ -231,34 +233,95 @@ impl Printer<External> for DeclaredOf<'_> {
     }
 }
 
-// The declarations of `gc_new` of each layout.
+// The declarations of `gc_new` of the layouts from `first` on, where `called` says which the module calls.
 #[derive(Drop)]
 struct NewDeclarations<'a> {
     layouts: &'a [Layout],
     funcs: &'a [Func],
-    ghost few: { length layouts.now < 2 ^ 32 },
+    first: usize,
+    called: &'a [bool],
+    ghost few: { first + length called.now < 2 ^ 32 },
+    ghost known: { AreCalled (calls_new (map content_of funcs.now)) first called.now },
 }
 
 impl Row for NewDeclarations<'_> {
     ghost use Rattle.ir_printer.specs.declared.declarations.External.{External};
 
-    ghost texts = { λ row. map (λ layout. declaration_if_called row.layouts.now (map content_of row.funcs.now) (External.New layout)) (range_with_len 0 (length row.layouts.now)) };
+    ghost texts = { λ row. map (λ layout. declaration_if_called row.layouts.now (map content_of row.funcs.now) (External.New layout)) (range_with_len row.first (length row.called.now)) };
 
     fn count(&self) -> usize {
-        self.layouts.len()
+        self.called.len()
     }
 
     fn put_at<O: Sink>(&self, place: usize, out: &mut O) -> Result<(), Failed> {
-        if place < self.layouts.len() {
-            Declared {
-                layouts: self.layouts,
-                funcs: self.funcs,
-                external: External::New(place as u32),
+        if place < self.called.len() {
+            if self.called[place] {
+                Declaration {
+                    layouts: self.layouts,
+                    external: External::New((self.first + place) as u32),
+                }
+                .put_into(out)
+            } else {
+                Ok(())
             }
-            .put_into(out)
         } else {
             Ok(())
         }
+    }
+}
+
+/// How many layouts one walk over the functions looks for.
+const AT_ONCE: usize = 4096;
+
+// Puts the declarations of `gc_new` of `count` layouts from `first` on.
+fn put_news<O: Sink>(
+    layouts: &[Layout],
+    funcs: &[Func],
+    first: usize,
+    count: usize,
+    out: &mut O,
+) -> Result<(), Failed>
+    requires few { first + count < 2 ^ 32 }
+    requires at_once { count ≤ 4096 }
+    ensures ok { OnOk result (O.written out.new ≡ append_known (O.written out.old) (news_text layouts.now (map content_of funcs.now) first count)) }
+    ensures err { OnErr result (AppendsFront (O.written out.old) (O.written out.new) (news_text layouts.now (map content_of funcs.now) first count)) }
+    ensures failed { OnErr result (Rose (O.faults out.old) (O.faults out.new)) }
+    ensures count { O.faults out.old ≤ O.faults out.new }
+{
+    let mut called = [false; AT_ONCE];
+    mark_called(funcs, first, &mut called);
+    let row = NewDeclarations {
+        layouts,
+        funcs,
+        first,
+        called: &called[..count],
+    };
+    Joined {
+        separator: b"",
+        row,
+    }
+    .put_into(out)
+}
+
+// The declarations of `gc_new` of the layouts.
+#[derive(Drop)]
+struct News<'a> {
+    layouts: &'a [Layout],
+    funcs: &'a [Func],
+    ghost few: { length layouts.now < 2 ^ 32 },
+}
+
+impl Piece for News<'_> {
+    ghost text = { λ piece. news_text piece.layouts.now (map content_of piece.funcs.now) 0 (length piece.layouts.now) };
+
+    fn put_into<O: Sink>(&self, out: &mut O) -> Result<(), Failed> {
+        let mut first = 0;
+        while first < self.layouts.len() {
+            let count = (self.layouts.len() - first).min(AT_ONCE);
+            put_news(self.layouts, self.funcs, first, count, out)?;
+            first += count;
+        }
+        Ok(())
     }
 }
 
@@ -322,10 +385,7 @@ pub(crate) fn put_declarations<O: Sink>(
     ensures count { O.faults out.old ≤ O.faults out.new }
 {
     let externals = fixed_list();
-    let news = Joined {
-        separator: b"",
-        row: NewDeclarations { layouts, funcs },
-    };
+    let news = News { layouts, funcs };
     let fixed = Joined {
         separator: b"",
         row: Each {

@@ -1,6 +1,7 @@
 //! The printed text of a module.
 #![tactic(auto)]
 
+mod called;
 mod calls;
 mod declarations;
 mod lines;
@@ -9,6 +10,7 @@ mod operands;
 mod pieces;
 mod rows;
 mod texts;
+mod waypoints;
 mod words;
 
 pub use declarations::External;

@@ -1,24 +1,31 @@
 //! What the lines of a function name.
-ghost use Rattle.std.specs.Prelude.{◌≡◌};
+ghost use Rattle.std.specs.Prelude.{◌≡◌, drop};
+ghost use Rattle.std.specs.List.{All};
 ghost use Rattle.ir_ast.specs.Funcs.{instructions_of};
 ghost use Rattle.ir_printer.specs.Names.{layout_name, function_name, block_name, value_name, result_name as name_of_result};
+ghost use Rattle.ir_printer.specs.Waypoints.{instructions_from, IsWaypoint};
 
+use crate::rows::after;
+use crate::waypoints::{Waypoint, waypoint_before};
 use ir_ast::{Block, Func, Layout};
 use sp_ids::{BlockId, FuncId, ValueId};
 use std::marker::Model;
 
-/// A function, and the layouts and functions of its module. Contracts see `Names`.
+/// A function with waypoints, and the layouts and functions of its module. Contracts see `Names`.
 #[derive(Drop)]
 pub(crate) struct Scope<'a> {
     pub layouts: &'a [Layout],
     pub funcs: &'a [Func],
     pub func: &'a Func,
+    pub waypoints: &'a [Waypoint],
 }
 
 impl<'a> Model for Scope<'a> {
     ghost use Rattle.std.specs.Prelude.{map};
+    ghost use Rattle.std.specs.List.{All};
     ghost use Rattle.ir_ast.specs.Funcs.{content_of};
     ghost use Rattle.ir_printer.specs.Names.{Names};
+    ghost use Rattle.ir_printer.specs.Waypoints.{IsWaypoint};
 
     ghost Value = { Names };
 
@@ -27,6 +34,8 @@ impl<'a> Model for Scope<'a> {
       funcs = map content_of scope.funcs.now;
       func = scope.func.now.content;
     } };
+
+    ghost invariant = { λ scope. All (IsWaypoint scope.func.now.content.blocks) scope.waypoints.now };
 }
 
 impl Scope<'_> {
@@ -58,7 +67,7 @@ impl Scope<'_> {
     pub(crate) fn value(&self, value: ValueId) -> &[u8]
         ensures { result.now ≡ value_name self.now.func value.0 }
     {
-        name_of_value(self.func, value)
+        name_of_value(self.func, self.waypoints, value)
     }
 }
 
@@ -72,23 +81,34 @@ pub(crate) fn name_of_layout(layouts: &[Layout], layout: u32) -> &[u8]
     }
 }
 
-fn name_of_value(func: &Func, value: ValueId) -> &[u8]
+fn name_of_value<'a>(func: &'a Func, waypoints: &[Waypoint], value: ValueId) -> &'a [u8]
+    requires { All (IsWaypoint func.now.content.blocks) waypoints.now }
     ensures { result.now ≡ value_name func.now.content value.0 }
 {
     let args = func.args();
     match args.get(value.0 as usize) {
         Some(arg) => arg.name.bytes(),
-        None => result_name(func.blocks(), value.0 as usize - args.len()),
+        None => result_name(func.blocks(), waypoints, value.0 as usize - args.len()),
     }
 }
 
 // The name of the result with this number among the results of these blocks, in text order.
-fn result_name(blocks: &[Block], number: usize) -> &[u8]
+fn result_name<'a>(blocks: &'a [Block], waypoints: &[Waypoint], number: usize) -> &'a [u8]
+    requires { All (IsWaypoint blocks.now) waypoints.now }
     ensures { result.now ≡ name_of_result (instructions_of blocks.now) number }
 {
+    let start = waypoint_before(waypoints, number);
+    name_from(blocks, start, number - start.results)
+}
+
+// The same among the results from a place on.
+fn name_from(blocks: &[Block], start: Waypoint, number: usize) -> &[u8]
+    ensures { result.now ≡ name_of_result (instructions_from (drop start.block blocks.now) start.inst) number }
+{
     let mut left = number;
-    for block in blocks {
-        for inst in block.insts() {
+    let mut first = start.inst;
+    for block in after(blocks, start.block) {
+        for inst in after(block.insts(), first) {
             if let Some(name) = inst.result() {
                 if left == 0 {
                     return name.bytes();
@@ -96,6 +116,7 @@ fn result_name(blocks: &[Block], number: usize) -> &[u8]
                 left -= 1;
             }
         }
+        first = 0;
     }
     &[]
 }

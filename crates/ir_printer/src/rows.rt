@@ -8,6 +8,17 @@ ghost use Rattle.ir_printer.specs.Lists.{joined, led};
 use crate::pieces::{Bytes, Piece};
 use tool_io::{Failed, Sink};
 
+/// The elements after the first `count`.
+pub(crate) fn after<T>(elements: &[T], count: usize) -> &[T]
+    ensures { result.now ≡ drop count elements.now }
+{
+    if count <= elements.len() {
+        &elements[count..]
+    } else {
+        &[]
+    }
+}
+
 /// A list of texts, each of which can be put into a sink by its place.
 pub(crate) trait Row {
     ghost texts: { Self → List (List ℕ) };

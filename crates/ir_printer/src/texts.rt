@@ -14,6 +14,7 @@ use crate::lines::Lines;
 use crate::names::Scope;
 use crate::pieces::{Bytes, Piece};
 use crate::rows::{Each, Joined, Led, Printer};
+use crate::waypoints::waypoints_of;
 use crate::words::{TypeWord, strategy};
 use ir_ast::{Arg, Block, Cell, Func, Layout, Module};
 use tool_io::{Failed, Sink};
@@ -98,10 +99,12 @@ impl Printer<Func> for Functions<'_> {
     ghost element_text = { λ printer func. function_text printer.layouts.now (map content_of printer.funcs.now) func.content };
 
     fn put_element<O: Sink>(&self, func: &Func, out: &mut O) -> Result<(), Failed> {
+        let waypoints = waypoints_of(func.blocks());
         let scope = Scope {
             layouts: self.layouts,
             funcs: self.funcs,
             func,
+            waypoints: waypoints.as_slice(),
         };
         let args = Joined {
             separator: b", ",

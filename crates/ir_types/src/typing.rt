@@ -49,7 +49,8 @@ fn checked(alloc: Global, raw: &Raw) -> Result<Module, TypeFault>
     ensures module { IfOk result (λ whole. IsModuleOf raw.now.form whole.content) }
     ensures formed { IfOk result (λ whole. IsFormedModule whole.content) }
 {
-    match first_fault(alloc, raw.form(), raw.lines())? {
+    let form = raw.form();
+    match first_fault(alloc, form, raw.lines())? {
         Some(fault) => Err(TypeFault::Fault(fault)),
         None => with_paths(alloc, raw),
     }

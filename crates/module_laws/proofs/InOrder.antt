@@ -1,6 +1,6 @@
 -- The lines of a module's instructions rise in the order of its text: in a function and from one function to the next.
 use Rattle.std.proofs.Common.{◌≡◌, ◌∙◌, ℕ, ◌≤◌, ◌<◌, zero, suc, refl, sym, ap, subst, Bool, true, false, not, cond, List, [], ◌∷◌, ◌++◌, length, map, Option, Some, None, arith}
-use Rattle.std.specs.Prelude.{decimal, flat_map, take_while, slice_get, slice_index, unwrap_or, is_some, if◌then◌else◌}
+use Rattle.std.specs.Prelude.{decimal, flat_map, take_while, slice_get, unwrap_or, is_some, if◌then◌else◌}
 use Rattle.std.proofs.lemmas.List.Sums.{take_while-cons}
 use Rattle.ir_reader.specs.declared.forms.Place.{Place}
 use Rattle.ir_reader.specs.declared.forms.Place.TheVariants as places
@@ -10,7 +10,7 @@ use Rattle.ir_ast.specs.declared.modules.Form.{Form}
 use Rattle.ir_ast.specs.Insts.{Instruction}
 use Rattle.ir_ast.specs.Funcs.{Function, instructions_of}
 use Rattle.ir_ast.specs.Modules.{line_at}
-use Rattle.ir_lines.specs.Statements.{Statement, Line, define, close, label}
+use Rattle.ir_lines.specs.Statements.{Statement, Line, define, label}
 use Rattle.ir_lines.specs.Sections.{Definition, BlockLines, is_close, is_label, label_said, until_label, block_at, labelled_blocks, first_block, blocks_of, count_numbered, definition_said, definitions_of}
 use Rattle.ir_lines.specs.Modules.{Known, known_of, with_line, instruction_said, instructions_of as lined_instructions, numbers_of, function_of, instruction_lines, module_of}
 use Rattle.ir_lines.specs.TextLines.{place_behind, Stand}

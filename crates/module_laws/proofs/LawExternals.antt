@@ -39,7 +39,7 @@ use Rattle.ir_lines.specs.Faults.UnknownExtern.{UnknownExtern}
 use Rattle.ir_lines.specs.Faults.Reserved.{declares_helper}
 use Rattle.ir_lines.specs.Faults.TypeClash.{agrees, starts_task, is_task, checks_kind, call_agrees}
 use Rattle.ir_lines.specs.ReadLines.{IsReadPassed, IsValueType}
-use Rattle.ir_lines.proofs.LawNames.{Stands, stands, stands_below, number-is, contains_get, get_contained, contains_first, contains_later, contains_cons, same_by_name}
+use Rattle.ir_lines.proofs.LawNames.{stands, stands_below, number-is, contains_get, get_contained, contains_first, contains_later, contains_cons, same_by_name}
 use Rattle.module_laws.proofs.LawFacts.{or-left, and-left, and-right, same_type-is, same_types-is, true-false}
 use Rattle.module_laws.proofs.LawHeads.{HeadFrom, from_definition, from_declaration, head_of, heads-have, heads-from, heads-distinct}
 use Rattle.module_laws.proofs.LawLines.{InLaw, made, is_value_in}

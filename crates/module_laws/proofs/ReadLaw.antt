@@ -6,7 +6,7 @@ use Rattle.std.proofs.lemmas.List.Sums.{count_by-le-length}
 use Rattle.std.proofs.lemmas.List.Elements.{All-contains, All-from_recursion, recursion_from_All}
 use Rattle.ir_reader.specs.declared.forms.Place.TheVariants as places
 use Rattle.ir_reader.specs.declared.raw.NumberedReading.{NumberedReading}
-use Rattle.ir_reader.specs.Raws.{Readings, IsRead, seen_numbered}
+use Rattle.ir_reader.specs.Raws.{Readings, IsRead}
 use Rattle.ir_reader.specs.Text.{opening}
 use Rattle.ir_reader.specs.declared.forms.Counts.{Counts}
 use Rattle.ir_ast.specs.Modules.{LinedModule}

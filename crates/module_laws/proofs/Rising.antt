@@ -1,5 +1,5 @@
 -- The lines of a text that was read rise in its order.
-use Rattle.std.proofs.Common.{◌≡◌, ◌∙◌, ℕ, ◌+◌, ◌≤◌, ◌<◌, zero, suc, refl, sym, ap, subst, Bool, true, false, List, [], ◌∷◌, ◌++◌, length, map, Ok, Err, Result, arith}
+use Rattle.std.proofs.Common.{◌≡◌, ℕ, ◌+◌, ◌≤◌, ◌<◌, zero, suc, refl, ap, subst, Bool, true, false, List, [], ◌∷◌, ◌++◌, length, map, Ok, Err, Result, arith}
 use Rattle.std.specs.Prelude.{slice_index, if◌then◌else◌}
 use Rattle.std.specs.Str.Lines.{lines}
 use Rattle.sp_text.specs.Lines.{numbered, lines_of as text_lines}

@@ -1,6 +1,6 @@
 -- The cases of a `switch`, one after another.
-use Rattle.std.proofs.Common.{◌≡◌, ◌≢◌, ◌∙◌, ℕ, ◌+◌, ◌<◌, ◌⊎◌, inl, inr, Bool, true, false, not, cond, ◌||◌, List, [], ◌∷◌, ◌++◌, length, take, drop, refl, ap, sym, subst, arith, append_assoc, length-append}
-use Rattle.std.specs.Prelude.{Option, Some, None, slice_get, filter_map, IsTrue, nat_eq, if◌then◌else◌}
+use Rattle.std.proofs.Common.{◌≡◌, ◌≢◌, ◌∙◌, ℕ, ◌+◌, ◌<◌, inl, inr, Bool, true, false, not, cond, ◌||◌, List, [], ◌∷◌, ◌++◌, length, take, drop, refl, ap, sym, subst, arith, append_assoc}
+use Rattle.std.specs.Prelude.{Option, Some, None, slice_get, IsTrue, nat_eq, if◌then◌else◌}
 use Rattle.std.specs.List.{list_any, cons_option, Contains}
 use Rattle.std.proofs.Math.Seq.{take-length, drop-length}
 use Rattle.std.proofs.lemmas.List.{take_more, length-take-le}
@@ -10,7 +10,7 @@ use Rattle.std.proofs.lemmas.List.Folds.{list_any-append, list_any_at}
 use Rattle.std.proofs.lemmas.Map.Views.{Contains-from_any}
 use Rattle.std.proofs.lemmas.Bool.Decides.{eqb_tells}
 use Rattle.ir_lines.specs.declared.faults.Fault.{Fault}
-use Rattle.ir_lines.specs.Statements.{Line, Statement}
+use Rattle.ir_lines.specs.Statements.{Line}
 use Rattle.ir_lines.specs.Sections.{is_case, cases_of}
 use Rattle.ir_reader.specs.declared.readings.Reading.{Reading}
 use Rattle.ir_reader.specs.declared.readings.Reading.TheVariants.{Case}

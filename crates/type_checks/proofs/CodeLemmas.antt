@@ -1,5 +1,5 @@
 -- The five codes of a line, noted one after another.
-use Rattle.std.proofs.Common.{◌≡◌, ℕ, ◌⊎◌, inl, inr, Bool, true, refl}
+use Rattle.std.proofs.Common.{◌≡◌, ℕ, inl, inr, Bool}
 use Rattle.std.specs.Prelude.{Option, IsTrue}
 use Rattle.ir_lines.specs.declared.faults.Fault.{Fault}
 use Rattle.ir_lines.specs.Notes.{Notes, Is}

@@ -1,6 +1,6 @@
 -- Derived values by number, and the marks of a search for them.
-use Rattle.std.proofs.Common.{◌≡◌, ◌∙◌, ℕ, zero, suc, ◌<◌, ◌≤◌, ◌+◌, Bool, true, false, not, cond, ◌&&◌, ◌||◌, List, [], ◌∷◌, ◌++◌, length, get_or, set, take, drop, replicate, refl, ap, sym, subst, arith, inl, inr, ◌⊎◌, length-append, append_assoc}
-use Rattle.std.specs.Prelude.{Option, Some, None, map, flat_map, filter_map, slice_get, option_map, nat_eq, IsTrue}
+use Rattle.std.proofs.Common.{◌≡◌, ◌∙◌, ℕ, zero, suc, ◌<◌, ◌≤◌, ◌+◌, Bool, true, false, cond, ◌&&◌, ◌||◌, List, [], ◌∷◌, ◌++◌, length, get_or, set, take, drop, replicate, refl, ap, sym, subst, arith, inl, inr, ◌⊎◌, length-append, append_assoc}
+use Rattle.std.specs.Prelude.{Option, Some, None, map, flat_map, filter_map, slice_get, option_map, IsTrue}
 use Rattle.std.specs.List.{Contains, cons_option, list_any}
 use Rattle.std.specs.Str.{bytes_eq}
 use Rattle.std.proofs.lemmas.List.{length-set, length-map, map-append, append-nil, take-append-drop}
@@ -14,14 +14,13 @@ use Rattle.ir_reader.specs.Lists.{Given, given, function}
 use Rattle.ir_lines.specs.declared.faults.Fault.{Fault}
 use Rattle.ir_lines.specs.Notes.{Notes, Is}
 use Rattle.ir_lines.specs.Statements.{Line, Statement, store, call, ret}
-use Rattle.ir_lines.specs.Parts.{gives, is_step, is_merge, values_named, uses, local_name, leaving, passed_value}
+use Rattle.ir_lines.specs.Parts.{gives, is_step, is_merge, uses, local_name, leaving, passed_value}
 use Rattle.ir_lines.specs.Places.{place_in}
-use Rattle.ir_lines.specs.Sections.{Definition, Naming, arguments_named, result_named, values_of}
-use Rattle.ir_lines.specs.Again.{results_of}
+use Rattle.ir_lines.specs.Sections.{Definition, Naming, arguments_named, result_named}
 use Rattle.type_checks.specs.FunctionFaults.{is_number, Escapes, EscapeAt}
 use Rattle.ir_lines.specs.Faults.DerivedEscapes.{StandsFor, Derived, by_step, by_merge}
-use Rattle.type_checks.specs.Follows.{UsedBy, Follows, is_first, by_use, AreInside, Marked, MarksFollowing, AddsUsers}
-use Rattle.type_checks.specs.Derivations.{names_given, gives_first, count_given, one_if, all_if, number_named, numbers_used, steps_given, merged_given, IsStepAt, IsMergeAt, AreSources, MarksDerived, is_true, has_mark, is_marked, given_marked, lets_out}
+use Rattle.type_checks.specs.Follows.{UsedBy, Follows, is_first, by_use, AreInside, MarksFollowing, AddsUsers}
+use Rattle.type_checks.specs.Derivations.{names_given, gives_first, count_given, one_if, all_if, numbers_used, steps_given, merged_given, IsStepAt, IsMergeAt, AreSources, MarksDerived, is_true, has_mark, is_marked, given_marked, lets_out}
 use Rattle.type_checks.proofs.CaseNotes.{eq-same, eq-itself, taken-more}
 use Rattle.type_checks.proofs.Founds.{IsWholeAt, whole-at, split-at, cases_below}
 use Rattle.ir_lines.proofs.LawNames.{position-cons}

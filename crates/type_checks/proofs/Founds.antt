@@ -1,6 +1,6 @@
 -- What is found at the elements of a list, one after another.
-use Rattle.std.proofs.Common.{◌≡◌, ◌∙◌, ℕ, ◌+◌, ◌<◌, ◌≤◌, ◌⊎◌, inl, inr, List, [], ◌∷◌, ◌++◌, length, get_or, take, drop, refl, ap, sym, subst, arith, suc, zero, add-one, length-append}
-use Rattle.std.specs.Prelude.{Option, Some, None, map, slice_get, slice_range, option_map}
+use Rattle.std.proofs.Common.{◌≡◌, ◌∙◌, ℕ, ◌+◌, ◌<◌, ◌⊎◌, inl, inr, List, [], ◌∷◌, ◌++◌, length, get_or, take, drop, refl, ap, sym, subst, arith, suc, add-one, length-append}
+use Rattle.std.specs.Prelude.{Option, Some, map, slice_get, slice_range, option_map}
 use Rattle.std.proofs.Math.Seq.{drop-cons, take-append_seam, take-length}
 use Rattle.std.proofs.lemmas.List.{take-append-drop, length-drop}
 use Rattle.std.proofs.lemmas.Option.{slice_get_within, slice_get-get_or, get_or_from_slice_get, slice_get-map}

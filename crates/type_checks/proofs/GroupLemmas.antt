@@ -275,7 +275,7 @@ group-of func before rest token group body o place =
     let own : place_in (names_given func) o.token ≡ Some group.number = ap (place_in (names_given func)) same ∙ place in
     let first : ¬ Contains (front func o.earlier) o.token
     = place-first (front func o.earlier) o.token (map name_of (flat_map gives_names (o.parts ++ rest)))
-        (ap (λ ns. place_in ns o.token) (sym names) ∙ own ∙ ap (λ n. Some n) o.number) in
+    (ap (λ ns. place_in ns o.token) (sym names) ∙ own ∙ ap (λ n. Some n) o.number) in
     subst (λ (t : List ℕ). Stands func before t group) same (record {
       of = record {
         earlier = o.earlier;
@@ -303,7 +303,7 @@ open-of : (func : Definition) (before rest : List Line) (token : List ℕ) (grou
     → (g : Group func before token) → IsOpen func before token g group
 open-of func before rest token group body o g =
     let same = same-opener o.earlier o.parts g.earlier g.parts (opener o.line o.token o.made o.live) (opener g.number token g.made g.live) o.token token
-        refl refl o.own g.own (sym o.whole ∙ g.whole) in
+    refl refl o.own g.own (sym o.whole ∙ g.whole) in
     record {
       place = group-place func before rest token body g ∙ ap (λ ls. Some (length (front func ls))) (sym same.earlier)
           ∙ ap (λ n. Some n) (sym o.number);
@@ -393,7 +393,7 @@ kept-more func before rest l token (Some group) body never part o = by (is_of (n
         let same : other ≡ token = (bytes_eq-Decides other token).0 (sym (part other) ∙ p.own) in
         let q = open-of func before rest other group body o p.group in
         let bad : false ≡ true = sym is ∙ ap (is_of (names_given func) group) (sym same)
-            ∙ ap (λ found. is_number found group.number) q.place ∙ eq-itself group.number in
+        ∙ ap (λ found. is_number found group.number) q.place ∙ eq-itself group.number in
         cc
 
 more : (func : Definition) (before rest : List Line) (line : ℕ) (what : Statement) (number : ℕ) (group : Option Open) → func.body ≡ before ++ rest

@@ -1,13 +1,13 @@
 -- Heads and definitions, and the lines that they stand on.
-use Rattle.std.proofs.Common.{◌≡◌, ◌∙◌, ℕ, ◌⊎◌, inl, inr, Bool, true, false, List, [], ◌∷◌, ◌++◌, refl, ap, sym, subst}
-use Rattle.std.specs.Prelude.{Option, map, flat_map, take_while, not}
+use Rattle.std.proofs.Common.{◌≡◌, ℕ, inl, inr, true, false, List, [], ◌∷◌, refl, ap, sym, subst}
+use Rattle.std.specs.Prelude.{Option, take_while, not}
 use Rattle.std.specs.List.{Contains}
 use Rattle.std.proofs.lemmas.List.Elements.{Contains-append_left, Contains-append_right, Contains-append_cases}
 use Rattle.ir_reader.specs.declared.readings.TypeWord.{TypeWord}
 use Rattle.ir_reader.specs.Lists.{Named}
 use Rattle.ir_lines.specs.Statements.{Statement, Line, declare, define}
 use Rattle.ir_lines.specs.Sections.{Head, Definition, head_said, heads_of, definition_said, definitions_of, types_of, is_close}
-use Rattle.type_checks.proofs.Contained.{contained-none, contained-one, contained-head, contained-more, contained-cases, contained-joined, contained-flat, IsJoined}
+use Rattle.type_checks.proofs.Contained.{contained-none, contained-one, contained-head, contained-more, contained-cases, contained-joined, IsJoined}
 
 -- ---- definitions
 

@@ -1,6 +1,6 @@
 -- The passes over a function, one after another.
-use Rattle.std.proofs.Common.{◌≡◌, ◌∙◌, ℕ, List, refl, ap, sym, subst}
-use Rattle.std.specs.Prelude.{Option, Result, Ok, Err, OnOk, map, length}
+use Rattle.std.proofs.Common.{List}
+use Rattle.std.specs.Prelude.{Option, Result, Ok, Err, OnOk}
 use Rattle.ir_ast.specs.declared.modules.Form.{Form}
 use Rattle.ir_lines.specs.declared.faults.Fault.{Fault}
 use Rattle.type_checks.specs.declared.lines.Scope.{Scope as ScopeTable}
@@ -40,6 +40,7 @@ pub notes-within : (lines : List Line) (func : Definition) (scope : ScopeTable) 
     → IsTop lines scope.top.now → IsLocal func scope.local.now
     → Notes old a (LinesIn scope.form (tables_in scope) func.body) → Notes a b (CasesOf func.body) → Notes b c (PhisOf (scope_of lines func) (blocks_of func))
     → Notes c new (FoundByForm scope.form (scope_of lines func) func) → Notes old new (FoundWithin scope.form (scope_of lines func) func)
+unfolding FoundWithin
 notes-within lines func scope old a b c new t l m n p q =
     notes-then old a new (LinesOf scope.form (scope_of lines func) func.body) (Either (CasesOf func.body) (Either (PhisOf (scope_of lines func) (blocks_of func)) (FoundByForm scope.form (scope_of lines func) func)))
     (lines-noted scope.form (scope_of lines func) (tables_in scope) func.body old a (tables-of lines func scope t l) m)
@@ -48,6 +49,7 @@ notes-within lines func scope old a b c new t l m n p q =
 
 pub notes-function : (form : Form) (lines : List Line) (func : Definition) (old a new : Option Fault) → Notes old a (FoundByNames form func)
     → Notes a new (FoundWithin form (scope_of lines func) func) → Notes old new (FoundInFunction form (scope_of lines func) func)
+unfolding FoundInFunction
 notes-function form lines func old a new m n = notes-then old a new (FoundByNames form func) (FoundWithin form (scope_of lines func) func) m n
 
 pub on-ok : {A E : Type 0} (r : Result A E) (P Q : Type 0) → (P → Q) → OnOk r P → OnOk r Q

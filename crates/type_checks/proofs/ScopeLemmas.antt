@@ -26,7 +26,7 @@ use Rattle.ir_lines.specs.Again.{at_name}
 use Rattle.ir_lines.specs.Faults.UnknownName.{names_unknown}
 use Rattle.ir_lines.specs.Faults.TypeClash.{misfits, place_fits, is_task, starts_task, checks_kind, takes_operands, agrees, call_agrees, takes_types, statepoint_agrees, keeps_rule, clashes}
 use Rattle.ir_lines.specs.Faults.EntryHasPred.{names_entry}
-use Rattle.type_checks.specs.LineFaults.{Tables, AreTables, LineFault, LineFaultIn, Coded, is_missing, misses, misses_used, misses_label, misses_label_of_phi, misses_entry, misses_passed, misses_function, misses_name, type_fits, fits_in, misfits_in, count_fits, starts_at, task_starts, operands_fit, call_fits, statepoint_fits, rule_kept, clashes_in, targets_first}
+use Rattle.type_checks.specs.LineFaults.{Tables, AreTables, LineFault, LineFaultIn, Coded, is_missing, misses, misses_used, misses_label, misses_label_of_phi, misses_entry, misses_function, misses_name, type_fits, fits_in, misfits_in, count_fits, task_starts, operands_fit, call_fits, statepoint_fits, rule_kept, clashes_in, targets_first}
 use Rattle.ir_lines.specs.Faults.PointerOrder.{orders_pointers}
 use Rattle.ir_lines.specs.Faults.PointerCast.{is_cast}
 use Rattle.ir_lines.proofs.PlaceLemmas.{at-name}

@@ -1,5 +1,5 @@
 -- Lists of types of different lengths.
-use Rattle.std.proofs.Common.{◌≡◌, ◌≢◌, Bool, true, false, ◌&&◌, ◌∙◌, List, [], ◌∷◌, length, refl, ap, suc, sym}
+use Rattle.std.proofs.Common.{◌≡◌, ◌≢◌, Bool, true, false, ◌&&◌, ◌∙◌, List, [], ◌∷◌, length, refl, ap, suc}
 use Rattle.ir_reader.specs.declared.readings.TypeWord.{TypeWord}
 use Rattle.ir_lines.specs.Types.{same_type, same_types}
 

@@ -1,6 +1,6 @@
 -- What the passes find together is what has a fault.
 use Rattle.std.proofs.Common.{◌≡◌, ◌∙◌, ℕ, ◌⊎◌, inl, inr, Bool, true, false, List, [], ◌∷◌, ◌++◌, length, refl, ap, sym, subst}
-use Rattle.std.specs.Prelude.{Option, Some, None, map, not, codes}
+use Rattle.std.specs.Prelude.{Option, map, not}
 use Rattle.std.specs.List.{Contains}
 use Rattle.ir_reader.specs.declared.readings.TypeWord.{TypeWord}
 use Rattle.ir_reader.specs.Lists.{Named}
@@ -12,11 +12,11 @@ use Rattle.ir_lines.specs.Statements.{Statement, Line, layout, declare, define, 
 use Rattle.ir_lines.specs.Sections.{Head, Definition, Naming, BlockLines, head_said, layouts_of, heads_of, definitions_of, values_of, blocks_of, cases_of, types_of}
 use Rattle.ir_lines.specs.Scope.{Scope, scope_of}
 use Rattle.ir_lines.specs.InBody.{InBody}
-use Rattle.ir_lines.specs.Again.{TopAgain, NamesFound, named_values, named_blocks}
+use Rattle.ir_lines.specs.Again.{TopAgain, NamesFound, FoundByNames, named_values, named_blocks}
 use Rattle.type_checks.specs.TopFaults.{OuterFault, OuterFaults, LacksMain, DeclareFault, DefineFault, FoundByTop}
 use Rattle.type_checks.specs.Founds.{Found}
-use Rattle.type_checks.specs.LineFaults.{Coded, unknown_name as coded_name, type_clash as coded_clash, entry_has_pred as coded_entry, pointer_order as coded_order, pointer_cast as coded_cast, LineFault}
-use Rattle.type_checks.specs.FunctionFaults.{LinesOf, CasesOf, CasesBehind, WrongCases, CaseIsWrong, PhisOf, PhisOfBlock, StatementIsWrong, EscapesOf, Escapes, ShapesOf, FoundByForm, FoundWithin, FoundInFunction, InFunctions}
+use Rattle.type_checks.specs.LineFaults.{unknown_name as coded_name, type_clash as coded_clash, entry_has_pred as coded_entry, pointer_order as coded_order, pointer_cast as coded_cast, LineFault}
+use Rattle.type_checks.specs.FunctionFaults.{LinesOf, CasesOf, CasesBehind, CaseIsWrong, PhisOf, PhisOfBlock, StatementIsWrong, EscapesOf, Escapes, ShapesOf, FoundByForm, FoundWithin, FoundInFunction, InFunctions}
 use Rattle.ir_lines.specs.PlainFaults.{HasPlainFault, name_twice, unknown_name, type_clash, entry_has_pred, phi_edges, derived_escapes, no_strategy, no_main, unknown_extern, bad_layout, reserved, pointer_order, pointer_cast, group_shape}
 use Rattle.ir_lines.specs.Faults.NameTwice.{NameTwice, DeclaresDefined, layout_again, head_again, declares_defined, label_again, value_again}
 use Rattle.ir_lines.specs.Faults.TypeClash.{TypeClash, CaseClash, by_line, by_case}
@@ -180,6 +180,7 @@ fault-by-form Rewritten lines func line code defined f = fault-of-shape lines fu
 
 fault-within : (form : Form) (lines : List Line) (func : Definition) (line code : ℕ) → Contains (definitions_of lines) func
     → FoundWithin form (scope_of lines func) func line code → HasPlainFault form lines line code
+unfolding FoundWithin
 fault-within form lines func line code defined (inl f) = fault-of-line form lines func line code defined f
 fault-within form lines func line code defined (inr (inl f)) =
     fault-of-cases form lines func line code f.before f.here f.after f.here.says defined f.whole refl f.faulty
@@ -210,6 +211,7 @@ fault-of-blocks form lines func line code defined (inr f) =
 
 fault-in-function : (form : Form) (lines : List Line) (func : Definition) (line code : ℕ) → Contains (definitions_of lines) func
     → FoundInFunction form (scope_of lines func) func line code → HasPlainFault form lines line code
+unfolding FoundInFunction
 fault-in-function form lines func line code defined (inl (inl f)) = fault-of-values form lines func line code defined f
 fault-in-function form lines func line code defined (inl (inr f)) = fault-of-blocks form lines func line code defined f
 fault-in-function form lines func line code defined (inr f) = fault-within form lines func line code defined f
@@ -350,7 +352,10 @@ fault-found form lines line code (inr f) =
 -- ---- from the fault to what is found
 
 in-function : (form : Form) (lines : List Line) (func : Definition) (line code : ℕ) → Contains (definitions_of lines) func
-    → FoundInFunction form (scope_of lines func) func line code → FoundInText form lines line code
+    → FoundByNames form func line code ⊎ (LinesOf form (scope_of lines func) func.body line code
+    ⊎ (CasesOf func.body line code ⊎ (PhisOf (scope_of lines func) (blocks_of func) line code ⊎ FoundByForm form (scope_of lines func) func line code)))
+    → FoundInText form lines line code
+unfolding FoundWithin FoundInFunction
 in-function form lines func line code defined f =
     inr (found-contained (λ one. FoundInFunction form (scope_of lines one) one) (definitions_of lines) func line code defined f)
 

@@ -1,8 +1,6 @@
 -- What the passes over a function find.
 use Rattle.std.specs.Prelude.{◌≡◌, ◌≢◌, ℕ, ◌⊎◌, Bool, true, false, nat_eq, List, Option, None, Some, map, filter_map, length}
 use Rattle.std.specs.List.{list_any, Contains}
-use Rattle.ir_reader.specs.declared.readings.TypeWord.{TypeWord}
-use Rattle.ir_reader.specs.Parts.{Val}
 use Rattle.ir_ast.specs.declared.modules.Form.{Form}
 use Rattle.ir_ast.specs.declared.modules.Form.TheVariants.{Source, Rewritten}
 use Rattle.ir_lines.specs.declared.scope.Local.{Local}
@@ -121,12 +119,12 @@ FoundByForm Source scope func = EscapesOf func func.body
 FoundByForm Rewritten scope func = ShapesOf scope func func.body
 
 -- what the lines of a function have, besides what its names have
-abbrev pub FoundWithin : Form → Scope → Definition → ℕ → ℕ → Type 0
+unfoldable pub FoundWithin : Form → Scope → Definition → ℕ → ℕ → Type 0
 FoundWithin form scope func line code =
     LinesOf form scope func.body line code
     ⊎ (CasesOf func.body line code ⊎ (PhisOf scope (blocks_of func) line code ⊎ FoundByForm form scope func line code))
 
-abbrev pub FoundInFunction : Form → Scope → Definition → ℕ → ℕ → Type 0
+unfoldable pub FoundInFunction : Form → Scope → Definition → ℕ → ℕ → Type 0
 FoundInFunction form scope func line code = FoundByNames form func line code ⊎ FoundWithin form scope func line code
 
 -- what the definitions among these lines have

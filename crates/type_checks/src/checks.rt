@@ -62,13 +62,13 @@ fn note_body(
 }
 
 // Notes the faults of a definition with these names and blocks.
-fn note_named(
+fn note_named<'t, 'n, 'a: 'n>(
     alloc: Global,
     form: Form,
     top: &Top,
-    func: &Definition,
-    names: &HeadNames,
-    blocks: &[BlockLines],
+    func: &Definition<'t, 'a>,
+    names: &'n HeadNames,
+    blocks: &[BlockLines<'t, 'a, 'n>],
     first: &mut First,
 ) -> Result<(), AllocError>
     requires names { map (λ n. n.items) names.now.arguments.items

@@ -11,12 +11,12 @@ use Rattle.ir_types.proofs.typing.checked.Goals as goal
 pub returns-in_err-fault-clause-answers : goal.returns-in_err-fault-clause-answers
 returns-in_err-fault-clause-answers c = let p = err_from_is_err_and c.from_residual.result c.from_residual.ensures.1 in rw (p.1, p.2) tt
 
-pub with_paths-requires-plain : goal.with_paths-requires-plain
-with_paths-requires-plain c =
+pub with_paths-requires-clause-plain : goal.with_paths-requires-clause-plain
+with_paths-requires-clause-plain c =
     let form = c.args.raw.now.form in
     let lines = seen_lines c.args.raw.now.lines in
     let noted : Notes None c.in_ok-fault.field-0 (λ line code. HasPlainFault form lines line code) =
-    rw (← c.form.ensures, ← c.lines.ensures.lines) c.in_ok-fault.ensures in
+    rw (← c.form-form.ensures, ← c.lines.ensures.lines) c.in_ok-fault.ensures in
     notes-none form lines
     (subst (λ (found : Option Fault). Notes None found (λ line code. HasPlainFault form lines line code)) c.in-None.is noted)
 
@@ -25,7 +25,7 @@ returns-in-Some-clause-answers c =
     let form = c.args.raw.now.form in
     let lines = seen_lines c.args.raw.now.lines in
     let noted : Notes None c.in_ok-fault.field-0 (λ line code. HasPlainFault form lines line code) =
-    rw (← c.form.ensures, ← c.lines.ensures.lines) c.in_ok-fault.ensures in
+    rw (← c.form-form.ensures, ← c.lines.ensures.lines) c.in_ok-fault.ensures in
     plain-least form lines c.in-Some.fault.line c.in-Some.fault.code
     (notes-least form lines c.in-Some.fault
     (subst (λ (found : Option Fault). Notes None found (λ line code. HasPlainFault form lines line code)) c.in-Some.is noted))

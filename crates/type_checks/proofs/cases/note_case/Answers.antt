@@ -1,4 +1,4 @@
-use Rattle.std.proofs.Common.{◌∙◌, ℕ, Bool, not, ap, subst}
+use Rattle.std.proofs.Common.{◌∙◌, Bool, not, ap, subst}
 use Rattle.std.specs.Prelude.{IsTrue, nat_eq}
 use Rattle.ir_reader.specs.Seen.{seen_value}
 use Rattle.ir_lines.specs.Notes.{Notes, Is}

@@ -1,4 +1,4 @@
-use Rattle.std.proofs.Common.{◌≡◌, ◌∙◌, ◌+◌, sym, length, subst, drop, ap, arith, List}
+use Rattle.std.proofs.Common.{◌≡◌, ◌∙◌, ◌+◌, sym, length, subst, ap, arith, List}
 use Rattle.std.proofs.lemmas.List.{length-map, drop-map}
 use Rattle.ir_lines.specs.Statements.{Line}
 use Rattle.ir_lines.specs.Notes.{Notes}

@@ -1,4 +1,4 @@
-use Rattle.std.proofs.Common.{get_or, arith, take, ℕ, ◌<◌, length}
+use Rattle.std.proofs.Common.{get_or, arith, take, ◌<◌, length}
 use Rattle.std.specs.Prelude.{map}
 use Rattle.std.proofs.lemmas.List.{take_more, length-map}
 use Rattle.std.proofs.lemmas.List.Elements.{Contains-get_or}

@@ -1,6 +1,5 @@
-use Rattle.std.proofs.Common.{◌≡◌, ◌∙◌, ℕ, ◌<◌, List, length, get_or, true, false, replicate, arith, ap, sym, subst}
-use Rattle.std.specs.Prelude.{map, Some}
-use Rattle.std.specs.List.{Contains}
+use Rattle.std.proofs.Common.{◌∙◌, length, true, false, replicate, arith, ap, sym}
+use Rattle.std.specs.Prelude.{map}
 use Rattle.std.proofs.lemmas.List.{length-map, length-replicate}
 use Rattle.std.proofs.lemmas.Option.{slice_get_read, slice_get_within}
 use Rattle.type_checks.proofs.SearchLemmas.{search_start, search_more, followed_none, followed_more, marks_following, inside_row}

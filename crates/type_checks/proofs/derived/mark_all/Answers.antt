@@ -1,7 +1,6 @@
-use Rattle.std.proofs.Common.{get_or, arith, take, subst, List, ℕ, ◌≡◌, ◌∙◌, sym}
-use Rattle.std.proofs.lemmas.List.{take_more, take_all}
+use Rattle.std.proofs.Common.{get_or, arith}
+use Rattle.std.proofs.lemmas.List.{take_more}
 use Rattle.std.proofs.lemmas.List.Elements.{Contains-get_or}
-use Rattle.type_checks.specs.Follows.{Visits}
 use Rattle.type_checks.proofs.SearchLemmas.{visits_start, visits_more}
 use Rattle.type_checks.proofs.derived.mark_all.Goals as goal
 

@@ -1,4 +1,4 @@
-use Rattle.std.proofs.Common.{◌≡◌, ◌∙◌, ◌<◌, ℕ, List, length, arith, sym, ap, subst}
+use Rattle.std.proofs.Common.{◌∙◌, ℕ, List, arith, subst}
 use Rattle.std.specs.List.{Contains}
 use Rattle.ir_lines.specs.Parts.{uses}
 use Rattle.ir_lines.specs.Views.{said}

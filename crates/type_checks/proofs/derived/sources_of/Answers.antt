@@ -1,10 +1,10 @@
 use Rattle.std.proofs.Common.{◌≡◌, ◌∙◌, ◌+◌, ◌++◌, ℕ, List, length, arith, sym, ap, subst, []}
-use Rattle.std.specs.Prelude.{map, Some, slice_get}
+use Rattle.std.specs.Prelude.{map}
 use Rattle.std.proofs.lemmas.List.{length-map, length-replicate}
 use Rattle.ir_reader.specs.Seen.{seen_argument}
 use Rattle.ir_lines.specs.Parts.{gives}
 use Rattle.ir_lines.specs.Tables.{seen_definition}
-use Rattle.ir_lines.specs.Views.{said, seen_line, seen_lines}
+use Rattle.ir_lines.specs.Views.{seen_line}
 use Rattle.type_checks.specs.Follows.{AddsUsers}
 use Rattle.type_checks.specs.Derivations.{names_given, steps_given, merged_given, count_given}
 use Rattle.type_checks.proofs.Founds.{seen-at}

@@ -1,5 +1,5 @@
 use Rattle.std.proofs.Common.{◌≡◌, ◌∙◌, ◌+◌, ◌++◌, ℕ, List, [], ◌∷◌, length, take, drop, arith, sym, ap, subst}
-use Rattle.std.specs.Prelude.{map, option_map, slice_get, Option, Some, None}
+use Rattle.std.specs.Prelude.{option_map, Option}
 use Rattle.std.proofs.lemmas.List.{length-map}
 use Rattle.ir_reader.specs.Seen.{seen_argument}
 use Rattle.ir_lines.specs.Parts.{gives}
@@ -7,10 +7,10 @@ use Rattle.ir_lines.specs.Scope.{scope_of}
 use Rattle.ir_lines.specs.Sections.{values_of}
 use Rattle.ir_lines.specs.Statements.{Line}
 use Rattle.ir_lines.specs.Tables.{seen_definition}
-use Rattle.ir_lines.specs.Views.{said, seen_line, seen_lines}
+use Rattle.ir_lines.specs.Views.{seen_line, seen_lines}
 use Rattle.type_checks.specs.Derivations.{names_given, count_given}
 use Rattle.type_checks.specs.FunctionFaults.{ShapeAt}
-use Rattle.type_checks.specs.Groups.{Open, seen_open, open_behind, shape_misses}
+use Rattle.type_checks.specs.Groups.{Open, seen_open, open_behind}
 use Rattle.type_checks.proofs.CaseNotes.{taken-more}
 use Rattle.type_checks.proofs.Founds.{notes-start, notes-turn, notes-all, seen-at, split-at}
 use Rattle.type_checks.proofs.DerivedLemmas.{number-start, number-more, number-below, number_at}

@@ -1,8 +1,4 @@
 use Rattle.type_checks.proofs.CodeLemmas.{notes-coded}
-use Rattle.type_checks.proofs.Union.{notes-text}
-use Rattle.type_checks.proofs.CaseNotes.{notes-case}
-use Rattle.type_checks.proofs.JoinLemmas.{notes-within}
-use Rattle.type_checks.proofs.ScopeLemmas.{line-in}
 use Rattle.type_checks.proofs.lines.note_tests.Goals as goal
 
 pub returns : goal.returns
