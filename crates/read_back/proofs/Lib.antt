@@ -45,5 +45,7 @@ pub mod BackRules
 pub mod BackFields
 pub mod BackFits
 pub mod BackCalls
+pub mod BackShapes
+pub mod BackParts
 pub mod BackFaultless
 pub mod TheLaw
