@@ -1,5 +1,5 @@
 -- The lines of a statepoint group: a statepoint, a result and a relocate.
-use Rattle.std.proofs.Common.{◌≡◌, ◌∙◌, ℕ, ◌^◌, ◌<◌, List, [], ◌∷◌, ◌++◌, map, length, refl, ap, sym, subst, arith}
+use Rattle.std.proofs.Common.{◌≡◌, ◌∙◌, ℕ, ◌^◌, ◌<◌, true, List, [], ◌∷◌, ◌++◌, map, length, refl, ap, sym, subst, arith}
 use Rattle.std.specs.Prelude.{Some, take, drop}
 use Rattle.std.specs.List.{AllByRecursion, AllZip, zip}
 use Rattle.std.proofs.lemmas.List.{nil_from_length, take-append-drop}
@@ -8,7 +8,6 @@ use Rattle.sp_ids.specs.declared.ids.ValueId.{ValueId}
 use Rattle.sp_ids.specs.Numbers.{signed}
 use Rattle.ir_ast.specs.declared.types.Ty.{Ty}
 use Rattle.ir_ast.specs.declared.types.Ty.TheVariants as tys
-use Rattle.ir_ast.specs.declared.ops.Op.{Op}
 use Rattle.ir_ast.specs.declared.ops.Op.TheVariants as ops
 use Rattle.ir_ast.specs.declared.ops.Operand.{Operand}
 use Rattle.ir_ast.specs.declared.ops.Operand.TheVariants as operands
@@ -94,7 +93,7 @@ pub relocate-back : (names : Names) (known : Known) → Setting names known → 
     → ops.GcRelocate ≡ inst.op → Has true is_pointer 3 0 inst → IsRelocated inst.operands
     → AllZip (Fits (value_types names.func)) inst.operands (tys.Token ∷ tys.Int 32 ∷ tys.Int 32 ∷ [])
     → instruction_said known rest (gc_relocate_says names inst) ≡ Some inst
-relocate-back names known s rest inst o has (base, derived, token, are) fit =
+relocate-back names known s rest inst o has (base, derived, (token, are)) fit =
     let fits = subst (λ (os : List Operand). AllZip (Fits (value_types names.func)) os (tys.Token ∷ tys.Int 32 ∷ tys.Int 32 ∷ [])) are fit in
     let place : ℕ → Operand = λ at_place. used_operand known (index_use (number_says 32 (operands.Int at_place))) in
     same-inst inst (Some (result_of inst)) ops.GcRelocate tys.Ptr (used inst.operands) []

@@ -1,5 +1,5 @@
 -- The lines that a module is printed as stand for that module.
-use Rattle.std.proofs.Common.{◌≡◌, ◌∙◌, ℕ, zero, suc, ◌+◌, ◌^◌, ◌<◌, ◌≤◌, true, false, List, [], ◌∷◌, ◌++◌, map, length, refl, ap, sym, subst, arith, length-append}
+use Rattle.std.proofs.Common.{◌≡◌, ◌∙◌, ℕ, zero, suc, ◌+◌, ◌^◌, ◌<◌, ◌≤◌, true, false, List, [], ◌∷◌, ◌++◌, map, length, refl, ap, subst, arith, length-append}
 use Rattle.std.specs.Prelude.{Some, IfSome, slice_get, flat_map, is_some, filter}
 use Rattle.std.specs.List.{All, AllByRecursion, AllZip, Contains}
 use Rattle.std.proofs.lemmas.List.{length-map}
@@ -32,7 +32,7 @@ use Rattle.ir_ast.specs.Faults.UnknownName.{NamesOfFunction, NamesOfModule}
 use Rattle.ir_ast.specs.Lines.{IsLine, is_rewritten}
 use Rattle.ir_ast.specs.Lists.{Distinct}
 use Rattle.ir_ast.specs.Scope.{scope_of}
-use Rattle.ir_cfg.specs.SourceModules.{IsSourceFunction, IsSourceModule}
+use Rattle.ir_cfg.specs.SourceModules.{IsSourceModule}
 use Rattle.ir_printer.specs.Names.{Names}
 use Rattle.ir_reader.specs.Lists.{Named}
 use Rattle.ir_lines.specs.Statements.{Line}
@@ -222,7 +222,7 @@ setting content shaped lines e one func says c few names =
     let layouts = shaped.limits.layouts in
     let functions = shaped.limits.functions in
     record {
-      values = value-names (names_in content func) one func says.arguments says.body (shaped_insts content shaped func c);
+      values = value-names content.form (names_in content func) one func says.arguments says.body (shaped_insts content shaped func c);
       blocks = block-names (names_in content func) (blocks_of one) func.blocks (blocks-are (names_in content func) one func.blocks says.body);
       functions = names;
       layouts = layout-names content lines e;
@@ -260,7 +260,7 @@ function-back content shaped known one func says c s =
     (ap (λ (xs : List Named). map argument_of (arguments_named one.line [] xs)) says.arguments
     ∙ arguments-back one.line [] func.args (recursion_from_All (λ (arg : Arg). is_first_class arg.ty ≡ true) func.args typed.args))
     ∙ ap (λ (bs : List BasicBlock). record { name = func.name; answer = func.answer; args = func.args; blocks = bs })
-    (blocks-back (names_in content func) known s free (blocks_of one) func.blocks (blocks-are (names_in content func) one func.blocks says.body) (shaped_insts content shaped func c))
+    (blocks-back content.form (names_in content func) known s free (blocks_of one) func.blocks (blocks-are (names_in content func) one func.blocks says.body) (shaped_insts content shaped func c))
 
 made_back : (content : ModuleContent) (F : Definition → Function)
     → ((one : Definition) (func : Function) → SaysDefinition content.layouts content.funcs one func → Contains content.funcs func → F one ≡ func)
