@@ -32,13 +32,14 @@ use Rattle.ir_ast.specs.Lists.{Distinct}
 use Rattle.ir_ast.specs.Ops.{is_terminator}
 use Rattle.ir_ast.specs.Values.{argument, outcome, definition_name}
 use Rattle.ir_ast.specs.Values as defs
-use Rattle.ir_ast.specs.Faults.GroupShape.{Group as ModuleGroup, is_statepoint, live_entries, entries_of, number_at, first_is, part_of, is_part as is_part_made}
+use Rattle.ir_ast.specs.Faults.GroupShape.{Group as ModuleGroup, is_statepoint, live_entries, entries_of, number_at, is_part as is_part_made}
 use Rattle.ir_printer.specs.Names.{Names, value_name}
 use Rattle.ir_printer.specs.Operands.{operand_at}
 use Rattle.ir_reader.specs.Parts.{Val}
 use Rattle.ir_reader.specs.Statepoints.{Guarded}
 use Rattle.ir_lines.specs.Statements.{Line, Statement, label, switch_end, statepoint, gc_result, gc_relocate}
-use Rattle.ir_lines.specs.Sections.{Definition, Naming, values_before, values_of}
+use Rattle.ir_lines.specs.Sections.{Definition, Naming, values_of}
+use Rattle.ir_lines.specs.Modules.{instruction}
 use Rattle.ir_lines.specs.Faults.GroupShape.{Group, is_part}
 use Rattle.ir_lines.proofs.LawNames.{get_contained, get_taken}
 use Rattle.module_laws.proofs.LawFacts.{and-left, and-right, true-false}
@@ -132,7 +133,7 @@ not_before xs y ys once c =
 
 -- ---- the instruction of a part's line
 
-abbrev is_part_line : Statement → Bool
+abbrev pub is_part_line : Statement → Bool
 is_part_line (gc_result result ty token) = true
 is_part_line (gc_relocate result token base derived) = true
 is_part_line _ = false
@@ -254,7 +255,11 @@ last_ends b (c ∷ cs) all =
       ends = m.ends;
     }
 
-part_ends : (token : ℕ) (op : Op) (os : List Operand) → is_terminator op ≡ true → part_of token op os ≡ true → ⊥
+-- a result or a relocate of this token
+abbrev part_in : ℕ → Op → List Operand → Bool
+part_in token op os = is_part_made token (instruction None op tys.Void os [])
+
+part_ends : (token : ℕ) (op : Op) (os : List Operand) → is_terminator op ≡ true → part_in token op os ≡ true → ⊥
 part_ends token ops.GcResult os ends part = let bad : false ≡ true = ends in cc
 part_ends token ops.GcRelocate os ends part = let bad : false ≡ true = ends in cc
 part_ends token _ os ends part = let bad : false ≡ true = part in cc
@@ -394,7 +399,7 @@ point_named : (op : Op) (sp : Instruction) → LineOf op sp → is_statepoint op
 point_named (ops.Statepoint id callee ts) sp line is = line.result
 point_named _ sp line is = absurd (let bad : false ≡ true = is in cc)
 
-first_name : (names : Names) (token : ℕ) (os : List Operand) → first_is token os ≡ true
+first_name : (names : Names) (token : ℕ) (os : List Operand) → part_in token ops.GcResult os ≡ true
     → bytes_eq (value_name names.func token) (token_says names (unwrap_or (slice_get os 0) operands.Null)) ≡ true
 first_name names token (operands.Value value ∷ os) e =
     (bytes_eq-Decides (value_name names.func token) (value_name names.func value.0)).1 (ap (value_name names.func) (sym ((Decides-eqb value.0 token).0 e)))
@@ -406,7 +411,7 @@ first_name names token (operands.Fun f ∷ os) e = absurd (let bad : false ≡ t
 abbrev IsPartOf : Names → ℕ → Statement → Type 0
 IsPartOf names token s = is_part (value_name names.func token) s ≡ true
 
-part_line : (names : Names) (token : ℕ) (op : Op) (inst : Instruction) → part_of token op inst.operands ≡ true → AllByRecursion (IsPartOf names token) (operator_says names op inst)
+part_line : (names : Names) (token : ℕ) (op : Op) (inst : Instruction) → part_in token op inst.operands ≡ true → AllByRecursion (IsPartOf names token) (operator_says names op inst)
 part_line names token ops.GcResult inst e = (first_name names token inst.operands e, tt)
 part_line names token ops.GcRelocate inst e = (first_name names token inst.operands e, tt)
 part_line names token _ inst e = absurd (let bad : false ≡ true = e in cc)
@@ -418,11 +423,11 @@ parts_line names token (i ∷ is) own =
     all_append (IsPartOf names token) (instruction_says names i) (flat_map (instruction_says names) is) (part_line names token i.op i own.0) (parts_line names token is own.1)
 
 -- the group among the lines of a function before a part
-pub record SaysGroup (names : Names) (one : Definition) (before : List Line) (token : ℕ) (sp : Instruction) (parts : List Instruction) : Type 0 where
+pub record SaysGroup (names : Names) (one : Definition) (before : List Line) (token : ℕ) (sp : Instruction) (insts : List Instruction) : Type 0 where
   pub group : Group one before (value_name names.func token)
   pub answer : group.made.signature.answer ≡ word_of sp.ty
   pub live : group.live ≡ map (value_says names tys.Ptr) (entries_of sp)
-  pub parts : said group.parts ≡ flat_map (instruction_says names) parts
+  pub parts : said group.parts ≡ flat_map (instruction_says names) insts
 
 group_said : (names : Names) (one : Definition) (before rest : List Line) → one.body ≡ before ++ rest
     → map (λ (n : Naming). n.name) (values_of one) ≡ map definition_name (defs.definitions_of names.func)

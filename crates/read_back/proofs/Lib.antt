@@ -49,5 +49,6 @@ pub mod BackFits
 pub mod BackCalls
 pub mod BackShapes
 pub mod BackParts
+pub mod BackGroupShape
 pub mod BackFaultless
 pub mod TheLaw

@@ -3,30 +3,34 @@
 use Rattle.std.proofs.Common.{◌≡◌, sym, subst}
 use Rattle.std.specs.List.{All}
 use Rattle.ir_ast.specs.declared.modules.Form.{Form}
-use Rattle.ir_ast.specs.declared.modules.Form.TheVariants.{Source}
 use Rattle.ir_ast.specs.Modules.{ModuleContent}
 use Rattle.ir_cfg.specs.DefiniteUses.{UsesAreDefinite}
-use Rattle.ir_cfg.specs.SourceModules.{IsSourceModule}
+use Rattle.ir_printer.specs.Texts.{text_of}
 use Rattle.ir_lines.specs.Statements.{lines_of}
-use Rattle.ir_lines.specs.Modules.{module_of}
+use Rattle.ir_lines.specs.PlainFaults.{HasNoPlainFault}
 use Rattle.ir_types.proofs.PathLaw.{definite-faultless}
-use Rattle.read_back.specs.ReadsBack.{EachReadsBack}
+use Rattle.read_back.specs.BlocksEnd.{BlocksEnd}
+use Rattle.read_back.specs.Said.{said_by}
+use Rattle.read_back.specs.ReadsBack.{ReadsBack, EachReadsBack}
 use Rattle.read_back.proofs.BackFaultless.{no_fault}
-use Rattle.read_back.proofs.BackModules.{source_shaped, module-back}
-use Rattle.read_back.proofs.ModulesRead.{source_text_reads}
+use Rattle.read_back.proofs.BackModules.{IsShaped, source_shaped, module-back}
+use Rattle.read_back.proofs.ModulesRead.{TextReads, source_text_reads}
 
-uses_definite : (content back : ModuleContent) → IsSourceModule content → back ≡ content → All UsesAreDefinite back.funcs
-uses_definite content back source same =
-    subst (λ (c : ModuleContent). All UsesAreDefinite c.funcs) (sym same) (λ k d below. (source.functions k d below).definite)
-
-pub reads_back : EachReadsBack
-reads_back content source ends small =
-    let text = source_text_reads content source ends in
+-- a module of either form, whose lines have no fault
+read_back : (content : ModuleContent) → IsShaped content → BlocksEnd content → All UsesAreDefinite content.funcs
+    → (text : TextReads content.form (text_of content) (said_by content)) → HasNoPlainFault content.form (lines_of text.found) → ReadsBack content
+read_back content shaped ends definite text none =
     let lines = lines_of text.found in
-    let same = subst (λ (form : Form). (module_of form lines).content ≡ content) source.form (module-back content (source_shaped content source) ends lines text.same) in
+    let same = module-back content shaped ends lines text.same in
     record {
       readings = text.found;
       reads = text.reads;
-      no_fault = definite-faultless Source lines (no_fault content source ends lines text.same) (uses_definite content _ source same);
+      no_fault = definite-faultless content.form lines none (subst (λ (c : ModuleContent). All UsesAreDefinite c.funcs) (sym same) definite);
       same = same;
     }
+
+pub reads_back : EachReadsBack
+reads_back content source ends small =
+    let text = subst (λ (form : Form). TextReads form (text_of content) (said_by content)) (sym source.form) (source_text_reads content source ends) in
+    read_back content (source_shaped content source) ends (λ k d below. (source.functions k d below).definite) text
+    (subst (λ (form : Form). HasNoPlainFault form (lines_of text.found)) (sym source.form) (no_fault content source ends (lines_of text.found) text.same))
