@@ -1,6 +1,6 @@
 -- The lines that a target module is printed as have no fault of code 18.
 use Rattle.std.proofs.Common.{◌≡◌, ◌∙◌, ℕ, ◌+◌, ◌*◌, ◌<◌, ◌≤◌, ◌^◌, Bool, true, false, List, [], ◌∷◌, ◌++◌, map, length, refl, ap, sym, subst, arith, nat_lt, if◌then◌else◌, pos, ◌-ℤ◌, length-append}
-use Rattle.std.specs.Prelude.{Option, Some, slice_get, option_map, unwrap_or, flat_map}
+use Rattle.std.specs.Prelude.{Some, slice_get, option_map, unwrap_or}
 use Rattle.std.specs.List.{All, AllByRecursion, Contains}
 use Rattle.std.proofs.Math.Nat.{mod-eq_of_lt}
 use Rattle.std.proofs.lemmas.Bool.Decides.{Decides-eqb, Decides-ltb}
@@ -19,7 +19,6 @@ use Rattle.ir_ast.specs.Insts.{Instruction}
 use Rattle.ir_ast.specs.Blocks.{BasicBlock, EndsAtTerminator}
 use Rattle.ir_ast.specs.Funcs.{Function, instructions_of}
 use Rattle.ir_ast.specs.Modules.{ModuleContent}
-use Rattle.ir_ast.specs.Lines.{IsLine}
 use Rattle.ir_ast.specs.Values.{definition_name}
 use Rattle.ir_ast.specs.Values as defs
 use Rattle.ir_ast.specs.Faultless.{FunctionHasNoFault, OfForm}
@@ -42,14 +41,14 @@ use Rattle.module_laws.proofs.LawShapes.{is_part_op}
 use Rattle.module_laws.proofs.LawTokens.{are_parts, point}
 use Rattle.read_back.specs.BlocksEnd.{BlocksEnd}
 use Rattle.read_back.specs.IdsAreWords.{IdsAreWords}
-use Rattle.read_back.specs.Said.{word_of, literal_of, number_says, value_says, token_says, gc_result_says, gc_relocate_says, instruction_says, operator_says, said_by}
+use Rattle.read_back.specs.Said.{word_of, literal_of, number_says, value_says, token_says, gc_result_says, gc_relocate_says, operator_says, said_by}
 use Rattle.read_back.proofs.BackLines.{said, cons_parts}
 use Rattle.read_back.proofs.BackBlocks.{nothing_said}
 use Rattle.read_back.proofs.BackSections.{SaysDefinition, definitions-are}
-use Rattle.read_back.proofs.BackModules.{IsShaped, target_shaped, names_in, setting, few_in, function-names}
+use Rattle.read_back.proofs.BackModules.{target_shaped, names_in, setting, few_in, function-names}
 use Rattle.read_back.proofs.BackFaults.{printed_from}
 use Rattle.read_back.proofs.BackShapes.{misshapes-clear}
-use Rattle.read_back.proofs.BackParts.{PartAt, is_part_line, part_at, Placed, placed, insts_split, SaysGroup, group_back}
+use Rattle.read_back.proofs.BackParts.{PartAt, is_part_line, part_at, placed, insts_split, SaysGroup, group_back}
 
 -- ---- a token has one group among the lines before a part
 

@@ -1,21 +1,18 @@
 -- The results and relocates of the lines that a target module is printed as are in shape: the lines of a block have the
 -- groups of its instructions.
-use Rattle.std.proofs.Common.{◌≡◌, ◌≢◌, ◌∙◌, ℕ, zero, suc, ◌+◌, ◌-◌, ◌<◌, ◌≤◌, ◌^◌, ◌*◌, Bool, true, false, not, ◌||◌, ◌&&◌, ◌==◌, cond, if◌then◌else◌, nat_lt, ℤ, pos, ◌-ℤ◌, inl, inr, List, [], ◌∷◌, ◌++◌, map, length, take, drop, refl, ap, sym, subst, arith, append_assoc, length-append}
-use Rattle.std.specs.Prelude.{Option, Some, None, IfSome, is_some, slice_get, option_map, unwrap_or, filter, flat_map}
+use Rattle.std.proofs.Common.{◌≡◌, ◌∙◌, ℕ, zero, suc, ◌+◌, ◌-◌, ◌<◌, ◌≤◌, Bool, true, false, cond, inl, inr, List, [], ◌∷◌, ◌++◌, map, length, take, drop, refl, ap, sym, subst, arith, append_assoc, length-append}
+use Rattle.std.specs.Prelude.{Option, Some, None, IfSome, is_some, slice_get, unwrap_or, filter, flat_map}
 use Rattle.std.specs.Option.{option_map_or}
 use Rattle.std.specs.Str.{bytes_eq}
-use Rattle.std.specs.List.{All, AllByRecursion, Contains, list_all, zip}
+use Rattle.std.specs.List.{All, AllByRecursion, Contains, zip}
 use Rattle.std.proofs.Math.Seq.{take-append_seam}
-use Rattle.std.proofs.Math.Nat.{mod-eq_of_lt}
 use Rattle.std.proofs.lemmas.Bool.{cases_order}
-use Rattle.std.proofs.lemmas.Bool.Decides.{Decides-eqb, Decides-ltb}
+use Rattle.std.proofs.lemmas.Bool.Decides.{Decides-eqb}
 use Rattle.std.proofs.lemmas.Slice.Eq.{bytes_eq-Decides}
-use Rattle.std.proofs.lemmas.Option.{slice_get-map, slice_get_within, same_Some}
+use Rattle.std.proofs.lemmas.Option.{slice_get_within, same_Some}
 use Rattle.std.proofs.lemmas.List.{length-map, map-append, append-nil}
-use Rattle.std.proofs.lemmas.List.Elements.{All-contains, recursion_from_All, filter-append}
-use Rattle.sp_ids.specs.Numbers.{wrapped, signed}
+use Rattle.std.proofs.lemmas.List.Elements.{All-contains, filter-append}
 use Rattle.sp_ids.specs.declared.ids.BlockId.{BlockId}
-use Rattle.sp_ids.specs.declared.ids.ValueId.{ValueId}
 use Rattle.ir_ast.specs.declared.types.Ty.{Ty}
 use Rattle.ir_ast.specs.declared.types.Ty.TheVariants as tys
 use Rattle.ir_ast.specs.declared.ops.Op.{Op}
@@ -34,7 +31,6 @@ use Rattle.ir_ast.specs.Values.{argument, outcome, definition_name}
 use Rattle.ir_ast.specs.Values as defs
 use Rattle.ir_ast.specs.Faults.GroupShape.{Group as ModuleGroup, is_statepoint, live_entries, entries_of, number_at, is_part as is_part_made}
 use Rattle.ir_printer.specs.Names.{Names, value_name}
-use Rattle.ir_printer.specs.Operands.{operand_at}
 use Rattle.ir_reader.specs.Parts.{Val}
 use Rattle.ir_reader.specs.Statepoints.{Guarded}
 use Rattle.ir_lines.specs.Statements.{Line, Statement, label, switch_end, statepoint, gc_result, gc_relocate}
@@ -42,16 +38,16 @@ use Rattle.ir_lines.specs.Sections.{Definition, Naming, values_of}
 use Rattle.ir_lines.specs.Modules.{instruction}
 use Rattle.ir_lines.specs.Faults.GroupShape.{Group, is_part}
 use Rattle.ir_lines.proofs.LawNames.{get_contained, get_taken}
-use Rattle.module_laws.proofs.LawFacts.{and-left, and-right, true-false}
+use Rattle.module_laws.proofs.LawFacts.{true-false}
 use Rattle.module_laws.proofs.LawTyped.{all-list}
 use Rattle.module_laws.proofs.LawValues.{given_by}
 use Rattle.module_laws.proofs.LawGroups.{get_front}
 use Rattle.module_laws.proofs.LawPlaces.{get_past, get_behind}
 use Rattle.module_laws.proofs.LawShapes.{is_part_op}
-use Rattle.module_laws.proofs.LawTokens.{are_parts, names_before, point, names-at}
+use Rattle.module_laws.proofs.LawTokens.{names_before, point, names-at}
 use Rattle.read_back.specs.Said.{word_of, result_of, value_says, token_says, made_says, case_says, step_says, return_says, gc_result_says, gc_relocate_says, block_says, instruction_says, operator_says}
 use Rattle.read_back.proofs.BackLines.{said, cons_parts}
-use Rattle.read_back.proofs.BackBlocks.{cut, nothing_said, all_append, lines_all, flat-append}
+use Rattle.read_back.proofs.BackBlocks.{cut, all_append, lines_all, flat-append}
 
 -- ---- joined lists cut where an element is
 

@@ -1,8 +1,8 @@
 -- The lines that a target module is printed as have no fault of code 18 by themselves: what stands in no group asks for
 -- no token, and each statepoint has as many arguments as it counts.
-use Rattle.std.proofs.Common.{◌≡◌, ◌∙◌, ℕ, suc, Bool, true, false, not, ◌||◌, ◌==◌, List, [], ◌∷◌, ◌++◌, map, length, take, drop, refl, ap, sym, codes}
+use Rattle.std.proofs.Common.{◌≡◌, ◌∙◌, ℕ, suc, Bool, true, false, not, ◌||◌, List, [], ◌∷◌, ◌++◌, map, length, take, drop, refl, ap, sym}
 use Rattle.std.specs.Prelude.{Option, Some, None, ⊤, filter_map, flat_map}
-use Rattle.std.specs.List.{All, AllByRecursion, AllZip, Contains, list_any, zip}
+use Rattle.std.specs.List.{All, AllByRecursion, list_any, zip}
 use Rattle.std.proofs.lemmas.List.{length-map}
 use Rattle.std.proofs.lemmas.List.Elements.{All-from_recursion, recursion_from_All, All-contains}
 use Rattle.std.proofs.lemmas.Bool.Decides.{Decides-eqb}
@@ -20,7 +20,7 @@ use Rattle.ir_ast.specs.Insts.{Instruction}
 use Rattle.ir_ast.specs.Funcs.{Function, instructions_of}
 use Rattle.ir_ast.specs.Modules.{ModuleContent}
 use Rattle.ir_ast.specs.Types.{is_first_class, is_answer}
-use Rattle.ir_ast.specs.Lines.{LineOf, IsLine, Arguments, is_argument}
+use Rattle.ir_ast.specs.Lines.{LineOf, IsLine, Arguments}
 use Rattle.ir_printer.specs.Names.{Names}
 use Rattle.ir_reader.specs.declared.readings.TypeWord.{TypeWord}
 use Rattle.ir_reader.specs.declared.readings.TypeWord.TheVariants.{Managed}
@@ -28,7 +28,7 @@ use Rattle.ir_reader.specs.Parts.{Val}
 use Rattle.ir_reader.specs.Parts as values
 use Rattle.ir_lines.specs.Statements.{Line, Statement, switch_end, statepoint, gc_result, gc_relocate}
 use Rattle.ir_lines.specs.Parts.{uses, token_type, passed_value, entry_use, live_use}
-use Rattle.ir_lines.specs.Sections.{Definition, Naming}
+use Rattle.ir_lines.specs.Sections.{Naming}
 use Rattle.ir_lines.specs.Scope.{Scope, scope_of, value_named}
 use Rattle.ir_lines.specs.Types.{same_type, naming_fits, fits}
 use Rattle.ir_lines.specs.InBody.{InBody}
@@ -177,9 +177,9 @@ plain_lines names ops.Store inst line = ((word_first inst.ty line.type, (refl, t
 plain_lines names (ops.Call callee ts) inst line = (passed_ask names callee ts inst.operands (all_taken callee ts inst.operands line.arguments), tt)
 plain_lines names (ops.Statepoint id callee ts) inst line = (
   (
-      counted names id callee ts inst line.arguments,
-      all_append AsksValue (filter_map passed_value (made_says names id callee ts inst).passed) (map live_use (map (value_says names tys.Ptr) (drop (length ts) inst.operands)))
-          (passed_ask names callee ts inst.operands line.arguments) (live_ask (map (value_says names tys.Ptr) (drop (length ts) inst.operands))),
+    counted names id callee ts inst line.arguments,
+    all_append AsksValue (filter_map passed_value (made_says names id callee ts inst).passed) (map live_use (map (value_says names tys.Ptr) (drop (length ts) inst.operands)))
+        (passed_ask names callee ts inst.operands line.arguments) (live_ask (map (value_says names tys.Ptr) (drop (length ts) inst.operands))),
   ),
   tt,
 )

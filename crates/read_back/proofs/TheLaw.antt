@@ -1,6 +1,6 @@
 -- Printing and reading back, from both halves: the text is read, and its lines stand for the module. So its uses are
 -- those of the module, and definite.
-use Rattle.std.proofs.Common.{◌≡◌, sym, subst}
+use Rattle.std.proofs.Common.{sym, subst}
 use Rattle.std.specs.List.{All}
 use Rattle.ir_ast.specs.declared.modules.Form.{Form}
 use Rattle.ir_ast.specs.Modules.{ModuleContent}
