@@ -18,9 +18,11 @@ pub mod GroupDeclarations
 pub mod Chains
 pub mod SwitchLines
 pub mod Blocks
+pub mod Rows
 pub mod SourceLines
 pub mod Functions
 pub mod FunctionsRead
+pub mod FunctionsPrinted
 pub mod SourceFunctions
 pub mod ModulesRead
 pub mod BackLiterals
