@@ -25,6 +25,7 @@ pub mod FunctionsRead
 pub mod FunctionsPrinted
 pub mod SourceFunctions
 pub mod ModulesRead
+pub mod TargetReads
 pub mod BackLiterals
 pub mod BackNames
 pub mod BackLines
