@@ -1,5 +1,5 @@
 -- Relocates that stand in a row name one token, so at most 16,384 do.
-use Rattle.std.proofs.Common.{◌≡◌, refl, ap, sym, ◌∙◌, subst, inl, inr, ℕ, ◌+◌, ◌<◌, ◌≤◌, ◌&&◌, Bool, true, false, cond, List, [], ◌∷◌, ◌++◌, length, arith, append_assoc, append-nil, length-append}
+use Rattle.std.proofs.Common.{◌≡◌, refl, ap, sym, ◌∙◌, subst, inl, inr, ℕ, ◌+◌, ◌<◌, ◌≤◌, ◌&&◌, Bool, true, false, cond, List, [], ◌∷◌, ◌++◌, length, arith, append_assoc, length-append}
 use Rattle.std.specs.Prelude.{Option, Some, None, IfSome, slice_get, filter, ◌⊎◌}
 use Rattle.std.specs.List.{AllByRecursion}
 use Rattle.std.proofs.lemmas.Bool.{cases_order}
@@ -15,7 +15,7 @@ use Rattle.ir_ast.specs.Insts.{Instruction}
 use Rattle.ir_ast.specs.Blocks.{BasicBlock}
 use Rattle.ir_ast.specs.Funcs.{Function, instructions_of}
 use Rattle.ir_ast.specs.Faults.GroupShape.{Group, ShapeOf, GroupsInShape, is_statepoint, is_part}
-use Rattle.ir_cfg.specs.TargetModules.{is_relocate, relocates_of, StatepointsAreSmall}
+use Rattle.ir_cfg.specs.TargetModules.{is_relocate, StatepointsAreSmall}
 use Rattle.module_laws.proofs.LawPlaces.{get_behind}
 use Rattle.read_back.proofs.Blocks.{run, RunsFit}
 
