@@ -9,7 +9,7 @@ ghost use Rattle.statepoint_tool.specs.NotYet.{first_not_yet, has_pointer, is_in
 use ir_reader::{Argument, Entry, NumberedReading, Passed, Reading, TypeWord, Value};
 
 /// The first line of a definition, from its head on, that has a managed pointer as operand, argument, answer or
-/// result, that calls `gc_new` or `task_start`, or that is of a statepoint group.
+/// result, or that calls `gc_new` or `task_start`.
 pub(crate) fn first_not_yet(lines: &[NumberedReading]) -> Option<u32>
     ensures { result ≡ first_not_yet (seen_lines lines.now) }
 {
