@@ -12,6 +12,7 @@ use Rattle.ir_ast.specs.declared.ops.Op.TheVariants as ops
 use Rattle.ir_ast.specs.declared.ops.Elem.{Elem}
 use Rattle.ir_ast.specs.declared.ops.Elem.TheVariants as elements
 use Rattle.ir_ast.specs.declared.ops.Operand.{Operand}
+use Rattle.ir_ast.specs.declared.modules.Form.{Form as TextForm}
 use Rattle.ir_ast.specs.Insts.{Instruction}
 use Rattle.ir_ast.specs.Blocks.{BasicBlock}
 use Rattle.ir_ast.specs.Funcs.{Function, instructions_of}
@@ -30,7 +31,7 @@ use Rattle.read_back.specs.Said.{word_of, result_of, operator_says, instruction_
 use Rattle.read_back.proofs.BackNames.{Setting}
 use Rattle.read_back.proofs.BackLines.{said, cons_parts, word-type}
 use Rattle.read_back.proofs.BackLists.{NamesAreFree}
-use Rattle.read_back.proofs.BackInsts.{IsPrinted, inst-back}
+use Rattle.read_back.proofs.BackInsts.{IsPrintedIn, inst-back}
 
 -- ---- lines cut where what they say is
 
@@ -171,24 +172,24 @@ blocks-are names func blocks e =
     subst (λ (bls : List BlockLines). AllZip (SaysBlock names) (bls ++ labelled_blocks func.body) blocks) (sym (first_none names func blocks func.body e))
     (blocks-said names blocks func.body e)
 
-pub insts-back : (names : Names) (known : Known) → Setting names known → NamesAreFree names → (insts : List Instruction)
-    → AllByRecursion (λ inst. IsPrinted names inst.op inst) insts → (ls : List Line) → said ls ≡ flat_map (instruction_says names) insts → insts_of known ls ≡ insts
-insts-back names known s free [] p ls e = ap (insts_of known) (nothing_said ls e)
-insts-back names known s free (i ∷ is) p ls e =
+pub insts-back : (form : TextForm) (names : Names) (known : Known) → Setting names known → NamesAreFree names → (insts : List Instruction)
+    → AllByRecursion (λ inst. IsPrintedIn form names inst.op inst) insts → (ls : List Line) → said ls ≡ flat_map (instruction_says names) insts → insts_of known ls ≡ insts
+insts-back form names known s free [] p ls e = ap (insts_of known) (nothing_said ls e)
+insts-back form names known s free (i ∷ is) p ls e =
     let c = cut ls (instruction_says names i) (flat_map (instruction_says names) is) e in
     ap (insts_of known) c.whole ∙ inst-back names known s free i.op i p.0 c.front c.back c.front_says
-    ∙ ap (λ (xs : List Instruction). i ∷ xs) (insts-back names known s free is p.1 c.back c.back_says)
+    ∙ ap (λ (xs : List Instruction). i ∷ xs) (insts-back form names known s free is p.1 c.back c.back_says)
 
-pub blocks-back : (names : Names) (known : Known) → Setting names known → NamesAreFree names → (ones : List BlockLines) (blocks : List BasicBlock)
-    → AllZip (SaysBlock names) ones blocks → AllByRecursion (λ block. AllByRecursion (λ inst. IsPrinted names inst.op inst) block.insts) blocks
+pub blocks-back : (form : TextForm) (names : Names) (known : Known) → Setting names known → NamesAreFree names → (ones : List BlockLines) (blocks : List BasicBlock)
+    → AllZip (SaysBlock names) ones blocks → AllByRecursion (λ block. AllByRecursion (λ inst. IsPrintedIn form names inst.op inst) block.insts) blocks
     → map (block_of known) ones ≡ blocks
-blocks-back names known s free [] [] h p = refl
-blocks-back names known s free [] (b ∷ bs) h p = absurd h
-blocks-back names known s free (o ∷ os) [] h p = absurd h
-blocks-back names known s free (o ∷ os) (b ∷ bs) h p =
+blocks-back form names known s free [] [] h p = refl
+blocks-back form names known s free [] (b ∷ bs) h p = absurd h
+blocks-back form names known s free (o ∷ os) [] h p = absurd h
+blocks-back form names known s free (o ∷ os) (b ∷ bs) h p =
     ap (λ (n : List ℕ). record { name = n; insts = insts_of known o.lines } ∷ map (block_of known) os) h.0.name
-    ∙ ap (λ (is : List Instruction). record { name = b.name; insts = is } ∷ map (block_of known) os) (insts-back names known s free b.insts p.0 o.lines h.0.lines)
-    ∙ ap (λ (xs : List BasicBlock). b ∷ xs) (blocks-back names known s free os bs h.1 p.1)
+    ∙ ap (λ (is : List Instruction). record { name = b.name; insts = is } ∷ map (block_of known) os) (insts-back form names known s free b.insts p.0 o.lines h.0.lines)
+    ∙ ap (λ (xs : List BasicBlock). b ∷ xs) (blocks-back form names known s free os bs h.1 p.1)
 
 pub block-names : (names : Names) (ones : List BlockLines) (blocks : List BasicBlock) → AllZip (SaysBlock names) ones blocks
     → map (λ one. one.name) ones ≡ map (λ block. block.name) blocks
@@ -267,7 +268,7 @@ call_name : (o : Option (List ℕ)) (answer : TypeWord) → first_of_pair (given
 call_name None answer = refl
 call_name (Some name) answer = refl
 
-inst_names : (names : Names) (op : Op) (inst : Instruction) → IsPrinted names op inst → names_given (operator_says names op inst) ≡ one_name inst.result
+inst_names : {of : TextForm} (names : Names) (op : Op) (inst : Instruction) → IsPrintedIn of names op inst → names_given (operator_says names op inst) ≡ one_name inst.result
 inst_names names ops.Add inst p = named_result inst.result p.line.result
 inst_names names ops.Sub inst p = named_result inst.result p.line.result
 inst_names names ops.Mul inst p = named_result inst.result p.line.result
@@ -292,9 +293,9 @@ inst_names names (ops.Gep elem width place) inst p =
 inst_names names ops.Load inst p = named_result inst.result p.line.result
 inst_names names ops.Store inst p = unnamed_result inst.result p.line.result
 inst_names names (ops.Call callee ts) inst p = call_name inst.result (word_of inst.ty)
-inst_names names (ops.Statepoint id callee ts) inst p = absurd (let bad : true ≡ false = p.plain refl in cc)
-inst_names names ops.GcResult inst p = absurd (let bad : true ≡ false = p.plain refl in cc)
-inst_names names ops.GcRelocate inst p = absurd (let bad : true ≡ false = p.plain refl in cc)
+inst_names names (ops.Statepoint id callee ts) inst p = named_result inst.result p.line.result
+inst_names names ops.GcResult inst p = named_result inst.result p.line.0.result
+inst_names names ops.GcRelocate inst p = named_result inst.result p.line.0.result
 inst_names names ops.Br inst p = unnamed_result inst.result p.line.result
 inst_names names ops.CondBr inst p = unnamed_result inst.result p.line.result
 inst_names names ops.Switch inst p =
@@ -306,21 +307,21 @@ inst_names names ops.Unreachable inst p = unnamed_result inst.result p.line.resu
 abbrev names_of : List Instruction → List (List ℕ)
 names_of insts = flat_map (λ inst. one_name inst.result) insts
 
-insts_names : (names : Names) (insts : List Instruction) → AllByRecursion (λ inst. IsPrinted names inst.op inst) insts
+insts_names : (form : TextForm) (names : Names) (insts : List Instruction) → AllByRecursion (λ inst. IsPrintedIn form names inst.op inst) insts
     → names_given (flat_map (instruction_says names) insts) ≡ names_of insts
-insts_names names [] p = refl
-insts_names names (i ∷ is) p =
+insts_names form names [] p = refl
+insts_names form names (i ∷ is) p =
     flat-append (λ (s : Statement). first_of_pair (gives s)) (instruction_says names i) (flat_map (instruction_says names) is)
     ∙ ap (λ (ns : List (List ℕ)). ns ++ names_given (flat_map (instruction_says names) is)) (inst_names names i.op i p.0)
-    ∙ ap (λ (ns : List (List ℕ)). one_name i.result ++ ns) (insts_names names is p.1)
+    ∙ ap (λ (ns : List (List ℕ)). one_name i.result ++ ns) (insts_names form names is p.1)
 
-blocks_names : (names : Names) (blocks : List BasicBlock) → AllByRecursion (λ block. AllByRecursion (λ inst. IsPrinted names inst.op inst) block.insts) blocks
+blocks_names : (form : TextForm) (names : Names) (blocks : List BasicBlock) → AllByRecursion (λ block. AllByRecursion (λ inst. IsPrintedIn form names inst.op inst) block.insts) blocks
     → names_given (flat_map (block_says names) blocks) ≡ names_of (instructions_of blocks)
-blocks_names names [] p = refl
-blocks_names names (b ∷ bs) p =
+blocks_names form names [] p = refl
+blocks_names form names (b ∷ bs) p =
     flat-append (λ (s : Statement). first_of_pair (gives s)) (flat_map (instruction_says names) b.insts) (flat_map (block_says names) bs)
-    ∙ ap (λ (ns : List (List ℕ)). ns ++ names_given (flat_map (block_says names) bs)) (insts_names names b.insts p.0)
-    ∙ ap (λ (ns : List (List ℕ)). names_of b.insts ++ ns) (blocks_names names bs p.1)
+    ∙ ap (λ (ns : List (List ℕ)). ns ++ names_given (flat_map (block_says names) bs)) (insts_names form names b.insts p.0)
+    ∙ ap (λ (ns : List (List ℕ)). names_of b.insts ++ ns) (blocks_names form names bs p.1)
     ∙ sym (flat-append (λ (inst : Instruction). one_name inst.result) b.insts (instructions_of bs))
 
 outcome_names : (insts : List Instruction) → names_of insts ≡ map definition_name (map outcome (filter (λ inst. is_some inst.result) insts))
@@ -342,13 +343,13 @@ argument_definitions [] = refl
 argument_definitions (a ∷ args) = ap (λ (ns : List (List ℕ)). a.name ∷ ns) (argument_definitions args)
 
 -- the values of a definition have the names of those of the function
-pub value-names : (names : Names) (func : Definition) (of : Function) → func.arguments ≡ map argument_says of.args → said func.body ≡ flat_map (block_says names) of.blocks
-    → AllByRecursion (λ block. AllByRecursion (λ inst. IsPrinted names inst.op inst) block.insts) of.blocks
+pub value-names : (form : TextForm) (names : Names) (func : Definition) (of : Function) → func.arguments ≡ map argument_says of.args → said func.body ≡ flat_map (block_says names) of.blocks
+    → AllByRecursion (λ block. AllByRecursion (λ inst. IsPrintedIn form names inst.op inst) block.insts) of.blocks
     → map (λ one. one.name) (values_of func) ≡ map definition_name (defs.definitions_of of)
-value-names names func of args body p =
+value-names form names func of args body p =
     map-append (λ (one : Naming). one.name) (arguments_named func.line [] func.arguments) (flat_map (λ (l : Line). result_named l.number (gives l.says)) func.body)
     ∙ ap (λ (ns : List (List ℕ)). ns ++ map (λ (one : Naming). one.name) (flat_map (λ (l : Line). result_named l.number (gives l.says)) func.body))
     (ap (λ (named : List Named). map (λ (one : Naming). one.name) (arguments_named func.line [] named)) args ∙ argument_names func.line [] of.args ∙ argument_definitions of.args)
     ∙ ap (λ (ns : List (List ℕ)). map definition_name (map argument of.args) ++ ns)
-    (given_names func.body ∙ ap names_given body ∙ blocks_names names of.blocks p ∙ outcome_names (instructions_of of.blocks))
+    (given_names func.body ∙ ap names_given body ∙ blocks_names form names of.blocks p ∙ outcome_names (instructions_of of.blocks))
     ∙ sym (map-append definition_name (map argument of.args) (map outcome (filter (λ inst. is_some inst.result) (instructions_of of.blocks))))

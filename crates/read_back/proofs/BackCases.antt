@@ -33,7 +33,7 @@ use Rattle.ir_lines.proofs.LawNames.{get_contained, contains_first, contains_lat
 use Rattle.read_back.specs.BlocksEnd.{BlocksEnd}
 use Rattle.read_back.specs.Said.{width_in, step_says, return_says, case_says, block_says, operator_says, instruction_says, said_by}
 use Rattle.read_back.proofs.BackLines.{said}
-use Rattle.read_back.proofs.BackModules.{names_in, function-back}
+use Rattle.read_back.proofs.BackModules.{source_shaped, names_in, function-back}
 use Rattle.read_back.proofs.BackFaults.{printed_from}
 use Rattle.read_back.proofs.BackEntry.{setting_of}
 use Rattle.read_back.proofs.BackDerived.{inst_of_line}
@@ -176,7 +176,7 @@ case_clash-clear content source ends lines e line f = by f.wrong
     inside =
         let o = printed_from content lines e f.func f.defined in
         inst_of_line (known_of lines f.func) f.func o.func
-        (function-back content source (known_of lines f.func) f.func o.func o.says o.stands (setting_of content source ends lines e f.func o.func o.says o.stands))
+        (function-back content (source_shaped content source) (known_of lines f.func) f.func o.func o.says o.stands (setting_of content source ends lines e f.func o.func o.says o.stands))
         f.before (record { number = f.number; says = switch f.width f.value f.default }) f.behind f.whole inst refl
 
     once : Distinct (case_values (known_of lines f.func).values f.width f.behind)

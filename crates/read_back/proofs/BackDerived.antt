@@ -37,7 +37,7 @@ use Rattle.read_back.specs.Said.{said_by}
 use Rattle.read_back.proofs.BackLines.{said}
 use Rattle.read_back.proofs.BackNames.{Setting, numbered-back}
 use Rattle.read_back.proofs.BackSections.{definitions-are}
-use Rattle.read_back.proofs.BackModules.{names_in, setting, function-names, function-back, few_in}
+use Rattle.read_back.proofs.BackModules.{source_shaped, names_in, setting, function-names, function-back, few_in}
 use Rattle.read_back.proofs.BackFaults.{printed_from}
 
 -- ---- a line's instruction is one of the function
@@ -240,8 +240,8 @@ derived_escapes-clear content source ends lines e line f =
     let o = printed_from content lines e f.func f.defined in
     let names = function-names content.layouts content.funcs (definitions_of lines) content.funcs (definitions-are content lines e) in
     let known = known_of lines f.func in
-    let s = setting content source lines e f.func o.func o.says o.stands (few_in content source ends o.func o.stands) names in
-    let back = function-back content source known f.func o.func o.says o.stands s in
+    let s = setting content (source_shaped content source) lines e f.func o.func o.says o.stands (few_in content (source_shaped content source) ends o.func o.stands) names in
+    let back = function-back content (source_shaped content source) known f.func o.func o.says o.stands s in
     let d = is_derived (names_in content o.func) known s f.func back f.name f.derived in
     let at = get_contained f.func.body f.found f.inside in
     let l = leaves_by known (drop (suc at.0) f.func.body) f.found.says f.name f.leaves in

@@ -32,7 +32,7 @@ use Rattle.read_back.proofs.BackLines.{said, lab, one_label, two_labels}
 use Rattle.read_back.proofs.BackInsts.{IsPrinted}
 use Rattle.read_back.proofs.BackLists.{Below}
 use Rattle.read_back.proofs.BackSections.{SaysDefinition, definitions-are}
-use Rattle.read_back.proofs.BackModules.{names_in, printed_inst, setting, few_in, function-names}
+use Rattle.read_back.proofs.BackModules.{source_shaped, names_in, printed_inst, setting, few_in, function-names}
 use Rattle.read_back.proofs.BackFaults.{no_body_fault}
 
 -- what the typer knows of a definition that a function is printed as
@@ -40,7 +40,7 @@ pub setting_of : (content : ModuleContent) → IsSourceModule content → Blocks
     → (one : Definition) (func : Function) → SaysDefinition content.layouts content.funcs one func → Contains content.funcs func
     → Setting (names_in content func) (known_of lines one)
 setting_of content source ends lines e one func says c =
-    setting content source lines e one func says c (few_in content source ends func c)
+    setting content (source_shaped content source) lines e one func says c (few_in content (source_shaped content source) ends func c)
     (function-names content.layouts content.funcs (definitions_of lines) content.funcs (definitions-are content lines e))
 
 -- a label that is not that of the first block

@@ -67,7 +67,7 @@ use Rattle.read_back.proofs.BackLiterals.{below_zero}
 use Rattle.read_back.proofs.BackNames.{Good, placed-back}
 use Rattle.read_back.proofs.BackInsts.{IsPrinted, WidthsOf, good_zip, same_good, one_width, pointer_width, callee_parts, passes_zip}
 use Rattle.read_back.proofs.BackSections.{SaysDefinition}
-use Rattle.read_back.proofs.BackModules.{names_in, printed_inst, function-back}
+use Rattle.read_back.proofs.BackModules.{source_shaped, names_in, printed_inst, function-back}
 use Rattle.read_back.proofs.BackFaults.{no_body_fault, no_cast_inst, no_group_inst, blocks_pass}
 use Rattle.read_back.proofs.BackEntry.{setting_of}
 use Rattle.read_back.proofs.BackRules.{less}
@@ -175,7 +175,7 @@ all_typed : (content : ModuleContent) → IsSourceModule content → BlocksEnd c
 unfolding value_name
 all_typed content source ends lines e one func says c k ty there first =
     let s = setting_of content source ends lines e one func says c in
-    let back = function-back content source (known_of lines one) one func says c s in
+    let back = function-back content (source_shaped content source) (known_of lines one) one func says c s in
     let insts : List Instruction = instructions_of func.blocks in
     let plain : AllByRecursion (λ (inst : Instruction). is_rewritten inst.op ≡ false) insts =
     recursion_from_All (λ (inst : Instruction). is_rewritten inst.op ≡ false) insts

@@ -1,6 +1,6 @@
 -- An instruction, by its operator.
-use Rattle.std.proofs.Common.{◌≡◌, ◌∙◌, ℕ, zero, suc, ◌^◌, ◌<◌, true, false, ◌&&◌, ◌||◌, ◌==◌, inl, inr, List, [], ◌∷◌, ◌++◌, map, length, drop, replicate, refl, ap, sym, subst, arith}
-use Rattle.std.specs.Prelude.{Option, Some, None, is_none, ◌⊎◌, flat_map}
+use Rattle.std.proofs.Common.{◌≡◌, ◌∙◌, ℕ, zero, suc, ◌-◌, ◌^◌, ◌<◌, true, false, ◌&&◌, ◌||◌, ◌==◌, inl, inr, List, [], ◌∷◌, ◌++◌, map, length, drop, replicate, refl, ap, sym, subst, arith}
+use Rattle.std.specs.Prelude.{Option, Some, None, is_none, ◌⊎◌, flat_map, take}
 use Rattle.std.specs.List.{All, AllByRecursion, AllZip, list_all, zip}
 use Rattle.std.proofs.lemmas.List.Elements.{All-from_recursion, recursion_from_All}
 use Rattle.sp_ids.specs.declared.ids.BlockId.{BlockId}
@@ -37,10 +37,13 @@ use Rattle.module_laws.proofs.LawBodies.{insts_said, insts-cons}
 use Rattle.module_laws.proofs.LawFacts.{and-left, and-right}
 use Rattle.module_laws.proofs.LawCalls.{argument-value}
 use Rattle.ir_printer.specs.Operands.{operand_at, label_at}
-use Rattle.read_back.specs.Said.{width_in, value_at, target_at, operator_says, binary_says, compare_says, convert_says, select_says, phi_says, step_says, load_says, store_says, call_says, jump_says, branch_says, case_says, switch_says, return_says}
+use Rattle.read_back.specs.Said.{width_in, value_at, target_at, operator_says, binary_says, compare_says, convert_says, select_says, phi_says, step_says, load_says, store_says, call_says, statepoint_says, gc_result_says, gc_relocate_says, jump_says, branch_says, case_says, switch_says, return_says}
+use Rattle.read_back.specs.IdsAreWords.{IdIsWord}
 use Rattle.read_back.proofs.BackNames.{Setting, Good, operand-back, label-back}
 use Rattle.read_back.proofs.BackLines.{said, cons_parts, single, same-inst, no_result, integer-is, integer-word, void-is, at, lab, binary-back, compare-back, convert-back, select-back, load-back, store-back, step-back, jump-back, branch-back, return-back}
 use Rattle.read_back.proofs.BackLists.{Below, each_given, phi-back, Passes, NamesAreFree, CalleeBelow, call-back, Cases, cases-back}
+use Rattle.read_back.proofs.BackGroups.{statepoint-back, result-back, relocate-back}
+use Rattle.read_back.proofs.Fronts.{FunctionsOf, front_fit, front_functions}
 use Rattle.std.proofs.lemmas.List.{nil_from_length}
 
 -- what is known of an instruction that a module of this form has
@@ -56,6 +59,7 @@ pub record IsPrintedIn (of : TextForm) (names : Names) (op : Op) (inst : Instruc
   pub functions : AllByRecursion (λ named. named < length names.funcs) (functions_named (record inst { op = op }))
   pub place : (layout width n : ℕ) → op ≡ ops.Gep (elements.Layout layout) width (Some n) → n < 2 ^ 32
   pub bundle : inst.bundle ≡ []
+  pub id : IdIsWord op
 
 -- and a source module
 abbrev pub IsPrinted : Names → Op → Instruction → Type 0
@@ -99,9 +103,6 @@ pointer_width = All-from_recursion IsWidth [] tt
 
 -- ---- calls
 
-abbrev FunctionsOf : (ℕ → Type 0) → List Operand → Type 0
-FunctionsOf P os = AllByRecursion P (functions_named (record { result = None; op = ops.Load; ty = tys.Void; operands = os; labels = []; bundle = [] }))
-
 first_function : (P : ℕ → Type 0) (o : Operand) (os : List Operand) → FunctionsOf P (o ∷ os)
     → ((func : FuncId) → o ≡ operands.Fun func → P func.0) × FunctionsOf P os
 first_function P (operands.Fun f) os h = (λ g e. subst (λ (x : FuncId). P x.0) (let same : f ≡ g = cc in same) h.0, h.1)
@@ -143,15 +144,36 @@ callee_parts names callees.Poll ts inst layouts functions = (tt, functions)
 callee_parts names callees.Check ts inst layouts functions = (tt, functions)
 callee_parts names callees.Same ts inst layouts functions = (tt, functions)
 
-call_case : (names : Names) (known : Known) → Setting names known → NamesAreFree names → (callee : Callee) (ts : List Ty) (inst : Instruction) → IsPrinted names (ops.Call callee ts) inst
+-- those that an instruction without a bundle passes
+passed_functions : (P : ℕ → Type 0) (inst : Instruction) → inst.bundle ≡ [] → AllByRecursion P (functions_named (record inst { op = ops.Load })) → FunctionsOf P inst.operands
+passed_functions P inst bundle all =
+    subst (λ (b : List (Ty × Operand)). AllByRecursion P
+    (functions_named (record { result = inst.result; op = ops.Load; ty = inst.ty; operands = inst.operands; labels = inst.labels; bundle = b }))) bundle all
+
+call_case : {of : TextForm} (names : Names) (known : Known) → Setting names known → NamesAreFree names → (callee : Callee) (ts : List Ty) (inst : Instruction) → IsPrintedIn of names (ops.Call callee ts) inst
     → (rest : List Line) → instruction_said known rest (call_says names callee ts inst) ≡ Some inst
 call_case names known s free callee ts inst p rest =
     let parts = callee_parts names callee ts inst p.layouts p.functions in
-    let passed : FunctionsOf (λ named. named < length names.funcs) inst.operands =
-    subst (λ (b : List (Ty × Operand)). AllByRecursion (λ named. named < length names.funcs)
-    (functions_named (record { result = inst.result; op = ops.Load; ty = inst.ty; operands = inst.operands; labels = inst.labels; bundle = b }))) p.bundle parts.1 in
-    call-back names known s free callee ts rest inst p.is p.line p.bundle parts.0 (p.plain refl)
-    (passes_zip names callee inst.operands ts p.fits p.line.arguments passed (recursion_from_All IsWidth (flat_map type_widths ts) p.own_widths))
+    call-back names known s free callee ts rest inst p.is p.line p.bundle parts.0
+    (passes_zip names callee inst.operands ts p.fits p.line.arguments (passed_functions (λ named. named < length names.funcs) inst p.bundle parts.1)
+    (recursion_from_All IsWidth (flat_map type_widths ts) p.own_widths))
+
+statepoint_case : {of : TextForm} (names : Names) (known : Known) → Setting names known → NamesAreFree names → (id : ℕ) (callee : Callee) (ts : List Ty) (inst : Instruction) → IsPrintedIn of names (ops.Statepoint id callee ts) inst
+    → (rest : List Line) → instruction_said known rest (statepoint_says names id callee ts inst) ≡ Some inst
+statepoint_case names known s free id callee ts inst p rest =
+    let parts = callee_parts names callee ts inst p.layouts p.functions in
+    let n = length ts in
+    let entries = length inst.operands - n in
+    let fits = front_fit (Fits (value_types names.func)) inst.operands ts (replicate entries tys.Ptr) p.fits in
+    let functions = front_functions (λ named. named < length names.funcs) n inst.operands (passed_functions (λ named. named < length names.funcs) inst p.bundle parts.1) in
+    statepoint-back names known s free id callee ts rest inst p.is p.line p.bundle p.id parts.0
+    (passes_zip names callee (take n inst.operands) ts fits.0 p.line.arguments functions (recursion_from_All IsWidth (flat_map type_widths ts) p.own_widths))
+    (each_live names (drop n inst.operands) entries (good_zip names (drop n inst.operands) (replicate entries tys.Ptr) fits.1 p.line.entries (repeated entries tys.Ptr pointer_width)))
+  where
+    each_live : (names : Names) (os : List Operand) (k : ℕ) → AllZip (Good names) os (replicate k tys.Ptr) → AllByRecursion (λ o. Good names o tys.Ptr) os
+    each_live names [] k good = tt
+    each_live names (o ∷ os) zero good = absurd good
+    each_live names (o ∷ os) (suc k) good = (good.0, each_live names os k good.1)
 
 -- ---- switches
 
@@ -218,7 +240,7 @@ convert_case names known s op to inst here rest o has width fit e =
     single known here rest (convert_says names op to inst) inst e
     (convert-back names known s op to rest inst o has (same_good names inst 1 has.operand_count has.values width fit))
 
-step_case : (names : Names) (known : Known) → Setting names known → (elem : Elem) (width : ℕ) (place : Option ℕ) (inst : Instruction) → IsPrinted names (ops.Gep elem width place) inst
+step_case : {of : TextForm} (names : Names) (known : Known) → Setting names known → (elem : Elem) (width : ℕ) (place : Option ℕ) (inst : Instruction) → IsPrintedIn of names (ops.Gep elem width place) inst
     → (rest : List Line) → instruction_said known rest (step_says names elem width place inst) ≡ Some inst
 step_case names known s elem width place inst p rest =
     step-back names known s elem width place rest inst p.is p.line.0 p.line.1 (below elem p.layouts) (small elem place p.line.1 p.place)
@@ -242,7 +264,7 @@ step_case names known s elem width place inst p rest =
     index elements.Ptr h = All-from_recursion IsWidth (width ∷ []) h
     index (elements.Layout l) h = All-from_recursion IsWidth (width ∷ []) h
 
-pub inst-back : (names : Names) (known : Known) → Setting names known → NamesAreFree names → (op : Op) (inst : Instruction) → IsPrinted names op inst
+pub inst-back : {of : TextForm} (names : Names) (known : Known) → Setting names known → NamesAreFree names → (op : Op) (inst : Instruction) → IsPrintedIn of names op inst
     → (here rest : List Line) → said here ≡ operator_says names op inst → insts_of known (here ++ rest) ≡ inst ∷ insts_of known rest
 inst-back names known s free ops.Add inst p here rest e = binary_case names known s binaries.Add inst here rest p.is p.line p.widths p.fits e
 inst-back names known s free ops.Sub inst p here rest e = binary_case names known s binaries.Sub inst here rest p.is p.line p.widths p.fits e
@@ -279,9 +301,12 @@ inst-back names known s free ops.Store inst p here rest e =
     (store-back names known s rest inst p.is p.line (good_zip names inst.operands (inst.ty ∷ tys.Ptr ∷ []) p.fits p.line.values (p.widths, (pointer_width, tt))))
 inst-back names known s free (ops.Call callee ts) inst p here rest e =
     single known here rest (call_says names callee ts inst) inst e (call_case names known s free callee ts inst p rest)
-inst-back names known s free (ops.Statepoint id callee ts) inst p here rest e = absurd (let bad : true ≡ false = p.plain refl in cc)
-inst-back names known s free ops.GcResult inst p here rest e = absurd (let bad : true ≡ false = p.plain refl in cc)
-inst-back names known s free ops.GcRelocate inst p here rest e = absurd (let bad : true ≡ false = p.plain refl in cc)
+inst-back names known s free (ops.Statepoint id callee ts) inst p here rest e =
+    single known here rest (statepoint_says names id callee ts inst) inst e (statepoint_case names known s free id callee ts inst p rest)
+inst-back names known s free ops.GcResult inst p here rest e =
+    single known here rest (gc_result_says names inst) inst e (result-back names known s rest inst p.is p.line.0 p.line.1 p.fits)
+inst-back names known s free ops.GcRelocate inst p here rest e =
+    single known here rest (gc_relocate_says names inst) inst e (relocate-back names known s rest inst p.is p.line.0 p.line.1 p.fits)
 inst-back names known s free ops.Br inst p here rest e =
     single known here rest (jump_says names inst) inst e (jump-back names known s rest inst p.is p.line p.labels)
 inst-back names known s free ops.CondBr inst p here rest e =

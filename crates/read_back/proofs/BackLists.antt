@@ -14,7 +14,6 @@ use Rattle.ir_ast.specs.declared.ops.Callee.TheVariants as callees
 use Rattle.ir_ast.specs.Insts.{Instruction}
 use Rattle.ir_ast.specs.Values.{value_types}
 use Rattle.ir_ast.specs.Types.{is_integer, is_first_class, is_answer}
-use Rattle.ir_ast.specs.Callees.{is_helper}
 use Rattle.ir_ast.specs.Operands.{is_value}
 use Rattle.ir_ast.specs.Lines.{Has, IsCall}
 use Rattle.ir_ast.specs.Widths.{IsWidth, type_widths}
@@ -111,7 +110,7 @@ argument-back names known s ty operand p = by p.argument
         subst (λ (o : Operand). (passed_operand known (passed_says names ty o) ≡ o) × (given_type (passed_says names ty o) ≡ ty)) (sym f.1)
         (function_passed names known s ty f.0 (p.function f.0 f.1) void)
 
-passed_is : (names : Names) (known : Known) → Setting names known → (os : List Operand) (ts : List Ty) → AllZip (Passes names) os ts
+pub passed_is : (names : Names) (known : Known) → Setting names known → (os : List Operand) (ts : List Ty) → AllZip (Passes names) os ts
     → (map (passed_operand known) (map (λ (argument : Ty × Operand). passed_says names argument.0 argument.1) (zip ts os)) ≡ os)
     × (map given_type (map (λ (argument : Ty × Operand). passed_says names argument.0 argument.1) (zip ts os)) ≡ ts)
 passed_is names known s [] [] p = (refl, refl)
@@ -148,25 +147,28 @@ CalleeBelow names _ = ⊤
 fixed_name : (name : List ℕ) → Contains Rattle.ir_ast.specs.Faults.Reserved.externals name → IsExternalName name
 fixed_name name c = inl c
 
-pub callee-back : (names : Names) (known : Known) → Setting names known → NamesAreFree names → (callee : Callee) → CalleeBelow names callee → is_helper callee ≡ false
+pub callee-back : (names : Names) (known : Known) → Setting names known → NamesAreFree names → (callee : Callee) → CalleeBelow names callee
     → callee_of known (callee_name names callee) ≡ callee
-callee-back names known s free (callees.Fun func) below plain =
+callee-back names known s free (callees.Fun func) below =
     let few = s.few_functions in
     ap (callee_at known (function_name names.funcs func.0)) (function-placed names known s func.0 below)
     ∙ ap (λ (n : ℕ). callees.Fun (record { 0 = n })) (let e : number_of (Some func.0) ≡ func.0 = omega arith in e)
-callee-back names known s free (callees.New layout) below plain =
+callee-back names known s free (callees.New layout) below =
     let name = codes "gc_new." ++ layout_name names.layouts layout in
     ap (callee_at known name) (not_function names known s free name (inr (inl (layout_name names.layouts layout, refl))))
     ∙ ap callees.New (layout-number names known s layout below)
-callee-back names known s free callees.Print below plain =
+callee-back names known s free callees.Print below =
     ap (callee_at known (codes "print_i64")) (not_function names known s free (codes "print_i64") (inl (0, (omega arith), refl)))
-callee-back names known s free callees.Read below plain =
+callee-back names known s free callees.Read below =
     ap (callee_at known (codes "read_i64")) (not_function names known s free (codes "read_i64") (inl (1, (omega arith), refl)))
-callee-back names known s free callees.TaskStart below plain =
+callee-back names known s free callees.TaskStart below =
     ap (callee_at known (codes "task_start")) (not_function names known s free (codes "task_start") (inl (2, (omega arith), refl)))
-callee-back names known s free callees.Poll below plain = absurd (let bad : true ≡ false = plain in cc)
-callee-back names known s free callees.Check below plain = absurd (let bad : true ≡ false = plain in cc)
-callee-back names known s free callees.Same below plain = absurd (let bad : true ≡ false = plain in cc)
+callee-back names known s free callees.Poll below =
+    ap (callee_at known (codes "gc.safepoint_poll")) (not_function names known s free (codes "gc.safepoint_poll") (inl (3, (omega arith), refl)))
+callee-back names known s free callees.Check below =
+    ap (callee_at known (codes "gc_check")) (not_function names known s free (codes "gc_check") (inl (4, (omega arith), refl)))
+callee-back names known s free callees.Same below =
+    ap (callee_at known (codes "gc_same")) (not_function names known s free (codes "gc_same") (inl (5, (omega arith), refl)))
 
 pub answer-type : (ty : Ty) → is_answer ty ≡ true → type_of (word_of ty) ≡ ty
 answer-type tys.Void e = refl
@@ -175,16 +177,16 @@ answer-type tys.Ptr e = refl
 answer-type tys.Token e = absurd (let bad : false ≡ true = e in cc)
 
 pub call-back : (names : Names) (known : Known) → Setting names known → NamesAreFree names → (callee : Callee) (ts : List Ty) (rest : List Line) (inst : Instruction)
-    → ops.Call callee ts ≡ inst.op → IsCall callee ts inst → inst.bundle ≡ [] → CalleeBelow names callee → is_helper callee ≡ false
+    → ops.Call callee ts ≡ inst.op → IsCall callee ts inst → inst.bundle ≡ [] → CalleeBelow names callee
     → AllZip (Passes names) inst.operands ts
     → instruction_said known rest (call_says names callee ts inst) ≡ Some inst
-call-back names known s free callee ts rest inst o call bundle below plain passes =
+call-back names known s free callee ts rest inst o call bundle below passes =
     let givens = map (λ (argument : Ty × Operand). passed_says names argument.0 argument.1) (zip ts inst.operands) in
     let p = passed_is names known s inst.operands ts passes in
     same-inst inst inst.result (ops.Call (callee_of known (callee_name names callee)) (map given_type givens)) (type_of (word_of inst.ty))
     (map (passed_operand known) givens) []
     refl
-    (ap (λ (c : Callee). ops.Call c (map given_type givens)) (callee-back names known s free callee below plain) ∙ ap (ops.Call callee) p.1 ∙ o)
+    (ap (λ (c : Callee). ops.Call c (map given_type givens)) (callee-back names known s free callee below) ∙ ap (ops.Call callee) p.1 ∙ o)
     (answer-type inst.ty call.type) p.0 (sym call.no_labels) bundle
 
 -- ---- switches

@@ -34,22 +34,21 @@ again w n low high below =
         let less : suc a - 1 ≡ a = omega arith in
         rw less (let r : t - (b - n) ≡ a * b + n = omega arith in r)
 
--- what a printed literal stands for, but `i1`
-number-back : (names : List (List ℕ)) (w n : ℕ) → 1 ≤ w → w ≤ 64 → n < 2 ^ w
-    → operand_in names (types.Int w) (Rattle.ir_reader.specs.Parts.number (literal_of (signed w n))) ≡ operands.Int n
-number-back names w n low high below =
+-- the number that a printed literal stands for
+pub literal-back : (w n : ℕ) → 1 ≤ w → w ≤ 64 → n < 2 ^ w → wrapped w (literal_of (signed w n)) ≡ n
+literal-back w n low high below =
     let kept : numbers.wrapped w n ≡ n = mod-eq_of_lt below in
-    ap (λ (k : ℕ). operands.Int (wrapped w (literal_of (if nat_lt (2 * k) (2 ^ w) then pos k else pos k -ℤ pos (2 ^ w))))) kept
+    ap (λ (k : ℕ). wrapped w (literal_of (if nat_lt (2 * k) (2 ^ w) then pos k else pos k -ℤ pos (2 ^ w)))) kept
     ∙ by (nat_lt (2 * n) (2 ^ w))
   where
-    by : (b : Bool) → operands.Int (wrapped w (literal_of (if b then pos n else pos n -ℤ pos (2 ^ w)))) ≡ operands.Int n
-    by true = ap operands.Int (mod-eq_of_lt below)
+    by : (b : Bool) → wrapped w (literal_of (if b then pos n else pos n -ℤ pos (2 ^ w))) ≡ n
+    by true = mod-eq_of_lt below
     by false =
         let under : pos n -ℤ pos (2 ^ w) ≡ negsuc (2 ^ w - n - 1) = below_zero n (2 ^ w) (2 ^ w - n - 1) (omega arith) in
         let size : suc (2 ^ w - n - 1) ≡ 2 ^ w - n = omega arith in
-        ap (λ (z : ℤ). operands.Int (wrapped w (literal_of z))) under
-        ∙ ap (λ (m : ℕ). operands.Int (((2 ^ 64 - m) % 2 ^ 64) % 2 ^ w)) size
-        ∙ ap operands.Int (again w n low high below)
+        ap (λ (z : ℤ). wrapped w (literal_of z)) under
+        ∙ ap (λ (m : ℕ). ((2 ^ 64 - m) % 2 ^ 64) % 2 ^ w) size
+        ∙ again w n low high below
 
 truth-back : (names : List (List ℕ)) (n : ℕ) → n < 2 ^ 1
     → operand_in names (types.Int 1) (Rattle.ir_reader.specs.Parts.truth (not (numbers.wrapped 1 n == 0))) ≡ operands.Int n
@@ -68,4 +67,4 @@ integer-back names w n low high below = by (w == 1) refl
         ∙ truth-back names n (subst (λ (k : ℕ). n < 2 ^ k) one below)
     by false e =
         ap (λ (b : Bool). operand_in names (types.Int w) (if b then Rattle.ir_reader.specs.Parts.truth (not (numbers.wrapped 1 n == 0)) else Rattle.ir_reader.specs.Parts.number (literal_of (signed w n)))) e
-        ∙ number-back names w n low high below
+        ∙ ap operands.Int (literal-back w n low high below)

@@ -1,5 +1,5 @@
--- The lines that a source module is printed as stand for that module.
-use Rattle.std.proofs.Common.{◌≡◌, ◌∙◌, ℕ, zero, suc, ◌+◌, ◌^◌, ◌<◌, ◌≤◌, true, false, List, [], ◌∷◌, ◌++◌, map, length, refl, ap, sym, subst, arith, length-append}
+-- The lines that a module is printed as stand for that module.
+use Rattle.std.proofs.Common.{◌≡◌, ◌∙◌, ℕ, zero, suc, ◌+◌, ◌^◌, ◌<◌, ◌≤◌, true, false, List, [], ◌∷◌, ◌++◌, map, length, refl, ap, subst, arith, length-append}
 use Rattle.std.specs.Prelude.{Some, IfSome, slice_get, flat_map, is_some, filter}
 use Rattle.std.specs.List.{All, AllByRecursion, AllZip, Contains}
 use Rattle.std.proofs.lemmas.List.{length-map}
@@ -32,13 +32,14 @@ use Rattle.ir_ast.specs.Faults.UnknownName.{NamesOfFunction, NamesOfModule}
 use Rattle.ir_ast.specs.Lines.{IsLine, is_rewritten}
 use Rattle.ir_ast.specs.Lists.{Distinct}
 use Rattle.ir_ast.specs.Scope.{scope_of}
-use Rattle.ir_cfg.specs.SourceModules.{IsSourceFunction, IsSourceModule}
+use Rattle.ir_cfg.specs.SourceModules.{IsSourceModule}
 use Rattle.ir_printer.specs.Names.{Names}
 use Rattle.ir_reader.specs.Lists.{Named}
 use Rattle.ir_lines.specs.Statements.{Line}
 use Rattle.ir_lines.specs.Sections.{Definition, definitions_of, arguments_named, blocks_of}
 use Rattle.ir_lines.specs.Modules.{Known, known_of, type_of, argument_of, block_of, function_of, module_of}
 use Rattle.read_back.specs.BlocksEnd.{BlocksEnd}
+use Rattle.read_back.specs.IdsAreWords.{IdIsWord, IdsAreWords}
 use Rattle.read_back.specs.Said.{said_by}
 use Rattle.read_back.proofs.BackNames.{Setting}
 use Rattle.read_back.proofs.BackLines.{said}
@@ -47,7 +48,7 @@ use Rattle.read_back.proofs.BackInsts.{IsPrinted, IsPrintedIn, split_all}
 use Rattle.read_back.proofs.BackBlocks.{blocks-are, blocks-back, block-names, arguments-back, value-names}
 use Rattle.read_back.proofs.BackSections.{SaysDefinition, definitions-are, layouts-back, layout-names}
 
--- ---- the instructions of a source function
+-- ---- the instructions of a function
 
 abbrev pub names_in : ModuleContent → Function → Names
 names_in content func = record { layouts = content.layouts; funcs = content.funcs; func = func }
@@ -76,7 +77,6 @@ small_place content func inst few typed layout width n e named =
     at (l ∷ ls) zero few below rule = let f = few.0 in omega arith
     at (l ∷ ls) (suc k) few below rule = at ls k few.1 (omega arith) rule
 
--- each instruction of a source function
 -- what modules of both kinds have
 pub record IsShaped (content : ModuleContent) : Type 0 where
   pub no_fault : HasNoFault content
@@ -84,6 +84,20 @@ pub record IsShaped (content : ModuleContent) : Type 0 where
   pub widths : All (λ (func : Function). All IsWidth (widths_of func)) content.funcs
   pub no_bundle : All HasNoBundle content.funcs
   pub limits : IsWithinLimits content
+  pub few : All (λ (func : Function). length (instructions_of func.blocks) < 2 ^ 30) content.funcs
+  pub ids : IdsAreWords content
+
+-- no line of a source module is a statepoint
+no_id : (op : Op) → is_rewritten op ≡ false → IdIsWord op
+no_id (ops.Statepoint id callee takes) plain = absurd (let bad : true ≡ false = plain in cc)
+no_id _ plain = tt
+
+source_ids : (content : ModuleContent) → IsSourceModule content → IdsAreWords content
+source_ids content source =
+    All-weaker (Contains content.funcs) (λ (f : Function). All (λ (i : Instruction). IdIsWord i.op) (instructions_of f.blocks)) (λ (f : Function) c.
+    let clean : FunctionHasNoFault content f = All-contains (FunctionHasNoFault content) content.funcs f source.no_fault.functions c in
+    All-weaker (λ (i : Instruction). is_rewritten i.op ≡ false) (λ (i : Instruction). IdIsWord i.op) (λ (i : Instruction) plain. no_id i.op plain) (instructions_of f.blocks)
+    (form_of content.form f source.form clean.form).lines) content.funcs (All-contains_itself content.funcs)
 
 pub source_shaped : (content : ModuleContent) → IsSourceModule content → IsShaped content
 source_shaped content source = record {
@@ -92,15 +106,19 @@ source_shaped content source = record {
   widths = λ k d low. (source.functions k d low).widths;
   no_bundle = λ k d low. (source.functions k d low).no_bundle;
   limits = source.limits;
+  few = λ k d low. (let own = (source.functions k d low).values in omega arith);
+  ids = source_ids content source;
 }
 
-pub target_shaped : (content : ModuleContent) → IsTargetModule content → IsShaped content
-target_shaped content target = record {
+pub target_shaped : (content : ModuleContent) → IsTargetModule content → IdsAreWords content → IsShaped content
+target_shaped content target ids = record {
   no_fault = target.no_fault;
   lines = λ k d low. (target.functions k d low).lines;
   widths = λ k d low. (target.functions k d low).widths;
   no_bundle = λ k d low. (target.functions k d low).no_bundle;
   limits = target.limits;
+  few = λ k d low. (target.functions k d low).few_instructions;
+  ids = ids;
 }
 
 pub printed_in : (of : Form) (content : ModuleContent) → IsShaped content → (func : Function) → Contains content.funcs func
@@ -145,6 +163,8 @@ printed_in of content shaped func c plain inst d = one
           place = λ layout width n e. small_place content func inst (recursion_from_All (λ (l : ObjectLayout). length l.fields ≤ 64) content.layouts shaped.limits.fields)
               fit layout width n e named;
           bundle = All-contains (λ (i : Instruction). i.bundle ≡ []) insts inst (All-contains HasNoBundle content.funcs func shaped.no_bundle c) d;
+          id = All-contains (λ (i : Instruction). IdIsWord i.op) insts inst
+              (All-contains (λ (f : Function). All (λ (i : Instruction). IdIsWord i.op) (instructions_of f.blocks)) content.funcs func shaped.ids c) d;
         }
 
 pub printed_inst : (content : ModuleContent) → IsSourceModule content → (func : Function) → Contains content.funcs func
@@ -153,13 +173,28 @@ printed_inst content source func c inst d =
     let clean : FunctionHasNoFault content func = All-contains (FunctionHasNoFault content) content.funcs func source.no_fault.functions c in
     printed_in Source content (source_shaped content source) func c (λ is. (form_of content.form func source.form clean.form).lines) inst d
 
+pub shaped_inst : (content : ModuleContent) → IsShaped content → (func : Function) → Contains content.funcs func
+    → (inst : Instruction) → Contains (instructions_of func.blocks) inst → IsPrintedIn content.form (names_in content func) inst.op inst
+shaped_inst content shaped func c inst d =
+    let clean : FunctionHasNoFault content func = All-contains (FunctionHasNoFault content) content.funcs func shaped.no_fault.functions c in
+    printed_in content.form content shaped func c (λ is. (form_of content.form func is clean.form).lines) inst d
+
+each_printed : (of : Form) (names : Names) (func : Function)
+    → ((inst : Instruction) → Contains (instructions_of func.blocks) inst → IsPrintedIn of names inst.op inst)
+    → AllByRecursion (λ block. AllByRecursion (λ inst. IsPrintedIn of names inst.op inst) block.insts) func.blocks
+each_printed of names func each =
+    let insts = instructions_of func.blocks in
+    split_flat (λ (block : BasicBlock). block.insts) (λ inst. IsPrintedIn of names inst.op inst) func.blocks
+    (recursion_from_All (λ (inst : Instruction). IsPrintedIn of names inst.op inst) insts
+    (All-weaker (Contains insts) (λ (inst : Instruction). IsPrintedIn of names inst.op inst) each insts (All-contains_itself insts)))
+
+pub shaped_insts : (content : ModuleContent) → IsShaped content → (func : Function) → Contains content.funcs func
+    → AllByRecursion (λ block. AllByRecursion (λ inst. IsPrintedIn content.form (names_in content func) inst.op inst) block.insts) func.blocks
+shaped_insts content shaped func c = each_printed content.form (names_in content func) func (shaped_inst content shaped func c)
+
 pub printed : (content : ModuleContent) → IsSourceModule content → (func : Function) → Contains content.funcs func
     → AllByRecursion (λ block. AllByRecursion (λ inst. IsPrinted (names_in content func) inst.op inst) block.insts) func.blocks
-printed content source func c =
-    let insts = instructions_of func.blocks in
-    split_flat (λ (block : BasicBlock). block.insts) (λ inst. IsPrinted (names_in content func) inst.op inst) func.blocks
-    (recursion_from_All (λ (inst : Instruction). IsPrinted (names_in content func) inst.op inst) insts
-    (All-weaker (Contains insts) (λ (inst : Instruction). IsPrinted (names_in content func) inst.op inst) (printed_inst content source func c) insts (All-contains_itself insts)))
+printed content source func c = each_printed Source (names_in content func) func (printed_inst content source func c)
 
 -- ---- what the typer knows of it
 
@@ -175,26 +210,26 @@ results_few func =
       length-filter (λ (inst : Instruction). is_some inst.result) insts,
     )
 
-pub setting : (content : ModuleContent) → IsSourceModule content → (lines : List Line) → said lines ≡ said_by content
+pub setting : (content : ModuleContent) → IsShaped content → (lines : List Line) → said lines ≡ said_by content
     → (one : Definition) (func : Function) → SaysDefinition content.layouts content.funcs one func → Contains content.funcs func
     → length func.blocks < 2 ^ 32
     → map (λ d. d.name) (definitions_of lines) ≡ map (λ f. f.name) content.funcs
     → Setting (names_in content func) (known_of lines one)
-setting content source lines e one func says c few names =
-    let own = All-contains IsSourceFunction content.funcs func source.functions c in
-    let values = own.values in
+setting content shaped lines e one func says c few names =
+    let insts = All-contains (λ (f : Function). length (instructions_of f.blocks) < 2 ^ 30) content.funcs func shaped.few c in
+    let args = All-contains (λ (f : Function). length f.args ≤ 64) content.funcs func shaped.limits.arguments c in
     let results = results_few func in
-    let layouts = source.limits.layouts in
-    let functions = source.limits.functions in
+    let layouts = shaped.limits.layouts in
+    let functions = shaped.limits.functions in
     record {
-      values = value-names (names_in content func) one func says.arguments says.body (printed content source func c);
+      values = value-names content.form (names_in content func) one func says.arguments says.body (shaped_insts content shaped func c);
       blocks = block-names (names_in content func) (blocks_of one) func.blocks (blocks-are (names_in content func) one func.blocks says.body);
       functions = names;
       layouts = layout-names content lines e;
-      values_once = All-contains (λ (f : Function). Distinct (map definition_name (defs.definitions_of f))) content.funcs func source.no_fault.names.values c;
-      blocks_once = All-contains (λ (f : Function). Distinct (map (λ (b : BasicBlock). b.name) f.blocks)) content.funcs func source.no_fault.names.labels c;
-      functions_once = source.no_fault.names.functions;
-      layouts_once = source.no_fault.names.layouts;
+      values_once = All-contains (λ (f : Function). Distinct (map definition_name (defs.definitions_of f))) content.funcs func shaped.no_fault.names.values c;
+      blocks_once = All-contains (λ (f : Function). Distinct (map (λ (b : BasicBlock). b.name) f.blocks)) content.funcs func shaped.no_fault.names.labels c;
+      functions_once = shaped.no_fault.names.functions;
+      layouts_once = shaped.no_fault.names.layouts;
       few_values = omega arith;
       few_blocks = few;
       few_functions = omega arith;
@@ -211,12 +246,12 @@ function-names layouts funcs (d ∷ ds) (f ∷ fs) h =
 
 -- ---- the module
 
-pub function-back : (content : ModuleContent) → IsSourceModule content → (known : Known) (one : Definition) (func : Function)
+pub function-back : (content : ModuleContent) → IsShaped content → (known : Known) (one : Definition) (func : Function)
     → SaysDefinition content.layouts content.funcs one func → Contains content.funcs func → Setting (names_in content func) known
     → function_of known one ≡ func
-function-back content source known one func says c s =
-    let typed = All-contains (λ f. FunctionIsTyped (scope_of content f) f) content.funcs func source.no_fault.typed c in
-    let free : NamesAreFree (names_in content func) = recursion_from_All (λ (f : Function). ¬ (IsExternalName f.name)) content.funcs source.no_fault.free in
+function-back content shaped known one func says c s =
+    let typed = All-contains (λ f. FunctionIsTyped (scope_of content f) f) content.funcs func shaped.no_fault.typed c in
+    let free : NamesAreFree (names_in content func) = recursion_from_All (λ (f : Function). ¬ (IsExternalName f.name)) content.funcs shaped.no_fault.free in
     let args = map argument_of (arguments_named one.line [] one.arguments) in
     let blocks = map (block_of known) (blocks_of one) in
     ap (λ (n : List ℕ). record { name = n; answer = type_of one.answer; args = args; blocks = blocks }) says.name
@@ -225,7 +260,7 @@ function-back content source known one func says c s =
     (ap (λ (xs : List Named). map argument_of (arguments_named one.line [] xs)) says.arguments
     ∙ arguments-back one.line [] func.args (recursion_from_All (λ (arg : Arg). is_first_class arg.ty ≡ true) func.args typed.args))
     ∙ ap (λ (bs : List BasicBlock). record { name = func.name; answer = func.answer; args = func.args; blocks = bs })
-    (blocks-back (names_in content func) known s free (blocks_of one) func.blocks (blocks-are (names_in content func) one func.blocks says.body) (printed content source func c))
+    (blocks-back content.form (names_in content func) known s free (blocks_of one) func.blocks (blocks-are (names_in content func) one func.blocks says.body) (shaped_insts content shaped func c))
 
 made_back : (content : ModuleContent) (F : Definition → Function)
     → ((one : Definition) (func : Function) → SaysDefinition content.layouts content.funcs one func → Contains content.funcs func → F one ≡ func)
@@ -244,23 +279,23 @@ blocks_few (b ∷ bs) ends =
     let one : 1 ≤ length b.insts = (let l = ap length ends.0.whole ∙ length-append ends.0.before (ends.0.last ∷ []) in omega arith) in
     omega (arith, length-append b.insts (instructions_of bs))
 
-pub few_in : (content : ModuleContent) → IsSourceModule content → BlocksEnd content → (func : Function) → Contains content.funcs func → length func.blocks < 2 ^ 32
-few_in content source ends func c =
-    let own = (All-contains IsSourceFunction content.funcs func source.functions c).values in
+pub few_in : (content : ModuleContent) → IsShaped content → BlocksEnd content → (func : Function) → Contains content.funcs func → length func.blocks < 2 ^ 32
+few_in content shaped ends func c =
+    let insts = All-contains (λ (f : Function). length (instructions_of f.blocks) < 2 ^ 30) content.funcs func shaped.few c in
     let end = All-contains (λ (f : Function). All (λ (block : BasicBlock). EndsAtTerminator block.insts) f.blocks) content.funcs func ends c in
     let few = blocks_few func.blocks (recursion_from_All (λ (block : BasicBlock). EndsAtTerminator block.insts) func.blocks end) in
     omega arith
 
-pub module-back : (content : ModuleContent) → IsSourceModule content → BlocksEnd content → (lines : List Line) → said lines ≡ said_by content
-    → (module_of Source lines).content ≡ content
-module-back content source ends lines e =
+-- for a module of either form
+pub module-back : (content : ModuleContent) → IsShaped content → BlocksEnd content → (lines : List Line) → said lines ≡ said_by content
+    → (module_of content.form lines).content ≡ content
+module-back content shaped ends lines e =
     let zip = definitions-are content lines e in
     let names = function-names content.layouts content.funcs (definitions_of lines) content.funcs zip in
     let funcs : map (λ (d : Definition). function_of (known_of lines d) d) (definitions_of lines) ≡ content.funcs =
     made_back content (λ d. function_of (known_of lines d) d)
-    (λ one func says c. function-back content source (known_of lines one) one func says c
-    (setting content source lines e one func says c (few_in content source ends func c) names))
+    (λ one func says c. function-back content shaped (known_of lines one) one func says c
+    (setting content shaped lines e one func says c (few_in content shaped ends func c) names))
     (definitions_of lines) content.funcs zip (recursion_from_All (Contains content.funcs) content.funcs (All-contains_itself content.funcs)) in
-    ap (λ (ls : List ObjectLayout). record { layouts = ls; funcs = map (λ (d : Definition). function_of (known_of lines d) d) (definitions_of lines); form = Source }) (layouts-back content lines e)
-    ∙ ap (λ (fs : List Function). record { layouts = content.layouts; funcs = fs; form = Source }) funcs
-    ∙ ap (λ (form : Form). record { layouts = content.layouts; funcs = content.funcs; form = form }) (sym source.form)
+    ap (λ (ls : List ObjectLayout). record { layouts = ls; funcs = map (λ (d : Definition). function_of (known_of lines d) d) (definitions_of lines); form = content.form }) (layouts-back content lines e)
+    ∙ ap (λ (fs : List Function). record { layouts = content.layouts; funcs = fs; form = content.form }) funcs

@@ -17,6 +17,7 @@ use Rattle.ir_ast.specs.Values.{definition_name}
 use Rattle.ir_ast.specs.Values as defs
 use Rattle.ir_ast.specs.Faultless.{FunctionHasNoFault}
 use Rattle.ir_ast.specs.Faults.Reserved.{IsExternalName, IsInsertedName}
+use Rattle.ir_ast.specs.declared.modules.Form.TheVariants.{Source}
 use Rattle.ir_cfg.specs.SourceModules.{IsSourceModule}
 use Rattle.ir_reader.specs.Lists.{Named}
 use Rattle.ir_lines.specs.Statements.{Line}
@@ -69,7 +70,7 @@ names_of_blocks content one o =
 pub names_of_values : (content : ModuleContent) → IsSourceModule content → (one : Definition) (o : From content one)
     → map (λ v. v.name) (values_of one) ≡ map definition_name (defs.definitions_of o.func)
 names_of_values content source one o =
-    value-names (names_in content o.func) one o.func o.says.arguments o.says.body (printed content source o.func o.stands)
+    value-names Source (names_in content o.func) one o.func o.says.arguments o.says.body (printed content source o.func o.stands)
 
 pub labels_once : (content : ModuleContent) → IsSourceModule content → (lines : List Line) → said lines ≡ said_by content
     → (one : Definition) → Contains (definitions_of lines) one → (line : ℕ) → ¬ (Repeats (map (λ b. (b.line, b.name)) (blocks_of one)) line)

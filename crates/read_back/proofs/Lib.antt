@@ -30,6 +30,8 @@ pub mod BackLiterals
 pub mod BackNames
 pub mod BackLines
 pub mod BackLists
+pub mod Fronts
+pub mod BackGroups
 pub mod BackInsts
 pub mod BackBlocks
 pub mod BackSections

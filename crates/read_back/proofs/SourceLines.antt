@@ -1,5 +1,5 @@
 -- Each instruction of a module is printed on lines that are read.
-use Rattle.std.proofs.Common.{◌≡◌, refl, ap, sym, ◌∙◌, subst, ℕ, zero, suc, ◌-◌, ◌<◌, ◌≤◌, ◌^◌, Bool, true, false, not, ◌||◌, ◌==◌, if◌then◌else◌, List, [], ◌∷◌, ◌++◌, map, length, drop, replicate, Option, Some, None, arith}
+use Rattle.std.proofs.Common.{◌≡◌, refl, ap, sym, ◌∙◌, subst, ℕ, zero, suc, ◌-◌, ◌<◌, ◌≤◌, ◌^◌, Bool, true, false, not, ◌||◌, ◌==◌, if◌then◌else◌, List, [], ◌∷◌, map, length, drop, replicate, Option, Some, None, arith}
 use Rattle.std.specs.Prelude.{is_some, flat_map, take}
 use Rattle.std.specs.List.{All, AllByRecursion, AllZip, list_all, list_any, zip}
 use Rattle.std.proofs.lemmas.Bool.{and_parts, or_right}
@@ -44,6 +44,7 @@ use Rattle.ir_reader.specs.Forms.{binary_word, conversion_word}
 use Rattle.ir_reader.specs.Lists.{is_task_start}
 use Rattle.ir_reader.specs.Parts.{is_scalar_type}
 use Rattle.read_back.specs.Said.{width_in, result_of, parameter_says, operator_says, binary_says, convert_says}
+use Rattle.read_back.proofs.Fronts.{FunctionsOf, later_functions, front_fit, zip_take, front_functions}
 use Rattle.read_back.proofs.BackInsts.{IsPrintedIn, split_all}
 use Rattle.read_back.proofs.BackLines.{result-is, no_result, integer-is, void-is, pointer-is, condition-is}
 use Rattle.read_back.proofs.Operands.{HaveNames, IsNarrow, in_types}
@@ -202,15 +203,6 @@ step_reads names have (elements.Layout l) bits (Some n) inst p =
     field_step_reads names have (result_of inst) l bits n a b (p.named p.printed.line.0.result) p.printed.layouts.0 widths.0 less fa.0 fb.0 fa.1 fb.1)
 
 -- ---- calls
-
-abbrev FunctionsOf : (ℕ → Type 0) → List Operand → Type 0
-FunctionsOf P os = AllByRecursion P (functions_named (record { result = None; op = ops.Load; ty = tys.Void; operands = os; labels = []; bundle = [] }))
-
-later_functions : (P : ℕ → Type 0) (o : Operand) (os : List Operand) → FunctionsOf P (o ∷ os) → FunctionsOf P os
-later_functions P (operands.Fun f) os all = all.1
-later_functions P (operands.Value v) os all = all
-later_functions P (operands.Int n) os all = all
-later_functions P operands.Null os all = all
 
 -- a function's name is passed to `task_start` alone
 function_is : (callee : Callee) (f : FuncId) (ty : Ty) → is_argument callee (operands.Fun f) ty ≡ true → (callee ≡ callees.TaskStart) × (ty ≡ tys.Void)
@@ -446,30 +438,7 @@ unreachable_case names inst p =
 own_width : (w : ℕ) → All IsWidth (w ∷ []) → (1 ≤ w) × (w ≤ 64)
 own_width w widths = All-head IsWidth w [] widths
 
--- each instruction is read
 -- ---- statepoint groups
-
--- the arguments first, and then the live entries
-front_fit : (F : Operand → Ty → Type 0) (os : List Operand) (ts us : List Ty) → AllZip F os (ts ++ us) → AllZip F (take (length ts) os) ts × AllZip F (drop (length ts) os) us
-front_fit F os [] us fit = (tt, fit)
-front_fit F [] (t ∷ ts) us fit = absurd fit
-front_fit F (o ∷ os) (t ∷ ts) us fit = let more = front_fit F os ts us fit.1 in ((fit.0, more.0), more.1)
-
-zip_take : (ts : List Ty) (os : List Operand) → zip ts (take (length ts) os) ≡ zip ts os
-zip_take [] os = refl
-zip_take (t ∷ ts) [] = refl
-zip_take (t ∷ ts) (o ∷ os) = ap (λ (more : List (Ty × Operand)). (t, o) ∷ more) (zip_take ts os)
-
-join_functions : (P : ℕ → Type 0) (o : Operand) (os rest : List Operand) → FunctionsOf P (o ∷ os) → FunctionsOf P rest → FunctionsOf P (o ∷ rest)
-join_functions P (operands.Fun f) os rest all more = (all.0, more)
-join_functions P (operands.Value v) os rest all more = more
-join_functions P (operands.Int n) os rest all more = more
-join_functions P operands.Null os rest all more = more
-
-front_functions : (P : ℕ → Type 0) (n : ℕ) (os : List Operand) → FunctionsOf P os → FunctionsOf P (take n os)
-front_functions P zero os all = tt
-front_functions P (suc n) [] all = tt
-front_functions P (suc n) (o ∷ os) all = join_functions P o os (take n os) all (front_functions P n os (later_functions P o os all))
 
 live_fits : (names : Names) (os : List Operand) (k : ℕ) → AllZip (Fits (value_types names.func)) os (replicate k tys.Ptr) → list_all is_value os ≡ true → AllByRecursion (IsLive names) os
 live_fits names [] k fit value = tt

@@ -17,6 +17,7 @@ use Rattle.ir_ast.specs.Modules.{ModuleContent}
 use Rattle.ir_cfg.specs.TargetModules.{IsTargetFunction, IsTargetModule, StatepointsAreSmall}
 use Rattle.ir_printer.specs.Texts.{text_of}
 use Rattle.read_back.specs.BlocksEnd.{BlocksEnd}
+use Rattle.read_back.specs.IdsAreWords.{IdsAreWords}
 use Rattle.read_back.specs.Said.{said_by}
 use Rattle.read_back.proofs.BackModules.{target_shaped}
 use Rattle.read_back.proofs.FunctionsPrinted as printed
@@ -43,9 +44,9 @@ entries_few func small = λ k d low. at k (get_or (instructions_of func.blocks) 
         by true is = (small place inst stands is).0
         by false is = no_entries inst.op inst.operands is
 
-function_reads : (content : ModuleContent) → IsTargetModule content → BlocksEnd content → (func : Function) → Contains content.funcs func → FunctionReads Rewritten content.layouts content.funcs func
-function_reads content target ends func c = printed.function_reads Rewritten content (record {
-  shaped = target_shaped content target;
+function_reads : (content : ModuleContent) → IsTargetModule content → BlocksEnd content → IdsAreWords content → (func : Function) → Contains content.funcs func → FunctionReads Rewritten content.layouts content.funcs func
+function_reads content target ends ids func c = printed.function_reads Rewritten content (record {
+  shaped = target_shaped content target ids;
   layout_names = target.layout_names;
   names = λ k d low. (target.functions k d low).names;
   ends = ends;
@@ -63,15 +64,15 @@ function_reads content target ends func c = printed.function_reads Rewritten con
     few : length func.args ≤ 64
     few = All-contains (λ (f : Function). length f.args ≤ 64) content.funcs func target.limits.arguments c
 
-pub target_reads : (content : ModuleContent) → IsTargetModule content → BlocksEnd content → ModuleReads Rewritten content
-target_reads content target ends = record {
+pub target_reads : (content : ModuleContent) → IsTargetModule content → BlocksEnd content → IdsAreWords content → ModuleReads Rewritten content
+target_reads content target ends ids = record {
   layout_names = target.layout_names;
   limits = target.limits;
   instructions = omega arith;
   uncalled = λ is. not_source is;
-  functions = each_of content.funcs (FunctionReads Rewritten content.layouts content.funcs) (λ func c. function_reads content target ends func c);
+  functions = each_of content.funcs (FunctionReads Rewritten content.layouts content.funcs) (λ func c. function_reads content target ends ids func c);
 }
 
 -- the text says what the module does
-pub target_text_reads : (content : ModuleContent) → IsTargetModule content → BlocksEnd content → TextReads Rewritten (text_of content) (said_by content)
-target_text_reads content target ends = module_text_reads Rewritten content (target_reads content target ends)
+pub target_text_reads : (content : ModuleContent) → IsTargetModule content → BlocksEnd content → IdsAreWords content → TextReads Rewritten (text_of content) (said_by content)
+target_text_reads content target ends ids = module_text_reads Rewritten content (target_reads content target ends ids)

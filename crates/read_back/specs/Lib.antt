@@ -1,3 +1,4 @@
 pub mod Said
 pub mod BlocksEnd
+pub mod IdsAreWords
 pub mod ReadsBack
