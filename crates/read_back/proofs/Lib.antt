@@ -18,11 +18,14 @@ pub mod GroupDeclarations
 pub mod Chains
 pub mod SwitchLines
 pub mod Blocks
+pub mod Rows
 pub mod SourceLines
 pub mod Functions
 pub mod FunctionsRead
+pub mod FunctionsPrinted
 pub mod SourceFunctions
 pub mod ModulesRead
+pub mod TargetReads
 pub mod BackLiterals
 pub mod BackNames
 pub mod BackLines
