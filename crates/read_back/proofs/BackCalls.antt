@@ -1,15 +1,19 @@
--- The calls that a source module is printed with agree with the heads of what they call.
-use Rattle.std.proofs.Common.{◌≡◌, ◌≢◌, ◌∙◌, inl, inr, ℕ, Bool, true, false, not, ◌&&◌, ◌||◌, List, [], ◌∷◌, ◌++◌, map, drop, get_or, refl, ap, sym, subst, arith, codes}
-use Rattle.std.specs.Prelude.{Option, Some, None, slice_get, option_map}
+-- The calls that a module is printed with agree with the heads of what they call.
+use Rattle.std.proofs.Common.{◌≡◌, ◌≢◌, ◌∙◌, inl, inr, ℕ, zero, suc, pos, ◌^◌, ◌<◌, ◌≤◌, Bool, true, false, not, ◌&&◌, ◌||◌, List, [], ◌∷◌, ◌++◌, map, length, drop, get_or, refl, ap, sym, subst, arith, codes}
+use Rattle.std.specs.Prelude.{Option, Some, None, take, slice_get, option_map}
 use Rattle.std.specs.Option.{option_map_or}
 use Rattle.std.specs.Str.{bytes_eq}
 use Rattle.std.specs.List.{AllByRecursion, AllZip, Contains, zip}
+use Rattle.std.proofs.lemmas.List.{length-map}
 use Rattle.std.proofs.lemmas.Option.{same_Some, slice_get_within}
 use Rattle.std.proofs.lemmas.List.Elements.{recursion_from_All, All-contains}
 use Rattle.std.proofs.lemmas.Slice.Eq.{bytes_eq-Decides}
 use Rattle.sp_ids.specs.declared.ids.FuncId.{FuncId}
 use Rattle.sp_ids.specs.declared.ids.BlockId.{BlockId}
-use Rattle.ir_ast.specs.declared.modules.Form.TheVariants.{Source}
+use Rattle.ir_ast.specs.declared.modules.Form.{Form}
+use Rattle.ir_ast.specs.declared.cells.Cell.{Cell}
+use Rattle.ir_ast.specs.declared.cells.Cell.TheVariants as cells
+use Rattle.ir_ast.specs.Cells.{kind_of}
 use Rattle.ir_ast.specs.declared.types.Ty.{Ty}
 use Rattle.ir_ast.specs.declared.types.Ty.TheVariants as tys
 use Rattle.ir_ast.specs.declared.funcs.Arg.{Arg}
@@ -23,40 +27,41 @@ use Rattle.ir_ast.specs.declared.ops.Callee.{Callee}
 use Rattle.ir_ast.specs.declared.ops.Callee.TheVariants as callees
 use Rattle.ir_ast.specs.Types.{is_first_class}
 use Rattle.ir_ast.specs.Values.{value_types}
-use Rattle.ir_ast.specs.Callees.{is_helper}
 use Rattle.ir_ast.specs.Insts.{Instruction}
 use Rattle.ir_ast.specs.Funcs.{Function, instructions_of}
 use Rattle.ir_ast.specs.Modules.{ModuleContent}
 use Rattle.ir_ast.specs.Scope as module_scope
 use Rattle.ir_ast.specs.Scope.{Signature, signature_of}
-use Rattle.ir_ast.specs.Faults.TypeClash.{Fits, IsTyped, FunctionIsTyped, RuleOf, IsCallOf}
+use Rattle.ir_ast.specs.Faults.TypeClash.{Fits, IsTyped, FunctionIsTyped, RuleOf, IsCallOf, TakesOperands}
 use Rattle.ir_ast.specs.Faults.Reserved.{IsExternalName}
-use Rattle.ir_cfg.specs.SourceModules.{IsSourceModule}
 use Rattle.ir_printer.specs.Names.{Names, layout_name, function_name}
 use Rattle.ir_printer.specs.Calls.{callee_name}
-use Rattle.ir_printer.specs.Declarations.{is_call_of}
+use Rattle.ir_printer.specs.Declarations.{is_callee, is_statepoints, is_call_of}
 use Rattle.ir_reader.specs.declared.readings.TypeWord.{TypeWord}
 use Rattle.ir_reader.specs.declared.readings.TypeWord.TheVariants as types
 use Rattle.ir_reader.specs.Lists.{Named, Given}
 use Rattle.ir_lines.specs.Statements.{Line, Statement, switch_end}
 use Rattle.ir_lines.specs.Sections.{Head, Definition, types_of, heads_of}
 use Rattle.ir_lines.specs.Scope.{Scope, scope_of, head_named}
-use Rattle.ir_lines.specs.Types.{same_type, same_types}
+use Rattle.ir_lines.specs.Types.{same_type, same_types, literal_fits}
 use Rattle.ir_lines.specs.InBody.{InBody}
 use Rattle.ir_lines.specs.Modules.{passed_type}
-use Rattle.ir_lines.specs.Faults.TypeClash.{is_task, starts_task, agrees, call_agrees}
+use Rattle.ir_lines.specs.Faults.TypeClash.{is_task, starts_task, gives_kind, checks_kind, agrees, call_agrees, takes_types, statepoint_agrees}
+use Rattle.ir_lines.specs.TextForms.{is_source}
 use Rattle.ir_lines.proofs.LawNames.{stands, contains_get, same_by_name}
 use Rattle.module_laws.proofs.LawHeads.{HeadFrom, from_definition, from_declaration, heads-from}
-use Rattle.read_back.specs.Said.{word_of, argument_says, passed_says, step_says, return_says, case_says, operator_says, said_by}
+use Rattle.read_back.specs.Said.{word_of, literal_of, argument_says, passed_says, parameter_says, made_says, step_says, return_says, case_says, operator_says, said_by}
 use Rattle.read_back.proofs.BackLines.{said}
 use Rattle.read_back.proofs.BackLists.{CalleeBelow}
-use Rattle.read_back.proofs.BackInsts.{IsPrinted, callee_parts}
-use Rattle.read_back.proofs.BackModules.{names_in, printed_inst}
+use Rattle.read_back.proofs.BackInsts.{IsPrintedIn, callee_parts}
+use Rattle.read_back.proofs.BackGuarded.{guards}
+use Rattle.read_back.proofs.Fronts.{zip_take}
+use Rattle.read_back.proofs.BackModules.{IsShaped, names_in, shaped_inst}
 use Rattle.read_back.proofs.BackFaults.{Each, IfDeclares, each_declaration, line_said, no_body_fault, printed_from}
 use Rattle.read_back.proofs.BackTops.{definitions_free}
 use Rattle.read_back.proofs.BackHeads.{declares_external}
-use Rattle.read_back.proofs.BackUnknown.{HeadFound, Knows, knows, callee_found, is_called}
-use Rattle.read_back.proofs.BackRules.{same_type-refl}
+use Rattle.read_back.proofs.BackUnknown.{HeadFound, Knows, some_block, knows, callee_found, is_called}
+use Rattle.read_back.proofs.BackRules.{same_type-refl, less}
 use Rattle.read_back.proofs.BackFields.{breaks_call}
 
 -- what the head says that a name has
@@ -73,29 +78,29 @@ argument_words : (args : List Arg) → types_of (map argument_says args) ≡ map
 argument_words [] = refl
 argument_words (a ∷ args) = ap (λ (ws : List TypeWord). word_of a.ty ∷ ws) (argument_words args)
 
-function_from : (content : ModuleContent) → IsSourceModule content → (lines : List Line) → said lines ≡ said_by content → (f : Function) → Contains content.funcs f
+function_from : (content : ModuleContent) → IsShaped content → (lines : List Line) → said lines ≡ said_by content → (f : Function) → Contains content.funcs f
     → (h : Head) → h.name ≡ f.name → HeadFrom lines h
     → (h.defined ≡ true) × (h.answer ≡ word_of f.answer) × (h.parameters ≡ map word_of (map (λ (a : Arg). a.ty) f.args))
-function_from content source lines e f c h same (from_definition d inside is) =
+function_from content shaped lines e f c h same (from_definition d inside is) =
     let o = printed_from content lines e d inside in
     let named : o.func.name ≡ f.name = sym o.says.name ∙ ap (λ (x : Head). x.name) is ∙ same in
-    let func : o.func ≡ f = same_by_name (λ (g : Function). g.name) content.funcs o.func f source.no_fault.names.functions o.stands c named in (
+    let func : o.func ≡ f = same_by_name (λ (g : Function). g.name) content.funcs o.func f shaped.no_fault.names.functions o.stands c named in (
       sym (ap (λ (x : Head). x.defined) is),
       sym (ap (λ (x : Head). x.answer) is) ∙ o.says.answer ∙ ap (λ (g : Function). word_of g.answer) func,
       sym (ap (λ (x : Head). x.parameters) is) ∙ ap types_of o.says.arguments ∙ ap (λ (g : Function). types_of (map argument_says g.args)) func ∙ argument_words f.args,
     )
-function_from content source lines e f c h same (from_declaration l inside answer name parameters says is) =
+function_from content shaped lines e f c h same (from_declaration l inside answer name parameters says is) =
     let named : name ≡ f.name = sym (ap (λ (x : Head). x.name) is) ∙ same in
-    absurd (All-contains (λ (g : Function). ¬ (IsExternalName g.name)) content.funcs f source.no_fault.free c
+    absurd (All-contains (λ (g : Function). ¬ (IsExternalName g.name)) content.funcs f shaped.no_fault.free c
     (subst IsExternalName named (declares_external content lines e l inside answer name parameters says)))
 
-function_head : (content : ModuleContent) → IsSourceModule content → (lines : List Line) → said lines ≡ said_by content → (one : Definition) (k : ℕ) (f : Function)
+function_head : (content : ModuleContent) → IsShaped content → (lines : List Line) → said lines ≡ said_by content → (one : Definition) (k : ℕ) (f : Function)
     → slice_get content.funcs k ≡ Some f → HeadFound (scope_of lines one) (function_name content.funcs k)
     → HeadSays (scope_of lines one) (function_name content.funcs k) true (word_of f.answer) (map word_of (map (λ (a : Arg). a.ty) f.args))
-function_head content source lines e one k f at found =
+function_head content shaped lines e one k f at found =
     let s = stands (λ (h : Head). h.name) (heads_of lines) (function_name content.funcs k) found in
     let same : s.one.name ≡ f.name = s.same ∙ ap (λ (o : Option Function). option_map_or (λ (g : Function). g.name) o []) at in
-    let parts = function_from content source lines e f (contains_get content.funcs k f at) s.one same
+    let parts = function_from content shaped lines e f (contains_get content.funcs k f at) s.one same
     (All-contains (HeadFrom lines) (heads_of lines) s.one (heads-from lines) (contains_get (heads_of lines) s.place s.one s.there)) in
     record { head = s.one; found = s.found; is_defined = parts.0; answers = parts.1; takes = parts.2 }
 
@@ -113,23 +118,23 @@ has_function (Some f) sig e = record { func = f; there = refl; has = same_Some (
 abbrev SaysOf : List ℕ → TypeWord → List TypeWord → TypeWord → List ℕ → List Named → Type 0
 SaysOf due answer parameters given_answer name named = name ≡ due → (given_answer ≡ answer) × (types_of named ≡ parameters)
 
-external_from : (content : ModuleContent) → IsSourceModule content → (lines : List Line) → said lines ≡ said_by content
+external_from : (content : ModuleContent) → IsShaped content → (lines : List Line) → said lines ≡ said_by content
     → (due : List ℕ) (answer : TypeWord) (parameters : List TypeWord) → IsExternalName due → Each (IfDeclares (SaysOf due answer parameters)) content
     → (h : Head) → h.name ≡ due → HeadFrom lines h → (h.defined ≡ false) × (h.answer ≡ answer) × (h.parameters ≡ parameters)
-external_from content source lines e due answer parameters external each h same (from_definition d inside is) =
-    absurd (definitions_free content source lines e d inside (subst IsExternalName (sym (ap (λ (x : Head). x.name) is ∙ same)) external))
-external_from content source lines e due answer parameters external each h same (from_declaration l inside a name named says is) =
+external_from content shaped lines e due answer parameters external each h same (from_definition d inside is) =
+    absurd (definitions_free content shaped lines e d inside (subst IsExternalName (sym (ap (λ (x : Head). x.name) is ∙ same)) external))
+external_from content shaped lines e due answer parameters external each h same (from_declaration l inside a name named says is) =
     let told : SaysOf due answer parameters a name named =
     subst (IfDeclares (SaysOf due answer parameters)) says (line_said (IfDeclares (SaysOf due answer parameters)) content lines e each l inside) in
     let parts = told (sym (ap (λ (x : Head). x.name) is) ∙ same) in
     (ap (λ (x : Head). x.defined) is, ap (λ (x : Head). x.answer) is ∙ parts.0, ap (λ (x : Head). x.parameters) is ∙ parts.1)
 
-external_head : (content : ModuleContent) → IsSourceModule content → (lines : List Line) → said lines ≡ said_by content → (one : Definition)
+external_head : (content : ModuleContent) → IsShaped content → (lines : List Line) → said lines ≡ said_by content → (one : Definition)
     → (due : List ℕ) (answer : TypeWord) (parameters : List TypeWord) → IsExternalName due → Each (IfDeclares (SaysOf due answer parameters)) content
     → HeadFound (scope_of lines one) due → HeadSays (scope_of lines one) due false answer parameters
-external_head content source lines e one due answer parameters external each found =
+external_head content shaped lines e one due answer parameters external each found =
     let s = stands (λ (h : Head). h.name) (heads_of lines) due found in
-    let parts = external_from content source lines e due answer parameters external each s.one s.same
+    let parts = external_from content shaped lines e due answer parameters external each s.one s.same
     (All-contains (HeadFrom lines) (heads_of lines) s.one (heads-from lines) (contains_get (heads_of lines) s.place s.one s.there)) in
     record { head = s.one; found = s.found; is_defined = parts.0; answers = parts.1; takes = parts.2 }
 
@@ -171,6 +176,39 @@ start_declared content =
     (λ called same. absurd (other_at 0 (codes "gc.safepoint_poll") (codes "task_start") (λ e. omega (arith, e)) same))
     (λ called same. absurd (other_at 0 (codes "gc_check") (codes "task_start") (λ e. omega (arith, e)) same))
     (λ called same. absurd (other_at 0 (codes "gc_same") (codes "task_start") (λ e. omega (arith, e)) same))
+
+poll_declared : (content : ModuleContent) → Each (IfDeclares (SaysOf (codes "gc.safepoint_poll") types.Void ([]))) content
+poll_declared content =
+    each_declaration (SaysOf (codes "gc.safepoint_poll") types.Void ([])) content
+    (λ number below same. absurd (other_at 2 (codes "gc_new." ++ layout_name content.layouts number) (codes "gc.safepoint_poll") (λ e. omega (arith, e)) same))
+    (λ same. absurd (other_at 0 (codes "print_i64") (codes "gc.safepoint_poll") (λ e. omega (arith, e)) same))
+    (λ same. absurd (other_at 0 (codes "read_i64") (codes "gc.safepoint_poll") (λ e. omega (arith, e)) same))
+    (λ same. absurd (other_at 0 (codes "task_start") (codes "gc.safepoint_poll") (λ e. omega (arith, e)) same))
+    (λ called same. (refl, refl))
+    (λ called same. absurd (other_at 2 (codes "gc_check") (codes "gc.safepoint_poll") (λ e. omega (arith, e)) same))
+    (λ called same. absurd (other_at 2 (codes "gc_same") (codes "gc.safepoint_poll") (λ e. omega (arith, e)) same))
+
+check_declared : (content : ModuleContent) → Each (IfDeclares (SaysOf (codes "gc_check") types.Void (types.Managed ∷ types.Managed ∷ types.Int 64 ∷ []))) content
+check_declared content =
+    each_declaration (SaysOf (codes "gc_check") types.Void (types.Managed ∷ types.Managed ∷ types.Int 64 ∷ [])) content
+    (λ number below same. absurd (other_at 3 (codes "gc_new." ++ layout_name content.layouts number) (codes "gc_check") (λ e. omega (arith, e)) same))
+    (λ same. absurd (other_at 0 (codes "print_i64") (codes "gc_check") (λ e. omega (arith, e)) same))
+    (λ same. absurd (other_at 0 (codes "read_i64") (codes "gc_check") (λ e. omega (arith, e)) same))
+    (λ same. absurd (other_at 0 (codes "task_start") (codes "gc_check") (λ e. omega (arith, e)) same))
+    (λ called same. absurd (other_at 2 (codes "gc.safepoint_poll") (codes "gc_check") (λ e. omega (arith, e)) same))
+    (λ called same. (refl, refl))
+    (λ called same. absurd (other_at 3 (codes "gc_same") (codes "gc_check") (λ e. omega (arith, e)) same))
+
+same_declared : (content : ModuleContent) → Each (IfDeclares (SaysOf (codes "gc_same") (types.Int 1) (types.Managed ∷ types.Managed ∷ types.Managed ∷ types.Managed ∷ []))) content
+same_declared content =
+    each_declaration (SaysOf (codes "gc_same") (types.Int 1) (types.Managed ∷ types.Managed ∷ types.Managed ∷ types.Managed ∷ [])) content
+    (λ number below same. absurd (other_at 3 (codes "gc_new." ++ layout_name content.layouts number) (codes "gc_same") (λ e. omega (arith, e)) same))
+    (λ same. absurd (other_at 0 (codes "print_i64") (codes "gc_same") (λ e. omega (arith, e)) same))
+    (λ same. absurd (other_at 0 (codes "read_i64") (codes "gc_same") (λ e. omega (arith, e)) same))
+    (λ same. absurd (other_at 0 (codes "task_start") (codes "gc_same") (λ e. omega (arith, e)) same))
+    (λ called same. absurd (other_at 2 (codes "gc.safepoint_poll") (codes "gc_same") (λ e. omega (arith, e)) same))
+    (λ called same. absurd (other_at 3 (codes "gc_check") (codes "gc_same") (λ e. omega (arith, e)) same))
+    (λ called same. (refl, refl))
 
 made_declared : (content : ModuleContent) (layout : List ℕ) → Each (IfDeclares (SaysOf (codes "gc_new." ++ layout) types.Managed (types.Int 64 ∷ []))) content
 made_declared content layout =
@@ -230,9 +268,8 @@ task_passed scope names values func (o ∷ p ∷ []) fit at =
 both : (a b : Bool) → a ≡ true → b ≡ true → (a && b) ≡ true
 both a b p q = ap (λ (x : Bool). x && b) p ∙ q
 
--- the source form has no checks, so what they ask doesn't count
-both_alone : (a b : Bool) → a ≡ true → b ≡ true → (a && (b && true)) ≡ true
-both_alone a b p q = both a (b && true) p (both b true q refl)
+both_and : (a b c : Bool) → a ≡ true → b ≡ true → c ≡ true → (a && (b && c)) ≡ true
+both_and a b c p q r = both a (b && c) p (both b c q r)
 
 same_types-refl : (words : List TypeWord) → same_types words words ≡ true
 same_types-refl [] = refl
@@ -246,30 +283,74 @@ agree scope name defined answer passed s =
     (ap (same_type answer) s.answers ∙ same_type-refl answer)
     (ap (same_types (map passed_type passed)) s.takes ∙ same_types-refl (map passed_type passed))
 
-starts_none : (name : List ℕ) (b : Bool) → name ≢ codes "task_start" → (not (bytes_eq name (codes "task_start")) || b) ≡ true
-starts_none name b other = by (bytes_eq name (codes "task_start")) refl
+-- what is asked of the calls of one name only
+not_asked : (due name : List ℕ) (b : Bool) → name ≢ due → (not (bytes_eq name due) || b) ≡ true
+not_asked due name b other = by (bytes_eq name due) refl
   where
-    by : (c : Bool) → bytes_eq name (codes "task_start") ≡ c → (not (bytes_eq name (codes "task_start")) || b) ≡ true
-    by true is = absurd (other ((bytes_eq-Decides name (codes "task_start")).0 is))
+    by : (c : Bool) → bytes_eq name due ≡ c → (not (bytes_eq name due) || b) ≡ true
+    by true is = absurd (other ((bytes_eq-Decides name due).0 is))
     by false is = ap (λ (c : Bool). not c || b) is
 
-starts_some : (a b : Bool) → b ≡ true → (a || b) ≡ true
-starts_some true b e = refl
-starts_some false b e = e
+either : (a b : Bool) → b ≡ true → (a || b) ≡ true
+either true b e = refl
+either false b e = e
 
--- a call of what has this signature
-abbrev CallFits : Scope → Names → List ℕ → List Operand → Signature → Type 0
-CallFits scope names name os sig = call_agrees Source scope (word_of sig.answer) name (passed_of names sig.params os) ≡ true
+-- only the rewritten form asks something of checks
+asked_of : (a b c : Bool) → (b || c) ≡ true → (a || b || c) ≡ true
+asked_of true b c e = refl
+asked_of false b c e = e
 
-plain_call : (scope : Scope) (names : Names) (values : List Ty) (name : List ℕ) (os : List Operand) (sig : Signature) (defined : Bool)
+-- a call of what has this signature, by a `call` or a statepoint
+record CallFits (form : Form) (scope : Scope) (names : Names) (name : List ℕ) (os : List Operand) (sig : Signature) : Type 0 where
+  agrees : call_agrees form scope (word_of sig.answer) name (passed_of names sig.params os) ≡ true
+  takes : takes_types (map parameter_says sig.params) (head_named scope name) ≡ true
+  few : length sig.params ≤ 64
+
+parameter_words : (ts : List Ty) → AllByRecursion IsFirst ts → map parameter_says ts ≡ map word_of ts
+parameter_words [] first = refl
+parameter_words (t ∷ ts) first =
+    ap (λ (w : TypeWord). w ∷ map parameter_says ts) (one t first.0) ∙ ap (λ (ws : List TypeWord). word_of t ∷ ws) (parameter_words ts first.1)
+  where
+    one : (t : Ty) → IsFirst t → parameter_says t ≡ word_of t
+    one tys.Void e = absurd (let bad : false ≡ true = e in cc)
+    one (tys.Int w) e = refl
+    one tys.Ptr e = refl
+    one tys.Token e = absurd (let bad : false ≡ true = e in cc)
+
+taken : (scope : Scope) (name : List ℕ) (defined : Bool) (answer : TypeWord) (words : List TypeWord) → HeadSays scope name defined answer words
+    → takes_types words (head_named scope name) ≡ true
+taken scope name defined answer words s = ap (takes_types words) s.found ∙ ap (same_types words) s.takes ∙ same_types-refl words
+
+plain_call : (form : Form) (scope : Scope) (names : Names) (values : List Ty) (name : List ℕ) (os : List Operand) (sig : Signature) (defined : Bool)
     → HeadSays scope name defined (word_of sig.answer) (map word_of sig.params) → AllZip (Fits values) os sig.params → AllByRecursion IsFirst sig.params
-    → name ≢ codes "task_start" → CallFits scope names name os sig
-plain_call scope names values name os sig defined s fit first other =
+    → length sig.params ≤ 64 → name ≢ codes "task_start" → (not (bytes_eq name (codes "gc_check")) || checks_kind (passed_of names sig.params os)) ≡ true
+    → CallFits form scope names name os sig
+plain_call form scope names values name os sig defined s fit first few other checks =
     let passed = passed_of names sig.params os in
-    both_alone (agrees (word_of sig.answer) passed (head_named scope name)) (not (bytes_eq name (codes "task_start")) || starts_task scope passed)
-    (agree scope name defined (word_of sig.answer) passed
-    (subst (HeadSays scope name defined (word_of sig.answer)) (sym (passed_types names values os sig.params fit first)) s))
-    (starts_none name (starts_task scope passed) other)
+    let same = parameter_words sig.params first in
+    record {
+      agrees = both_and (agrees (word_of sig.answer) passed (head_named scope name)) (not (bytes_eq name (codes "task_start")) || starts_task scope passed)
+          (is_source form || not (bytes_eq name (codes "gc_check")) || checks_kind passed)
+          (agree scope name defined (word_of sig.answer) passed
+          (subst (HeadSays scope name defined (word_of sig.answer)) (sym (passed_types names values os sig.params fit first)) s))
+          (not_asked (codes "task_start") name (starts_task scope passed) other)
+          (asked_of (is_source form) (not (bytes_eq name (codes "gc_check"))) (checks_kind passed) checks);
+      takes = taken scope name defined (word_of sig.answer) (map parameter_says sig.params)
+          (subst (HeadSays scope name defined (word_of sig.answer)) (sym same) s);
+      few = few;
+    }
+
+kind_checked : (names : Names) (values : List Ty) (cell : Cell) (os : List Operand) → AllZip (Fits values) os (tys.Ptr ∷ tys.Ptr ∷ tys.Int 64 ∷ [])
+    → slice_get os 2 ≡ Some (operands.Int (kind_of cell)) → checks_kind (passed_of names (tys.Ptr ∷ tys.Ptr ∷ tys.Int 64 ∷ []) os) ≡ true
+kind_checked names values cell [] fit is = absurd fit
+kind_checked names values cell (o ∷ []) fit is = absurd fit.1
+kind_checked names values cell (o ∷ p ∷ []) fit is = absurd fit.1.1
+kind_checked names values cell (o ∷ p ∷ q ∷ os) fit is =
+    ap (λ (x : Operand). gives_kind (passed_says names (tys.Int 64) x)) (same_Some q (operands.Int (kind_of cell)) is) ∙ one cell
+  where
+    one : (cell : Cell) → gives_kind (passed_says names (tys.Int 64) (operands.Int (kind_of cell))) ≡ true
+    one cells.I64 = refl
+    one cells.Ptr = refl
 
 task_is : (scope : Scope) (name : List ℕ) → HeadSays scope name true types.Void (types.Managed ∷ []) → is_task (head_named scope name) ≡ true
 task_is scope name s =
@@ -278,152 +359,278 @@ task_is scope name s =
     (both s.head.defined (same_type s.head.answer types.Void) s.is_defined (ap (λ (t : TypeWord). same_type t types.Void) s.answers))
     (ap (λ (ts : List TypeWord). same_types ts (types.Managed ∷ [])) s.takes)
 
-task_call : (scope : Scope) (names : Names) (values : List Ty) (os : List Operand) (func : FuncId)
+task_call : (form : Form) (scope : Scope) (names : Names) (values : List Ty) (os : List Operand) (func : FuncId)
     → HeadSays scope (codes "task_start") false types.Void (types.Plain ∷ types.Managed ∷ [])
     → HeadSays scope (function_name names.funcs func.0) true types.Void (types.Managed ∷ [])
     → AllZip (Fits values) os (tys.Void ∷ tys.Ptr ∷ []) → slice_get os 0 ≡ Some (operands.Fun func)
-    → CallFits scope names (codes "task_start") os (record { answer = tys.Void; params = tys.Void ∷ tys.Ptr ∷ [] })
-task_call scope names values os func s task fit at =
+    → CallFits form scope names (codes "task_start") os (record { answer = tys.Void; params = tys.Void ∷ tys.Ptr ∷ [] })
+task_call form scope names values os func s task fit at =
     let t = task_passed scope names values func os fit at in
     let passed = passed_of names (tys.Void ∷ tys.Ptr ∷ []) os in
-    both_alone (agrees types.Void passed (head_named scope (codes "task_start"))) (not (bytes_eq (codes "task_start") (codes "task_start")) || starts_task scope passed)
-    (agree scope (codes "task_start") false types.Void passed (subst (HeadSays scope (codes "task_start") false types.Void) (sym t.words) s))
-    (starts_some (not (bytes_eq (codes "task_start") (codes "task_start"))) (starts_task scope passed)
-    (t.starts ∙ task_is scope (function_name names.funcs func.0) task))
+    record {
+      agrees = both_and (agrees types.Void passed (head_named scope (codes "task_start"))) (not (bytes_eq (codes "task_start") (codes "task_start")) || starts_task scope passed)
+          (is_source form || not (bytes_eq (codes "task_start") (codes "gc_check")) || checks_kind passed)
+          (agree scope (codes "task_start") false types.Void passed (subst (HeadSays scope (codes "task_start") false types.Void) (sym t.words) s))
+          (either (not (bytes_eq (codes "task_start") (codes "task_start"))) (starts_task scope passed)
+          (t.starts ∙ task_is scope (function_name names.funcs func.0) task))
+          (asked_of (is_source form) (not (bytes_eq (codes "task_start") (codes "gc_check"))) (checks_kind passed)
+          (not_asked (codes "gc_check") (codes "task_start") (checks_kind passed) (other_first (codes "task_start") (codes "gc_check") (λ e. omega (arith, e)))));
+      takes = taken scope (codes "task_start") false types.Void (types.Plain ∷ types.Managed ∷ []) s;
+      few = omega arith;
+    }
 
 -- the arguments of a function are first class
 args_first : (args : List Arg) → AllByRecursion (λ (a : Arg). is_first_class a.ty ≡ true) args → AllByRecursion IsFirst (map (λ (a : Arg). a.ty) args)
 args_first [] h = tt
 args_first (a ∷ args) h = (h.0, args_first args h.1)
 
-call_keeps : (content : ModuleContent) → IsSourceModule content → (lines : List Line) → said lines ≡ said_by content → (one : Definition) (func : Function)
-    → Knows (scope_of lines one) (names_in content func) → (callee : Callee) → CalleeBelow (names_in content func) callee → is_helper callee ≡ false
+call_keeps : (form : Form) (content : ModuleContent) → IsShaped content → (lines : List Line) → said lines ≡ said_by content → (one : Definition) (func : Function)
+    → Knows (scope_of lines one) (names_in content func) → (callee : Callee) → CalleeBelow (names_in content func) callee
     → HeadFound (scope_of lines one) (callee_name (names_in content func) callee)
-    → (ts : List Ty) (inst : Instruction) → AllZip (Fits (value_types func)) inst.operands ts → IsCallOf (module_scope.scope_of content func) callee ts inst
-    → CallFits (scope_of lines one) (names_in content func) (callee_name (names_in content func) callee) inst.operands (record { answer = inst.ty; params = ts })
-call_keeps content source lines e one func k (callees.Fun named) below plain found ts inst fit rule =
+    → (ts : List Ty) (ty : Ty) (os : List Operand) → AllZip (Fits (value_types func)) os ts
+    → (module_scope.scope_of content func).called callee ≡ Some (record { answer = ty; params = ts }) → TakesOperands (module_scope.scope_of content func) callee os
+    → CallFits form (scope_of lines one) (names_in content func) (callee_name (names_in content func) callee) os (record { answer = ty; params = ts })
+call_keeps form content shaped lines e one func k (callees.Fun named) below found ts ty os fit signature takes =
     let scope = scope_of lines one in
     let names = names_in content func in
     let name = function_name content.funcs named.0 in
-    let sig : Signature = record { answer = inst.ty; params = ts } in
-    let f = has_function (slice_get content.funcs named.0) sig rule.signature in
+    let sig : Signature = record { answer = ty; params = ts } in
+    let f = has_function (slice_get content.funcs named.0) sig signature in
     let stands_there = contains_get content.funcs named.0 f.func f.there in
-    let typed = All-contains (λ (g : Function). FunctionIsTyped (module_scope.scope_of content g) g) content.funcs f.func source.no_fault.typed stands_there in
-    let head = function_head content source lines e one named.0 f.func f.there found in
+    let typed = All-contains (λ (g : Function). FunctionIsTyped (module_scope.scope_of content g) g) content.funcs f.func shaped.no_fault.typed stands_there in
+    let head = function_head content shaped lines e one named.0 f.func f.there found in
     let first = args_first f.func.args (recursion_from_All (λ (a : Arg). is_first_class a.ty ≡ true) f.func.args typed.args) in
+    let few : length (map (λ (a : Arg). a.ty) f.func.args) ≤ 64 =
+    subst (λ (n : ℕ). n ≤ 64) (sym (length-map f.func.args (λ (a : Arg). a.ty)))
+    (All-contains (λ (g : Function). length g.args ≤ 64) content.funcs f.func shaped.limits.arguments stands_there) in
     let called : name ≡ f.func.name = ap (λ (o : Option Function). option_map_or (λ (g : Function). g.name) o []) f.there in
-    plain_call scope names (value_types func) name inst.operands sig true
+    let free = All-contains (λ (g : Function). ¬ (IsExternalName g.name)) content.funcs f.func shaped.no_fault.free stands_there in
+    plain_call form scope names (value_types func) name os sig true
     (subst (λ (s : Signature). HeadSays scope name true (word_of s.answer) (map word_of s.params)) f.has head) fit
     (subst (λ (s : Signature). AllByRecursion IsFirst s.params) f.has first)
-    (λ same. All-contains (λ (g : Function). ¬ (IsExternalName g.name)) content.funcs f.func source.no_fault.free stands_there
-    (inl (2, omega arith, sym same ∙ called)))
-call_keeps content source lines e one func k (callees.New layout) below plain found ts inst fit rule =
+    (subst (λ (s : Signature). length s.params ≤ 64) f.has few)
+    (λ same. free (inl (2, omega arith, sym same ∙ called)))
+    (not_asked (codes "gc_check") name (checks_kind (passed_of names ts os)) (λ same. free (inl (4, omega arith, sym same ∙ called))))
+call_keeps form content shaped lines e one func k (callees.New layout) below found ts ty os fit signature takes =
     let scope = scope_of lines one in
     let names = names_in content func in
     let name = codes "gc_new." ++ layout_name content.layouts layout in
     let sig : Signature = record { answer = tys.Ptr; params = tys.Int 64 ∷ [] } in
-    let given : Signature = record { answer = inst.ty; params = ts } in
-    let same : sig ≡ given = same_Some sig given rule.signature in
-    subst (CallFits scope names name inst.operands) same
-    (plain_call scope names (value_types func) name inst.operands sig false
-    (external_head content source lines e one name types.Managed (types.Int 64 ∷ []) (inr (inl (layout_name content.layouts layout, refl)))
+    let given : Signature = record { answer = ty; params = ts } in
+    let same : sig ≡ given = same_Some sig given signature in
+    let own : AllZip (Fits (value_types func)) os sig.params = subst (λ (s : Signature). AllZip (Fits (value_types func)) os s.params) (sym same) fit in
+    subst (CallFits form scope names name os) same
+    (plain_call form scope names (value_types func) name os sig false
+    (external_head content shaped lines e one name types.Managed (types.Int 64 ∷ []) (inr (inl (layout_name content.layouts layout, refl)))
     (made_declared content (layout_name content.layouts layout)) found)
-    (subst (λ (s : Signature). AllZip (Fits (value_types func)) inst.operands s.params) (sym same) fit) (refl, tt)
-    (other_first name (codes "task_start") (λ e. omega (arith, e))))
-call_keeps content source lines e one func k callees.Print below plain found ts inst fit rule =
+    own (refl, tt) (omega arith)
+    (other_first name (codes "task_start") (λ e. omega (arith, e)))
+    (not_asked (codes "gc_check") name (checks_kind (passed_of names sig.params os)) (other_at 3 name (codes "gc_check") (λ e. omega (arith, e)))))
+call_keeps form content shaped lines e one func k callees.Print below found ts ty os fit signature takes =
     let scope = scope_of lines one in
     let names = names_in content func in
+    let name = codes "print_i64" in
     let sig : Signature = record { answer = tys.Void; params = tys.Int 64 ∷ [] } in
-    let given : Signature = record { answer = inst.ty; params = ts } in
-    let same : sig ≡ given = same_Some sig given rule.signature in
-    subst (CallFits scope names (codes "print_i64") inst.operands) same
-    (plain_call scope names (value_types func) (codes "print_i64") inst.operands sig false
-    (external_head content source lines e one (codes "print_i64") types.Void (types.Int 64 ∷ []) (inl (0, omega arith, refl)) (print_declared content) found)
-    (subst (λ (s : Signature). AllZip (Fits (value_types func)) inst.operands s.params) (sym same) fit) (refl, tt)
-    (other_first (codes "print_i64") (codes "task_start") (λ e. omega (arith, e))))
-call_keeps content source lines e one func k callees.Read below plain found ts inst fit rule =
+    let given : Signature = record { answer = ty; params = ts } in
+    let same : sig ≡ given = same_Some sig given signature in
+    let own : AllZip (Fits (value_types func)) os sig.params = subst (λ (s : Signature). AllZip (Fits (value_types func)) os s.params) (sym same) fit in
+    subst (CallFits form scope names name os) same
+    (plain_call form scope names (value_types func) name os sig false
+    (external_head content shaped lines e one name types.Void (types.Int 64 ∷ []) (inl (0, omega arith, refl))
+    (print_declared content) found)
+    own (refl, tt) (omega arith)
+    (other_first name (codes "task_start") (λ e. omega (arith, e)))
+    (not_asked (codes "gc_check") name (checks_kind (passed_of names sig.params os)) (other_first name (codes "gc_check") (λ e. omega (arith, e)))))
+call_keeps form content shaped lines e one func k callees.Read below found ts ty os fit signature takes =
     let scope = scope_of lines one in
     let names = names_in content func in
+    let name = codes "read_i64" in
     let sig : Signature = record { answer = tys.Int 64; params = [] } in
-    let given : Signature = record { answer = inst.ty; params = ts } in
-    let same : sig ≡ given = same_Some sig given rule.signature in
-    subst (CallFits scope names (codes "read_i64") inst.operands) same
-    (plain_call scope names (value_types func) (codes "read_i64") inst.operands sig false
-    (external_head content source lines e one (codes "read_i64") (types.Int 64) [] (inl (1, omega arith, refl)) (read_declared content) found)
-    (subst (λ (s : Signature). AllZip (Fits (value_types func)) inst.operands s.params) (sym same) fit) tt
-    (other_first (codes "read_i64") (codes "task_start") (λ e. omega (arith, e))))
-call_keeps content source lines e one func k callees.TaskStart below plain found ts inst fit rule =
+    let given : Signature = record { answer = ty; params = ts } in
+    let same : sig ≡ given = same_Some sig given signature in
+    let own : AllZip (Fits (value_types func)) os sig.params = subst (λ (s : Signature). AllZip (Fits (value_types func)) os s.params) (sym same) fit in
+    subst (CallFits form scope names name os) same
+    (plain_call form scope names (value_types func) name os sig false
+    (external_head content shaped lines e one name (types.Int 64) ([]) (inl (1, omega arith, refl))
+    (read_declared content) found)
+    own tt (omega arith)
+    (other_first name (codes "task_start") (λ e. omega (arith, e)))
+    (not_asked (codes "gc_check") name (checks_kind (passed_of names sig.params os)) (other_first name (codes "gc_check") (λ e. omega (arith, e)))))
+call_keeps form content shaped lines e one func k callees.TaskStart below found ts ty os fit signature takes =
     let scope = scope_of lines one in
     let names = names_in content func in
     let sig : Signature = record { answer = tys.Void; params = tys.Void ∷ tys.Ptr ∷ [] } in
-    let given : Signature = record { answer = inst.ty; params = ts } in
-    let same : sig ≡ given = same_Some sig given rule.signature in
-    let start = rule.operands in
-    let to : FuncId = start.0 in
+    let given : Signature = record { answer = ty; params = ts } in
+    let same : sig ≡ given = same_Some sig given signature in
+    let to : FuncId = takes.0 in
     let task : Signature = record { answer = tys.Void; params = tys.Ptr ∷ [] } in
-    let f = has_function (slice_get content.funcs to.0) task start.2 in
-    let head = function_head content source lines e one to.0 f.func f.there (k.function to.0 (slice_get_within content.funcs to.0 f.func f.there)) in
-    subst (CallFits scope names (codes "task_start") inst.operands) same
-    (task_call scope names (value_types func) inst.operands to
-    (external_head content source lines e one (codes "task_start") types.Void (types.Plain ∷ types.Managed ∷ []) (inl (2, omega arith, refl)) (start_declared content) found)
+    let f = has_function (slice_get content.funcs to.0) task takes.2 in
+    let head = function_head content shaped lines e one to.0 f.func f.there (k.function to.0 (slice_get_within content.funcs to.0 f.func f.there)) in
+    subst (CallFits form scope names (codes "task_start") os) same
+    (task_call form scope names (value_types func) os to
+    (external_head content shaped lines e one (codes "task_start") types.Void (types.Plain ∷ types.Managed ∷ []) (inl (2, omega arith, refl)) (start_declared content) found)
     (subst (λ (s : Signature). HeadSays scope (function_name content.funcs to.0) true (word_of s.answer) (map word_of s.params)) f.has head)
-    (subst (λ (s : Signature). AllZip (Fits (value_types func)) inst.operands s.params) (sym same) fit) start.1)
-call_keeps content source lines e one func k callees.Poll below plain found ts inst fit rule = absurd (let bad : true ≡ false = plain in cc)
-call_keeps content source lines e one func k callees.Check below plain found ts inst fit rule = absurd (let bad : true ≡ false = plain in cc)
-call_keeps content source lines e one func k callees.Same below plain found ts inst fit rule = absurd (let bad : true ≡ false = plain in cc)
+    (subst (λ (s : Signature). AllZip (Fits (value_types func)) os s.params) (sym same) fit) takes.1)
+call_keeps form content shaped lines e one func k callees.Poll below found ts ty os fit signature takes =
+    let scope = scope_of lines one in
+    let names = names_in content func in
+    let name = codes "gc.safepoint_poll" in
+    let sig : Signature = record { answer = tys.Void; params = [] } in
+    let given : Signature = record { answer = ty; params = ts } in
+    let same : sig ≡ given = same_Some sig given signature in
+    let own : AllZip (Fits (value_types func)) os sig.params = subst (λ (s : Signature). AllZip (Fits (value_types func)) os s.params) (sym same) fit in
+    subst (CallFits form scope names name os) same
+    (plain_call form scope names (value_types func) name os sig false
+    (external_head content shaped lines e one name types.Void ([]) (inl (3, omega arith, refl))
+    (poll_declared content) found)
+    own tt (omega arith)
+    (other_first name (codes "task_start") (λ e. omega (arith, e)))
+    (not_asked (codes "gc_check") name (checks_kind (passed_of names sig.params os)) (other_at 2 name (codes "gc_check") (λ e. omega (arith, e)))))
+call_keeps form content shaped lines e one func k callees.Check below found ts ty os fit signature takes =
+    let scope = scope_of lines one in
+    let names = names_in content func in
+    let name = codes "gc_check" in
+    let sig : Signature = record { answer = tys.Void; params = tys.Ptr ∷ tys.Ptr ∷ tys.Int 64 ∷ [] } in
+    let given : Signature = record { answer = ty; params = ts } in
+    let same : sig ≡ given = same_Some sig given signature in
+    let own : AllZip (Fits (value_types func)) os sig.params = subst (λ (s : Signature). AllZip (Fits (value_types func)) os s.params) (sym same) fit in
+    subst (CallFits form scope names name os) same
+    (plain_call form scope names (value_types func) name os sig false
+    (external_head content shaped lines e one name types.Void (types.Managed ∷ types.Managed ∷ types.Int 64 ∷ []) (inl (4, omega arith, refl))
+    (check_declared content) found)
+    own (refl, (refl, (refl, tt))) (omega arith)
+    (other_first name (codes "task_start") (λ e. omega (arith, e)))
+    (either (not (bytes_eq name (codes "gc_check"))) (checks_kind (passed_of names sig.params os)) (kind_checked names (value_types func) takes.0 os own takes.1)))
+call_keeps form content shaped lines e one func k callees.Same below found ts ty os fit signature takes =
+    let scope = scope_of lines one in
+    let names = names_in content func in
+    let name = codes "gc_same" in
+    let sig : Signature = record { answer = tys.Int 1; params = tys.Ptr ∷ tys.Ptr ∷ tys.Ptr ∷ tys.Ptr ∷ [] } in
+    let given : Signature = record { answer = ty; params = ts } in
+    let same : sig ≡ given = same_Some sig given signature in
+    let own : AllZip (Fits (value_types func)) os sig.params = subst (λ (s : Signature). AllZip (Fits (value_types func)) os s.params) (sym same) fit in
+    subst (CallFits form scope names name os) same
+    (plain_call form scope names (value_types func) name os sig false
+    (external_head content shaped lines e one name (types.Int 1) (types.Managed ∷ types.Managed ∷ types.Managed ∷ types.Managed ∷ []) (inl (5, omega arith, refl))
+    (same_declared content) found)
+    own (refl, (refl, (refl, (refl, tt)))) (omega arith)
+    (other_first name (codes "task_start") (λ e. omega (arith, e)))
+    (not_asked (codes "gc_check") name (checks_kind (passed_of names sig.params os)) (other_at 3 name (codes "gc_check") (λ e. omega (arith, e)))))
+
+-- ---- statepoints
+
+get_front : {X : Type 0} (n : ℕ) (xs : List X) (i : ℕ) → i < n → slice_get (take n xs) i ≡ slice_get xs i
+get_front zero xs i low = absurd (omega arith)
+get_front (suc n) [] i low = refl
+get_front (suc n) (x ∷ xs) zero low = refl
+get_front (suc n) (x ∷ xs) (suc i) low = get_front n xs i (omega arith)
+
+-- what is asked of the operands of a call is asked of the arguments in front
+takes_front : (content : ModuleContent) (func : Function) (callee : Callee) (ts : List Ty) (ty : Ty) (os : List Operand)
+    → (module_scope.scope_of content func).called callee ≡ Some (record { answer = ty; params = ts }) → TakesOperands (module_scope.scope_of content func) callee os
+    → TakesOperands (module_scope.scope_of content func) callee (take (length ts) os)
+takes_front content func callees.TaskStart ts ty os signature takes =
+    let sig : Signature = record { answer = tys.Void; params = tys.Void ∷ tys.Ptr ∷ [] } in
+    let same : sig ≡ record { answer = ty; params = ts } = same_Some sig (record { answer = ty; params = ts }) signature in
+    let long : 2 ≡ length ts = ap (λ (s : Signature). length s.params) same in
+    (takes.0, get_front (length ts) os 0 (omega arith) ∙ takes.1, takes.2)
+takes_front content func callees.Check ts ty os signature takes =
+    let sig : Signature = record { answer = tys.Void; params = tys.Ptr ∷ tys.Ptr ∷ tys.Int 64 ∷ [] } in
+    let same : sig ≡ record { answer = ty; params = ts } = same_Some sig (record { answer = ty; params = ts }) signature in
+    let long : 3 ≡ length ts = ap (λ (s : Signature). length s.params) same in
+    (takes.0, get_front (length ts) os 2 (omega arith) ∙ takes.1)
+takes_front content func (callees.Fun named) ts ty os signature takes = tt
+takes_front content func (callees.New layout) ts ty os signature takes = tt
+takes_front content func callees.Print ts ty os signature takes = tt
+takes_front content func callees.Read ts ty os signature takes = tt
+takes_front content func callees.Poll ts ty os signature takes = tt
+takes_front content func callees.Same ts ty os signature takes = tt
+
+abbrev GuardedFits : Form → Scope → Names → ℕ → Callee → List Ty → Instruction → Type 0
+GuardedFits form scope names id callee ts inst = statepoint_agrees form scope (made_says names id callee ts inst) ≡ true
+
+guarded_fits : (form : Form) (scope : Scope) (names : Names) (id : ℕ) (callee : Callee) (ts : List Ty) (inst : Instruction)
+    → CallFits form scope names (callee_name names callee) (take (length ts) inst.operands) (record { answer = inst.ty; params = ts })
+    → GuardedFits form scope names id callee ts inst
+guarded_fits form scope names id callee ts inst fits =
+    let few = fits.few in
+    both_and (call_agrees form scope (word_of inst.ty) (callee_name names callee) (passed_of names ts inst.operands))
+    (takes_types (map parameter_says ts) (head_named scope (callee_name names callee))) (literal_fits (types.Int 32) (literal_of (pos (length ts))))
+    (subst (λ (z : List (Ty × Operand)). call_agrees form scope (word_of inst.ty) (callee_name names callee)
+    (map (λ (argument : Ty × Operand). passed_says names argument.0 argument.1) z) ≡ true) (zip_take ts inst.operands) fits.agrees)
+    fits.takes (less (length ts) (2 ^ 32) (omega arith))
 
 -- ---- any instruction
 
-abbrev Keeps : Scope → Statement → Type 0
-Keeps scope s = breaks_call scope s ≡ false
+abbrev Keeps : Form → Scope → Statement → Type 0
+Keeps form scope s = breaks_call form scope s ≡ false
 
-cases_keep : (scope : Scope) (names : Names) (ty : Ty) (es : List (Operand × BlockId)) → AllByRecursion (Keeps scope) (map (case_says names ty) es ++ switch_end ∷ [])
-cases_keep scope names ty [] = (refl, tt)
-cases_keep scope names ty (e ∷ es) = (refl, cases_keep scope names ty es)
+cases_keep : (form : Form) (scope : Scope) (names : Names) (ty : Ty) (es : List (Operand × BlockId)) → AllByRecursion (Keeps form scope) (map (case_says names ty) es ++ switch_end ∷ [])
+cases_keep form scope names ty [] = (refl, tt)
+cases_keep form scope names ty (e ∷ es) = (refl, cases_keep form scope names ty es)
 
-step_keeps : (scope : Scope) (names : Names) (elem : Elem) (width : ℕ) (place : Option ℕ) (inst : Instruction) → Keeps scope (step_says names elem width place inst)
-step_keeps scope names (elements.Int w) width place inst = refl
-step_keeps scope names elements.Ptr width place inst = refl
-step_keeps scope names (elements.Layout l) width place inst = refl
+step_keeps : (form : Form) (scope : Scope) (names : Names) (elem : Elem) (width : ℕ) (place : Option ℕ) (inst : Instruction) → Keeps form scope (step_says names elem width place inst)
+step_keeps form scope names (elements.Int w) width place inst = refl
+step_keeps form scope names elements.Ptr width place inst = refl
+step_keeps form scope names (elements.Layout l) width place inst = refl
 
-return_keeps : (scope : Scope) (names : Names) (ty : Ty) (inst : Instruction) → Keeps scope (return_says names ty inst)
-return_keeps scope names tys.Void inst = refl
-return_keeps scope names (tys.Int n) inst = refl
-return_keeps scope names tys.Ptr inst = refl
-return_keeps scope names tys.Token inst = refl
+return_keeps : (form : Form) (scope : Scope) (names : Names) (ty : Ty) (inst : Instruction) → Keeps form scope (return_says names ty inst)
+return_keeps form scope names tys.Void inst = refl
+return_keeps form scope names (tys.Int n) inst = refl
+return_keeps form scope names tys.Ptr inst = refl
+return_keeps form scope names tys.Token inst = refl
 
-inst_keeps : (scope : Scope) (names : Names) (op : Op) (inst : Instruction)
+inst_keeps : (form : Form) (scope : Scope) (names : Names) (op : Op) (inst : Instruction)
     → ((callee : Callee) (ts : List Ty) → op ≡ ops.Call callee ts
-    → CallFits scope names (callee_name names callee) inst.operands (record { answer = inst.ty; params = ts }))
-    → AllByRecursion (Keeps scope) (operator_says names op inst)
-inst_keeps scope names (ops.Call callee ts) inst calls = (ap not (calls callee ts refl), tt)
-inst_keeps scope names (ops.Gep elem width place) inst calls = (step_keeps scope names elem width place inst, tt)
-inst_keeps scope names ops.Switch inst calls = (refl, cases_keep scope names inst.ty (zip (drop 1 inst.operands) (drop 1 inst.labels)))
-inst_keeps scope names ops.Ret inst calls = (return_keeps scope names inst.ty inst, tt)
-inst_keeps scope names _ inst calls = (refl, tt)
+    → CallFits form scope names (callee_name names callee) inst.operands (record { answer = inst.ty; params = ts }))
+    → ((id : ℕ) (callee : Callee) (ts : List Ty) → op ≡ ops.Statepoint id callee ts → GuardedFits form scope names id callee ts inst)
+    → AllByRecursion (Keeps form scope) (operator_says names op inst)
+inst_keeps form scope names (ops.Call callee ts) inst calls guarded = (ap not (calls callee ts refl).agrees, tt)
+inst_keeps form scope names (ops.Statepoint id callee ts) inst calls guarded = (ap not (guarded id callee ts refl), tt)
+inst_keeps form scope names (ops.Gep elem width place) inst calls guarded = (step_keeps form scope names elem width place inst, tt)
+inst_keeps form scope names ops.Switch inst calls guarded = (refl, cases_keep form scope names inst.ty (zip (drop 1 inst.operands) (drop 1 inst.labels)))
+inst_keeps form scope names ops.Ret inst calls guarded = (return_keeps form scope names inst.ty inst, tt)
+inst_keeps form scope names _ inst calls guarded = (refl, tt)
 
-one_call : (content : ModuleContent) → IsSourceModule content → (lines : List Line) → said lines ≡ said_by content → (one : Definition) (func : Function)
+one_call : (form : Form) (content : ModuleContent) → IsShaped content → (lines : List Line) → said lines ≡ said_by content → (one : Definition) (func : Function)
     → Knows (scope_of lines one) (names_in content func) → Contains content.funcs func → (inst : Instruction) → Contains (instructions_of func.blocks) inst
-    → (op : Op) → op ≡ inst.op → IsPrinted (names_in content func) op inst → RuleOf (module_scope.scope_of content func) op inst
+    → (op : Op) → op ≡ inst.op → IsPrintedIn content.form (names_in content func) op inst → RuleOf (module_scope.scope_of content func) op inst
     → (callee : Callee) (ts : List Ty) → op ≡ ops.Call callee ts
-    → CallFits (scope_of lines one) (names_in content func) (callee_name (names_in content func) callee) inst.operands (record { answer = inst.ty; params = ts })
-one_call content source lines e one func k c inst d op has p rule callee ts is =
+    → CallFits form (scope_of lines one) (names_in content func) (callee_name (names_in content func) callee) inst.operands (record { answer = inst.ty; params = ts })
+one_call form content shaped lines e one func k c inst d op has p rule callee ts is =
     let names = names_in content func in
-    let q : IsPrinted names (ops.Call callee ts) inst = subst (λ (o : Op). IsPrinted names o inst) is p in
+    let q : IsPrintedIn content.form names (ops.Call callee ts) inst = subst (λ (o : Op). IsPrintedIn content.form names o inst) is p in
     let call_rule : IsCallOf (module_scope.scope_of content func) callee ts inst = subst (λ (o : Op). RuleOf (module_scope.scope_of content func) o inst) is rule in
     let below = callee_parts names callee ts inst q.layouts q.functions in
-    let found = callee_found (scope_of lines one) names k callee below.0 (q.plain refl)
+    let found = callee_found (scope_of lines one) names k callee below.0
     (λ x called. is_called content.funcs func inst x c d
     (subst (λ (o : Op). is_call_of x o inst.ty ≡ true) (sym is ∙ has) called)) in
-    call_keeps content source lines e one func k callee below.0 (q.plain refl) found ts inst q.fits call_rule
+    call_keeps form content shaped lines e one func k callee below.0 found ts inst.ty inst.operands q.fits call_rule.signature call_rule.operands
 
-pub calls-clear : (content : ModuleContent) → IsSourceModule content → (lines : List Line) → said lines ≡ said_by content → (line : ℕ) → ¬ (InBody lines line breaks_call)
-calls-clear content source lines e line f =
-    no_body_fault content lines e breaks_call
+one_statepoint : (form : Form) (content : ModuleContent) → IsShaped content → (lines : List Line) → said lines ≡ said_by content → (one : Definition) (func : Function)
+    → Knows (scope_of lines one) (names_in content func) → Contains content.funcs func → (inst : Instruction) → Contains (instructions_of func.blocks) inst
+    → (op : Op) → op ≡ inst.op → IsPrintedIn content.form (names_in content func) op inst → RuleOf (module_scope.scope_of content func) op inst
+    → (id : ℕ) (callee : Callee) (ts : List Ty) → op ≡ ops.Statepoint id callee ts → GuardedFits form (scope_of lines one) (names_in content func) id callee ts inst
+one_statepoint form content shaped lines e one func k c inst d op has p rule id callee ts is =
+    let names = names_in content func in
+    let q : IsPrintedIn content.form names (ops.Statepoint id callee ts) inst = subst (λ (o : Op). IsPrintedIn content.form names o inst) is p in
+    let call_rule : IsCallOf (module_scope.scope_of content func) callee ts inst = subst (λ (o : Op). RuleOf (module_scope.scope_of content func) o inst) is rule in
+    let g = guards names id callee ts inst q in
+    let found = callee_found (scope_of lines one) names k callee g.below
+    (λ x called. is_called content.funcs func inst x c d
+    (subst (λ (o : Op). is_call_of x o inst.ty ≡ true) (sym is ∙ has) (either (is_statepoints x) (is_callee x callee) called))) in
+    guarded_fits form (scope_of lines one) names id callee ts inst
+    (call_keeps form content shaped lines e one func k callee g.below found ts inst.ty (take (length ts) inst.operands) g.fits call_rule.signature
+    (takes_front content func callee ts inst.ty inst.operands call_rule.signature call_rule.operands))
+
+pub calls-clear : (form : Form) (content : ModuleContent) → IsShaped content → (lines : List Line) → said lines ≡ said_by content → (line : ℕ) → ¬ (InBody lines line (breaks_call form))
+calls-clear form content shaped lines e line f =
+    no_body_fault content lines e (breaks_call form)
     (λ one func says c inst d.
-    let typed = All-contains (λ (g : Function). FunctionIsTyped (module_scope.scope_of content g) g) content.funcs func source.no_fault.typed c in
+    let typed = All-contains (λ (g : Function). FunctionIsTyped (module_scope.scope_of content g) g) content.funcs func shaped.no_fault.typed c in
     let fit = All-contains (IsTyped (module_scope.scope_of content func)) (instructions_of func.blocks) inst typed.lines d in
-    let k = knows content source lines e one func says c in
-    inst_keeps (scope_of lines one) (names_in content func) inst.op inst
-    (one_call content source lines e one func k c inst d inst.op refl (printed_inst content source func c inst d) fit.rule))
+    let k = knows content shaped lines e one func says c (some_block func.blocks inst d) in
+    inst_keeps form (scope_of lines one) (names_in content func) inst.op inst
+    (one_call form content shaped lines e one func k c inst d inst.op refl (shaped_inst content shaped func c inst d) fit.rule)
+    (one_statepoint form content shaped lines e one func k c inst d inst.op refl (shaped_inst content shaped func c inst d) fit.rule))
     (λ scope name. refl) line f

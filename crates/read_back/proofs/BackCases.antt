@@ -1,4 +1,4 @@
--- The cases that a source module is printed with fit their `switch`.
+-- The cases that a module is printed with fit their `switch`.
 use Rattle.std.proofs.Common.{◌≡◌, ◌≢◌, ◌∙◌, ◌⊎◌, inl, inr, ℕ, zero, suc, if◌then◌else◌, List, [], ◌∷◌, ◌++◌, map, length, drop, refl, ap, sym, subst, arith, append_assoc}
 use Rattle.std.specs.Prelude.{Option, Some, None, flat_map, filter_map, slice_get, ⊤}
 use Rattle.std.specs.List.{AllByRecursion, Contains, cons_option, zip}
@@ -20,7 +20,6 @@ use Rattle.ir_ast.specs.Modules.{ModuleContent}
 use Rattle.ir_ast.specs.Lists.{Distinct}
 use Rattle.ir_ast.specs.Scope.{scope_of}
 use Rattle.ir_ast.specs.Faults.TypeClash.{IsTyped, FunctionIsTyped}
-use Rattle.ir_cfg.specs.SourceModules.{IsSourceModule}
 use Rattle.ir_printer.specs.Names.{Names}
 use Rattle.ir_reader.specs.declared.readings.TypeWord.TheVariants as types
 use Rattle.ir_reader.specs.Parts.{Val}
@@ -33,7 +32,7 @@ use Rattle.ir_lines.proofs.LawNames.{get_contained, contains_first, contains_lat
 use Rattle.read_back.specs.BlocksEnd.{BlocksEnd}
 use Rattle.read_back.specs.Said.{width_in, step_says, return_says, case_says, block_says, operator_says, instruction_says, said_by}
 use Rattle.read_back.proofs.BackLines.{said}
-use Rattle.read_back.proofs.BackModules.{source_shaped, names_in, function-back}
+use Rattle.read_back.proofs.BackModules.{IsShaped, names_in, function-back}
 use Rattle.read_back.proofs.BackFaults.{printed_from}
 use Rattle.read_back.proofs.BackEntry.{setting_of}
 use Rattle.read_back.proofs.BackDerived.{inst_of_line}
@@ -160,9 +159,9 @@ not_twice xs x ys distinct c =
     distinct g.0 (length xs) below (slice_get_within (xs ++ x ∷ ys) (length xs) x (get_middle xs x ys))
     (get_front xs (x ∷ ys) g.0 x g.1 ∙ sym (get_middle xs x ys))
 
-pub case_clash-clear : (content : ModuleContent) → IsSourceModule content → BlocksEnd content → (lines : List Line) → said lines ≡ said_by content
+pub case_clash-clear : (content : ModuleContent) → IsShaped content → BlocksEnd content → (lines : List Line) → said lines ≡ said_by content
     → (line : ℕ) → ¬ (CaseClash lines line)
-case_clash-clear content source ends lines e line f = by f.wrong
+case_clash-clear content shaped ends lines e line f = by f.wrong
   where
     case_line : Line
     case_line = record { number = line; says = switch_case f.case_width f.case f.to }
@@ -176,14 +175,14 @@ case_clash-clear content source ends lines e line f = by f.wrong
     inside =
         let o = printed_from content lines e f.func f.defined in
         inst_of_line (known_of lines f.func) f.func o.func
-        (function-back content (source_shaped content source) (known_of lines f.func) f.func o.func o.says o.stands (setting_of content source ends lines e f.func o.func o.says o.stands))
+        (function-back content shaped (known_of lines f.func) f.func o.func o.says o.stands (setting_of content shaped ends lines e f.func o.func o.says o.stands))
         f.before (record { number = f.number; says = switch f.width f.value f.default }) f.behind f.whole inst refl
 
     once : Distinct (case_values (known_of lines f.func).values f.width f.behind)
     once =
         let o = printed_from content lines e f.func f.defined in
         (All-contains (IsTyped (scope_of content o.func)) (instructions_of o.func.blocks) inst
-        (All-contains (λ g. FunctionIsTyped (scope_of content g) g) content.funcs o.func source.no_fault.typed o.stands).lines inside).rule
+        (All-contains (λ g. FunctionIsTyped (scope_of content g) g) content.funcs o.func shaped.no_fault.typed o.stands).lines inside).rule
 
     width_same : f.case_width ≡ f.width
     width_same =

@@ -1,10 +1,11 @@
--- The lines that a source module is printed as have no fault: no line leads back to the first block.
+-- The lines that a module is printed as have no fault: no line leads back to the first block.
 use Rattle.std.proofs.Common.{◌≡◌, ◌≢◌, ◌∙◌, ℕ, ◌<◌, Bool, true, false, ◌||◌, ◌==◌, List, [], ◌∷◌, ◌++◌, map, length, drop, refl, ap, arith}
 use Rattle.std.specs.Prelude.{Option}
 use Rattle.std.specs.List.{AllByRecursion, Contains, zip}
 use Rattle.std.proofs.lemmas.List.Elements.{recursion_from_All, All-contains}
 use Rattle.std.proofs.lemmas.Bool.{ne_eqb}
 use Rattle.sp_ids.specs.declared.ids.BlockId.{BlockId}
+use Rattle.ir_ast.specs.declared.modules.Form.{Form}
 use Rattle.ir_ast.specs.declared.types.Ty.{Ty}
 use Rattle.ir_ast.specs.declared.types.Ty.TheVariants as tys
 use Rattle.ir_ast.specs.declared.ops.Op.{Op}
@@ -18,7 +19,6 @@ use Rattle.ir_ast.specs.Funcs.{Function, instructions_of}
 use Rattle.ir_ast.specs.Modules.{ModuleContent}
 use Rattle.ir_ast.specs.Faultless.{FunctionHasNoFault}
 use Rattle.ir_ast.specs.Faults.EntryHasPred as module_entry
-use Rattle.ir_cfg.specs.SourceModules.{IsSourceModule}
 use Rattle.ir_printer.specs.Names.{Names}
 use Rattle.ir_lines.specs.Statements.{Line, Statement, switch_end}
 use Rattle.ir_lines.specs.Sections.{Definition, definitions_of}
@@ -29,18 +29,18 @@ use Rattle.read_back.specs.BlocksEnd.{BlocksEnd}
 use Rattle.read_back.specs.Said.{operator_says, step_says, return_says, case_says, label_says, said_by}
 use Rattle.read_back.proofs.BackNames.{Setting, label-back}
 use Rattle.read_back.proofs.BackLines.{said, lab, one_label, two_labels}
-use Rattle.read_back.proofs.BackInsts.{IsPrinted}
+use Rattle.read_back.proofs.BackInsts.{IsPrintedIn}
 use Rattle.read_back.proofs.BackLists.{Below}
 use Rattle.read_back.proofs.BackSections.{SaysDefinition, definitions-are}
-use Rattle.read_back.proofs.BackModules.{source_shaped, names_in, printed_inst, setting, few_in, function-names}
+use Rattle.read_back.proofs.BackModules.{IsShaped, names_in, shaped_inst, setting, few_in, function-names}
 use Rattle.read_back.proofs.BackFaults.{no_body_fault}
 
 -- what the typer knows of a definition that a function is printed as
-pub setting_of : (content : ModuleContent) → IsSourceModule content → BlocksEnd content → (lines : List Line) → said lines ≡ said_by content
+pub setting_of : (content : ModuleContent) → IsShaped content → BlocksEnd content → (lines : List Line) → said lines ≡ said_by content
     → (one : Definition) (func : Function) → SaysDefinition content.layouts content.funcs one func → Contains content.funcs func
     → Setting (names_in content func) (known_of lines one)
-setting_of content source ends lines e one func says c =
-    setting content (source_shaped content source) lines e one func says c (few_in content (source_shaped content source) ends func c)
+setting_of content shaped ends lines e one func says c =
+    setting content shaped lines e one func says c (few_in content shaped ends func c)
     (function-names content.layouts content.funcs (definitions_of lines) content.funcs (definitions-are content lines e))
 
 -- a label that is not that of the first block
@@ -89,7 +89,7 @@ switch_leaves scope names ty [] labels n some h = absurd (omega arith)
 switch_leaves scope names ty (o ∷ os) [] n some h = absurd (omega arith)
 switch_leaves scope names ty (o ∷ os) (l ∷ labels) n some h = (h.0, cases_leave scope names ty os labels h.1)
 
-inst_leaves : (scope : Scope) (names : Names) (op : Op) (inst : Instruction) → IsPrinted names op inst
+inst_leaves : {of : Form} (scope : Scope) (names : Names) (op : Op) (inst : Instruction) → IsPrintedIn of names op inst
     → (is_terminator op ≡ true → AllByRecursion (Leaves scope names) inst.labels)
     → AllByRecursion (Keeps scope) (operator_says names op inst)
 inst_leaves scope names (ops.Gep elem width place) inst p h = (step_leaves scope names elem width place inst, tt)
@@ -109,14 +109,14 @@ inst_leaves scope names ops.Switch inst p h =
     (or_false (block_number scope (label_says names (lab inst.labels 0)) == 0) false parts.0 refl, parts.1)
 inst_leaves scope names _ inst p h = (refl, tt)
 
-pub entry_has_pred-clear : (content : ModuleContent) → IsSourceModule content → BlocksEnd content → (lines : List Line) → said lines ≡ said_by content
+pub entry_has_pred-clear : (content : ModuleContent) → IsShaped content → BlocksEnd content → (lines : List Line) → said lines ≡ said_by content
     → (line : ℕ) → ¬ (EntryHasPred lines line)
-entry_has_pred-clear content source ends lines e line f =
+entry_has_pred-clear content shaped ends lines e line f =
     no_body_fault content lines e names_entry
     (λ one func says c inst d.
-    let p = printed_inst content source func c inst d in
-    let s = setting_of content source ends lines e one func says c in
-    let clean = All-contains (FunctionHasNoFault content) content.funcs func source.no_fault.functions c in
+    let p = shaped_inst content shaped func c inst d in
+    let s = setting_of content shaped ends lines e one func says c in
+    let clean = All-contains (FunctionHasNoFault content) content.funcs func shaped.no_fault.functions c in
     let entry = All-contains module_entry.LeavesEntry (instructions_of func.blocks) inst clean.entry d in
     inst_leaves (scope_of lines one) (names_in content func) inst.op inst p
     (λ t. all_leave lines one (names_in content func) s inst.labels p.labels (recursion_from_All (λ (label : BlockId). label.0 ≢ 0) inst.labels (entry t))))

@@ -1,4 +1,4 @@
--- The lines that a source module is printed as have no fault: the faults of single lines.
+-- The lines that a module is printed as have no fault: the faults of single lines.
 use Rattle.std.proofs.Common.{◌≡◌, ◌∙◌, ℕ, zero, suc, ◌+◌, ◌<◌, ◌≤◌, Bool, true, false, not, ◌&&◌, ◌≢◌, ◌⊎◌, inl, inr, get_or, if◌then◌else◌, List, [], ◌∷◌, ◌++◌, map, length, drop, refl, ap, sym, subst, arith, codes}
 use Rattle.std.specs.Prelude.{Option, Some, ⊤, flat_map, slice_get}
 use Rattle.std.proofs.lemmas.Bool.{ne_eqb}
@@ -24,7 +24,6 @@ use Rattle.ir_ast.specs.Funcs.{Function, instructions_of}
 use Rattle.ir_ast.specs.Modules.{ModuleContent}
 use Rattle.ir_ast.specs.Faultless.{FunctionHasNoFault}
 use Rattle.ir_ast.specs.Faults.PointerOrder as module_order
-use Rattle.ir_cfg.specs.SourceModules.{IsSourceModule}
 use Rattle.ir_printer.specs.Names.{Names}
 use Rattle.ir_printer.specs.Declarations.{calls, externals, fixed_externals, integer_widths}
 use Rattle.ir_printer.specs.declared.declarations.External.{External}
@@ -53,7 +52,7 @@ use Rattle.read_back.proofs.BackLines.{said}
 use Rattle.read_back.proofs.BackInsts.{split_all}
 use Rattle.read_back.proofs.BackBlocks.{all_append, lines_all}
 use Rattle.read_back.proofs.BackSections.{SaysDefinition, definitions-are, layout-names, InBody as IsOfBody, in_body, blocks_inner}
-use Rattle.read_back.proofs.BackModules.{names_in}
+use Rattle.read_back.proofs.BackModules.{IsShaped, names_in}
 use Rattle.read_back.proofs.NotCalled.{is_of_source}
 
 -- ---- lines of the whole text
@@ -181,11 +180,11 @@ layout_right (c ∷ cs) some =
     ap (λ (b : Bool). not (not b && list_all is_cell (map cell_word (c ∷ cs)))) (ne_eqb (length (map cell_word (c ∷ cs))) 0 (omega arith))
     ∙ ap not (cells_are (c ∷ cs))
 
-pub bad_layout-clear : (content : ModuleContent) → IsSourceModule content → (lines : List Line) → said lines ≡ said_by content → (line : ℕ) → ¬ (BadLayout lines line)
-bad_layout-clear content source lines e line f =
+pub bad_layout-clear : (content : ModuleContent) → IsShaped content → (lines : List Line) → said lines ≡ said_by content → (line : ℕ) → ¬ (BadLayout lines line)
+bad_layout-clear content shaped lines e line f =
     no_text_fault is_bad_layout lines (said_by content) e
     (each_said (Passes is_bad_layout) content (record {
-      layouts = layouts content.layouts (recursion_from_All (λ (l : ObjectLayout). 0 < length l.fields) content.layouts source.no_fault.fields);
+      layouts = layouts content.layouts (recursion_from_All (λ (l : ObjectLayout). 0 < length l.fields) content.layouts shaped.no_fault.fields);
       declarations = λ external below called. declarations external;
       heads = λ func c. refl;
       bodies = bodies;
@@ -354,12 +353,12 @@ no_order_inst names ops.Ret inst e = (no_order_return names inst.ty inst, tt)
 no_order_inst names ops.Switch inst e = (refl, no_order_cases names inst.ty (zip (drop 1 inst.operands) (drop 1 inst.labels)))
 no_order_inst names _ inst e = (refl, tt)
 
-pub pointer_order-clear : (content : ModuleContent) → IsSourceModule content → (lines : List Line) → said lines ≡ said_by content → (line : ℕ) → ¬ (PointerOrder lines line)
-pointer_order-clear content source lines e line f =
+pub pointer_order-clear : (content : ModuleContent) → IsShaped content → (lines : List Line) → said lines ≡ said_by content → (line : ℕ) → ¬ (PointerOrder lines line)
+pointer_order-clear content shaped lines e line f =
     no_body_fault content lines e (λ scope. orders_pointers)
     (λ one func says c inst d. no_order_inst (names_in content func) inst.op inst
     (All-contains (λ (i : Instruction). module_order.orders_pointers i.op i.ty ≡ false) (instructions_of func.blocks) inst
-    (All-contains (FunctionHasNoFault content) content.funcs func source.no_fault.functions c).pointers d))
+    (All-contains (FunctionHasNoFault content) content.funcs func shaped.no_fault.functions c).pointers d))
     (λ scope name. refl) line f
 
 -- ---- declarations

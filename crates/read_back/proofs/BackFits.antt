@@ -1,18 +1,20 @@
--- The operands of the lines that a source module is printed as fit what the lines ask of them.
+-- The operands of the lines that a module is printed as fit what the lines ask of them.
 use Rattle.std.proofs.Common.{◌≡◌, ◌∙◌, ◌⊎◌, inl, inr, ℕ, suc, ◌+◌, ◌-◌, ◌*◌, ◌^◌, ◌<◌, ◌≤◌, Bool, true, false, not, ◌||◌, ◌&&◌, ◌==◌, ℤ, pos, negsuc, ◌-ℤ◌, nat_lt, nat_le, if◌then◌else◌, List, [], ◌∷◌, ◌++◌, map, length, drop, replicate, refl, ap, sym, subst, arith}
-use Rattle.std.specs.Prelude.{Option, Some, None, is_none, find, flat_map, filter_map, slice_get, option_map}
+use Rattle.std.specs.Prelude.{Option, Some, None, is_none, find, flat_map, take, filter_map, slice_get, option_map}
 use Rattle.std.specs.Option.{option_map_or}
 use Rattle.std.specs.Str.{bytes_eq}
 use Rattle.std.specs.List.{AllByRecursion, AllZip, Contains, list_any, list_all, zip}
 use Rattle.std.proofs.Math.Nat.{mod-eq_of_lt}
 use Rattle.std.proofs.lemmas.Nat.{pow-add}
-use Rattle.std.proofs.lemmas.Bool.Decides.{nat_tests, Decides-eqb}
+use Rattle.std.proofs.lemmas.Bool.Decides.{nat_tests}
 use Rattle.std.proofs.lemmas.Option.{slice_get-map, slice_get_within, same_Some}
 use Rattle.std.proofs.lemmas.List.{length-map}
-use Rattle.std.proofs.lemmas.List.Elements.{All-head, All-from_recursion, recursion_from_All, All-weaker, All-contains_itself}
+use Rattle.std.proofs.lemmas.List.Elements.{All-head, All-from_recursion, recursion_from_All, All-contains}
 use Rattle.sp_ids.specs.Numbers.{wrapped, signed}
 use Rattle.sp_ids.specs.declared.ids.BlockId.{BlockId}
 use Rattle.sp_ids.specs.declared.ids.FuncId.{FuncId}
+use Rattle.sp_ids.specs.declared.ids.ValueId.{ValueId}
+use Rattle.ir_ast.specs.declared.modules.Form.{Form}
 use Rattle.ir_ast.specs.declared.types.Ty.{Ty}
 use Rattle.ir_ast.specs.declared.types.Ty.TheVariants as tys
 use Rattle.ir_ast.specs.declared.ops.Op.{Op}
@@ -23,17 +25,16 @@ use Rattle.ir_ast.specs.declared.ops.Operand.{Operand}
 use Rattle.ir_ast.specs.declared.ops.Operand.TheVariants as operands
 use Rattle.ir_ast.specs.declared.ops.Callee.{Callee}
 use Rattle.ir_ast.specs.Insts.{Instruction}
-use Rattle.ir_ast.specs.Funcs.{Function, instructions_of}
+use Rattle.ir_ast.specs.Funcs.{Function}
 use Rattle.ir_ast.specs.Modules.{ModuleContent}
 use Rattle.ir_ast.specs.Lists.{Distinct}
 use Rattle.ir_ast.specs.Types.{is_void, is_integer, is_first_class, is_answer}
 use Rattle.ir_ast.specs.Operands.{is_value, functions_named as functions_in}
-use Rattle.ir_ast.specs.Lines.{Has, is_rewritten}
+use Rattle.ir_ast.specs.Lines.{Has, StartsWithToken, IsRelocated}
 use Rattle.ir_ast.specs.Widths.{IsWidth, type_widths, operator_widths}
 use Rattle.ir_ast.specs.Values.{definition_name, definition_type, value_types}
 use Rattle.ir_ast.specs.Values as defs
 use Rattle.ir_ast.specs.Faults.TypeClash.{Fits}
-use Rattle.ir_cfg.specs.SourceModules.{IsSourceModule}
 use Rattle.ir_printer.specs.Names.{Names, value_name}
 use Rattle.ir_printer.specs.Operands.{operand_at}
 use Rattle.ir_reader.specs.declared.readings.TypeWord.{TypeWord}
@@ -42,35 +43,34 @@ use Rattle.ir_reader.specs.declared.words.Binary.{Binary}
 use Rattle.ir_reader.specs.declared.words.Binary.TheVariants as binaries
 use Rattle.ir_reader.specs.declared.words.Conversion.{Conversion}
 use Rattle.ir_reader.specs.declared.words.Conversion.TheVariants as conversions
+use Rattle.ir_reader.specs.Lists.{Given}
 use Rattle.ir_reader.specs.Parts.{Val}
 use Rattle.ir_reader.specs.Parts as values
-use Rattle.ir_lines.specs.Statements.{Line, Statement, switch, switch_end, cast}
-use Rattle.ir_lines.specs.Parts.{uses, passed_value, entry_use}
+use Rattle.ir_lines.specs.Statements.{Line, Statement, switch, switch_end}
+use Rattle.ir_lines.specs.Parts.{uses, passed_value, entry_use, live_use, token_use, index_use}
 use Rattle.ir_lines.specs.Places.{place_in}
-use Rattle.ir_lines.specs.Parts.{is_of_group}
 use Rattle.ir_lines.specs.Sections.{Definition, Naming, values_of}
 use Rattle.ir_lines.specs.Scope.{Scope, scope_of, value_named}
 use Rattle.ir_lines.specs.Types.{same_type, is_within, naming_fits, takes_null, fits}
-use Rattle.ir_lines.specs.Modules.{type_of, known_of}
 use Rattle.ir_lines.specs.InBody.{InBody}
 use Rattle.ir_lines.specs.Faults.TypeClash.{misfits}
-use Rattle.ir_lines.specs.Faults.PointerCast.{is_cast}
 use Rattle.ir_lines.proofs.LawNames.{stands}
 use Rattle.module_laws.proofs.LawFacts.{and-right}
-use Rattle.module_laws.proofs.LawValues.{is_cast_line, values-are}
-use Rattle.read_back.specs.BlocksEnd.{BlocksEnd}
-use Rattle.read_back.specs.Said.{literal_of, word_of, width_in, value_says, passed_says, value_at, target_at, entry_says, binary_says, compare_says, convert_says, select_says, phi_says, step_says, load_says, store_says, call_says, branch_says, case_says, return_says, block_says, instruction_says, operator_says, said_by}
+use Rattle.read_back.specs.Said.{literal_of, word_of, width_in, value_says, passed_says, value_at, target_at, entry_says, binary_says, compare_says, convert_says, select_says, phi_says, step_says, load_says, store_says, call_says, token_says, number_says, statepoint_says, gc_result_says, gc_relocate_says, branch_says, case_says, return_says, operator_says, said_by}
 use Rattle.read_back.proofs.BackLines.{said, at, integer-word, condition-is, one_given, two_given, three_given}
 use Rattle.read_back.proofs.BackLists.{each_given, Passes}
-use Rattle.read_back.proofs.BackBlocks.{lines_all}
+use Rattle.read_back.proofs.BackBlocks.{all_append}
 use Rattle.read_back.proofs.BackLiterals.{below_zero}
 use Rattle.read_back.proofs.BackNames.{Good, placed-back}
-use Rattle.read_back.proofs.BackInsts.{IsPrinted, WidthsOf, good_zip, same_good, one_width, pointer_width, callee_parts, passes_zip}
+use Rattle.read_back.proofs.BackInsts.{IsPrintedIn, WidthsOf, good_zip, same_good, one_width, pointer_width, callee_parts, passes_zip}
 use Rattle.read_back.proofs.BackSections.{SaysDefinition}
-use Rattle.read_back.proofs.BackModules.{source_shaped, names_in, printed_inst, function-back}
-use Rattle.read_back.proofs.BackFaults.{no_body_fault, no_cast_inst, no_group_inst, blocks_pass}
-use Rattle.read_back.proofs.BackEntry.{setting_of}
-use Rattle.read_back.proofs.BackRules.{less}
+use Rattle.read_back.proofs.BackModules.{IsShaped, names_in, shaped_inst, shaped_insts}
+use Rattle.read_back.proofs.BackFaults.{no_body_fault}
+use Rattle.read_back.proofs.BackTops.{names_of_values}
+use Rattle.read_back.proofs.BackTypes.{value-words}
+use Rattle.read_back.proofs.BackGuarded.{guards}
+use Rattle.read_back.proofs.Fronts.{zip_take}
+use Rattle.read_back.proofs.BackRules.{less, same_type-refl}
 
 -- ---- literals
 
@@ -100,20 +100,14 @@ literal_within w n low below =
 
 -- ---- names
 
-word_is : (w : TypeWord) → is_first_class (type_of w) ≡ true → same_type w (word_of (type_of w)) ≡ true
-word_is types.Void e = absurd (let bad : false ≡ true = e in cc)
-word_is (types.Int n) e = (Decides-eqb n n).1 refl
-word_is types.Managed e = refl
-word_is types.Plain e = absurd (let bad : false ≡ true = e in cc)
-
-word_fits : (w : TypeWord) (ty : Ty) → type_of w ≡ ty → is_first_class ty ≡ true → same_type w (word_of ty) ≡ true
-word_fits w ty e first = ap (λ (t : Ty). same_type w (word_of t)) (sym e) ∙ word_is w (ap is_first_class e ∙ first)
+word_there : (o : Option defs.Definition) (ty : Ty) → option_map definition_type o ≡ Some ty → option_map (λ (d : defs.Definition). word_of (definition_type d)) o ≡ Some (word_of ty)
+word_there None ty e = absurd (let bad : None ≡ Some ty = e in cc)
+word_there (Some d) ty e = ap (λ (t : Ty). Some (word_of t)) (same_Some (definition_type d) ty e)
 
 naming_of : (ds : List defs.Definition) (ns : List Naming) (k : ℕ) (ty : Ty) → map (λ (n : Naming). n.name) ns ≡ map definition_name ds
-    → Distinct (map definition_name ds) → map definition_type ds ≡ map (λ (n : Naming). type_of n.ty) ns → slice_get (map definition_type ds) k ≡ Some ty
-    → is_first_class ty ≡ true
+    → Distinct (map definition_name ds) → map (λ (n : Naming). n.ty) ns ≡ map (λ (d : defs.Definition). word_of (definition_type d)) ds → slice_get (map definition_type ds) k ≡ Some ty
     → naming_fits (word_of ty) (find (λ (n : Naming). bytes_eq (option_map_or definition_name (slice_get ds k) []) n.name) ns) ≡ true
-naming_of ds ns k ty names once typed there first = by (find (λ (n : Naming). bytes_eq name n.name) ns) refl
+naming_of ds ns k ty names once typed there = by (find (λ (n : Naming). bytes_eq name n.name) ns) refl
   where
     name : List ℕ
     name = option_map_or definition_name (slice_get ds k) []
@@ -128,67 +122,33 @@ naming_of ds ns k ty names once typed there first = by (find (λ (n : Naming). b
         let s = stands (λ (n : Naming). n.name) ns name (ap is_none is) in
         let place : s.place ≡ k =
         same_Some s.place k (sym s.placed ∙ ap (λ (xs : List (List ℕ)). place_in xs name) names ∙ placed-back definition_name ds k once below) in
-        let here : slice_get (map (λ (n : Naming). type_of n.ty) ns) s.place ≡ Some (type_of s.one.ty) =
-        slice_get-map (λ (n : Naming). type_of n.ty) ns s.place ∙ ap (option_map (λ (n : Naming). type_of n.ty)) s.there in
-        let same : Some (type_of s.one.ty) ≡ Some ty =
-        sym here ∙ ap (slice_get (map (λ (n : Naming). type_of n.ty) ns)) place ∙ ap (λ (ts : List Ty). slice_get ts k) (sym typed) ∙ there in
-        ap (naming_fits (word_of ty)) s.found ∙ word_fits s.one.ty ty (same_Some (type_of s.one.ty) ty same) first
+        let here : slice_get (map (λ (n : Naming). n.ty) ns) s.place ≡ Some s.one.ty =
+        slice_get-map (λ (n : Naming). n.ty) ns s.place ∙ ap (option_map (λ (n : Naming). n.ty)) s.there in
+        let due : slice_get (map (λ (d : defs.Definition). word_of (definition_type d)) ds) k ≡ Some (word_of ty) =
+        slice_get-map (λ (d : defs.Definition). word_of (definition_type d)) ds k ∙ word_there (slice_get ds k) ty (sym (slice_get-map definition_type ds k) ∙ there) in
+        let same : Some s.one.ty ≡ Some (word_of ty) =
+        sym here ∙ ap (slice_get (map (λ (n : Naming). n.ty) ns)) place ∙ ap (λ (ws : List TypeWord). slice_get ws k) typed ∙ due in
+        ap (naming_fits (word_of ty)) s.found ∙ ap (λ (w : TypeWord). same_type w (word_of ty)) (same_Some s.one.ty (word_of ty) same) ∙ same_type-refl (word_of ty)
 
 -- each name has the type of the value that it was printed for
 abbrev Typed : Scope → Names → Type 0
-Typed scope names = (k : ℕ) (ty : Ty) → slice_get (value_types names.func) k ≡ Some ty → is_first_class ty ≡ true
-    → naming_fits (word_of ty) (value_named scope (value_name names.func k)) ≡ true
+Typed scope names = (k : ℕ) (ty : Ty) → slice_get (value_types names.func) k ≡ Some ty → naming_fits (word_of ty) (value_named scope (value_name names.func k)) ≡ true
 
-no_cast_line : (s : Statement) → is_cast s ≡ false → is_cast_line s ≡ false
-no_cast_line (cast result op from value to) e = e
-no_cast_line _ e = refl
-
-no_casts : (names : Names) (one : Definition) → said one.body ≡ flat_map (block_says names) names.func.blocks
-    → AllByRecursion (λ l. is_cast_line l.says ≡ false) one.body
-no_casts names one e =
-    lines one.body
-    (lines_all (λ (s : Statement). is_cast s ≡ false) one.body (flat_map (block_says names) names.func.blocks) e
-    (blocks_pass names (λ (s : Statement). is_cast s ≡ false) names.func.blocks (λ name. refl) (each (instructions_of names.func.blocks))))
-  where
-    each : (insts : List Instruction) → AllByRecursion (λ inst. AllByRecursion (λ (s : Statement). is_cast s ≡ false) (instruction_says names inst)) insts
-    each [] = tt
-    each (i ∷ is) = (no_cast_inst names i.op i, each is)
-
-    lines : (ls : List Line) → AllByRecursion (λ (l : Line). is_cast l.says ≡ false) ls → AllByRecursion (λ (l : Line). is_cast_line l.says ≡ false) ls
-    lines [] h = tt
-    lines (l ∷ ls) h = (no_cast_line l.says h.0, lines ls h.1)
-
-no_groups : (names : Names) (one : Definition) → AllByRecursion (λ (inst : Instruction). is_rewritten inst.op ≡ false) (instructions_of names.func.blocks) → said one.body ≡ flat_map (block_says names) names.func.blocks
-    → AllByRecursion (λ l. is_of_group l.says ≡ false) one.body
-no_groups names one plain e =
-    lines_all (λ (s : Statement). is_of_group s ≡ false) one.body (flat_map (block_says names) names.func.blocks) e
-    (blocks_pass names (λ (s : Statement). is_of_group s ≡ false) names.func.blocks (λ name. refl) (each (instructions_of names.func.blocks) plain))
-  where
-    each : (insts : List Instruction) → AllByRecursion (λ (inst : Instruction). is_rewritten inst.op ≡ false) insts
-        → AllByRecursion (λ inst. AllByRecursion (λ (s : Statement). is_of_group s ≡ false) (instruction_says names inst)) insts
-    each [] plain = tt
-    each (i ∷ is) plain = (no_group_inst names i.op i plain.0, each is plain.1)
-
-all_typed : (content : ModuleContent) → IsSourceModule content → BlocksEnd content → (lines : List Line) → said lines ≡ said_by content
+all_typed : (content : ModuleContent) → IsShaped content → (lines : List Line)
     → (one : Definition) (func : Function) → SaysDefinition content.layouts content.funcs one func → Contains content.funcs func
     → Typed (scope_of lines one) (names_in content func)
 unfolding value_name
-all_typed content source ends lines e one func says c k ty there first =
-    let s = setting_of content source ends lines e one func says c in
-    let back = function-back content (source_shaped content source) (known_of lines one) one func says c s in
-    let insts : List Instruction = instructions_of func.blocks in
-    let plain : AllByRecursion (λ (inst : Instruction). is_rewritten inst.op ≡ false) insts =
-    recursion_from_All (λ (inst : Instruction). is_rewritten inst.op ≡ false) insts
-    (All-weaker (Contains insts) (λ (inst : Instruction). is_rewritten inst.op ≡ false) (λ inst d. (printed_inst content source func c inst d).plain refl) insts (All-contains_itself insts)) in
-    let typed : map definition_type (defs.definitions_of func) ≡ map (λ (n : Naming). type_of n.ty) (values_of one) =
-    ap value_types (sym back) ∙ values-are (λ name ty. ty) (known_of lines one) one (no_groups (names_in content func) one plain says.body) (no_casts (names_in content func) one says.body) in
-    naming_of (defs.definitions_of func) (values_of one) k ty s.values s.values_once typed there first
+all_typed content shaped lines one func says c k ty there =
+    naming_of (defs.definitions_of func) (values_of one) k ty
+    (names_of_values content shaped one (record { func = func; stands = c; says = says }))
+    (All-contains (λ (f : Function). Distinct (map definition_name (defs.definitions_of f))) content.funcs func shaped.no_fault.names.values c)
+    (value-words content.form (names_in content func) one func says.arguments says.body (shaped_insts content shaped func c)) there
 
 -- ---- operands
 
 value_fits : (scope : Scope) (names : Names) → Typed scope names → (ty : Ty) (o : Operand) → Good names o ty → is_first_class ty ≡ true
     → fits scope (word_of ty) (value_says names ty o) ≡ true
-value_fits scope names k ty (operands.Value v) g first = k v.0 ty g.fits first
+value_fits scope names k ty (operands.Value v) g first = k v.0 ty g.fits
 value_fits scope names k ty operands.Null g first = ap (λ (t : Ty). takes_null (word_of t)) g.fits
 value_fits scope names k ty (operands.Fun f) g first = absurd (let bad : false ≡ true = g.value in cc)
 value_fits scope names k tys.Void (operands.Int n) g first = absurd (let bad : false ≡ true = first in cc)
@@ -317,7 +277,7 @@ passed_fit scope names k (operands.Null ∷ os) (t ∷ ts) p =
     let g = passed_good names operands.Null t refl p.0 in (value_fits scope names k t operands.Null g.0 g.1, passed_fit scope names k os ts p.1)
 passed_fit scope names k (operands.Fun f ∷ os) (t ∷ ts) p = passed_fit scope names k os ts p.1
 
-call_fit : (scope : Scope) (names : Names) → Typed scope names → (callee : Callee) (ts : List Ty) (inst : Instruction) → IsPrinted names (ops.Call callee ts) inst
+call_fit : {of : Form} (scope : Scope) (names : Names) → Typed scope names → (callee : Callee) (ts : List Ty) (inst : Instruction) → IsPrintedIn of names (ops.Call callee ts) inst
     → Fit scope (call_says names callee ts inst)
 call_fit scope names k callee ts inst p =
     let parts = callee_parts names callee ts inst p.layouts p.functions in
@@ -327,6 +287,50 @@ call_fit scope names k callee ts inst p =
     (functions_in (record { result = inst.result; op = ops.Load; ty = inst.ty; operands = inst.operands; labels = inst.labels; bundle = b }))) p.bundle parts.1 in
     let passes = passes_zip names callee inst.operands ts p.fits p.line.arguments functions (recursion_from_All IsWidth (flat_map type_widths ts) p.own_widths) in
     fit_by scope (uses (call_says names callee ts inst)) (passed_fit scope names k inst.operands ts passes)
+
+-- ---- statepoint groups
+
+live_fit : (scope : Scope) (names : Names) → Typed scope names → (os : List Operand) → AllByRecursion (λ (o : Operand). Good names o tys.Ptr) os
+    → AllByRecursion (IsFit scope) (map live_use (map (value_says names tys.Ptr) os))
+live_fit scope names k [] good = tt
+live_fit scope names k (o ∷ os) good = (value_fits scope names k tys.Ptr o good.0 refl, live_fit scope names k os good.1)
+
+statepoint_fit : {of : Form} (scope : Scope) (names : Names) → Typed scope names → (id : ℕ) (callee : Callee) (ts : List Ty) (inst : Instruction)
+    → IsPrintedIn of names (ops.Statepoint id callee ts) inst → Fit scope (statepoint_says names id callee ts inst)
+statepoint_fit scope names k id callee ts inst p =
+    let g = guards names id callee ts inst p in
+    let os : List Operand = take (length ts) inst.operands in
+    let live : List Operand = drop (length ts) inst.operands in
+    let said : List (Ty × Operand) → List Given = map (λ (argument : Ty × Operand). passed_says names argument.0 argument.1) in
+    fit_by scope (uses (statepoint_says names id callee ts inst))
+    (all_append (IsFit scope) (filter_map passed_value (said (zip ts inst.operands))) (map live_use (map (value_says names tys.Ptr) live))
+    (subst (λ (z : List (Ty × Operand)). AllByRecursion (IsFit scope) (filter_map passed_value (said z))) (zip_take ts inst.operands)
+    (passed_fit scope names k os ts g.passes))
+    (live_fit scope names k live g.live))
+
+token_fits : (scope : Scope) (names : Names) → Typed scope names → (token : ValueId) → Fits (value_types names.func) (operands.Value token) tys.Token
+    → IsFit scope (token_use (token_says names (operands.Value token)))
+token_fits scope names k token fits = k token.0 tys.Token fits
+
+index_fits : (scope : Scope) (values : List Ty) (n : ℕ) → Fits values (operands.Int n) (tys.Int 32) → IsFit scope (index_use (number_says 32 (operands.Int n)))
+index_fits scope values n fits =
+    let width : fits.0 ≡ 32 = (let e = fits.1 in grind (arith, e)) in
+    literal_within 32 n (omega arith) (subst (λ (w : ℕ). n < 2 ^ w) width fits.2)
+
+result_fit : (scope : Scope) (names : Names) → Typed scope names → (inst : Instruction) → StartsWithToken inst.operands []
+    → AllZip (Fits (value_types names.func)) inst.operands (tys.Token ∷ []) → Fit scope (gc_result_says names inst)
+result_fit scope names k inst (token, are) fit =
+    fit_by scope (uses (gc_result_says names inst))
+    (subst (λ (os : List Operand). AllByRecursion (IsFit scope) (token_use (token_says names (at os 0)) ∷ [])) (sym are)
+    (token_fits scope names k token (subst (λ (os : List Operand). AllZip (Fits (value_types names.func)) os (tys.Token ∷ [])) are fit).0, tt))
+
+relocate_fit : (scope : Scope) (names : Names) → Typed scope names → (inst : Instruction) → IsRelocated inst.operands
+    → AllZip (Fits (value_types names.func)) inst.operands (tys.Token ∷ tys.Int 32 ∷ tys.Int 32 ∷ []) → Fit scope (gc_relocate_says names inst)
+relocate_fit scope names k inst (base, derived, (token, are)) fit =
+    let fits = subst (λ (os : List Operand). AllZip (Fits (value_types names.func)) os (tys.Token ∷ tys.Int 32 ∷ tys.Int 32 ∷ [])) are fit in
+    fit_by scope (uses (gc_relocate_says names inst))
+    (subst (λ (os : List Operand). AllByRecursion (IsFit scope) (token_use (token_says names (at os 0)) ∷ index_use (number_says 32 (at os 1)) ∷ index_use (number_says 32 (at os 2)) ∷ [])) (sym are)
+    (token_fits scope names k token fits.0, (index_fits scope (value_types names.func) base fits.1.0, (index_fits scope (value_types names.func) derived fits.1.1.0, tt))))
 
 -- ---- any instruction
 
@@ -346,7 +350,7 @@ all_good : (names : Names) (inst : Instruction) → list_all is_value inst.opera
 all_good names inst values width fit =
     each_given (Good names) inst.ty inst.operands (same_good names inst (length inst.operands) refl values width fit)
 
-inst_fit : (scope : Scope) (names : Names) → Typed scope names → (op : Op) (inst : Instruction) → IsPrinted names op inst
+inst_fit : {of : Form} (scope : Scope) (names : Names) → Typed scope names → (op : Op) (inst : Instruction) → IsPrintedIn of names op inst
     → AllByRecursion (Fit scope) (operator_says names op inst)
 inst_fit scope names k ops.Add inst p = binary_fit scope names k binaries.Add inst p.line (binary_good names inst p.line p.widths p.fits)
 inst_fit scope names k ops.Sub inst p = binary_fit scope names k binaries.Sub inst p.line (binary_good names inst p.line p.widths p.fits)
@@ -415,17 +419,17 @@ inst_fit scope names k ops.Switch inst p =
 inst_fit scope names k ops.Ret inst p =
     (return_fit scope names k inst.ty inst p.line.type p.line.operand_count (all_good names inst p.line.values p.widths p.fits), tt)
 inst_fit scope names k ops.Unreachable inst p = (refl, tt)
-inst_fit scope names k (ops.Statepoint id callee ts) inst p = absurd (let bad : true ≡ false = p.plain refl in cc)
-inst_fit scope names k ops.GcResult inst p = absurd (let bad : true ≡ false = p.plain refl in cc)
-inst_fit scope names k ops.GcRelocate inst p = absurd (let bad : true ≡ false = p.plain refl in cc)
+inst_fit scope names k (ops.Statepoint id callee ts) inst p = (statepoint_fit scope names k id callee ts inst p, tt)
+inst_fit scope names k ops.GcResult inst p = (result_fit scope names k inst p.line.1 p.fits, tt)
+inst_fit scope names k ops.GcRelocate inst p = (relocate_fit scope names k inst p.line.1 p.fits, tt)
 
 -- ---- any line
 
-pub misfits-clear : (content : ModuleContent) → IsSourceModule content → BlocksEnd content → (lines : List Line) → said lines ≡ said_by content
+pub misfits-clear : (content : ModuleContent) → IsShaped content → (lines : List Line) → said lines ≡ said_by content
     → (line : ℕ) → ¬ (InBody lines line misfits)
-misfits-clear content source ends lines e line f =
+misfits-clear content shaped lines e line f =
     no_body_fault content lines e misfits
     (λ one func says c inst d.
-    inst_fit (scope_of lines one) (names_in content func) (all_typed content source ends lines e one func says c) inst.op inst
-    (printed_inst content source func c inst d))
+    inst_fit (scope_of lines one) (names_in content func) (all_typed content shaped lines one func says c) inst.op inst
+    (shaped_inst content shaped func c inst d))
     (λ scope name. refl) line f

@@ -1,10 +1,9 @@
--- The lines that a source module is printed as have no fault: no declaration has the name of a definition.
+-- The lines that a module is printed as have no fault: no declaration has the name of a definition.
 use Rattle.std.proofs.Common.{◌≡◌, ◌∙◌, inl, inr, ℕ, true, false, List, refl, ap, sym, subst, arith}
 use Rattle.std.specs.List.{Contains}
 use Rattle.std.proofs.lemmas.List.Elements.{All-contains}
 use Rattle.ir_ast.specs.Modules.{ModuleContent}
 use Rattle.ir_ast.specs.Faults.Reserved.{IsExternalName}
-use Rattle.ir_cfg.specs.SourceModules.{IsSourceModule}
 use Rattle.ir_printer.specs.Names.{layout_name}
 use Rattle.ir_reader.specs.declared.readings.TypeWord.{TypeWord}
 use Rattle.ir_reader.specs.Lists.{Named}
@@ -13,6 +12,7 @@ use Rattle.ir_lines.specs.Sections.{Head, heads_of}
 use Rattle.ir_lines.specs.Faults.NameTwice.{DeclaresDefined}
 use Rattle.module_laws.proofs.LawHeads.{HeadFrom, from_definition, from_declaration, heads-from}
 use Rattle.read_back.specs.Said.{said_by}
+use Rattle.read_back.proofs.BackModules.{IsShaped}
 use Rattle.read_back.proofs.BackLines.{said}
 use Rattle.read_back.proofs.BackFaults.{IfDeclares, each_declaration, line_said}
 use Rattle.read_back.proofs.BackTops.{definitions_free}
@@ -27,8 +27,8 @@ declares_external content lines e l c answer name parameters says =
     (inl (0, omega arith, refl)) (inl (1, omega arith, refl)) (inl (2, omega arith, refl))
     (λ called. inl (3, omega arith, refl)) (λ called. inl (4, omega arith, refl)) (λ called. inl (5, omega arith, refl))) l c)
 
-pub declares_defined-clear : (content : ModuleContent) → IsSourceModule content → (lines : List Line) → said lines ≡ said_by content → (line : ℕ) → ¬ (DeclaresDefined lines line)
-declares_defined-clear content source lines e line d =
+pub declares_defined-clear : (content : ModuleContent) → IsShaped content → (lines : List Line) → said lines ≡ said_by content → (line : ℕ) → ¬ (DeclaresDefined lines line)
+declares_defined-clear content shaped lines e line d =
     by (All-contains (HeadFrom lines) (heads_of lines) d.declared (heads-from lines) d.stands)
     (All-contains (HeadFrom lines) (heads_of lines) d.other (heads-from lines) d.other_stands)
   where
@@ -38,5 +38,5 @@ declares_defined-clear content source lines e line d =
         let bad : true ≡ false = sym d.is_defined ∙ ap (λ (h : Head). h.defined) g in cc
     by (from_declaration l c answer name parameters says f) (from_definition func k g) =
         let same : func.name ≡ name = ap (λ (h : Head). h.name) g ∙ d.same ∙ ap (λ (h : Head). h.name) f in
-        definitions_free content source lines e func k
+        definitions_free content shaped lines e func k
         (subst IsExternalName (sym same) (declares_external content lines e l c answer name parameters says))

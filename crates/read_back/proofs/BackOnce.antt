@@ -1,4 +1,4 @@
--- The lines that a source module is printed as have no fault: each head has a name of its own.
+-- The lines that a module is printed as have no fault: each head has a name of its own.
 use Rattle.std.proofs.Common.{◌≡◌, ◌≢◌, ◌∙◌, ◌⊎◌, inl, inr, ℕ, zero, suc, ◌+◌, ◌<◌, ◌≤◌, Bool, true, false, if◌then◌else◌, List, [], ◌∷◌, ◌++◌, map, length, drop, get_or, refl, ap, sym, subst, arith, codes}
 use Rattle.std.specs.Prelude.{⊤, flat_map, Option, Some, option_map}
 use Rattle.std.specs.Option.{option_map_or}
@@ -11,7 +11,6 @@ use Rattle.ir_ast.specs.Funcs.{Function}
 use Rattle.ir_ast.specs.Modules.{ModuleContent}
 use Rattle.ir_ast.specs.Lists.{Distinct}
 use Rattle.ir_ast.specs.Faults.Reserved.{IsExternalName}
-use Rattle.ir_cfg.specs.SourceModules.{IsSourceModule}
 use Rattle.ir_printer.specs.Names.{Names, layout_name}
 use Rattle.ir_printer.specs.Declarations.{calls, externals, fixed_externals, integer_widths}
 use Rattle.ir_printer.specs.declared.declarations.External.{External}
@@ -21,6 +20,7 @@ use Rattle.ir_lines.specs.Sections.{Head, head_said, heads_of}
 use Rattle.ir_lines.specs.InBody.{Repeats}
 use Rattle.ir_lines.proofs.LawNames.{Apart, apart-distinct, distinct-apart, get_some}
 use Rattle.read_back.specs.Said.{function_says, layout_says, block_says, declaration_says, declaration_if_called, said_by}
+use Rattle.read_back.proofs.BackModules.{IsShaped}
 use Rattle.read_back.proofs.BackLines.{said}
 use Rattle.read_back.proofs.BackBlocks.{all_append, flat-append}
 use Rattle.read_back.proofs.BackSections.{InBody, blocks_inner}
@@ -326,15 +326,15 @@ names_are content lines e =
     ∙ ap (λ (ns : List (List ℕ)). ns ++ flat_map head_names defined) (flat-flat head_names (declaration_if_called content.layouts content.funcs) (externals content.layouts))
     ∙ ap (λ (ns : List (List ℕ)). all_names content.layouts content.funcs (externals content.layouts) ++ ns) (functions_named content.layouts content.funcs content.funcs)
 
-pub heads_once : (content : ModuleContent) → IsSourceModule content → (lines : List Line) → said lines ≡ said_by content → (line : ℕ)
+pub heads_once : (content : ModuleContent) → IsShaped content → (lines : List Line) → said lines ≡ said_by content → (line : ℕ)
     → ¬ (Repeats (map (λ one. (one.line, one.name)) (heads_of lines)) line)
-heads_once content source lines e line r =
+heads_once content shaped lines e line r =
     let declared = all_names content.layouts content.funcs (externals content.layouts) in
     let funcs = map (λ (f : Function). f.name) content.funcs in
     let apart : Apart (declared ++ funcs) =
-    join_apart declared funcs (all_apart content.layouts content.funcs (externals content.layouts) (externals_others content.layouts source.no_fault.names.layouts))
-    (apart-distinct funcs source.no_fault.names.functions)
+    join_apart declared funcs (all_apart content.layouts content.funcs (externals content.layouts) (externals_others content.layouts shaped.no_fault.names.layouts))
+    (apart-distinct funcs shaped.no_fault.names.functions)
     (each_named IsExternalName content.layouts content.funcs (externals content.layouts) (every_external content.layouts (externals content.layouts)))
-    (free_names content.funcs (recursion_from_All (λ (f : Function). ¬ (IsExternalName f.name)) content.funcs source.no_fault.free)) in
+    (free_names content.funcs (recursion_from_All (λ (f : Function). ¬ (IsExternalName f.name)) content.funcs shaped.no_fault.free)) in
     no_repeat (λ (one : Head). one.line) (λ (one : Head). one.name) (heads_of lines)
     (subst Distinct (sym (names_are content lines e)) (distinct-apart (declared ++ funcs) apart)) line r

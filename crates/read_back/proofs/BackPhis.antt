@@ -1,4 +1,4 @@
--- The phis that a source module is printed with are right.
+-- The phis that a module is printed with are right.
 use Rattle.std.proofs.Common.{◌≡◌, ◌∙◌, ℕ, zero, suc, ◌+◌, Bool, true, false, cond, ◌==◌, if◌then◌else◌, List, [], ◌∷◌, ◌++◌, map, length, drop, refl, ap, sym, subst, arith}
 use Rattle.std.specs.Prelude.{Option, Some, None, flat_map, count_by, slice_get, option_map}
 use Rattle.std.specs.Option.{option_map_or}
@@ -8,6 +8,7 @@ use Rattle.std.proofs.lemmas.List.Folds.{fold-map}
 use Rattle.std.proofs.lemmas.List.Elements.{All-contains, All-from_recursion}
 use Rattle.std.proofs.lemmas.Option.{slice_get-map, same_Some}
 use Rattle.sp_ids.specs.declared.ids.BlockId.{BlockId}
+use Rattle.ir_ast.specs.declared.modules.Form.{Form}
 use Rattle.ir_ast.specs.declared.types.Ty.{Ty}
 use Rattle.ir_ast.specs.declared.types.Ty.TheVariants as tys
 use Rattle.ir_ast.specs.declared.ops.Op.{Op}
@@ -24,7 +25,6 @@ use Rattle.ir_ast.specs.Edges as edged
 use Rattle.ir_ast.specs.Faultless.{FunctionHasNoFault}
 use Rattle.ir_ast.specs.Faults.PhiEdges.{PhiIsRight}
 use Rattle.ir_ast.specs.Faults.PhiEdges as right
-use Rattle.ir_cfg.specs.SourceModules.{IsSourceModule}
 use Rattle.ir_printer.specs.Names.{Names}
 use Rattle.ir_printer.specs.Operands.{label_at}
 use Rattle.ir_reader.specs.declared.readings.TypeWord.{TypeWord}
@@ -44,9 +44,9 @@ use Rattle.read_back.specs.Said.{target_at, phi_says, step_says, return_says, ca
 use Rattle.read_back.proofs.BackNames.{Setting, label-back}
 use Rattle.read_back.proofs.BackLines.{said, cons_parts, one_label, two_labels}
 use Rattle.read_back.proofs.BackLists.{Below, phi-back}
-use Rattle.read_back.proofs.BackInsts.{IsPrinted, same_good, first_label, less_one}
+use Rattle.read_back.proofs.BackInsts.{IsPrintedIn, same_good, first_label, less_one}
 use Rattle.read_back.proofs.BackBlocks.{SaysBlock, blocks-are, flat-append}
-use Rattle.read_back.proofs.BackModules.{names_in, printed}
+use Rattle.read_back.proofs.BackModules.{IsShaped, names_in, shaped_insts}
 use Rattle.read_back.proofs.BackFaults.{printed_from}
 use Rattle.read_back.proofs.BackEntry.{setting_of}
 
@@ -173,7 +173,7 @@ cases_targets names known s ty (o ∷ os) (l ∷ ls) n below =
 abbrev edge_labels : Op → List BlockId → List BlockId
 edge_labels op labels = if is_terminator op then labels else []
 
-inst_targets : (names : Names) (known : Known) → Setting names known → (op : Op) (inst : Instruction) → IsPrinted names op inst
+inst_targets : {of : Form} (names : Names) (known : Known) → Setting names known → (op : Op) (inst : Instruction) → IsPrintedIn of names op inst
     → map (label_of known) (flat_map targets (operator_says names op inst)) ≡ edge_labels op inst.labels
 inst_targets names known s (ops.Gep elem width place) inst p = ap (λ (ns : List (List ℕ)). map (label_of known) (ns ++ [])) (step_targets names elem width place inst)
 inst_targets names known s ops.Ret inst p =
@@ -196,14 +196,14 @@ inst_targets names known s ops.Switch inst p =
     (cases_targets names known s inst.ty (drop 1 inst.operands) (drop 1 inst.labels) (less_one inst.labels inst.operands count) ls.1)
 inst_targets names known s _ inst p = refl
 
-insts_targets : (names : Names) (known : Known) → Setting names known → (insts : List Instruction) → AllByRecursion (λ inst. IsPrinted names inst.op inst) insts
+insts_targets : (of : Form) (names : Names) (known : Known) → Setting names known → (insts : List Instruction) → AllByRecursion (λ inst. IsPrintedIn of names inst.op inst) insts
     → map (label_of known) (flat_map targets (flat_map (instruction_says names) insts)) ≡ flat_map (λ inst. edge_labels inst.op inst.labels) insts
-insts_targets names known s [] p = refl
-insts_targets names known s (i ∷ is) p =
+insts_targets of names known s [] p = refl
+insts_targets of names known s (i ∷ is) p =
     ap (map (label_of known)) (flat-append targets (instruction_says names i) (flat_map (instruction_says names) is))
     ∙ map-append (label_of known) (flat_map targets (instruction_says names i)) (flat_map targets (flat_map (instruction_says names) is))
     ∙ ap (λ (xs : List BlockId). xs ++ map (label_of known) (flat_map targets (flat_map (instruction_says names) is))) (inst_targets names known s i.op i p.0)
-    ∙ ap (λ (xs : List BlockId). edge_labels i.op i.labels ++ xs) (insts_targets names known s is p.1)
+    ∙ ap (λ (xs : List BlockId). edge_labels i.op i.labels ++ xs) (insts_targets of names known s is p.1)
 
 lines_targets : (ls : List Line) → flat_map (λ (l : Line). targets l.says) ls ≡ flat_map targets (said ls)
 lines_targets [] = refl
@@ -217,17 +217,17 @@ count_made names to ns = fold-map (λ (a : ℕ) (x : BlockId). a + cond (x.0 == 
 abbrev count_said : Known → ℕ → BlockLines → ℕ
 count_said known to block = count_by (λ n. number_in known.blocks n == to) (flat_map (λ (l : Line). targets l.says) block.lines)
 
-edges_zip : (names : Names) (known : Known) → Setting names known → (ones : List BlockLines) (blocks : List BasicBlock) → AllZip (SaysBlock names) ones blocks
-    → AllByRecursion (λ block. AllByRecursion (λ inst. IsPrinted names inst.op inst) block.insts) blocks → (from to : ℕ)
+edges_zip : (of : Form) (names : Names) (known : Known) → Setting names known → (ones : List BlockLines) (blocks : List BasicBlock) → AllZip (SaysBlock names) ones blocks
+    → AllByRecursion (λ block. AllByRecursion (λ inst. IsPrintedIn of names inst.op inst) block.insts) blocks → (from to : ℕ)
     → option_map_or (count_said known to) (slice_get ones from) 0 ≡ option_map_or (λ block. edged.count_of to (edged.targets block)) (slice_get blocks from) 0
-edges_zip names known s [] [] zipped p from to = refl
-edges_zip names known s [] (b ∷ bs) zipped p from to = absurd zipped
-edges_zip names known s (o ∷ os) [] zipped p from to = absurd zipped
-edges_zip names known s (o ∷ os) (b ∷ bs) zipped p zero to =
+edges_zip of names known s [] [] zipped p from to = refl
+edges_zip of names known s [] (b ∷ bs) zipped p from to = absurd zipped
+edges_zip of names known s (o ∷ os) [] zipped p from to = absurd zipped
+edges_zip of names known s (o ∷ os) (b ∷ bs) zipped p zero to =
     sym (count_made known.blocks to (flat_map (λ (l : Line). targets l.says) o.lines))
     ∙ ap (λ (ns : List (List ℕ)). edged.count_of to (map (label_of known) ns)) (lines_targets o.lines ∙ ap (flat_map targets) zipped.0.lines)
-    ∙ ap (edged.count_of to) (insts_targets names known s b.insts p.0)
-edges_zip names known s (o ∷ os) (b ∷ bs) zipped p (suc from) to = edges_zip names known s os bs zipped.1 p.1 from to
+    ∙ ap (edged.count_of to) (insts_targets of names known s b.insts p.0)
+edges_zip of names known s (o ∷ os) (b ∷ bs) zipped p (suc from) to = edges_zip of names known s os bs zipped.1 p.1 from to
 
 -- ---- the block of a phi
 
@@ -256,7 +256,7 @@ entries_counted known from entries =
     ∙ sym (fold-map (λ (a : ℕ) (n : List ℕ). a + cond (number_in known.blocks n == from) 1 0) (λ (entry : Val × List ℕ). entry.1) 0 entries)
 
 -- what the line of a phi says is the phi
-phi_is : (names : Names) (known : Known) → Setting names known → (op : Op) (inst : Instruction) → op ≡ ops.Phi → IsPrinted names op inst
+phi_is : {of : Form} (names : Names) (known : Known) → Setting names known → (op : Op) (inst : Instruction) → op ≡ ops.Phi → IsPrintedIn of names op inst
     → instruction_said known [] (phi_says names inst) ≡ Some inst
 phi_is names known s ops.Phi inst e p =
     phi-back names known s [] inst p.is p.line.0 (same_good names inst (length inst.operands) refl p.line.0.values p.widths p.fits) p.labels
@@ -301,24 +301,24 @@ not_wrong lines one func number front inst is edges before first result ty entri
 
 -- ---- code 7
 
-pub phi_edges-clear : (content : ModuleContent) → IsSourceModule content → BlocksEnd content → (lines : List Line) → said lines ≡ said_by content
+pub phi_edges-clear : (content : ModuleContent) → IsShaped content → BlocksEnd content → (lines : List Line) → said lines ≡ said_by content
     → (line : ℕ) → ¬ (PhiEdges lines line)
-phi_edges-clear content source ends lines e line f =
+phi_edges-clear content shaped ends lines e line f =
     let o = printed_from content lines e f.func f.defined in
     let names = names_in content o.func in
     let known = known_of lines f.func in
-    let s = setting_of content source ends lines e f.func o.func o.says o.stands in
-    let all = printed content source o.func o.stands in
+    let s = setting_of content shaped ends lines e f.func o.func o.says o.stands in
+    let all = shaped_insts content shaped o.func o.stands in
     let zipped = blocks-are names f.func o.func.blocks o.says.body in
     let b = zip_at (SaysBlock names) f.earlier f.block f.later o.func.blocks (subst (λ (bs : List BlockLines). AllZip (SaysBlock names) bs o.func.blocks) f.blocks zipped) in
     let l : Line = record { number = line; says = phi f.result f.ty f.entries } in
     let m = phi_from names b.0.insts f.before l f.after (ap said (sym f.stands) ∙ b.2.lines) refl in
-    let inside = all_at (λ (block : BasicBlock). AllByRecursion (λ inst. IsPrinted names inst.op inst) block.insts) o.func.blocks (length f.earlier) b.0 b.1 all in
-    let p = middle (λ (inst : Instruction). IsPrinted names inst.op inst) m.front m.inst m.back
-    (subst (λ (is : List Instruction). AllByRecursion (λ inst. IsPrinted names inst.op inst) is) m.whole inside) in
-    let clean = All-contains (FunctionHasNoFault content) content.funcs o.func source.no_fault.functions o.stands in
+    let inside = all_at (λ (block : BasicBlock). AllByRecursion (λ inst. IsPrintedIn content.form names inst.op inst) block.insts) o.func.blocks (length f.earlier) b.0 b.1 all in
+    let p = middle (λ (inst : Instruction). IsPrintedIn content.form names inst.op inst) m.front m.inst m.back
+    (subst (λ (is : List Instruction). AllByRecursion (λ inst. IsPrintedIn content.form names inst.op inst) is) m.whole inside) in
+    let clean = All-contains (FunctionHasNoFault content) content.funcs o.func shaped.no_fault.functions o.stands in
     let is = clean.phis (length f.earlier) b.0 m.front m.back m.inst b.1 m.whole (ap right.is_phi m.op) in
     not_wrong lines f.func o.func (length f.earlier) m.front m.inst is
-    (λ from to. edges_zip names known s (blocks_of f.func) o.func.blocks zipped all from to)
+    (λ from to. edges_zip content.form names known s (blocks_of f.func) o.func.blocks zipped all from to)
     f.before m.first f.result f.ty f.entries
     (ap (instruction_said known []) m.is ∙ phi_is names known s m.inst.op m.inst m.op p) f.wrong

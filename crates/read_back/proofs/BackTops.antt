@@ -1,4 +1,4 @@
--- The lines that a source module is printed as have no fault: names that stand twice or are reserved, and `@main`.
+-- The lines that a module is printed as have no fault: names that stand twice or are reserved, and `@main`.
 use Rattle.std.proofs.Common.{◌≡◌, ◌≢◌, ◌∙◌, ◌⊎◌, inl, inr, ℕ, Bool, true, false, cond, ◌&&◌, List, [], ◌∷◌, ◌++◌, map, refl, ap, sym, subst, arith, codes}
 use Rattle.std.specs.Prelude.{Some, find}
 use Rattle.std.specs.List.{AllByRecursion, AllZip, Contains}
@@ -17,7 +17,6 @@ use Rattle.ir_ast.specs.Values.{definition_name}
 use Rattle.ir_ast.specs.Values as defs
 use Rattle.ir_ast.specs.Faultless.{FunctionHasNoFault}
 use Rattle.ir_ast.specs.Faults.Reserved.{IsExternalName, IsInsertedName}
-use Rattle.ir_ast.specs.declared.modules.Form.TheVariants.{Source}
 use Rattle.ir_cfg.specs.SourceModules.{IsSourceModule}
 use Rattle.ir_reader.specs.Lists.{Named}
 use Rattle.ir_lines.specs.Statements.{Line}
@@ -30,7 +29,7 @@ use Rattle.read_back.specs.Said.{word_of, argument_says, said_by}
 use Rattle.read_back.proofs.BackLines.{said}
 use Rattle.read_back.proofs.BackBlocks.{blocks-are, block-names, value-names}
 use Rattle.read_back.proofs.BackSections.{SaysDefinition, definitions-are, layout-names}
-use Rattle.read_back.proofs.BackModules.{names_in, printed, form_of}
+use Rattle.read_back.proofs.BackModules.{IsShaped, source_shaped, names_in, shaped_insts, form_of}
 use Rattle.read_back.proofs.BackFaults.{From, printed_from}
 
 -- ---- names that stand once do not repeat
@@ -57,44 +56,44 @@ no_repeat line name xs once n r =
     none_twice (map (λ (one : ℕ × List ℕ). one.1) r.before) r.what (map (λ (one : ℕ × List ℕ). one.1) r.after)
     (subst Apart names (apart-distinct (map name xs) once)) r.again
 
-pub layouts_once : (content : ModuleContent) → IsSourceModule content → (lines : List Line) → said lines ≡ said_by content → (line : ℕ)
+pub layouts_once : (content : ModuleContent) → IsShaped content → (lines : List Line) → said lines ≡ said_by content → (line : ℕ)
     → ¬ (Repeats (map (λ one. (one.line, one.name)) (layouts_of lines)) line)
-layouts_once content source lines e line r =
+layouts_once content shaped lines e line r =
     no_repeat (λ (one : LayoutLine). one.line) (λ (one : LayoutLine). one.name) (layouts_of lines)
-    (subst Distinct (sym (layout-names content lines e)) source.no_fault.names.layouts) line r
+    (subst Distinct (sym (layout-names content lines e)) shaped.no_fault.names.layouts) line r
 
 pub names_of_blocks : (content : ModuleContent) (one : Definition) (o : From content one) → map (λ b. b.name) (blocks_of one) ≡ map (λ b. b.name) o.func.blocks
 names_of_blocks content one o =
     block-names (names_in content o.func) (blocks_of one) o.func.blocks (blocks-are (names_in content o.func) one o.func.blocks o.says.body)
 
-pub names_of_values : (content : ModuleContent) → IsSourceModule content → (one : Definition) (o : From content one)
+pub names_of_values : (content : ModuleContent) → IsShaped content → (one : Definition) (o : From content one)
     → map (λ v. v.name) (values_of one) ≡ map definition_name (defs.definitions_of o.func)
-names_of_values content source one o =
-    value-names Source (names_in content o.func) one o.func o.says.arguments o.says.body (printed content source o.func o.stands)
+names_of_values content shaped one o =
+    value-names content.form (names_in content o.func) one o.func o.says.arguments o.says.body (shaped_insts content shaped o.func o.stands)
 
-pub labels_once : (content : ModuleContent) → IsSourceModule content → (lines : List Line) → said lines ≡ said_by content
+pub labels_once : (content : ModuleContent) → IsShaped content → (lines : List Line) → said lines ≡ said_by content
     → (one : Definition) → Contains (definitions_of lines) one → (line : ℕ) → ¬ (Repeats (map (λ b. (b.line, b.name)) (blocks_of one)) line)
-labels_once content source lines e one c line r =
+labels_once content shaped lines e one c line r =
     let o = printed_from content lines e one c in
     no_repeat (λ (b : BlockLines). b.line) (λ (b : BlockLines). b.name) (blocks_of one)
     (subst Distinct (sym (names_of_blocks content one o))
-    (All-contains (λ (f : Function). Distinct (map (λ (b : BasicBlock). b.name) f.blocks)) content.funcs o.func source.no_fault.names.labels o.stands)) line r
+    (All-contains (λ (f : Function). Distinct (map (λ (b : BasicBlock). b.name) f.blocks)) content.funcs o.func shaped.no_fault.names.labels o.stands)) line r
 
-pub values_once : (content : ModuleContent) → IsSourceModule content → (lines : List Line) → said lines ≡ said_by content
+pub values_once : (content : ModuleContent) → IsShaped content → (lines : List Line) → said lines ≡ said_by content
     → (one : Definition) → Contains (definitions_of lines) one → (line : ℕ) → ¬ (Repeats (map (λ v. (v.line, v.name)) (values_of one)) line)
-values_once content source lines e one c line r =
+values_once content shaped lines e one c line r =
     let o = printed_from content lines e one c in
     no_repeat (λ (v : Naming). v.line) (λ (v : Naming). v.name) (values_of one)
-    (subst Distinct (sym (names_of_values content source one o))
-    (All-contains (λ (f : Function). Distinct (map definition_name (defs.definitions_of f))) content.funcs o.func source.no_fault.names.values o.stands)) line r
+    (subst Distinct (sym (names_of_values content shaped one o))
+    (All-contains (λ (f : Function). Distinct (map definition_name (defs.definitions_of f))) content.funcs o.func shaped.no_fault.names.values o.stands)) line r
 
 -- ---- reserved names
 
-pub definitions_free : (content : ModuleContent) → IsSourceModule content → (lines : List Line) → said lines ≡ said_by content
+pub definitions_free : (content : ModuleContent) → IsShaped content → (lines : List Line) → said lines ≡ said_by content
     → (one : Definition) → Contains (definitions_of lines) one → ¬ (IsExternalName one.name)
-definitions_free content source lines e one c external =
+definitions_free content shaped lines e one c external =
     let o = printed_from content lines e one c in
-    All-contains (λ (f : Function). ¬ (IsExternalName f.name)) content.funcs o.func source.no_fault.free o.stands (subst IsExternalName o.says.name external)
+    All-contains (λ (f : Function). ¬ (IsExternalName f.name)) content.funcs o.func shaped.no_fault.free o.stands (subst IsExternalName o.says.name external)
 
 pub values_free : (content : ModuleContent) → IsSourceModule content → (lines : List Line) → said lines ≡ said_by content
     → (one : Definition) → Contains (definitions_of lines) one → (value : Naming) → Contains (values_of one) value → ¬ (IsInsertedName value.name)
@@ -102,7 +101,7 @@ values_free content source lines e one c value d inserted =
     let o = printed_from content lines e one c in
     let plain = form_of content.form o.func source.form (All-contains (FunctionHasNoFault content) content.funcs o.func source.no_fault.functions o.stands).form in
     let named : Contains (map definition_name (defs.definitions_of o.func)) value.name =
-    subst (λ (ns : List (List ℕ)). Contains ns value.name) (names_of_values content source one o) (contains_map (λ (v : Naming). v.name) (values_of one) value d) in
+    subst (λ (ns : List (List ℕ)). Contains ns value.name) (names_of_values content (source_shaped content source) one o) (contains_map (λ (v : Naming). v.name) (values_of one) value d) in
     let given = contains_mapped definition_name (defs.definitions_of o.func) value.name named in
     All-contains (λ (g : defs.Definition). ¬ (IsInsertedName (definition_name g))) (defs.definitions_of o.func) given.0 plain.values given.1
     (subst IsInsertedName (sym given.2) inserted)
@@ -147,9 +146,9 @@ find_main layouts funcs (f ∷ fs) later main (d ∷ ds) h before name args answ
     by true e ih = absurd (before.0 (sym h.0.name ∙ (bytes_eq-Decides d.name (codes "main")).0 e))
     by false e ih = ap (λ (b : Bool). is_main (cond b (Some d) (find (λ (func : Definition). bytes_eq func.name (codes "main")) ds))) e ∙ ih
 
-pub no_main-clear : (content : ModuleContent) → IsSourceModule content → (lines : List Line) → said lines ≡ said_by content → (line : ℕ) → ¬ (NoMain lines line)
-no_main-clear content source lines e line f =
-    let m = source.no_fault.main in
+pub no_main-clear : (content : ModuleContent) → IsShaped content → (lines : List Line) → said lines ≡ said_by content → (line : ℕ) → ¬ (NoMain lines line)
+no_main-clear content shaped lines e line f =
+    let m = shaped.no_fault.main in
     let there = find_main content.layouts content.funcs m.earlier m.later m.main (definitions_of lines)
     (subst (AllZip (SaysDefinition content.layouts content.funcs) (definitions_of lines)) m.whole (definitions-are content lines e))
     (recursion_from_All (λ (func : Function). func.name ≢ codes "main") m.earlier m.first) m.name m.args m.answer in

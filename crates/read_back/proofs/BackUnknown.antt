@@ -1,15 +1,17 @@
--- The lines that a source module is printed as name what there is.
+-- The lines that a module is printed as name what there is.
 use Rattle.std.proofs.Common.{◌≡◌, ◌∙◌, ◌⊎◌, inl, inr, ℕ, zero, suc, ◌+◌, ◌<◌, ◌≤◌, Bool, true, false, not, ◌||◌, ◌==◌, if◌then◌else◌, List, [], ◌∷◌, ◌++◌, map, length, drop, refl, ap, sym, subst, arith}
-use Rattle.std.specs.Prelude.{Option, Some, None, IfSome, is_none, unwrap_or, find, ⊤, flat_map, slice_get, filter_map}
+use Rattle.std.specs.Prelude.{Option, Some, None, IfSome, is_none, unwrap_or, find, ⊤, flat_map, take, slice_get, filter_map}
 use Rattle.std.specs.Option.{option_map_or}
 use Rattle.std.specs.Str.{bytes_eq}
 use Rattle.std.specs.List.{AllByRecursion, AllZip, Contains, list_any, cons_option, zip, range_with_len}
 use Rattle.std.proofs.lemmas.Bool.Decides.{Decides-eqb}
 use Rattle.std.proofs.lemmas.Option.{slice_get_within}
 use Rattle.std.proofs.lemmas.List.{length-map}
-use Rattle.std.proofs.lemmas.List.Elements.{recursion_from_All, All-contains, Contains-append_left, Contains-append_right, Contains-append_cases}
+use Rattle.std.proofs.lemmas.List.Elements.{recursion_from_All, Contains-append_left, Contains-append_right, Contains-append_cases}
 use Rattle.sp_ids.specs.Numbers.{wrapped, signed}
 use Rattle.sp_ids.specs.declared.ids.BlockId.{BlockId}
+use Rattle.sp_ids.specs.declared.ids.ValueId.{ValueId}
+use Rattle.ir_ast.specs.declared.modules.Form.{Form}
 use Rattle.ir_ast.specs.declared.types.Ty.{Ty}
 use Rattle.ir_ast.specs.declared.types.Ty.TheVariants as tys
 use Rattle.ir_ast.specs.declared.ops.Op.{Op}
@@ -27,37 +29,39 @@ use Rattle.ir_ast.specs.Funcs.{Function, instructions_of}
 use Rattle.ir_ast.specs.Modules.{ModuleContent}
 use Rattle.ir_ast.specs.Values.{definition_name, definition_type, value_types}
 use Rattle.ir_ast.specs.Values as defs
-use Rattle.ir_ast.specs.Callees.{is_helper}
 use Rattle.ir_ast.specs.Operands.{functions_named as functions_in}
 use Rattle.ir_ast.specs.Widths.{IsWidth, type_widths}
 use Rattle.ir_ast.specs.Faults.TypeClash.{Fits, asked}
-use Rattle.ir_cfg.specs.SourceModules.{IsSourceFunction, IsSourceModule}
 use Rattle.ir_printer.specs.Names.{Names, value_name, block_name, function_name, layout_name}
 use Rattle.ir_printer.specs.Calls.{callee_name}
 use Rattle.ir_printer.specs.Operands.{operand_at, label_at}
-use Rattle.ir_printer.specs.Declarations.{is_callee, is_call_of, calls, externals, fixed_externals, integer_widths}
+use Rattle.ir_printer.specs.Declarations.{is_callee, is_statepoints, is_call_of, calls, externals, fixed_externals, integer_widths}
 use Rattle.ir_printer.specs.declared.declarations.External.{External}
 use Rattle.ir_printer.specs.declared.declarations.External.TheVariants as externs
 use Rattle.ir_reader.specs.Parts.{Val}
 use Rattle.ir_reader.specs.Parts as values
 use Rattle.ir_reader.specs.declared.readings.TypeWord.{TypeWord}
+use Rattle.ir_reader.specs.Lists.{Given}
 use Rattle.ir_reader.specs.declared.words.Binary.{Binary}
 use Rattle.ir_reader.specs.declared.words.Binary.TheVariants as binaries
 use Rattle.ir_reader.specs.declared.words.Conversion.{Conversion}
 use Rattle.ir_reader.specs.declared.words.Conversion.TheVariants as conversions
 use Rattle.ir_lines.specs.Statements.{Line, Statement, switch, switch_end}
-use Rattle.ir_lines.specs.Parts.{uses, targets, entry_labels, functions_named, layouts_named, local_name, passed_value, passed_function, entry_use}
+use Rattle.ir_lines.specs.Parts.{uses, targets, entry_labels, functions_named, layouts_named, local_name, passed_value, passed_function, entry_use, live_use}
 use Rattle.ir_lines.specs.Sections.{LayoutLine, Head, Definition, Naming, BlockLines, layouts_of, heads_of, values_of, blocks_of}
 use Rattle.ir_lines.specs.Scope.{Scope, scope_of, value_named, block_named, head_named, layout_named}
 use Rattle.ir_lines.specs.Faults.UnknownName.{names_unknown, UnknownName}
 use Rattle.ir_lines.proofs.LawNames.{get_some, contains_get, contains_map, contains_cons, contains_later, contains_first}
 use Rattle.module_laws.proofs.LawCalls.{found_by_name, contains_mapped}
-use Rattle.read_back.specs.Said.{literal_of, word_of, width_in, value_says, passed_says, value_at, target_at, entry_says, binary_says, compare_says, convert_says, select_says, phi_says, step_says, load_says, store_says, call_says, jump_says, branch_says, case_says, return_says, operator_says, declaration_says, said_by}
-use Rattle.read_back.proofs.BackLines.{said}
+use Rattle.read_back.specs.Said.{literal_of, word_of, width_in, value_says, passed_says, value_at, target_at, entry_says, binary_says, compare_says, convert_says, select_says, phi_says, step_says, load_says, store_says, call_says, token_says, statepoint_says, gc_result_says, gc_relocate_says, jump_says, branch_says, case_says, return_says, operator_says, declaration_says, said_by}
+use Rattle.read_back.proofs.BackLines.{said, at}
 use Rattle.read_back.proofs.BackLists.{Below, Passes, CalleeBelow}
-use Rattle.read_back.proofs.BackInsts.{IsPrinted, callee_parts, passes_zip}
+use Rattle.read_back.proofs.BackInsts.{IsPrintedIn, callee_parts, passes_zip}
+use Rattle.read_back.proofs.Fronts.{zip_take}
+use Rattle.read_back.proofs.BackGuarded.{guards}
+use Rattle.read_back.proofs.BackBlocks.{all_append}
 use Rattle.read_back.proofs.BackSections.{SaysDefinition, layout-names}
-use Rattle.read_back.proofs.BackModules.{names_in, printed_inst}
+use Rattle.read_back.proofs.BackModules.{IsShaped, names_in, shaped_inst}
 use Rattle.read_back.proofs.BackFaults.{From, no_body_fault}
 use Rattle.read_back.proofs.BackTops.{names_of_values, names_of_blocks}
 use Rattle.read_back.proofs.BackOnce.{head_names, declared_names, names_if, all_names, names_are}
@@ -208,8 +212,8 @@ dropped : {X : Type 0} (P : X → Type 0) (xs : List X) → AllByRecursion P xs 
 dropped P [] h = tt
 dropped P (x ∷ xs) h = h.1
 
-step_clear : (scope : Scope) (names : Names) → Knows scope names → (elem : Elem) (width : ℕ) (place : Option ℕ) (inst : Instruction)
-    → IsPrinted names (ops.Gep elem width place) inst → AllByRecursion (IsThere names) inst.operands → Clear scope (step_says names elem width place inst)
+step_clear : {of : Form} (scope : Scope) (names : Names) → Knows scope names → (elem : Elem) (width : ℕ) (place : Option ℕ) (inst : Instruction)
+    → IsPrintedIn of names (ops.Gep elem width place) inst → AllByRecursion (IsThere names) inst.operands → Clear scope (step_says names elem width place inst)
 step_clear scope names k (elements.Int w) width place inst p there =
     clear_by scope (step_says names (elements.Int w) width place inst)
     (use_found scope names k inst there tys.Ptr 0, (use_found scope names k inst there (tys.Int width) 1, tt)) tt tt tt
@@ -249,18 +253,18 @@ fixed_external layouts i e at =
     Contains-append_right (map externs.New (range_with_len 0 (length layouts))) (fixed_externals ++ (map externs.ResultOf integer_widths ++ externs.ResultPointer ∷ [])) e
     (Contains-append_left fixed_externals (map externs.ResultOf integer_widths ++ externs.ResultPointer ∷ []) e (contains_get fixed_externals i e at))
 
-pub callee_found : (scope : Scope) (names : Names) → Knows scope names → (callee : Callee) → CalleeBelow names callee → is_helper callee ≡ false
+pub callee_found : (scope : Scope) (names : Names) → Knows scope names → (callee : Callee) → CalleeBelow names callee
     → ((e : External) → is_callee e callee ≡ true → calls names.funcs e ≡ true) → HeadFound scope (callee_name names callee)
 unfolding fixed_externals
-callee_found scope names k (callees.Fun f) below plain called = k.function f.0 below
-callee_found scope names k (callees.New l) below plain called =
+callee_found scope names k (callees.Fun f) below called = k.function f.0 below
+callee_found scope names k (callees.New l) below called =
     (k.declared (externs.New l) (made_external names.layouts l below) (called (externs.New l) ((Decides-eqb l l).1 refl))).0
-callee_found scope names k callees.Print below plain called = (k.declared externs.Print (fixed_external names.layouts 0 externs.Print refl) (called externs.Print refl)).0
-callee_found scope names k callees.Read below plain called = (k.declared externs.Read (fixed_external names.layouts 1 externs.Read refl) (called externs.Read refl)).0
-callee_found scope names k callees.TaskStart below plain called = (k.declared externs.TaskStart (fixed_external names.layouts 2 externs.TaskStart refl) (called externs.TaskStart refl)).0
-callee_found scope names k callees.Poll below plain called = absurd (let bad : true ≡ false = plain in cc)
-callee_found scope names k callees.Check below plain called = absurd (let bad : true ≡ false = plain in cc)
-callee_found scope names k callees.Same below plain called = absurd (let bad : true ≡ false = plain in cc)
+callee_found scope names k callees.Print below called = (k.declared externs.Print (fixed_external names.layouts 0 externs.Print refl) (called externs.Print refl)).0
+callee_found scope names k callees.Read below called = (k.declared externs.Read (fixed_external names.layouts 1 externs.Read refl) (called externs.Read refl)).0
+callee_found scope names k callees.TaskStart below called = (k.declared externs.TaskStart (fixed_external names.layouts 2 externs.TaskStart refl) (called externs.TaskStart refl)).0
+callee_found scope names k callees.Poll below called = (k.declared externs.Poll (fixed_external names.layouts 3 externs.Poll refl) (called externs.Poll refl)).0
+callee_found scope names k callees.Check below called = (k.declared externs.Check (fixed_external names.layouts 4 externs.Check refl) (called externs.Check refl)).0
+callee_found scope names k callees.Same below called = (k.declared externs.Same (fixed_external names.layouts 5 externs.Same refl) (called externs.Same refl)).0
 
 passed_uses : (scope : Scope) (names : Names) → Knows scope names → (os : List Operand) (ts : List Ty) → AllZip (Passes names) os ts → AllByRecursion (IsThere names) os
     → AllByRecursion (λ used. UseFound scope used.0) (filter_map passed_value (map (λ (argument : Ty × Operand). passed_says names argument.0 argument.1) (zip ts os)))
@@ -282,7 +286,7 @@ passed_heads scope names k (operands.Int n ∷ os) (t ∷ ts) p = passed_heads s
 passed_heads scope names k (operands.Null ∷ os) (t ∷ ts) p = passed_heads scope names k os ts p.1
 passed_heads scope names k (operands.Fun f ∷ os) (t ∷ ts) p = (k.function f.0 (p.0.function f refl), passed_heads scope names k os ts p.1)
 
-call_clear : (scope : Scope) (names : Names) → Knows scope names → (callee : Callee) (ts : List Ty) (inst : Instruction) → IsPrinted names (ops.Call callee ts) inst
+call_clear : {of : Form} (scope : Scope) (names : Names) → Knows scope names → (callee : Callee) (ts : List Ty) (inst : Instruction) → IsPrintedIn of names (ops.Call callee ts) inst
     → AllByRecursion (IsThere names) inst.operands → ((e : External) → is_callee e callee ≡ true → calls names.funcs e ≡ true)
     → Clear scope (call_says names callee ts inst)
 call_clear scope names k callee ts inst p there called =
@@ -293,11 +297,51 @@ call_clear scope names k callee ts inst p there called =
     (functions_in (record { result = inst.result; op = ops.Load; ty = inst.ty; operands = inst.operands; labels = inst.labels; bundle = b }))) p.bundle parts.1 in
     let passes = passes_zip names callee inst.operands ts p.fits p.line.arguments functions (recursion_from_All IsWidth (flat_map type_widths ts) p.own_widths) in
     clear_by scope (call_says names callee ts inst) (passed_uses scope names k inst.operands ts passes there) tt
-    (callee_found scope names k callee parts.0 (p.plain refl) called, passed_heads scope names k inst.operands ts passes) tt
+    (callee_found scope names k callee parts.0 called, passed_heads scope names k inst.operands ts passes) tt
+
+-- ---- statepoint groups
+
+fronts : {X : Type 0} (P : X → Type 0) (n : ℕ) (xs : List X) → AllByRecursion P xs → AllByRecursion P (take n xs) × AllByRecursion P (drop n xs)
+fronts P zero xs h = (tt, h)
+fronts P (suc n) [] h = (tt, tt)
+fronts P (suc n) (x ∷ xs) h = let more = fronts P n xs h.1 in ((h.0, more.0), more.1)
+
+live_uses : (scope : Scope) (names : Names) → Knows scope names → (os : List Operand) → AllByRecursion (IsThere names) os
+    → AllByRecursion (λ used. UseFound scope used.0) (map live_use (map (value_says names tys.Ptr) os))
+live_uses scope names k [] there = tt
+live_uses scope names k (o ∷ os) there = (value_found scope names k tys.Ptr o there.0, live_uses scope names k os there.1)
+
+statepoint_clear : {of : Form} (scope : Scope) (names : Names) → Knows scope names → (id : ℕ) (callee : Callee) (ts : List Ty) (inst : Instruction)
+    → IsPrintedIn of names (ops.Statepoint id callee ts) inst → AllByRecursion (IsThere names) inst.operands
+    → ((e : External) → is_callee e callee ≡ true → calls names.funcs e ≡ true) → Clear scope (statepoint_says names id callee ts inst)
+statepoint_clear scope names k id callee ts inst p there called =
+    let g = guards names id callee ts inst p in
+    let os : List Operand = take (length ts) inst.operands in
+    let live : List Operand = drop (length ts) inst.operands in
+    let parts = fronts (IsThere names) (length ts) inst.operands there in
+    let said : List (Ty × Operand) → List Given = map (λ (argument : Ty × Operand). passed_says names argument.0 argument.1) in
+    clear_by scope (statepoint_says names id callee ts inst)
+    (all_append (λ used. UseFound scope used.0) (filter_map passed_value (said (zip ts inst.operands))) (map live_use (map (value_says names tys.Ptr) live))
+    (subst (λ (z : List (Ty × Operand)). AllByRecursion (λ used. UseFound scope used.0) (filter_map passed_value (said z))) (zip_take ts inst.operands)
+    (passed_uses scope names k os ts g.passes parts.0))
+    (live_uses scope names k live parts.1)) tt (
+      callee_found scope names k callee g.below called,
+      subst (λ (z : List (Ty × Operand)). AllByRecursion (HeadFound scope) (filter_map passed_function (said z))) (zip_take ts inst.operands)
+          (passed_heads scope names k os ts g.passes),
+    ) tt
+
+or_later : (a b : Bool) → b ≡ true → (a || b) ≡ true
+or_later true b e = refl
+or_later false b e = e
+
+token_found : (scope : Scope) (names : Names) → Knows scope names → (os rest : List Operand) (token : ValueId) → os ≡ operands.Value token ∷ rest
+    → AllByRecursion (IsThere names) os → ValueFound scope (token_says names (at os 0))
+token_found scope names k os rest token e there =
+    subst (λ (xs : List Operand). ValueFound scope (token_says names (at xs 0))) (sym e) (k.value token.0 (subst (AllByRecursion (IsThere names)) e there).0)
 
 -- ---- any instruction
 
-inst_clear : (scope : Scope) (names : Names) → Knows scope names → (op : Op) (inst : Instruction) → IsPrinted names op inst → AllByRecursion (IsThere names) inst.operands
+inst_clear : {of : Form} (scope : Scope) (names : Names) → Knows scope names → (op : Op) (inst : Instruction) → IsPrintedIn of names op inst → AllByRecursion (IsThere names) inst.operands
     → ((e : External) → is_call_of e op inst.ty ≡ true → calls names.funcs e ≡ true) → AllByRecursion (Clear scope) (operator_says names op inst)
 inst_clear scope names k ops.Add inst p there called = binary_clear scope names k binaries.Add inst there
 inst_clear scope names k ops.Sub inst p there called = binary_clear scope names k binaries.Sub inst there
@@ -347,9 +391,15 @@ inst_clear scope names k ops.Switch inst p there called = (
 )
 inst_clear scope names k ops.Ret inst p there called = (return_clear scope names k inst.ty inst there, tt)
 inst_clear scope names k ops.Unreachable inst p there called = (refl, tt)
-inst_clear scope names k (ops.Statepoint id callee ts) inst p there called = absurd (let bad : true ≡ false = p.plain refl in cc)
-inst_clear scope names k ops.GcResult inst p there called = absurd (let bad : true ≡ false = p.plain refl in cc)
-inst_clear scope names k ops.GcRelocate inst p there called = absurd (let bad : true ≡ false = p.plain refl in cc)
+inst_clear scope names k (ops.Statepoint id callee ts) inst p there called =
+    (statepoint_clear scope names k id callee ts inst p there (λ e is. called e (or_later (is_statepoints e) (is_callee e callee) is)), tt)
+inst_clear scope names k ops.GcResult inst p there called =
+    (clear_by scope (gc_result_says names inst) (token_found scope names k inst.operands [] p.line.1.0 p.line.1.1 there, tt) tt tt tt, tt)
+inst_clear scope names k ops.GcRelocate inst p there called =
+    let starts = p.line.1.2 in (
+      clear_by scope (gc_relocate_says names inst) (token_found scope names k inst.operands (operands.Int p.line.1.0 ∷ operands.Int p.line.1.1 ∷ []) starts.0 starts.1 there, (tt, (tt, tt))) tt tt tt,
+      tt,
+    )
 
 -- ---- what a function of a module can name is found in its lines
 
@@ -388,14 +438,19 @@ each_contained : (P : List ℕ → Type 0) (xs : List (List ℕ)) → ((x : List
 each_contained P [] h = tt
 each_contained P (x ∷ xs) h = (h x (contains_first x xs), each_contained P xs (λ y c. h y (contains_later x y xs c)))
 
-pub knows : (content : ModuleContent) → IsSourceModule content → (lines : List Line) → said lines ≡ said_by content → (one : Definition) (func : Function)
-    → SaysDefinition content.layouts content.funcs one func → Contains content.funcs func → Knows (scope_of lines one) (names_in content func)
+-- an instruction stands in a block
+pub some_block : (blocks : List BasicBlock) (inst : Instruction) → Contains (instructions_of blocks) inst → 0 < length blocks
+some_block [] inst c = absurd (omega (arith, c.1))
+some_block (b ∷ bs) inst c = omega arith
+
+pub knows : (content : ModuleContent) → IsShaped content → (lines : List Line) → said lines ≡ said_by content → (one : Definition) (func : Function)
+    → SaysDefinition content.layouts content.funcs one func → Contains content.funcs func → 0 < length func.blocks → Knows (scope_of lines one) (names_in content func)
 unfolding value_name
-knows content source lines e one func says c =
+knows content shaped lines e one func says c some =
     let from : From content one = record { func = func; stands = c; says = says } in
     record {
-      has_block = (All-contains IsSourceFunction content.funcs func source.functions c).has_block;
-      value = λ k below. named_there (λ (v : Naming). v.name) definition_name (values_of one) (defs.definitions_of func) k (names_of_values content source one from) below;
+      has_block = some;
+      value = λ k below. named_there (λ (v : Naming). v.name) definition_name (values_of one) (defs.definitions_of func) k (names_of_values content shaped one from) below;
       block = λ k below. named_there (λ (b : BlockLines). b.name) (λ (b : BasicBlock). b.name) (blocks_of one) func.blocks k (names_of_blocks content one from) below;
       function = λ k below.
           let f = get_some content.funcs k below in
@@ -442,12 +497,12 @@ is_called funcs func inst e c d is =
 
 -- ---- code 4
 
-pub unknown_name-clear : (content : ModuleContent) → IsSourceModule content → (lines : List Line) → said lines ≡ said_by content → (line : ℕ) → ¬ (UnknownName lines line)
-unknown_name-clear content source lines e line f =
+pub unknown_name-clear : (content : ModuleContent) → IsShaped content → (lines : List Line) → said lines ≡ said_by content → (line : ℕ) → ¬ (UnknownName lines line)
+unknown_name-clear content shaped lines e line f =
     no_body_fault content lines e names_unknown
     (λ one func says c inst d.
-    let p = printed_inst content source func c inst d in
-    inst_clear (scope_of lines one) (names_in content func) (knows content source lines e one func says c) inst.op inst p
+    let p = shaped_inst content shaped func c inst d in
+    inst_clear (scope_of lines one) (names_in content func) (knows content shaped lines e one func says c (some_block func.blocks inst d)) inst.op inst p
     (fits_there (names_in content func) inst.operands (asked inst.op inst.ty (length inst.operands)) p.fits)
     (λ x is. is_called content.funcs func inst x c d is))
     (λ scope name. refl) line f

@@ -33,7 +33,9 @@ pub mod BackLists
 pub mod Fronts
 pub mod BackGroups
 pub mod BackInsts
+pub mod BackGuarded
 pub mod BackBlocks
+pub mod BackTypes
 pub mod BackSections
 pub mod BackModules
 pub mod NotCalled
