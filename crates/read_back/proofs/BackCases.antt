@@ -152,7 +152,7 @@ get_middle : {A : Type 0} (xs : List A) (x : A) (ys : List A) → slice_get (xs 
 get_middle [] x ys = refl
 get_middle (y ∷ xs) x ys = get_middle xs x ys
 
-not_twice : {A : Type 0} (xs : List A) (x : A) (ys : List A) → Distinct (xs ++ x ∷ ys) → ¬ (Contains xs x)
+pub not_twice : {A : Type 0} (xs : List A) (x : A) (ys : List A) → Distinct (xs ++ x ∷ ys) → ¬ (Contains xs x)
 not_twice xs x ys distinct c =
     let g = get_contained xs x c in
     let below = slice_get_within xs g.0 x g.1 in

@@ -57,7 +57,7 @@ all_leave : (lines : List Line) (one : Definition) (names : Names) → Setting n
 all_leave lines one names s [] below other = tt
 all_leave lines one names s (l ∷ ls) below other = (leaves lines one names s l below.0 other.0, all_leave lines one names s ls below.1 other.1)
 
-or_false : (a b : Bool) → a ≡ false → b ≡ false → (a || b) ≡ false
+pub or_false : (a b : Bool) → a ≡ false → b ≡ false → (a || b) ≡ false
 or_false a b e f = ap (λ (x : Bool). x || b) e ∙ f
 
 abbrev Keeps : Scope → Statement → Type 0

@@ -3,7 +3,7 @@ use Rattle.std.proofs.Common.{◌≡◌, ◌∙◌, ℕ, ◌+◌, ◌*◌, ◌<�
 use Rattle.std.specs.Prelude.{Some, slice_get, option_map, unwrap_or}
 use Rattle.std.specs.List.{All, AllByRecursion, Contains}
 use Rattle.std.proofs.Math.Nat.{mod-eq_of_lt}
-use Rattle.std.proofs.lemmas.Bool.Decides.{Decides-eqb, Decides-ltb}
+use Rattle.std.proofs.lemmas.Bool.Decides.{Decides-ltb}
 use Rattle.std.proofs.lemmas.Option.{slice_get-map, slice_get_within}
 use Rattle.std.proofs.lemmas.List.{length-map, map-append, nil_from_length}
 use Rattle.std.proofs.lemmas.List.Elements.{All-contains, recursion_from_All}
@@ -47,6 +47,7 @@ use Rattle.read_back.proofs.BackBlocks.{nothing_said}
 use Rattle.read_back.proofs.BackSections.{SaysDefinition, definitions-are}
 use Rattle.read_back.proofs.BackModules.{target_shaped, names_in, setting, few_in, function-names}
 use Rattle.read_back.proofs.BackFaults.{printed_from}
+use Rattle.read_back.proofs.BackRules.{same_type-refl}
 use Rattle.read_back.proofs.BackShapes.{misshapes-clear}
 use Rattle.read_back.proofs.BackParts.{PartAt, is_part_line, part_at, placed, insts_split, SaysGroup, group_back}
 
@@ -85,12 +86,6 @@ same_group one before token g h =
 
 -- ---- a result
 
-same_type-self : (word : TypeWord) → same_type word word ≡ true
-same_type-self types.Void = refl
-same_type-self (types.Int n) = (Decides-eqb n n).1 refl
-same_type-self types.Managed = refl
-same_type-self types.Plain = refl
-
 result_right : (names : Names) (one : Definition) (before : List Line) (token : ℕ) (sp : Instruction) → SaysGroup names one before token sp []
     → (ty : TypeWord) → ty ≡ word_of sp.ty → ¬ (ResultIsWrong one before (value_name names.func token) ty)
 result_right names one before token sp s ty same wrong = by wrong
@@ -103,7 +98,7 @@ result_right names one before token sp s ty same wrong = by wrong
     by (late g some) = some ((same_group one before name g s.group).2 ∙ nothing_said s.group.parts s.parts)
     by (other_type g bad) =
         let answer : g.made.signature.answer ≡ ty = (same_group one before name g s.group).0 ∙ s.answer ∙ sym same in
-        true-false (same_type ty g.made.signature.answer) (ap (same_type ty) answer ∙ same_type-self ty) bad
+        true-false (same_type ty g.made.signature.answer) (ap (same_type ty) answer ∙ same_type-refl ty) bad
 
 -- ---- a relocate
 

@@ -4,12 +4,12 @@ use Rattle.std.proofs.Common.{◌≡◌, ◌∙◌, ℕ, zero, suc, ◌+◌, ◌
 use Rattle.std.specs.Prelude.{Option, Some, None, IfSome, is_some, slice_get, unwrap_or, filter, flat_map}
 use Rattle.std.specs.Option.{option_map_or}
 use Rattle.std.specs.Str.{bytes_eq}
-use Rattle.std.specs.List.{All, AllByRecursion, Contains, zip}
+use Rattle.std.specs.List.{All, AllByRecursion, zip}
 use Rattle.std.proofs.Math.Seq.{take-append_seam}
 use Rattle.std.proofs.lemmas.Bool.{cases_order}
 use Rattle.std.proofs.lemmas.Bool.Decides.{Decides-eqb}
 use Rattle.std.proofs.lemmas.Slice.Eq.{bytes_eq-Decides}
-use Rattle.std.proofs.lemmas.Option.{slice_get_within, same_Some}
+use Rattle.std.proofs.lemmas.Option.{same_Some}
 use Rattle.std.proofs.lemmas.List.{length-map, map-append, append-nil}
 use Rattle.std.proofs.lemmas.List.Elements.{All-contains, filter-append}
 use Rattle.sp_ids.specs.declared.ids.BlockId.{BlockId}
@@ -41,12 +41,13 @@ use Rattle.ir_lines.proofs.LawNames.{get_contained, get_taken}
 use Rattle.module_laws.proofs.LawFacts.{true-false}
 use Rattle.module_laws.proofs.LawTyped.{all-list}
 use Rattle.module_laws.proofs.LawValues.{given_by}
-use Rattle.module_laws.proofs.LawGroups.{get_front}
 use Rattle.module_laws.proofs.LawPlaces.{get_past, get_behind}
 use Rattle.module_laws.proofs.LawShapes.{is_part_op}
 use Rattle.module_laws.proofs.LawTokens.{names_before, point, names-at}
 use Rattle.read_back.specs.Said.{word_of, result_of, value_says, token_says, made_says, case_says, step_says, return_says, gc_result_says, gc_relocate_says, block_says, instruction_says, operator_says}
 use Rattle.read_back.proofs.BackLines.{said, cons_parts}
+use Rattle.read_back.proofs.BackInsts.{split_all}
+use Rattle.read_back.proofs.BackCases.{not_twice}
 use Rattle.read_back.proofs.BackBlocks.{cut, all_append, lines_all, flat-append}
 
 -- ---- joined lists cut where an element is
@@ -99,10 +100,6 @@ all_middle : {A : Type 0} (P : A → Type 0) (xs : List A) (y : A) (ys : List A)
 all_middle P [] y ys all = all.0
 all_middle P (x ∷ xs) y ys all = all_middle P xs y ys all.1
 
-all_parts : {A : Type 0} (P : A → Type 0) (xs ys : List A) → AllByRecursion P (xs ++ ys) → AllByRecursion P xs × AllByRecursion P ys
-all_parts P [] ys all = (tt, all)
-all_parts P (x ∷ xs) ys all = let more = all_parts P xs ys all.1 in ((all.0, more.0), more.1)
-
 -- the element with a place
 record Parted {A : Type 0} (xs : List A) (k : ℕ) (x : A) : Type 0 where
   front : List A
@@ -120,12 +117,6 @@ parted {A} (y ∷ ys) (suc k) x e =
 all_get : {A : Type 0} (P : A → Type 0) (xs ys : List A) → ((k : ℕ) → k < length xs → IfSome (slice_get (xs ++ ys) k) P) → AllByRecursion P xs
 all_get P [] ys each = tt
 all_get P (x ∷ xs) ys each = (each 0 (omega arith), all_get P xs ys (λ k below. each (suc k) (omega arith)))
-
-not_before : {A : Type 0} (xs : List A) (y : A) (ys : List A) → Distinct (xs ++ y ∷ ys) → ¬ (Contains xs y)
-not_before xs y ys once c =
-    let g = get_contained xs y c in
-    let below = slice_get_within xs g.0 y g.1 in
-    once g.0 (length xs) below (omega (arith, length-append xs (y ∷ ys))) (get_front xs (y ∷ ys) g.0 y g.1 ∙ sym (get_behind xs y ys))
 
 -- ---- the instruction of a part's line
 
@@ -306,7 +297,7 @@ within_block : (func : Function) (earlier later : List BasicBlock) (block : Basi
     → (token place : ℕ) (g : ModuleGroup func token place) → length (instructions_of earlier) ≤ place → length (instructions_of earlier) ≤ g.head
 within_block func [] later block are ends rest all token place g below = omega arith
 within_block func (b ∷ bs) later block are ends rest all token place g below =
-    let first = (all_parts (λ (one : BasicBlock). EndsAtTerminator one.insts) (b ∷ bs) (block ∷ later)
+    let first = (split_all (λ (one : BasicBlock). EndsAtTerminator one.insts) (b ∷ bs) (block ∷ later)
     (subst (AllByRecursion (λ (one : BasicBlock). EndsAtTerminator one.insts)) are ends)).0 in
     let none : ¬ (g.head < length (instructions_of (b ∷ bs))) =
     reaches_none func token place g (instructions_of (b ∷ bs)) rest all below (last_ends b bs first) in
@@ -460,7 +451,7 @@ group_said names one before rest whole values once front token sp parts e p name
             live = p.live;
             parts = ls;
             whole = whole_is ∙ ap (λ (xs : List Line). earlier ++ xs) line;
-            first = not_before (names_before one earlier) name (map (λ (n : Naming). n.name) (given_by (ls ++ rest))) (subst Distinct split once);
+            first = not_twice (names_before one earlier) name (map (λ (n : Naming). n.name) (given_by (ls ++ rest))) (subst Distinct split once);
             own = all-list (λ (k : Line). is_part name k.says) ls
                 (lines_all (IsPartOf names token) ls (flat_map (instruction_says names) parts) s.1 (parts_line names token parts own));
           };

@@ -1,6 +1,6 @@
 -- The lines that a target module is printed as have no fault of code 18 by themselves: what stands in no group asks for
 -- no token, and each statepoint has as many arguments as it counts.
-use Rattle.std.proofs.Common.{◌≡◌, ◌∙◌, ℕ, suc, Bool, true, false, not, ◌||◌, List, [], ◌∷◌, ◌++◌, map, length, take, drop, refl, ap, sym}
+use Rattle.std.proofs.Common.{◌≡◌, ◌∙◌, ℕ, suc, true, false, not, List, [], ◌∷◌, ◌++◌, map, length, take, drop, refl, ap, sym}
 use Rattle.std.specs.Prelude.{Option, Some, None, ⊤, filter_map, flat_map}
 use Rattle.std.specs.List.{All, AllByRecursion, list_any, zip}
 use Rattle.std.proofs.lemmas.List.{length-map}
@@ -41,6 +41,7 @@ use Rattle.read_back.proofs.BackLines.{said}
 use Rattle.read_back.proofs.BackBlocks.{all_append, lines_all}
 use Rattle.read_back.proofs.BackModules.{IsShaped, names_in}
 use Rattle.read_back.proofs.BackFaults.{printed_from, blocks_pass}
+use Rattle.read_back.proofs.BackEntry.{or_false}
 
 -- ---- what fits a type that isn't a token's is no token
 
@@ -54,9 +55,6 @@ named_value word (Some one) fit asks = ap (λ (w : TypeWord). same_type w token_
 no_token : (scope : Scope) (value : Val) (word : TypeWord) → fits scope word value ≡ true → same_type word token_type ≡ false → names_token scope value ≡ false
 no_token scope (values.local name) word fit asks = named_value word (value_named scope name) fit asks
 no_token scope _ word fit asks = refl
-
-or_false : (a b : Bool) → a ≡ false → b ≡ false → (a || b) ≡ false
-or_false a b e f = ap (λ (x : Bool). x || b) e ∙ f
 
 none_used : (scope : Scope) (us : List (Val × TypeWord)) → list_any (λ used. not (fits scope used.1 used.0)) us ≡ false → AllByRecursion AsksValue us
     → list_any (λ used. names_token scope used.0) us ≡ false
