@@ -17,7 +17,6 @@ use Rattle.ir_ast.specs.declared.ops.Elem.{Elem}
 use Rattle.ir_ast.specs.declared.ops.Elem.TheVariants as elements
 use Rattle.ir_ast.specs.declared.ops.Operand.{Operand}
 use Rattle.ir_ast.specs.Insts.{Instruction}
-use Rattle.ir_ast.specs.Lines.{is_rewritten}
 use Rattle.ir_ast.specs.Blocks.{BasicBlock}
 use Rattle.ir_ast.specs.Layouts.{ObjectLayout}
 use Rattle.ir_ast.specs.Funcs.{Function, instructions_of}
@@ -31,7 +30,6 @@ use Rattle.ir_printer.specs.declared.declarations.External.TheVariants as extern
 use Rattle.ir_reader.specs.declared.readings.TypeWord.{TypeWord}
 use Rattle.ir_reader.specs.declared.readings.TypeWord.TheVariants as types
 use Rattle.ir_lines.specs.Statements.{Line, Statement, layout, declare, define, close, label, switch_end}
-use Rattle.ir_lines.specs.Parts.{is_of_group}
 use Rattle.ir_lines.specs.Sections.{Definition, definitions_of, types_of}
 use Rattle.ir_lines.specs.Externals.{external, gc_new, makers_of, externals_of, own_externals, helpers}
 use Rattle.ir_lines.specs.Faults.UnknownExtern.{UnknownExtern}
@@ -279,36 +277,11 @@ no_cast_return names (tys.Int w) inst = refl
 no_cast_return names tys.Ptr inst = refl
 no_cast_return names tys.Token inst = refl
 
-pub no_cast_inst : (names : Names) (op : Op) (inst : Instruction) → AllByRecursion (Passes is_cast) (operator_says names op inst)
+no_cast_inst : (names : Names) (op : Op) (inst : Instruction) → AllByRecursion (Passes is_cast) (operator_says names op inst)
 no_cast_inst names (ops.Gep elem width place) inst = (no_cast_step names elem width place inst, tt)
 no_cast_inst names ops.Ret inst = (no_cast_return names inst.ty inst, tt)
 no_cast_inst names ops.Switch inst = (refl, no_cast_cases names inst.ty (zip (drop 1 inst.operands) (drop 1 inst.labels)))
 no_cast_inst names _ inst = (refl, tt)
-
--- nor is any of a statepoint group
-no_group_cases : (names : Names) (ty : Ty) (es : List (Operand × BlockId)) → AllByRecursion (Passes is_of_group) (map (case_says names ty) es ++ switch_end ∷ [])
-no_group_cases names ty [] = (refl, tt)
-no_group_cases names ty (e ∷ es) = (refl, no_group_cases names ty es)
-
-no_group_step : (names : Names) (elem : Elem) (width : ℕ) (place : Option ℕ) (inst : Instruction) → Passes is_of_group (step_says names elem width place inst)
-no_group_step names (elements.Int w) width place inst = refl
-no_group_step names elements.Ptr width place inst = refl
-no_group_step names (elements.Layout l) width place inst = refl
-
-no_group_return : (names : Names) (ty : Ty) (inst : Instruction) → Passes is_of_group (return_says names ty inst)
-no_group_return names tys.Void inst = refl
-no_group_return names (tys.Int w) inst = refl
-no_group_return names tys.Ptr inst = refl
-no_group_return names tys.Token inst = refl
-
-pub no_group_inst : (names : Names) (op : Op) (inst : Instruction) → is_rewritten op ≡ false → AllByRecursion (Passes is_of_group) (operator_says names op inst)
-no_group_inst names (ops.Gep elem width place) inst plain = (no_group_step names elem width place inst, tt)
-no_group_inst names ops.Ret inst plain = (no_group_return names inst.ty inst, tt)
-no_group_inst names ops.Switch inst plain = (refl, no_group_cases names inst.ty (zip (drop 1 inst.operands) (drop 1 inst.labels)))
-no_group_inst names (ops.Statepoint id callee ts) inst plain = absurd (let bad : true ≡ false = plain in cc)
-no_group_inst names ops.GcResult inst plain = absurd (let bad : true ≡ false = plain in cc)
-no_group_inst names ops.GcRelocate inst plain = absurd (let bad : true ≡ false = plain in cc)
-no_group_inst names _ inst plain = (refl, tt)
 
 pub pointer_cast-clear : (content : ModuleContent) (lines : List Line) → said lines ≡ said_by content → (line : ℕ) → ¬ (PointerCast lines line)
 pointer_cast-clear content lines e line f =

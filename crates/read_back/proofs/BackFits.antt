@@ -1,5 +1,5 @@
 -- The operands of the lines that a module is printed as fit what the lines ask of them.
-use Rattle.std.proofs.Common.{◌≡◌, ◌∙◌, ◌⊎◌, inl, inr, ℕ, suc, ◌+◌, ◌-◌, ◌*◌, ◌^◌, ◌<◌, ◌≤◌, Bool, true, false, not, ◌||◌, ◌&&◌, ◌==◌, ℤ, pos, negsuc, ◌-ℤ◌, nat_lt, nat_le, if◌then◌else◌, List, [], ◌∷◌, ◌++◌, map, length, drop, replicate, refl, ap, sym, subst, arith}
+use Rattle.std.proofs.Common.{◌≡◌, ◌∙◌, ℕ, suc, ◌+◌, ◌-◌, ◌*◌, ◌^◌, ◌<◌, ◌≤◌, Bool, true, false, not, ◌||◌, ◌==◌, ℤ, pos, negsuc, ◌-ℤ◌, nat_lt, nat_le, if◌then◌else◌, List, [], ◌∷◌, ◌++◌, map, length, drop, replicate, refl, ap, sym, subst, arith}
 use Rattle.std.specs.Prelude.{Option, Some, None, is_none, find, flat_map, take, filter_map, slice_get, option_map}
 use Rattle.std.specs.Option.{option_map_or}
 use Rattle.std.specs.Str.{bytes_eq}
@@ -12,7 +12,6 @@ use Rattle.std.proofs.lemmas.List.{length-map}
 use Rattle.std.proofs.lemmas.List.Elements.{All-head, All-from_recursion, recursion_from_All, All-contains}
 use Rattle.sp_ids.specs.Numbers.{wrapped, signed}
 use Rattle.sp_ids.specs.declared.ids.BlockId.{BlockId}
-use Rattle.sp_ids.specs.declared.ids.FuncId.{FuncId}
 use Rattle.sp_ids.specs.declared.ids.ValueId.{ValueId}
 use Rattle.ir_ast.specs.declared.modules.Form.{Form}
 use Rattle.ir_ast.specs.declared.types.Ty.{Ty}
@@ -28,7 +27,7 @@ use Rattle.ir_ast.specs.Insts.{Instruction}
 use Rattle.ir_ast.specs.Funcs.{Function}
 use Rattle.ir_ast.specs.Modules.{ModuleContent}
 use Rattle.ir_ast.specs.Lists.{Distinct}
-use Rattle.ir_ast.specs.Types.{is_void, is_integer, is_first_class, is_answer}
+use Rattle.ir_ast.specs.Types.{is_void, is_integer, is_answer}
 use Rattle.ir_ast.specs.Operands.{is_value, functions_named as functions_in}
 use Rattle.ir_ast.specs.Lines.{Has, StartsWithToken, IsRelocated}
 use Rattle.ir_ast.specs.Widths.{IsWidth, type_widths, operator_widths}
@@ -55,7 +54,6 @@ use Rattle.ir_lines.specs.Types.{same_type, is_within, naming_fits, takes_null, 
 use Rattle.ir_lines.specs.InBody.{InBody}
 use Rattle.ir_lines.specs.Faults.TypeClash.{misfits}
 use Rattle.ir_lines.proofs.LawNames.{stands}
-use Rattle.module_laws.proofs.LawFacts.{and-right}
 use Rattle.read_back.specs.Said.{literal_of, word_of, width_in, value_says, passed_says, value_at, target_at, entry_says, binary_says, compare_says, convert_says, select_says, phi_says, step_says, load_says, store_says, call_says, token_says, number_says, statepoint_says, gc_result_says, gc_relocate_says, branch_says, case_says, return_says, operator_says, said_by}
 use Rattle.read_back.proofs.BackLines.{said, at, integer-word, condition-is, one_given, two_given, three_given}
 use Rattle.read_back.proofs.BackLists.{each_given, Passes}
@@ -146,15 +144,14 @@ all_typed content shaped lines one func says c k ty there =
 
 -- ---- operands
 
-value_fits : (scope : Scope) (names : Names) → Typed scope names → (ty : Ty) (o : Operand) → Good names o ty → is_first_class ty ≡ true
-    → fits scope (word_of ty) (value_says names ty o) ≡ true
-value_fits scope names k ty (operands.Value v) g first = k v.0 ty g.fits
-value_fits scope names k ty operands.Null g first = ap (λ (t : Ty). takes_null (word_of t)) g.fits
-value_fits scope names k ty (operands.Fun f) g first = absurd (let bad : false ≡ true = g.value in cc)
-value_fits scope names k tys.Void (operands.Int n) g first = absurd (let bad : false ≡ true = first in cc)
-value_fits scope names k tys.Ptr (operands.Int n) g first = absurd (let e : tys.Ptr ≡ tys.Int g.fits.0 = g.fits.1 in cc)
-value_fits scope names k tys.Token (operands.Int n) g first = absurd (let bad : false ≡ true = first in cc)
-value_fits scope names k (tys.Int w) (operands.Int n) g first = by (w == 1) refl
+value_fits : (scope : Scope) (names : Names) → Typed scope names → (ty : Ty) (o : Operand) → Good names o ty → fits scope (word_of ty) (value_says names ty o) ≡ true
+value_fits scope names k ty (operands.Value v) g = k v.0 ty g.fits
+value_fits scope names k ty operands.Null g = ap (λ (t : Ty). takes_null (word_of t)) g.fits
+value_fits scope names k ty (operands.Fun f) g = absurd (let bad : false ≡ true = g.value in cc)
+value_fits scope names k tys.Void (operands.Int n) g = absurd (let e : tys.Void ≡ tys.Int g.fits.0 = g.fits.1 in cc)
+value_fits scope names k tys.Ptr (operands.Int n) g = absurd (let e : tys.Ptr ≡ tys.Int g.fits.0 = g.fits.1 in cc)
+value_fits scope names k tys.Token (operands.Int n) g = absurd (let e : tys.Token ≡ tys.Int g.fits.0 = g.fits.1 in cc)
+value_fits scope names k (tys.Int w) (operands.Int n) g = by (w == 1) refl
   where
     inner : (width : ℕ) → tys.Int w ≡ tys.Int width → w ≡ width
     inner width e = grind (arith, e)
@@ -174,16 +171,10 @@ fit_by : (scope : Scope) (us : List (Val × TypeWord)) → AllByRecursion (IsFit
 fit_by scope [] h = refl
 fit_by scope (u ∷ us) h = ap (λ (b : Bool). not b || list_any (λ (used : Val × TypeWord). not (fits scope used.1 used.0)) us) h.0 ∙ fit_by scope us h.1
 
-integer_first : (ty : Ty) → is_integer ty ≡ true → is_first_class ty ≡ true
-integer_first (tys.Int w) e = refl
-integer_first tys.Void e = e
-integer_first tys.Ptr e = refl
-integer_first tys.Token e = e
-
 integer_fits : (scope : Scope) (names : Names) → Typed scope names → (ty : Ty) (o : Operand) → Good names o ty → is_integer ty ≡ true
     → fits scope (types.Int (width_in ty)) (value_says names ty o) ≡ true
 integer_fits scope names k ty o g is =
-    ap (λ (w : TypeWord). fits scope w (value_says names ty o)) (integer-word ty is) ∙ value_fits scope names k ty o g (integer_first ty is)
+    ap (λ (w : TypeWord). fits scope w (value_says names ty o)) (integer-word ty is) ∙ value_fits scope names k ty o g
 
 -- ---- the lines by their forms
 
@@ -205,12 +196,12 @@ convert_fit scope names k op to inst has good =
     let one = one_given (Good names) inst.operands inst.ty good in
     (fit_by scope (uses (convert_says names op to inst)) (integer_fits scope names k inst.ty (operand_at inst 0) one.first has.type, tt), tt)
 
-entries_fit : (scope : Scope) (names : Names) → Typed scope names → (ty : Ty) (os : List Operand) (ls : List BlockId) → is_first_class ty ≡ true
+entries_fit : (scope : Scope) (names : Names) → Typed scope names → (ty : Ty) (os : List Operand) (ls : List BlockId)
     → AllByRecursion (λ o. Good names o ty) os
     → AllByRecursion (IsFit scope) (map (entry_use (word_of ty)) (map (entry_says names ty) (zip os ls)))
-entries_fit scope names k ty [] ls first good = tt
-entries_fit scope names k ty (o ∷ os) [] first good = tt
-entries_fit scope names k ty (o ∷ os) (l ∷ ls) first good = (value_fits scope names k ty o good.0 first, entries_fit scope names k ty os ls first good.1)
+entries_fit scope names k ty [] ls good = tt
+entries_fit scope names k ty (o ∷ os) [] good = tt
+entries_fit scope names k ty (o ∷ os) (l ∷ ls) good = (value_fits scope names k ty o good.0, entries_fit scope names k ty os ls good.1)
 
 cases_fit : (scope : Scope) (names : Names) → Typed scope names → (ty : Ty) (os : List Operand) (ls : List BlockId) → is_integer ty ≡ true
     → AllByRecursion (λ o. Good names o ty) os → AllByRecursion (Fit scope) (map (case_says names ty) (zip os ls) ++ switch_end ∷ [])
@@ -237,7 +228,7 @@ step_fit scope names k elem width place inst good = by elem
     both : AllByRecursion (IsFit scope) ((value_at names tys.Ptr inst 0, types.Managed) ∷ (value_at names (tys.Int width) inst 1, types.Int width) ∷ [])
     both =
         let two = two_given (Good names) inst.operands tys.Ptr (tys.Int width) good in
-        (value_fits scope names k tys.Ptr (operand_at inst 0) two.first refl, (value_fits scope names k (tys.Int width) (operand_at inst 1) two.second refl, tt))
+        (value_fits scope names k tys.Ptr (operand_at inst 0) two.first, (value_fits scope names k (tys.Int width) (operand_at inst 1) two.second, tt))
 
     by : (elem : Elem) → Fit scope (step_says names elem width place inst)
     by (elements.Int w) = fit_by scope (uses (step_says names (elements.Int w) width place inst)) both
@@ -249,20 +240,16 @@ return_fit : (scope : Scope) (names : Names) → Typed scope names → (ty : Ty)
 return_fit scope names k tys.Void inst answer count good = refl
 return_fit scope names k (tys.Int w) inst answer count good =
     let parts = first_and_rest inst.operands (λ o. Good names o (tys.Int w)) (omega arith) good in
-    fit_by scope (uses (return_says names (tys.Int w) inst)) (value_fits scope names k (tys.Int w) (operand_at inst 0) parts.0 refl, tt)
+    fit_by scope (uses (return_says names (tys.Int w) inst)) (value_fits scope names k (tys.Int w) (operand_at inst 0) parts.0, tt)
 return_fit scope names k tys.Ptr inst answer count good =
     let parts = first_and_rest inst.operands (λ o. Good names o tys.Ptr) (omega arith) good in
-    fit_by scope (uses (return_says names tys.Ptr inst)) (value_fits scope names k tys.Ptr (operand_at inst 0) parts.0 refl, tt)
+    fit_by scope (uses (return_says names tys.Ptr inst)) (value_fits scope names k tys.Ptr (operand_at inst 0) parts.0, tt)
 return_fit scope names k tys.Token inst answer count good = absurd (let bad : false ≡ true = answer in cc)
 
 -- ---- calls
 
-passed_good : (names : Names) (o : Operand) (ty : Ty) → is_value o ≡ true → Passes names o ty → Good names o ty × (is_first_class ty ≡ true)
-passed_good names o ty is p = by p.argument
-  where
-    by : (is_value o && is_first_class ty) ≡ true ⊎ ((func : FuncId) × (o ≡ operands.Fun func)) → Good names o ty × (is_first_class ty ≡ true)
-    by (inl e) = (record { fits = p.fits; value = is; widths = p.widths }, and-right (is_value o) (is_first_class ty) e)
-    by (inr f) = absurd (let bad : true ≡ false = sym is ∙ ap is_value f.1 in cc)
+passed_good : (names : Names) (o : Operand) (ty : Ty) → is_value o ≡ true → Passes names o ty → Good names o ty
+passed_good names o ty is p = record { fits = p.fits; value = is; widths = p.widths }
 
 passed_fit : (scope : Scope) (names : Names) → Typed scope names → (os : List Operand) (ts : List Ty) → AllZip (Passes names) os ts
     → AllByRecursion (IsFit scope) (filter_map passed_value (map (λ (argument : Ty × Operand). passed_says names argument.0 argument.1) (zip ts os)))
@@ -270,11 +257,11 @@ passed_fit scope names k [] [] p = tt
 passed_fit scope names k [] (t ∷ ts) p = tt
 passed_fit scope names k (o ∷ os) [] p = tt
 passed_fit scope names k (operands.Value v ∷ os) (t ∷ ts) p =
-    let g = passed_good names (operands.Value v) t refl p.0 in (value_fits scope names k t (operands.Value v) g.0 g.1, passed_fit scope names k os ts p.1)
+    (value_fits scope names k t (operands.Value v) (passed_good names (operands.Value v) t refl p.0), passed_fit scope names k os ts p.1)
 passed_fit scope names k (operands.Int n ∷ os) (t ∷ ts) p =
-    let g = passed_good names (operands.Int n) t refl p.0 in (value_fits scope names k t (operands.Int n) g.0 g.1, passed_fit scope names k os ts p.1)
+    (value_fits scope names k t (operands.Int n) (passed_good names (operands.Int n) t refl p.0), passed_fit scope names k os ts p.1)
 passed_fit scope names k (operands.Null ∷ os) (t ∷ ts) p =
-    let g = passed_good names operands.Null t refl p.0 in (value_fits scope names k t operands.Null g.0 g.1, passed_fit scope names k os ts p.1)
+    (value_fits scope names k t operands.Null (passed_good names operands.Null t refl p.0), passed_fit scope names k os ts p.1)
 passed_fit scope names k (operands.Fun f ∷ os) (t ∷ ts) p = passed_fit scope names k os ts p.1
 
 call_fit : {of : Form} (scope : Scope) (names : Names) → Typed scope names → (callee : Callee) (ts : List Ty) (inst : Instruction) → IsPrintedIn of names (ops.Call callee ts) inst
@@ -293,7 +280,7 @@ call_fit scope names k callee ts inst p =
 live_fit : (scope : Scope) (names : Names) → Typed scope names → (os : List Operand) → AllByRecursion (λ (o : Operand). Good names o tys.Ptr) os
     → AllByRecursion (IsFit scope) (map live_use (map (value_says names tys.Ptr) os))
 live_fit scope names k [] good = tt
-live_fit scope names k (o ∷ os) good = (value_fits scope names k tys.Ptr o good.0 refl, live_fit scope names k os good.1)
+live_fit scope names k (o ∷ os) good = (value_fits scope names k tys.Ptr o good.0, live_fit scope names k os good.1)
 
 statepoint_fit : {of : Form} (scope : Scope) (names : Names) → Typed scope names → (id : ℕ) (callee : Callee) (ts : List Ty) (inst : Instruction)
     → IsPrintedIn of names (ops.Statepoint id callee ts) inst → Fit scope (statepoint_says names id callee ts inst)
@@ -368,7 +355,7 @@ inst_fit scope names k ops.Ashr inst p = binary_fit scope names k binaries.Ashr 
 inst_fit scope names k (ops.Icmp pred) inst p =
     let two = two_given (Good names) inst.operands inst.ty inst.ty (same_good names inst 2 p.line.operand_count p.line.values p.widths p.fits) in (
       fit_by scope (uses (compare_says names pred inst))
-          (value_fits scope names k inst.ty (operand_at inst 0) two.first p.line.type, (value_fits scope names k inst.ty (operand_at inst 1) two.second p.line.type, tt)),
+          (value_fits scope names k inst.ty (operand_at inst 0) two.first, (value_fits scope names k inst.ty (operand_at inst 1) two.second, tt)),
       tt,
     )
 inst_fit scope names k (ops.Trunc to) inst p = convert_fit scope names k conversions.Trunc to inst p.line (convert_good names inst p.line p.widths p.fits)
@@ -378,14 +365,14 @@ inst_fit scope names k ops.Select inst p =
     let three = three_given (Good names) inst.operands (tys.Int 1) inst.ty inst.ty
     (good_zip names inst.operands (tys.Int 1 ∷ inst.ty ∷ inst.ty ∷ []) p.fits p.line.values (one_width, (p.widths, (p.widths, tt)))) in (
       fit_by scope (uses (select_says names inst)) (
-        value_fits scope names k (tys.Int 1) (operand_at inst 0) three.first refl,
-        (value_fits scope names k inst.ty (operand_at inst 1) three.second p.line.type, (value_fits scope names k inst.ty (operand_at inst 2) three.third p.line.type, tt)),
+        value_fits scope names k (tys.Int 1) (operand_at inst 0) three.first,
+        (value_fits scope names k inst.ty (operand_at inst 1) three.second, (value_fits scope names k inst.ty (operand_at inst 2) three.third, tt)),
       ),
       tt,
     )
 inst_fit scope names k ops.Phi inst p = (
   fit_by scope (uses (phi_says names inst))
-      (entries_fit scope names k inst.ty inst.operands inst.labels p.line.0.type (all_good names inst p.line.0.values p.widths p.fits)),
+      (entries_fit scope names k inst.ty inst.operands inst.labels (all_good names inst p.line.0.values p.widths p.fits)),
   tt,
 )
 inst_fit scope names k (ops.Gep elem width place) inst p = (
@@ -396,12 +383,12 @@ inst_fit scope names k (ops.Gep elem width place) inst p = (
 )
 inst_fit scope names k ops.Load inst p =
     let one = one_given (Good names) inst.operands tys.Ptr (good_zip names inst.operands (tys.Ptr ∷ []) p.fits p.line.values (pointer_width, tt)) in
-    (fit_by scope (uses (load_says names inst)) (value_fits scope names k tys.Ptr (operand_at inst 0) one.first refl, tt), tt)
+    (fit_by scope (uses (load_says names inst)) (value_fits scope names k tys.Ptr (operand_at inst 0) one.first, tt), tt)
 inst_fit scope names k ops.Store inst p =
     let two = two_given (Good names) inst.operands inst.ty tys.Ptr
     (good_zip names inst.operands (inst.ty ∷ tys.Ptr ∷ []) p.fits p.line.values (p.widths, (pointer_width, tt))) in (
       fit_by scope (uses (store_says names inst))
-          (value_fits scope names k inst.ty (operand_at inst 0) two.first p.line.type, (value_fits scope names k tys.Ptr (operand_at inst 1) two.second refl, tt)),
+          (value_fits scope names k inst.ty (operand_at inst 0) two.first, (value_fits scope names k tys.Ptr (operand_at inst 1) two.second, tt)),
       tt,
     )
 inst_fit scope names k (ops.Call callee ts) inst p = (call_fit scope names k callee ts inst p, tt)
@@ -409,7 +396,7 @@ inst_fit scope names k ops.Br inst p = (refl, tt)
 inst_fit scope names k ops.CondBr inst p =
     let one = one_given (Good names) inst.operands inst.ty (same_good names inst 1 p.line.operand_count p.line.values p.widths p.fits) in
     let given : Good names (operand_at inst 0) (tys.Int 1) = subst (λ (t : Ty). Good names (operand_at inst 0) t) (sym (condition-is inst.ty p.line.type)) one.first in
-    (fit_by scope (uses (branch_says names inst)) (value_fits scope names k (tys.Int 1) (operand_at inst 0) given refl, tt), tt)
+    (fit_by scope (uses (branch_says names inst)) (value_fits scope names k (tys.Int 1) (operand_at inst 0) given, tt), tt)
 inst_fit scope names k ops.Switch inst p =
     let parts = first_and_rest inst.operands (λ o. Good names o inst.ty) p.line.1 (all_good names inst p.line.0.values p.widths p.fits) in (
       fit_by scope (uses (switch (width_in inst.ty) (value_at names inst.ty inst 0) (target_at names inst 0)))
