@@ -12,6 +12,3 @@ mod spans;
 mod uses;
 
 pub use faults::definite;
-
-#[cfg(test)]
-mod tests;

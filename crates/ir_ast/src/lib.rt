@@ -23,6 +23,3 @@ pub use names::Name;
 pub use ops::{Callee, Elem, Op, Operand, Operands, Pred};
 pub use tables::{BaseTable, LiveTable};
 pub use types::{Ty, Types};
-
-#[cfg(test)]
-mod tests;

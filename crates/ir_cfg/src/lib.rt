@@ -6,8 +6,6 @@ mod graphs;
 mod reach;
 mod renumber;
 mod rows;
-#[cfg(test)]
-mod tests;
 mod turned;
 mod unreached;
 

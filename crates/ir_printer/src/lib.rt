@@ -15,6 +15,3 @@ mod words;
 
 pub use declarations::External;
 pub use texts::print;
-
-#[cfg(test)]
-mod tests;

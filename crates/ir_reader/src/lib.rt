@@ -37,6 +37,3 @@ pub use readings::{
 };
 pub use text::{read, read_rewritten};
 pub use words::{Binary, Cast, Conversion};
-
-#[cfg(test)]
-mod tests;

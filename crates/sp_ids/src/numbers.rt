@@ -34,25 +34,3 @@ fn ones(width: u32) -> u64
     let highest = 1u64 << (width - 1);
     highest - 1 + highest
 }
-
-#[cfg(test)]
-mod tests {
-    use super::*;
-
-    #[test]
-    fn wraps(rt: HostRuntime) {
-        assert_eq!(rt; wrap(1, 2), 0);
-        assert_eq!(rt; wrap(1, 3), 1);
-        assert_eq!(rt; wrap(63, u64::MAX), 9_223_372_036_854_775_807);
-        assert_eq!(rt; wrap(64, u64::MAX), u64::MAX);
-    }
-
-    #[test]
-    fn signs(rt: HostRuntime) {
-        assert_eq!(rt; sign(1, 1), -1);
-        assert_eq!(rt; sign(1, 2), 0);
-        assert_eq!(rt; sign(63, 1 << 62), -4_611_686_018_427_387_904);
-        assert_eq!(rt; sign(64, u64::MAX), -1);
-        assert_eq!(rt; sign(64, 1 << 63), i64::MIN);
-    }
-}

@@ -8,6 +8,3 @@ mod tokens;
 
 pub use lines::{Line, Lines};
 pub use tokens::{BadByte, Kind, Token};
-
-#[cfg(test)]
-mod tests;

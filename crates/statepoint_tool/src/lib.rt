@@ -10,8 +10,6 @@ mod request;
 mod run;
 mod show;
 mod status;
-#[cfg(test)]
-mod tests;
 mod top;
 mod words;
 

@@ -124,29 +124,3 @@ impl Files for MemFiles {
         taken
     }
 }
-
-#[cfg(test)]
-mod tests {
-    use super::*;
-    use std::test::Fail;
-
-    #[test]
-    fn fails_where_told(rt: HostRuntime) -> Result<(), Fail> {
-        let alloc = rt.alloc();
-        let mut files = MemFiles::new(alloc);
-        files.add("m.ll", b"abc")?;
-        files.add("input", b"")?;
-        files.fail_take(3)?;
-        assert_eq!(rt; files.take(alloc, "m.ll", 3)?.as_slice(), b"abc".as_slice());
-        assert_eq!(rt; files.take(alloc, "input", 0)?.as_slice(), b"".as_slice());
-        assert_eq!(rt; files.take(alloc, "m.ll", 3).err(), Some(TakeFault::Failed));
-        assert_eq!(rt;
-            files.take(alloc, "m.ll", 2).err(),
-            Some(TakeFault::TooLong)
-        );
-        assert_eq!(rt; files.take(alloc, "plan", 2).err(), Some(TakeFault::Failed));
-        assert_eq!(rt; files.faults.as_slice(), [1, 0].as_slice());
-        assert_eq!(rt; files.other_faults, 1);
-        Ok(())
-    }
-}

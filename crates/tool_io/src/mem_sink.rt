@@ -114,26 +114,3 @@ impl Sink for MemSink {
         }
     }
 }
-
-#[cfg(test)]
-mod tests {
-    use super::*;
-    use std::test::Fail;
-
-    #[test]
-    fn fails_where_told(rt: HostRuntime) -> Result<(), Fail> {
-        let mut sink = MemSink::new(rt.alloc(), 6)?;
-        sink.fail_put(2, 1)?;
-        sink.fail_put(4, 9)?;
-        assert_eq!(rt; sink.put(b"ab"), Ok(()));
-        assert_eq!(rt; sink.put(b"cd"), Err(Failed));
-        assert_eq!(rt; sink.bytes(), b"abc".as_slice());
-        assert_eq!(rt; sink.put(b"defg"), Err(Failed), "no room");
-        assert_eq!(rt; sink.put(b"d"), Err(Failed));
-        assert_eq!(rt; sink.bytes(), b"abcd".as_slice());
-        assert_eq!(rt; sink.put(b"ef"), Ok(()));
-        assert_eq!(rt; sink.bytes(), b"abcdef".as_slice());
-        assert_eq!(rt; sink.faults, 3);
-        Ok(())
-    }
-}

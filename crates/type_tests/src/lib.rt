@@ -1,5 +1,2 @@
 //! Tests of typing whole texts.
 #![tactic(auto)]
-
-#[cfg(test)]
-mod tests;
