@@ -1,2 +1,0 @@
-//! Tests of typing whole texts.
-#![tactic(auto)]
