@@ -1,9 +1,9 @@
 -- Jumps, calls and returns: the interpreter's frames are the meaning's.
-use Rattle.std.proofs.Common.{◌≡◌, ℕ, ℤ, zero, suc, ◌+◌, ◌-◌, ◌<◌, Bool, true, false, List, [], ◌∷◌, ◌++◌, length, map, take, drop, replicate, refl, sym, ap, ◌∙◌}
+use Rattle.std.proofs.Common.{◌≡◌, ℕ, ℤ, zero, suc, ◌-◌, true, List, [], ◌∷◌, length, map, take, replicate, refl, sym, ap, ◌∙◌}
 use Rattle.std.specs.Prelude.{Some, None, slice_get}
 use Rattle.std.proofs.lemmas.List.{map-append, length-map}
 use Rattle.sp_ids.specs.Numbers.{signed}
-use Rattle.sp_ids.specs.declared.ends.End.TheVariants.{Return, Trap}
+use Rattle.sp_ids.specs.declared.ends.End.TheVariants.{Return}
 use Rattle.ir_ast.specs.declared.ops.Op.{Op}
 use Rattle.ir_ast.specs.declared.ops.Op.TheVariants.{Statepoint}
 use Rattle.ir_ast.specs.declared.ops.Operand.{Operand}
@@ -14,15 +14,14 @@ use Rattle.ir_meaning.specs.declared.spots.Due.TheVariants.{Front, Behind}
 use Rattle.ir_meaning.specs.declared.spots.Spot.{Spot}
 use Rattle.ir_meaning.specs.declared.words.Word.{Word}
 use Rattle.ir_meaning.specs.declared.words.Word.TheVariants.{Number}
-use Rattle.ir_meaning.specs.Lines.{Line, numbered, insts_of, lines_of, first_register, register_count}
-use Rattle.ir_meaning.specs.Registers.{nothing, value, number_in, put}
-use Rattle.ir_meaning.specs.States.{Frame, State, goes_on, ends}
-use Rattle.ir_meaning.specs.Frames.{entered, answered_by, answered_at, resumed}
-use Rattle.ir_meaning.specs.Jumps.{arrived, jumped}
-use Rattle.ir_meaning.specs.Calls.{entering}
-use Rattle.ir_meaning.specs.Steps.{returned}
+use Rattle.object_meaning.specs.Lines.{Line, numbered, insts_of, lines_of, first_register, register_count}
+use Rattle.object_meaning.specs.Registers.{nothing, value, number_in, put}
+use Rattle.object_meaning.specs.States.{Frame, State, goes_on, ends}
+use Rattle.object_meaning.specs.Frames.{entered, answered_by, answered_at, resumed}
+use Rattle.object_meaning.specs.Jumps.{arrived, jumped}
+use Rattle.object_meaning.specs.Steps.{returned}
 use Rattle.ir_meaning.specs.Stages.{runs_today}
-use Rattle.ir_meaning.specs.Stacks.{Seen, Frames, frame_of, word, waiting_spot, lines_at, lines_behind, passed_frame, phis_of, moves_of, moved, arrived_frames, entered_frames}
+use Rattle.ir_meaning.specs.Stacks.{Seen, Frames, frame_of, word, waiting_spot, lines_at, lines_behind, passed_frame, phis_of, moves_of, arrived_frames, entered_frames}
 use Rattle.ir_meaning.specs.Words.{datum}
 use Rattle.ir_meaning.specs.Machines.{state_from, today}
 use Rattle.ir_meaning.proofs.WordLemmas.{words_are, moves_are}

@@ -1,4 +1,3 @@
-pub mod ListLemmas
 pub mod LineLemmas
 pub mod WordLemmas
 pub mod PhiLemmas
@@ -6,7 +5,5 @@ pub mod RegisterLemmas
 pub mod StackLemmas
 pub mod FrameLemmas
 pub mod RunLemmas
-pub mod EndLaws
 pub mod ReadyLemmas
-pub mod NumberLemmas
 pub mod OpeningLemmas

@@ -1,31 +1,31 @@
 -- The lines at which a frame of the interpreter stands, and the step there.
-use Rattle.std.proofs.Common.{◌≡◌, ℕ, ℤ, ◌+◌, Bool, true, false, List, [], ◌∷◌, map, drop, refl, sym, ap, ◌∙◌}
+use Rattle.std.proofs.Common.{◌≡◌, ℕ, ℤ, true, false, List, [], ◌∷◌, map, drop, refl, sym, ap, ◌∙◌}
 use Rattle.std.specs.Prelude.{Some, None, slice_get, Result, Ok, Err}
 use Rattle.sp_ids.specs.declared.ends.Trap.{Trap as Kind}
 use Rattle.ir_ast.specs.Objects.{Datum}
-use Rattle.ir_meaning.specs.Computing.{computed, value_of_line}
-use Rattle.ir_meaning.specs.Registers.{operand}
+use Rattle.object_meaning.specs.Computing.{computed, value_of_line}
+use Rattle.object_meaning.specs.Registers.{operand}
 use Rattle.tool_io.specs.Counts.{raised}
 use Rattle.ir_ast.specs.Insts.{Instruction}
 use Rattle.ir_ast.specs.Modules.{ModuleContent}
 use Rattle.std.specs.Int.{w64, cast_unsigned}
-use Rattle.ir_meaning.specs.Calls.{taking}
+use Rattle.object_meaning.specs.Calls.{taking}
 use Rattle.ir_meaning.specs.declared.words.Word.TheVariants.{Number}
 use Rattle.ir_meaning.specs.declared.spots.Due.{Due}
 use Rattle.ir_meaning.specs.declared.spots.Due.TheVariants.{Front, Line as Next, Behind}
 use Rattle.ir_meaning.specs.declared.spots.Spot.{Spot}
 use Rattle.ir_meaning.specs.declared.words.Word.{Word}
-use Rattle.ir_meaning.specs.Lines.{Line, poll, numbered, retreats, insts_of}
-use Rattle.ir_meaning.specs.States.{State, Setting, Effect, goes_on, ends}
-use Rattle.ir_meaning.specs.Frames.{passed}
-use Rattle.ir_meaning.specs.Steps.{step, steps_at, acts, settled}
-use Rattle.ir_meaning.specs.Stacks.{Seen, Frames, word_at, passed_frame, waiting_spot, lines_at, lines_behind}
+use Rattle.object_meaning.specs.Lines.{Line, poll, numbered, retreats, insts_of}
+use Rattle.object_meaning.specs.States.{State, goes_on, ends}
+use Rattle.object_meaning.specs.Frames.{passed}
+use Rattle.object_meaning.specs.Steps.{step, settled}
+use Rattle.object_meaning.proofs.StepLaws.{step_is}
+use Rattle.ir_meaning.specs.Stacks.{Frames, word_at, passed_frame, waiting_spot, lines_at, lines_behind}
 use Rattle.ir_meaning.specs.Words.{datum, datum_result}
-use Rattle.ir_meaning.specs.Machines.{state_from, today, StandsAt, does}
-use Rattle.ir_meaning.proofs.ListLemmas.{drop_at, drop_end}
+use Rattle.ir_meaning.specs.Machines.{state_from, today, does}
+use Rattle.object_meaning.proofs.ListLemmas.{drop_at, drop_end}
 use Rattle.ir_meaning.proofs.WordLemmas.{operand_is, put_is}
 use Rattle.sp_ids.specs.declared.ends.End.TheVariants.{Trap}
-use Rattle.sp_ids.specs.declared.ends.Trap.TheVariants.{Unreachable}
 
 pub at_front : (content : ModuleContent) (spot : Spot) → spot.due ≡ Front
     → lines_at content spot ≡ poll ∷ lines_at content (record spot { due = Next })
@@ -63,16 +63,6 @@ pub at_behind_end : (content : ModuleContent) (spot : Spot) → spot.due ≡ Beh
     → slice_get (insts_of content spot.func spot.block) spot.at ≡ None → lines_at content spot ≡ []
 at_behind_end content spot due none =
     let cut = drop_end (insts_of content spot.func spot.block) spot.at none in rw (due, cut) refl
-
--- the step at a line
-pub step_is : (setting : Setting) (state : State) (line : Line) (rest : List Line) → state.running.rest ≡ line ∷ rest
-    → step setting state ≡ acts setting state line rest line.inst.op
-unfolding step
-step_is setting state line rest e = ap (steps_at setting state) e
-
-pub step_at_end : (setting : Setting) (state : State) → state.running.rest ≡ [] → step setting state ≡ ends (Trap Unreachable) state
-unfolding step
-step_at_end setting state e = ap (steps_at setting state) e
 
 pub does_is : (content : ModuleContent) (bound : ℕ) (frames : Frames) (input : List ℤ) (steps events : ℕ) (inst : Instruction)
     → lines_at content frames.running.spot ≡ numbered frames.running.spot.next inst ∷ lines_behind content frames.running.spot inst

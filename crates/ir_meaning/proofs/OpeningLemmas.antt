@@ -1,5 +1,5 @@
 -- The opening of a run, and the number of `@main`.
-use Rattle.std.proofs.Common.{◌≡◌, ℕ, ℤ, ◌+◌, ◌-◌, Bool, cond, not, List, [], ◌∷◌, length, map, refl, sym, ap, ◌∙◌, arith}
+use Rattle.std.proofs.Common.{◌≡◌, ℕ, ℤ, ◌+◌, ◌-◌, Bool, cond, not, List, [], ◌∷◌, map, refl, sym, ap, ◌∙◌, arith}
 use Rattle.std.specs.Prelude.{codes, unwrap_or}
 use Rattle.std.specs.List.{prefix_len, position}
 use Rattle.std.specs.Str.{bytes_eq}
@@ -7,8 +7,8 @@ use Rattle.std.proofs.lemmas.List.{length-map}
 use Rattle.ir_ast.specs.Funcs.{Function, LinedFunction, content_of}
 use Rattle.ir_ast.specs.Modules.{ModuleContent}
 use Rattle.ir_meaning.specs.declared.machine.Machine.{Machine}
-use Rattle.ir_meaning.specs.Lines.{main_of, register_count}
-use Rattle.ir_meaning.specs.SourceRuns.{Progress, opening}
+use Rattle.object_meaning.specs.Lines.{main_of, register_count}
+use Rattle.object_meaning.specs.SourceRuns.{opening}
 use Rattle.ir_meaning.specs.References.{unprinted}
 use Rattle.ir_meaning.specs.Machines.{state_of, today, IsOpened}
 use Rattle.ir_meaning.proofs.FrameLemmas.{zeros_are}

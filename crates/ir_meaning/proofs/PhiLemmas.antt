@@ -1,6 +1,6 @@
 -- The phis at the front of a block, in the interpreter and in the meaning.
-use Rattle.std.proofs.Common.{◌≡◌, ℕ, zero, suc, ◌+◌, Bool, true, false, inl, inr, List, [], ◌∷◌, ◌++◌, map, take, drop, refl, sym, ap, ◌∙◌, arith}
-use Rattle.std.specs.Prelude.{if◌then◌else◌, ◌==◌, Option, Some, None}
+use Rattle.std.proofs.Common.{◌≡◌, ℕ, suc, ◌+◌, true, false, inl, inr, List, [], ◌∷◌, ◌++◌, map, take, drop, refl, arith}
+use Rattle.std.specs.Prelude.{if◌then◌else◌, ◌==◌, Some, None}
 use Rattle.std.specs.List.{position}
 use Rattle.std.specs.Option.{option_map_or}
 use Rattle.ir_ast.specs.declared.ops.Op.{Op}
@@ -9,13 +9,13 @@ use Rattle.ir_ast.specs.Insts.{Instruction}
 use Rattle.ir_ast.specs.Ops.{is_terminator}
 use Rattle.ir_ast.specs.Faults.PhiEdges.{is_phi}
 use Rattle.ir_meaning.specs.declared.words.Word.{Word}
-use Rattle.ir_meaning.specs.Lines.{Line, poll, numbered, following, after_all, retreats, lines_from}
-use Rattle.ir_meaning.specs.Jumps.{phi_count, phi_write, incoming}
+use Rattle.object_meaning.specs.Lines.{poll, numbered, following, after_all, retreats, lines_from}
+use Rattle.object_meaning.specs.Jumps.{phi_count, phi_write, incoming}
 use Rattle.ir_meaning.specs.Words.{datum}
 use Rattle.ir_meaning.specs.Stacks.{word_at, word_from, phis_of, moves_of}
 use Rattle.ir_meaning.specs.declared.words.Word.TheVariants.{Number}
-use Rattle.ir_meaning.specs.Registers.{nothing, operand}
-use Rattle.ir_meaning.proofs.ListLemmas.{known}
+use Rattle.object_meaning.specs.Registers.{nothing, operand}
+use Rattle.object_meaning.proofs.ListLemmas.{known}
 use Rattle.ir_meaning.proofs.WordLemmas.{operand_is, write_of}
 
 phi_stays : (op : Op) → is_phi op ≡ true → is_terminator op ≡ false

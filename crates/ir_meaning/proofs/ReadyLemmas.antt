@@ -1,7 +1,7 @@
 -- Source modules without pointers are what the interpreter asks for.
 use Rattle.std.proofs.Common.{◌≡◌, ℕ, zero, suc, ◌+◌, Bool, true, false, not, ◌&&◌, List, [], ◌∷◌, ◌++◌, length, map, take, drop, get_or, refl, sym, ap, ◌∙◌}
-use Rattle.std.specs.Prelude.{Option, Some, None, slice_get, if◌then◌else◌}
-use Rattle.std.specs.List.{All, list_all, flat_map}
+use Rattle.std.specs.Prelude.{slice_get, if◌then◌else◌}
+use Rattle.std.specs.List.{All, list_all}
 use Rattle.std.specs.Option.{option_map_or}
 use Rattle.std.proofs.lemmas.List.Elements.{All-nil, All-head, All-tail, All-same, All-take, All-drop}
 use Rattle.sp_ids.specs.declared.ends.End.{End}
@@ -13,16 +13,15 @@ use Rattle.ir_ast.specs.Insts.{Instruction}
 use Rattle.ir_ast.specs.Blocks.{BasicBlock}
 use Rattle.ir_ast.specs.Funcs.{Function, instructions_of}
 use Rattle.ir_ast.specs.Modules.{ModuleContent}
-use Rattle.ir_ast.specs.Bundles.{HasNoBundle}
 use Rattle.ir_cfg.specs.SourceModules.{IsSourceFunction, IsSourceModule}
 use Rattle.ir_meaning.specs.declared.spots.Due.{Due}
 use Rattle.ir_meaning.specs.declared.spots.Due.TheVariants.{Front, Line as Next, Behind}
-use Rattle.ir_meaning.specs.Lines.{poll, numbered, following, retreats, lines_from, insts_in, insts_of}
-use Rattle.ir_meaning.specs.States.{State}
+use Rattle.object_meaning.specs.Lines.{poll, numbered, following, retreats, lines_from, insts_in, insts_of}
+use Rattle.object_meaning.specs.States.{State}
 use Rattle.ir_meaning.specs.Stacks.{Seen, lines_due, frame_of}
-use Rattle.ir_meaning.specs.Stages.{runs_today, is_null, is_today, FunctionIsToday, IsToday, IsReady, AllReady, IsReadyModule}
-use Rattle.ir_meaning.proofs.ListLemmas.{take_front, drop_front}
-use Rattle.ir_meaning.specs.Texts.{bundle_of, bundle_line, bundle_text, closing_text}
+use Rattle.ir_meaning.specs.Stages.{runs_today, is_null, FunctionIsToday, IsToday, IsReady, AllReady, IsReadyModule}
+use Rattle.object_meaning.proofs.ListLemmas.{take_front, drop_front}
+use Rattle.object_meaning.specs.Texts.{bundle_of, bundle_line, bundle_text, closing_text}
 
 first_holds : (a b : Bool) → a && b ≡ true → a ≡ true
 first_holds true b e = refl

@@ -5,7 +5,7 @@ use Rattle.ir_ast.specs.Insts.{Instruction}
 use Rattle.ir_ast.specs.Blocks.{BasicBlock}
 use Rattle.ir_meaning.specs.declared.words.Word.{Word}
 use Rattle.ir_meaning.specs.declared.stacks.Move.{Move}
-use Rattle.ir_meaning.specs.Lines.{following, after_all, first_registers}
+use Rattle.object_meaning.specs.Lines.{following, after_all, first_registers}
 use Rattle.ir_meaning.specs.Stacks.{move_of, moves_of}
 
 -- the rest of a list from a place that was read

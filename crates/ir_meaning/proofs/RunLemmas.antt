@@ -1,5 +1,5 @@
 -- A run by its steps, and what it has written.
-use Rattle.std.proofs.Common.{◌≡◌, ℕ, zero, suc, ◌+◌, ◌-◌, ◌^◌, min, List, [], ◌∷◌, ◌++◌, length, Option, refl, sym, ap, ◌∙◌, arith}
+use Rattle.std.proofs.Common.{◌≡◌, ℕ, suc, ◌+◌, ◌-◌, ◌^◌, min, List, [], ◌∷◌, ◌++◌, length, Option, refl, sym, ap, ◌∙◌, arith}
 use Rattle.std.proofs.lemmas.List.{append-nil}
 use Rattle.tool_io.specs.Sink.{append_known, AppendsFront}
 use Rattle.tool_io.proofs.AppendLaws.{append_known-nil, append_known-then, AppendsFront-second, AppendsFront-all, AppendsFront-same, AppendsFront-nothing}
@@ -10,27 +10,13 @@ use Rattle.ir_meaning.specs.declared.machine.Did.{Did}
 use Rattle.ir_meaning.specs.declared.machine.Did.TheVariants.{GoesOn, Prints, Ends as Finishes}
 use Rattle.ir_meaning.specs.Machines.{effect_of}
 use Rattle.ir_meaning.specs.declared.interpret.Ran.{Ran}
-use Rattle.ir_meaning.specs.Runs.{Next, Go, End as Over, advance, goes, Ends, Reaches}
-use Rattle.ir_meaning.specs.States.{State, Setting, goes_on, prints, ends}
-use Rattle.ir_meaning.specs.Steps.{step}
-use Rattle.ir_meaning.specs.Texts.{printed_line, text_of, closing_text}
-use Rattle.ir_meaning.specs.SourceRuns.{Progress, after, proceeds, line_count, WritesFrontFrom}
+use Rattle.object_meaning.specs.Runs.{Reaches}
+use Rattle.object_meaning.proofs.RunLaws.{reaches_more, ends_more}
+use Rattle.object_meaning.specs.States.{State, Setting, goes_on, prints, ends}
+use Rattle.object_meaning.specs.Steps.{step}
+use Rattle.object_meaning.specs.Texts.{printed_line, text_of, closing_text}
+use Rattle.object_meaning.specs.SourceRuns.{Progress, after, proceeds, WritesFrontFrom}
 use Rattle.ir_meaning.specs.References.{IsRunFrom, unprinted, Follows, ended_of, Wrote, WroteFront}
-
--- one more step comes last
-pub goes_more : {E A : Type 0} (step : A → Next E A) (count : ℕ) (next : Next E A) → goes step (suc count) next ≡ advance step (goes step count next)
-goes_more step zero next = refl
-goes_more step (suc count) next = goes_more step count (advance step next)
-
-pub reaches_more : {E A : Type 0} (step : A → Next E A) (start now next : A) → Reaches {E = E} step start now → step now ≡ Go next
-    → Reaches {E = E} step start next
-reaches_more step start now next reached e =
-    record { after = suc reached.after; by = goes_more step reached.after (Go start) ∙ ap (advance step) reached.by ∙ e }
-
-pub ends_more : {E A : Type 0} (step : A → Next E A) (start now : A) (end : E) (last : A) → Reaches {E = E} step start now
-    → step now ≡ Over end last → Ends step start end last
-ends_more step start now end last reached e =
-    record { within = suc reached.after; by = goes_more step reached.after (Go start) ∙ ap (advance step) reached.by ∙ e }
 
 pub follows_start : (setting : Setting) (state : State) (old : Option (List ℕ)) → Follows setting (unprinted state) state 0 old old
 follows_start setting state old = record {

@@ -1,16 +1,15 @@
 -- What the interpreter's registers stand for, read and written.
 use Rattle.std.proofs.Common.{◌≡◌, ℕ, List, [], ◌∷◌, map, refl, sym, ap, ◌∙◌}
-use Rattle.std.specs.Prelude.{Option, Some, None, slice_get, slice_index_or}
+use Rattle.std.specs.Prelude.{Option, Some, None, slice_get}
 use Rattle.std.specs.Option.{option_map_or}
 use Rattle.std.proofs.lemmas.List.{map-set}
 use lib.ListN.{get_or-map}
 use Rattle.ir_ast.specs.declared.ops.Operand.{Operand}
 use Rattle.ir_ast.specs.declared.ops.Operand.TheVariants.{Value, Int, Null, Fun}
-use Rattle.ir_ast.specs.Objects.{Datum}
 use Rattle.ir_meaning.specs.declared.words.Word.{Word}
 use Rattle.ir_meaning.specs.declared.words.Word.TheVariants.{Number}
 use Rattle.ir_meaning.specs.declared.stacks.Move.{Move}
-use Rattle.ir_meaning.specs.Registers.{nothing, value, operand, Write, put, put_all}
+use Rattle.object_meaning.specs.Registers.{nothing, value, operand, Write, put, put_all}
 use Rattle.ir_meaning.specs.Words.{datum}
 use Rattle.ir_meaning.specs.Stacks.{word, word_at, moved}
 

@@ -8,12 +8,12 @@ use Rattle.ir_meaning.specs.declared.spots.Spot.{Spot}
 use Rattle.ir_ast.specs.Insts.{Instruction}
 use Rattle.ir_meaning.specs.declared.spots.Due.TheVariants.{Front}
 use Rattle.ir_meaning.specs.declared.words.Word.TheVariants.{Number}
-use Rattle.ir_meaning.specs.Lines.{numbered, insts_of, main_of, first_register, register_count}
-use Rattle.ir_meaning.specs.States.{State, Setting, Effect, goes_on, prints, ends}
+use Rattle.object_meaning.specs.Lines.{numbered, insts_of, main_of, first_register, register_count}
+use Rattle.object_meaning.specs.States.{State, Setting, Effect, goes_on, prints, ends}
 use Rattle.ir_meaning.specs.Stages.{IsReady}
-use Rattle.ir_meaning.specs.SourceRuns.{source_setting, no_go}
+use Rattle.object_meaning.specs.SourceRuns.{source_setting, no_go}
 use Rattle.ir_meaning.specs.Stacks.{Frames, frame_of, lines_at, lines_behind}
-use Rattle.ir_meaning.specs.Steps.{acts}
+use Rattle.object_meaning.specs.Steps.{acts}
 
 -- the state of one task with these frames, and no object
 abbrev pub state_from : ModuleContent → Frames → List ℤ → ℕ → ℕ → State

@@ -6,10 +6,10 @@ use Rattle.ir_ast.specs.Modules.{ModuleContent}
 use Rattle.ir_meaning.specs.declared.interpret.Ran.{Ran}
 use Rattle.ir_meaning.specs.declared.machine.Did.{Did}
 use Rattle.ir_meaning.specs.declared.machine.Did.TheVariants.{Prints, Ends as Finishes}
-use Rattle.ir_meaning.specs.Runs.{Ends, Reaches}
-use Rattle.ir_meaning.specs.States.{State, Setting}
-use Rattle.ir_meaning.specs.Texts.{printed_line, text_of}
-use Rattle.ir_meaning.specs.SourceRuns.{Progress, proceeds, opening, source_setting, whole_text, line_count}
+use Rattle.object_meaning.specs.Runs.{Ends, Reaches}
+use Rattle.object_meaning.specs.States.{State, Setting}
+use Rattle.object_meaning.specs.Texts.{printed_line, text_of}
+use Rattle.object_meaning.specs.SourceRuns.{Progress, proceeds, opening, source_setting, whole_text, line_count}
 
 -- the answer is that of the run from here, and all that the run writes was written
 pub record IsRunFrom (setting : Setting) (start : Progress) (ran : Ran) (old new : Option (List ℕ)) : Type 0 where

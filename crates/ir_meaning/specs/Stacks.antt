@@ -15,9 +15,9 @@ use Rattle.ir_meaning.specs.declared.spots.Spot.{Spot}
 use Rattle.ir_meaning.specs.declared.stacks.Saved.{Saved}
 use Rattle.ir_meaning.specs.declared.stacks.Move.{Move}
 use Rattle.ir_ast.specs.Faults.PhiEdges.{is_phi}
-use Rattle.ir_meaning.specs.Lines.{Line, poll, numbered, following, after_all, lines_from, insts_of}
-use Rattle.ir_meaning.specs.Registers.{put}
-use Rattle.ir_meaning.specs.States.{Frame}
+use Rattle.object_meaning.specs.Lines.{Line, poll, numbered, following, after_all, lines_from, insts_of}
+use Rattle.object_meaning.specs.Registers.{put}
+use Rattle.object_meaning.specs.States.{Frame}
 use Rattle.ir_meaning.specs.Words.{datum}
 
 -- a frame of the interpreter

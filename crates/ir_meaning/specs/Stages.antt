@@ -1,7 +1,6 @@
 -- The modules that the interpreter runs today: no line of theirs has a managed pointer, makes an object or starts a task.
 use Rattle.std.specs.Prelude.{◌≡◌, ℕ, Bool, true, false, not, ◌&&◌, List, []}
 use Rattle.std.specs.List.{All, list_all}
-use Rattle.ir_ast.specs.declared.types.Ty.{Ty}
 use Rattle.ir_ast.specs.declared.ops.Operand.{Operand}
 use Rattle.ir_ast.specs.declared.ops.Operand.TheVariants.{Null}
 use Rattle.ir_ast.specs.declared.ops.Callee.{Callee}
@@ -12,7 +11,7 @@ use Rattle.ir_ast.specs.Types.{is_pointer}
 use Rattle.ir_ast.specs.Insts.{Instruction}
 use Rattle.ir_ast.specs.Funcs.{Function, instructions_of}
 use Rattle.ir_ast.specs.Modules.{ModuleContent}
-use Rattle.ir_meaning.specs.Lines.{insts_of}
+use Rattle.object_meaning.specs.Lines.{insts_of}
 
 abbrev pub is_null : Operand → Bool
 is_null Null = true

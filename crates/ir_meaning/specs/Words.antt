@@ -1,5 +1,5 @@
 -- What the interpreter keeps in a register stands for a datum.
-use Rattle.std.specs.Prelude.{List, map, Result, Ok, Err}
+use Rattle.std.specs.Prelude.{Result, Ok, Err}
 use Rattle.sp_ids.specs.declared.ends.Trap.{Trap}
 use Rattle.ir_ast.specs.Objects.{Datum, number, pointer}
 use Rattle.ir_meaning.specs.declared.words.Word.{Word}

@@ -1,7 +1,7 @@
 //! The module that is run, with the registers of its functions.
 
 ghost use Rattle.std.specs.Prelude.{◌≡◌, ◌-◌, Some, None, IfOk, IfSome, MatchOption, map, length, slice_get, slice_index};
-ghost use Rattle.ir_meaning.specs.Lines.{following, after_all, registers_of, insts_in, insts_of, first_register, register_count};
+ghost use Rattle.object_meaning.specs.Lines.{following, after_all, registers_of, insts_in, insts_of, first_register, register_count};
 ghost use Rattle.ir_meaning.specs.Stages.{IsReady, AllReady, IsReadyModule};
 
 use crate::spots::Spot;
@@ -49,7 +49,7 @@ pub struct Code<'m> {
 impl<'m> Model for Code<'m> {
     ghost use Rattle.std.specs.Prelude.{◌≡◌, map};
     ghost use Rattle.ir_ast.specs.Modules.{ModuleContent};
-    ghost use Rattle.ir_meaning.specs.Lines.{registers_of};
+    ghost use Rattle.object_meaning.specs.Lines.{registers_of};
     ghost use Rattle.ir_meaning.specs.Stages.{IsReadyModule};
 
     ghost Value = { ModuleContent };

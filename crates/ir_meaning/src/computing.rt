@@ -1,10 +1,10 @@
 //! The lines that compute a value from values alone.
 
 ghost use Rattle.std.specs.Prelude.{◌≡◌, ◌≤◌, true};
-ghost use Rattle.ir_meaning.specs.Comparisons.{compares, bit, pointers_related};
-ghost use Rattle.ir_meaning.specs.Computing.{computed, with_number};
+ghost use Rattle.object_meaning.specs.Comparisons.{compares, bit, pointers_related};
+ghost use Rattle.object_meaning.specs.Computing.{computed, with_number};
 ghost use Rattle.ir_meaning.specs.Stages.{runs_today};
-ghost use Rattle.ir_meaning.specs.Registers.{number_in, is_set};
+ghost use Rattle.object_meaning.specs.Registers.{number_in, is_set};
 ghost use Rattle.ir_meaning.specs.Words.{datum, datum_result};
 
 use crate::numbers::{arithmetic, compare, sign_extended, truncated, width_of};

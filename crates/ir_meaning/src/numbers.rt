@@ -2,8 +2,8 @@
 
 ghost use Rattle.std.specs.Prelude.{◌≡◌, ◌≤◌, ◌+◌, ◌-◌, ◌*◌, ◌^◌, Ok, Err};
 ghost use Rattle.sp_ids.specs.Numbers.{wrapped, signed};
-ghost use Rattle.ir_meaning.specs.Numbers.{width_of, spelled, arithmetic, truncated, sign_extended, overflows};
-ghost use Rattle.ir_meaning.specs.Comparisons.{numbers_compare};
+ghost use Rattle.object_meaning.specs.Numbers.{width_of, spelled, arithmetic, truncated, sign_extended, overflows};
+ghost use Rattle.object_meaning.specs.Comparisons.{numbers_compare};
 
 use ir_ast::{Op, Pred, Ty};
 use sp_ids::{Trap, sign, wrap};

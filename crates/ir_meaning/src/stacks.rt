@@ -3,10 +3,10 @@
 ghost use Rattle.std.specs.Prelude.{◌≡◌, ◌==◌, ◌-◌, ◌++◌, ◌<◌, ◌≤◌, [], ◌∷◌, length, map, take, drop, replicate, IfOk, OnOk, slice_set, slice_index_or};
 ghost use Rattle.ir_meaning.specs.declared.spots.Due.TheVariants as dues;
 ghost use Rattle.ir_meaning.specs.declared.words.Word.TheVariants.{Number};
-ghost use Rattle.ir_meaning.specs.Lines.{numbered, after_all};
+ghost use Rattle.object_meaning.specs.Lines.{numbered, after_all};
 ghost use Rattle.ir_ast.specs.Faults.PhiEdges.{is_phi};
 ghost use Rattle.ir_meaning.specs.Stacks.{passed_spot, passed_frame, word, word_at, word_from, move_of, moves_of, moved, phis_of, entered_frames, arrived_frames};
-ghost use Rattle.ir_meaning.specs.Registers.{put};
+ghost use Rattle.object_meaning.specs.Registers.{put};
 ghost use Rattle.std.specs.List.{position};
 
 use crate::codes::following;

@@ -2,8 +2,8 @@
 use Rattle.std.proofs.Common.{◌≡◌, ◌≢◌, ℕ, ◌⊎◌, inl, inr, List, [], Option, Some, None, Result, Ok, Err, refl, sym, ap, subst, ◌∙◌, arith}
 use Rattle.sp_ids.specs.declared.ends.End.{End}
 use Rattle.sp_ids.specs.declared.ends.End.TheVariants as ended_by
-use Rattle.ir_meaning.specs.SourceRuns.{Progress, SourceRun, no_go}
-use Rattle.ir_meaning.proofs.EndLaws.{not_poison, not_lost}
+use Rattle.object_meaning.specs.SourceRuns.{Progress, SourceRun, no_go}
+use Rattle.object_meaning.proofs.EndLaws.{not_poison, not_lost}
 use Rattle.statepoint_tool.specs.Answers.{SinkSeen, Gained, GainedFront, SinkFailed, Came, IsBegun, IsTold, IsSaid, IsSaidInPart, IsAnswer}
 use Rattle.statepoint_tool.specs.Causes.{CannotRead, Ends, by_showing, by_running, Runs, module_run, steps_asked, Shows}
 use Rattle.statepoint_tool.specs.Notes.{refusal_line, status_of_cause, status_of_refusal}

@@ -3,8 +3,8 @@ use Rattle.std.proofs.Common.{◌≡◌, inl, inr, ℕ, List, [], ◌∷◌, Opt
 use Rattle.sp_ids.specs.declared.ends.End.{End}
 use Rattle.sp_ids.specs.declared.ends.End.TheVariants as ended
 use Rattle.ir_ast.specs.Modules.{ModuleContent}
-use Rattle.ir_meaning.specs.SourceRuns.{Progress, SourceRun, no_go}
-use Rattle.ir_meaning.proofs.EndLaws.{not_poison, not_lost}
+use Rattle.object_meaning.specs.SourceRuns.{Progress, SourceRun, no_go}
+use Rattle.object_meaning.proofs.EndLaws.{not_poison, not_lost}
 use Rattle.tool_io.specs.Counts.{Rose}
 use Rattle.statepoint_tool.specs.Causes.{AsksToShow, AsksForRun, Shows, ReadsModule, Prepares, ReadsInput, Runs, module_run, steps_asked, Ends, by_showing, by_running, EndsWith, NoCommand, NamesModule, to_show, to_run, HasTextFault, IsAccepted, HasModuleFault, in_text, not_yet, HasSomeModuleFault, HasInputFault, HasPlanFault, FileGives, module_gives, input_gives, plan_gives, CannotRead, IsTooLong}
 use Rattle.statepoint_tool.specs.NotYet.{first_not_yet}

@@ -7,9 +7,9 @@ use Rattle.ir_ast.specs.Modules.{ModuleContent}
 use Rattle.ir_meaning.specs.declared.interpret.Ran.{Ran}
 use Rattle.ir_meaning.specs.declared.interpret.RefFault.{RefFault}
 use Rattle.ir_meaning.specs.References.{IsRun}
-use Rattle.ir_meaning.specs.SourceRuns.{Progress, WritesFrontOfRun, no_go, opening, proceeds, source_setting, whole_text}
-use Rattle.ir_meaning.specs.Texts.{closing_text, text_of}
-use Rattle.ir_meaning.proofs.EndLaws.{one_end, printed_first, source_ends}
+use Rattle.object_meaning.specs.SourceRuns.{Progress, WritesFrontOfRun, no_go, opening, proceeds, source_setting, whole_text}
+use Rattle.object_meaning.specs.Texts.{closing_text, text_of}
+use Rattle.object_meaning.proofs.EndLaws.{one_end, printed_first, source_ends}
 use Rattle.statepoint_tool.specs.Answers.{IsBegun, IsDone, SinkSeen, sink_seen}
 use Rattle.statepoint_tool.specs.Closings.{closing_line, status_of_end}
 use Rattle.statepoint_tool.specs.Steps.{Go}

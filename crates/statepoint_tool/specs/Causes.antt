@@ -7,7 +7,7 @@ use Rattle.ir_types.specs.FaultSet.{HasNoFault, IsLeastFault}
 use Rattle.sp_ids.specs.declared.ends.End.{End}
 use Rattle.ir_ast.specs.declared.modules.Form.TheVariants as text_forms
 use Rattle.ir_ast.specs.Modules.{ModuleContent}
-use Rattle.ir_meaning.specs.SourceRuns.{Progress, SourceRun, no_go}
+use Rattle.object_meaning.specs.SourceRuns.{Progress, SourceRun, no_go}
 use Rattle.statepoint_tool.specs.NotYet.{first_not_yet}
 use Rattle.statepoint_tool.specs.Taken.{Taken, Bytes, Longer, Faulty}
 use Rattle.statepoint_tool.specs.Words.{command_of}

@@ -6,7 +6,7 @@ use Rattle.sp_ids.specs.declared.ends.End.TheVariants.{Return, Trap as Traps, Ou
 use Rattle.sp_ids.specs.declared.ends.Trap.{Trap}
 use Rattle.sp_ids.specs.declared.ends.Trap.TheVariants.{Div, Overflow, Shift, Unreachable, Null, Bounds, Kind, Count, Full, Input, Depth, Tasks}
 use Rattle.ir_ast.specs.Modules.{ModuleContent}
-use Rattle.ir_meaning.specs.Texts.{function_name}
+use Rattle.object_meaning.specs.Texts.{function_name}
 use Rattle.statepoint_tool.specs.declared.status.Status.{Status}
 use Rattle.statepoint_tool.specs.declared.status.Status.TheVariants.{Done, Trapped, OutOfSteps, Stray}
 

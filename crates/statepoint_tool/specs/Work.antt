@@ -10,7 +10,7 @@ use Rattle.ir_lines.specs.Statements.{Line, lines_of}
 use Rattle.ir_types.specs.FaultSet.{HasNoFault, IsLeastFault}
 use Rattle.ir_lines.specs.Modules.{module_of}
 use Rattle.ir_printer.specs.Texts.{text_of}
-use Rattle.ir_meaning.specs.SourceRuns.{Progress, SourceRun, no_go, whole_text}
+use Rattle.object_meaning.specs.SourceRuns.{Progress, SourceRun, no_go, whole_text}
 use Rattle.statepoint_tool.specs.Closings.{closing_line, status_of_end}
 use Rattle.statepoint_tool.specs.NotYet.{first_not_yet}
 use Rattle.statepoint_tool.specs.Steps.{Step, Go, Stop, comes_to, Then}

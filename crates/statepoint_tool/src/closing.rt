@@ -2,7 +2,7 @@
 ghost use Rattle.std.specs.Prelude.{◌≡◌, ◌≤◌, ◌+◌, ◌++◌, codes, length, IfOk, OnOk, OnErr, IsErrOf};
 ghost use Rattle.std.specs.Fmt.{signed_decimal};
 ghost use Rattle.arrayvec.specs.ArrayVec.{array_vec_len};
-ghost use Rattle.ir_meaning.specs.Texts.{function_name};
+ghost use Rattle.object_meaning.specs.Texts.{function_name};
 ghost use Rattle.tool_io.specs.Counts.{Rose};
 ghost use Rattle.tool_io.specs.Sink.{append_known, AppendsFront};
 ghost use Rattle.statepoint_tool.specs.Closings.{closing_line, counts, end_words, in_function, status_of_end, trap_name};

@@ -1,5 +1,5 @@
 use Rattle.std.proofs.Common.{◌≡◌, drop}
-use Rattle.ir_meaning.specs.Lines.{after_all}
+use Rattle.object_meaning.specs.Lines.{after_all}
 use Rattle.ir_meaning.proofs.codes.after_all.Given as goal
 
 abbrev pub invariant-loop-inst : goal.invariant-loop-inst

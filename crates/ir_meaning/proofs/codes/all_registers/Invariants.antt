@@ -1,5 +1,5 @@
 use Rattle.std.proofs.Common.{◌≡◌, map, take}
-use Rattle.ir_meaning.specs.Lines.{registers_of}
+use Rattle.object_meaning.specs.Lines.{registers_of}
 use Rattle.ir_meaning.proofs.codes.all_registers.Given as goal
 
 abbrev pub invariant-loop-func : goal.invariant-loop-func

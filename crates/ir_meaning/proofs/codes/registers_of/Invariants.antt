@@ -1,5 +1,5 @@
 use Rattle.std.proofs.Common.{◌≡◌, ◌++◌, drop}
-use Rattle.ir_meaning.specs.Lines.{first_registers, registers_of}
+use Rattle.object_meaning.specs.Lines.{first_registers, registers_of}
 use Rattle.ir_meaning.proofs.codes.registers_of.Given as goal
 
 abbrev pub invariant-loop-block : goal.invariant-loop-block

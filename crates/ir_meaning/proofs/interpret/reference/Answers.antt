@@ -1,8 +1,6 @@
-use Rattle.std.proofs.Common.{ap, ◌∙◌}
-use Rattle.std.proofs.lemmas.Result.{IfOk-weaker, on_err_weaker}
 use Rattle.ir_meaning.specs.Machines.{today}
 use Rattle.tool_io.proofs.AppendLaws.{OnErr-always}
-use Rattle.ir_meaning.specs.SourceRuns.{opening}
+use Rattle.object_meaning.specs.SourceRuns.{opening}
 use Rattle.ir_meaning.proofs.RunLemmas.{front_none}
 use Rattle.ir_meaning.proofs.OpeningLemmas.{opening_is}
 use Rattle.ir_meaning.proofs.ReadyLemmas.{ready_module}

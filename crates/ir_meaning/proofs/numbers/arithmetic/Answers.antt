@@ -1,6 +1,6 @@
 use Rattle.std.proofs.Common.{◌≡◌, ◌+◌, ◌-◌, ◌*◌, ◌^◌, refl, ◌∙◌}
 use Rattle.sp_ids.specs.Numbers.{wrapped}
-use Rattle.ir_meaning.proofs.NumberLemmas.{word_low}
+use Rattle.object_meaning.proofs.NumberLemmas.{word_low}
 use Rattle.ir_meaning.proofs.numbers.arithmetic.Goals as goal
 
 pub returns-in-Add : goal.returns-in-Add

@@ -1,6 +1,6 @@
 use Rattle.std.proofs.Common.{◌≡◌, ◌<◌, ◌*◌, ◌^◌, refl, ◌∙◌, lt-ltb, arith}
 use Rattle.sp_ids.specs.Numbers.{wrapped}
-use Rattle.ir_meaning.proofs.NumberLemmas.{word_low}
+use Rattle.object_meaning.proofs.NumberLemmas.{word_low}
 use Rattle.ir_meaning.proofs.numbers.left_shift.Goals as goal
 
 pub returns-then-right-from : goal.returns-then-right-from

@@ -1,9 +1,9 @@
-use Rattle.std.proofs.Common.{◌≡◌, ◌≢◌, refl, sym, ◌∙◌, ne_eqb}
+use Rattle.std.proofs.Common.{◌≢◌, refl, sym, ◌∙◌, ne_eqb}
 use mir.Syntax.{w64}
 use mir.ValLaws.{to_z-of_z}
 use lib.Signed.{rem_z}
 use Rattle.sp_ids.specs.Numbers.{wrapped}
-use Rattle.ir_meaning.proofs.NumberLemmas.{spelled_same, word_remainder}
+use Rattle.object_meaning.proofs.NumberLemmas.{spelled_same, word_remainder}
 use Rattle.ir_meaning.proofs.numbers.signed_remainder.Goals as goal
 
 pub returns : goal.returns

@@ -1,6 +1,6 @@
-use Rattle.std.proofs.Common.{map, sym, ap, ◌∙◌}
+use Rattle.std.proofs.Common.{map, ap, ◌∙◌}
 use Rattle.ir_ast.specs.Funcs.{content_of}
-use Rattle.ir_meaning.specs.Lines.{registers_of}
+use Rattle.object_meaning.specs.Lines.{registers_of}
 use Rattle.ir_meaning.proofs.RegisterLemmas.{map_both}
 use Rattle.ir_meaning.proofs.codes.Code.of.Goals as goal
 

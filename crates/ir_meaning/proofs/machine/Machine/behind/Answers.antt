@@ -1,6 +1,7 @@
 use Rattle.std.proofs.Common.{sym}
 use Rattle.ir_meaning.specs.Machines.{state_of, today}
-use Rattle.ir_meaning.proofs.LineLemmas.{at_behind, at_behind_end, step_at_end, does_is}
+use Rattle.object_meaning.proofs.StepLaws.{step_at_end}
+use Rattle.ir_meaning.proofs.LineLemmas.{at_behind, at_behind_end, does_is}
 use Rattle.ir_meaning.proofs.machine.Machine.behind.Goals as goal
 
 pub act-requires-clause-stands : goal.act-requires-clause-stands

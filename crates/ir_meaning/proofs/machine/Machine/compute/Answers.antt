@@ -1,6 +1,6 @@
 use Rattle.std.proofs.Common.{map}
-use Rattle.ir_meaning.specs.Computing.{value_of_line}
-use Rattle.ir_meaning.specs.Lines.{numbered}
+use Rattle.object_meaning.specs.Computing.{value_of_line}
+use Rattle.object_meaning.specs.Lines.{numbered}
 use Rattle.ir_meaning.specs.Stacks.{lines_behind}
 use Rattle.ir_meaning.specs.Words.{datum}
 use Rattle.ir_meaning.specs.Machines.{state_of}

@@ -1,4 +1,4 @@
-use Rattle.std.proofs.Common.{◌≡◌, ◌<◌, ◌+◌, length, map, lt-ltb, arith}
+use Rattle.std.proofs.Common.{◌<◌, ◌+◌, length, map, lt-ltb, arith}
 use Rattle.std.proofs.lemmas.List.{length-map}
 use Rattle.ir_meaning.specs.Stacks.{frame_of}
 use Rattle.ir_meaning.proofs.FrameLemmas.{entering_is}

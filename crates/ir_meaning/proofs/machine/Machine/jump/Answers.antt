@@ -1,4 +1,4 @@
-use Rattle.std.proofs.Common.{◌≡◌, ◌<◌, ◌+◌, lt-ltb, arith}
+use Rattle.std.proofs.Common.{◌<◌, ◌+◌, lt-ltb, arith}
 use Rattle.ir_meaning.proofs.FrameLemmas.{jumped_is}
 use Rattle.ir_meaning.proofs.machine.Machine.jump.Goals as goal
 

@@ -1,7 +1,8 @@
 use Rattle.std.proofs.Common.{◌≡◌, sym}
 use Rattle.ir_meaning.specs.declared.spots.Due.TheVariants.{Behind}
 use Rattle.ir_meaning.specs.Machines.{state_of, today}
-use Rattle.ir_meaning.proofs.LineLemmas.{at_line, at_line_end, at_poll, step_at_end, step_polls, does_is}
+use Rattle.object_meaning.proofs.StepLaws.{step_at_end}
+use Rattle.ir_meaning.proofs.LineLemmas.{at_line, at_line_end, at_poll, step_polls, does_is}
 use Rattle.ir_meaning.proofs.machine.Machine.line.Goals as goal
 
 pub act-requires-clause-stands : goal.act-requires-clause-stands

@@ -2,8 +2,8 @@ use Rattle.std.proofs.Common.{◌≡◌, List, map, ap, ◌∙◌}
 use Rattle.ir_ast.specs.declared.ops.Operand.{Operand}
 use Rattle.ir_meaning.specs.declared.words.Word.{Word}
 use Rattle.ir_meaning.specs.declared.words.Word.TheVariants.{Number}
-use Rattle.ir_meaning.specs.Registers.{operand, number_in}
-use Rattle.ir_meaning.specs.States.{prints}
+use Rattle.object_meaning.specs.Registers.{operand, number_in}
+use Rattle.object_meaning.specs.States.{prints}
 use Rattle.ir_meaning.specs.Words.{datum}
 use Rattle.ir_meaning.proofs.WordLemmas.{operand_is}
 use Rattle.ir_meaning.proofs.LineLemmas.{passed_is}

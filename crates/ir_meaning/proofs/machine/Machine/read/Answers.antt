@@ -1,4 +1,4 @@
-use Rattle.std.proofs.Common.{◌≡◌, rules, sym, ◌∙◌}
+use Rattle.std.proofs.Common.{rules, sym, ◌∙◌}
 use mir.Syntax.{w64}
 use mir.Val.{SFits}
 use mir.ValLaws.{to_z-of_z}

@@ -1,5 +1,5 @@
 use Rattle.std.proofs.Common.{◌≡◌, ◌++◌, drop}
-use Rattle.ir_meaning.specs.Lines.{after_all}
+use Rattle.object_meaning.specs.Lines.{after_all}
 use Rattle.ir_meaning.specs.Stacks.{moves_of}
 use Rattle.ir_meaning.proofs.stacks.Stack.phi_moves.Given as goal
 

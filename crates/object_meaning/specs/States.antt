@@ -2,7 +2,7 @@
 use Rattle.std.specs.Prelude.{ℕ, ℤ, List, Option}
 use Rattle.ir_ast.specs.Objects.{Datum, Object}
 use Rattle.ir_ast.specs.Modules.{ModuleContent}
-use Rattle.ir_meaning.specs.Lines.{Line}
+use Rattle.object_meaning.specs.Lines.{Line}
 use Rattle.sp_ids.specs.declared.ends.End.{End}
 
 -- a frame: its function and block, the lines of the block from where it stands, and its registers. One that waits

@@ -1,14 +1,14 @@
 -- Tasks: events and `go` lines, a task's start and its end.
-use Rattle.std.specs.Prelude.{ℕ, ◌==◌, nat_lt, if◌then◌else◌, List, [], ◌∷◌, ◌++◌, length, Option, Some, None, slice_get, slice_set}
+use Rattle.std.specs.Prelude.{ℕ, ◌==◌, nat_lt, if◌then◌else◌, List, [], ◌∷◌, ◌++◌, length, Option, Some, slice_get, slice_set}
 use Rattle.std.specs.Option.{option_map_or}
 use Rattle.tool_io.specs.Counts.{raised}
 use Rattle.sp_ids.specs.declared.ends.End.TheVariants.{Return, Trap}
 use Rattle.sp_ids.specs.declared.ends.Trap.TheVariants.{Unreachable, Tasks}
 use Rattle.sp_ids.specs.Numbers.{signed}
 use Rattle.ir_ast.specs.Objects.{Datum}
-use Rattle.ir_meaning.specs.Registers.{number_in}
-use Rattle.ir_meaning.specs.States.{Frame, State, Setting, Effect, goes_on, ends}
-use Rattle.ir_meaning.specs.Frames.{entered}
+use Rattle.object_meaning.specs.Registers.{number_in}
+use Rattle.object_meaning.specs.States.{Frame, State, Setting, Effect, goes_on, ends}
+use Rattle.object_meaning.specs.Frames.{entered}
 
 -- one more event; the count stands still at 2^64 - 1
 abbrev pub with_event : State → State

@@ -4,10 +4,10 @@ use lib.Pow.{mod-mod-pow}
 use lib.Signed.{mag, quot_z, rem_z}
 use native.Mathlib.Nat.{div-le_self, mod-le}
 use mir.Syntax.{w64}
-use mir.Val.{of_z, to_z, Fits}
+use mir.Val.{of_z, to_z}
 use mir.ValLaws.{of_z-to_z}
 use Rattle.sp_ids.specs.Numbers.{wrapped}
-use Rattle.ir_meaning.specs.Numbers.{spelled}
+use Rattle.object_meaning.specs.Numbers.{spelled}
 
 -- the low bits of a word are those of the number
 pub word_low : (width n : ℕ) → width ≤ 64 → wrapped width (n % 2 ^ 64) ≡ wrapped width n

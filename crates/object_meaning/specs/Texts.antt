@@ -1,6 +1,6 @@
 -- What a run writes: a line for each number that is printed, and at a trap a line for each waiting frame that shows the
 -- values of its call's bundle.
-use Rattle.std.specs.Prelude.{ℕ, ◌+◌, ◌==◌, if◌then◌else◌, List, [], ◌∷◌, ◌++◌, codes, decimal, Option, Some, None, slice_get}
+use Rattle.std.specs.Prelude.{ℕ, ◌+◌, ◌==◌, if◌then◌else◌, List, [], ◌∷◌, ◌++◌, codes, decimal, slice_get}
 use Rattle.std.specs.List.{flat_map}
 use Rattle.std.specs.Option.{option_map_or}
 use Rattle.std.specs.Fmt.{signed_decimal}
@@ -11,10 +11,10 @@ use Rattle.ir_ast.specs.declared.types.Ty.{Ty}
 use Rattle.ir_ast.specs.declared.ops.Operand.{Operand}
 use Rattle.ir_ast.specs.Modules.{ModuleContent}
 use Rattle.ir_ast.specs.Objects.{Datum, number, pointer}
-use Rattle.ir_meaning.specs.Lines.{Line}
-use Rattle.ir_meaning.specs.Numbers.{width_of}
-use Rattle.ir_meaning.specs.Registers.{value}
-use Rattle.ir_meaning.specs.States.{Frame, State}
+use Rattle.object_meaning.specs.Lines.{Line}
+use Rattle.object_meaning.specs.Numbers.{width_of}
+use Rattle.object_meaning.specs.Registers.{value}
+use Rattle.object_meaning.specs.States.{Frame, State}
 
 abbrev pub newline : List ℕ
 newline = 10 ∷ []

@@ -1,12 +1,12 @@
 -- The target meaning on objects that never move: the same step, on lines that spell their polls.
-use Rattle.std.specs.Prelude.{ℕ, ◌+◌, if◌then◌else◌, List, [], ◌∷◌, ℤ, Option}
+use Rattle.std.specs.Prelude.{ℕ, List, [], ◌∷◌, ℤ, Option}
 use Rattle.sp_ids.specs.declared.ends.End.{End}
 use Rattle.ir_ast.specs.Insts.{Instruction}
 use Rattle.ir_ast.specs.Modules.{ModuleContent}
-use Rattle.ir_meaning.specs.Runs.{Ends}
-use Rattle.ir_meaning.specs.Lines.{Line, numbered, following, first_register, insts_of}
-use Rattle.ir_meaning.specs.States.{Setting}
-use Rattle.ir_meaning.specs.SourceRuns.{Progress, proceeds, opening}
+use Rattle.object_meaning.specs.Runs.{Ends}
+use Rattle.object_meaning.specs.Lines.{Line, numbered, following, first_register, insts_of}
+use Rattle.object_meaning.specs.States.{Setting}
+use Rattle.object_meaning.specs.SourceRuns.{Progress, proceeds, opening}
 
 -- the lines of these instructions as they are, of which the first result goes to the register `next`
 abbrev pub plain_lines : ℕ → List Instruction → List Line

@@ -6,16 +6,16 @@ use Rattle.sp_ids.specs.declared.ends.Trap.TheVariants.{Unreachable as Executed}
 use Rattle.ir_ast.specs.declared.ops.Op.{Op}
 use Rattle.ir_ast.specs.declared.ops.Op.TheVariants.{Phi, Load, Store, Call, Statepoint, GcResult, GcRelocate, Br, CondBr, Switch, Ret, Unreachable}
 use Rattle.ir_ast.specs.Objects.{Datum}
-use Rattle.ir_meaning.specs.Lines.{Line}
-use Rattle.ir_meaning.specs.Numbers.{width_of}
-use Rattle.ir_meaning.specs.Registers.{nothing, operand, pointer_in}
-use Rattle.ir_meaning.specs.Computing.{value_of_line}
-use Rattle.ir_meaning.specs.Accesses.{Place, accessed, kind_asked, loaded, stored}
-use Rattle.ir_meaning.specs.States.{Frame, State, Setting, Effect, goes_on, ends}
-use Rattle.ir_meaning.specs.Frames.{passed, grouped, resumed}
-use Rattle.ir_meaning.specs.Tasks.{task_ended}
-use Rattle.ir_meaning.specs.Calls.{stepped, called}
-use Rattle.ir_meaning.specs.Jumps.{jumped, label_at, branch_taken, case_taken}
+use Rattle.object_meaning.specs.Lines.{Line}
+use Rattle.object_meaning.specs.Numbers.{width_of}
+use Rattle.object_meaning.specs.Registers.{nothing, operand, pointer_in}
+use Rattle.object_meaning.specs.Computing.{value_of_line}
+use Rattle.object_meaning.specs.Accesses.{Place, accessed, kind_asked, loaded, stored}
+use Rattle.object_meaning.specs.States.{Frame, State, Setting, Effect, goes_on, ends}
+use Rattle.object_meaning.specs.Frames.{passed, grouped, resumed}
+use Rattle.object_meaning.specs.Tasks.{task_ended}
+use Rattle.object_meaning.specs.Calls.{stepped, called}
+use Rattle.object_meaning.specs.Jumps.{jumped, label_at, branch_taken, case_taken}
 
 -- a line that computes goes on with its value, or traps
 abbrev pub settled : State → Line → List Line → Result Datum Trap → Effect

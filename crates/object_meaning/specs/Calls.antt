@@ -1,5 +1,5 @@
 -- Calls: of defined functions and of the runtime's externals.
-use Rattle.std.specs.Prelude.{ℕ, ◌+◌, ◌==◌, nat_lt, if◌then◌else◌, int_lt, pos, ℤ, List, [], ◌∷◌, ◌++◌, length, map, Option, Some, None, slice_get, unsigned_abs, Result, Ok, Err}
+use Rattle.std.specs.Prelude.{ℕ, ◌+◌, nat_lt, if◌then◌else◌, int_lt, pos, ℤ, List, [], ◌∷◌, ◌++◌, length, map, Option, Some, slice_get, unsigned_abs, Result, Ok, Err}
 use Rattle.std.specs.List.{sum_by}
 use Rattle.std.specs.Option.{option_map_or}
 use Rattle.std.specs.Int.{w64, cast_unsigned}
@@ -13,12 +13,12 @@ use Rattle.ir_ast.specs.declared.ops.Callee.{Callee}
 use Rattle.ir_ast.specs.declared.ops.Callee.TheVariants.{Fun, New, Print, Read, TaskStart, Poll, Check, Same}
 use Rattle.ir_ast.specs.Modules.{ModuleContent}
 use Rattle.ir_ast.specs.Objects.{Datum, number, pointer, Object, new_object, footprint}
-use Rattle.ir_meaning.specs.Comparisons.{bit, same_pointer}
-use Rattle.ir_meaning.specs.Registers.{nothing, value, operand, number_in, pointer_in}
-use Rattle.ir_meaning.specs.Accesses.{Place, accessed}
-use Rattle.ir_meaning.specs.States.{Frame, State, Setting, Effect, goes_on, prints, ends}
-use Rattle.ir_meaning.specs.Frames.{entered}
-use Rattle.ir_meaning.specs.Tasks.{with_event, polled, started}
+use Rattle.object_meaning.specs.Comparisons.{bit, same_pointer}
+use Rattle.object_meaning.specs.Registers.{nothing, value, operand, number_in, pointer_in}
+use Rattle.object_meaning.specs.Accesses.{Place, accessed}
+use Rattle.object_meaning.specs.States.{State, Setting, Effect, goes_on, prints, ends}
+use Rattle.object_meaning.specs.Frames.{entered}
+use Rattle.object_meaning.specs.Tasks.{with_event, polled, started}
 
 -- a step is a terminator or a call of a defined function: where so many were taken, the next isn't executed
 abbrev pub stepped : Setting → State → (State → Effect) → Effect

@@ -1,16 +1,15 @@
 -- Loads and stores: the cell that a pointer names, or the trap.
-use Rattle.std.specs.Prelude.{ℕ, ◌+◌, ◌-◌, ◌*◌, ◌/◌, ◌%◌, ◌==◌, ◌||◌, not, nat_lt, if◌then◌else◌, List, [], length, Option, Some, None, slice_get, slice_set, slice_index_or, Result, Ok, Err}
+use Rattle.std.specs.Prelude.{ℕ, ◌+◌, ◌-◌, ◌/◌, ◌%◌, ◌==◌, ◌||◌, not, nat_lt, if◌then◌else◌, List, length, slice_get, slice_set, slice_index_or, Result, Ok, Err}
 use Rattle.std.specs.Option.{option_map_or}
 use Rattle.sp_ids.specs.declared.ends.Trap.{Trap}
 use Rattle.sp_ids.specs.declared.ends.Trap.TheVariants.{Null, Bounds, Kind}
-use Rattle.ir_ast.specs.declared.cells.Cell.{Cell}
-use Rattle.ir_ast.specs.declared.cells.Cell.TheVariants.{I64, Ptr}
+use Rattle.ir_ast.specs.declared.cells.Cell.TheVariants.{I64}
 use Rattle.ir_ast.specs.declared.types.Ty.{Ty}
 use Rattle.ir_ast.specs.declared.types.Ty.TheVariants.{Ptr as Managed}
 use Rattle.ir_ast.specs.Cells.{kind_of}
 use Rattle.ir_ast.specs.Layouts.{ObjectLayout}
-use Rattle.ir_ast.specs.Objects.{Pointer, Datum, number, Object, byte_count}
-use Rattle.ir_meaning.specs.Registers.{nothing}
+use Rattle.ir_ast.specs.Objects.{Pointer, Datum, Object, byte_count}
+use Rattle.object_meaning.specs.Registers.{nothing}
 
 -- a cell by the number of its object and its place among the object's cells
 pub record Place : Type 0 where

@@ -1,5 +1,5 @@
 -- Jumps: where a terminator leads, and the phis of the block there (LLVM Language Reference, "'phi' Instruction").
-use Rattle.std.specs.Prelude.{ℕ, ◌+◌, ◌==◌, Bool, true, false, if◌then◌else◌, List, take, drop, map, Option, slice_get}
+use Rattle.std.specs.Prelude.{ℕ, ◌+◌, ◌==◌, Bool, false, if◌then◌else◌, List, take, drop, map, slice_get}
 use Rattle.std.specs.List.{prefix_len, position}
 use Rattle.std.specs.Option.{option_map_or}
 use Rattle.sp_ids.specs.declared.ids.BlockId.{BlockId}
@@ -8,9 +8,9 @@ use Rattle.ir_ast.specs.declared.ops.Operand.TheVariants.{Int}
 use Rattle.ir_ast.specs.Insts.{Instruction}
 use Rattle.ir_ast.specs.Faults.PhiEdges.{is_phi}
 use Rattle.ir_ast.specs.Objects.{Datum}
-use Rattle.ir_meaning.specs.Lines.{Line}
-use Rattle.ir_meaning.specs.Registers.{nothing, operand, is_set, number_in, Write, put_all}
-use Rattle.ir_meaning.specs.States.{Frame, State, Setting, Effect, goes_on}
+use Rattle.object_meaning.specs.Lines.{Line}
+use Rattle.object_meaning.specs.Registers.{nothing, operand, is_set, number_in, Write, put_all}
+use Rattle.object_meaning.specs.States.{Frame, State, Setting, Effect, goes_on}
 
 -- the operand of a phi on an edge from this block: its first entry with the block's label
 abbrev pub incoming : ℕ → List Datum → Instruction → Datum

@@ -17,21 +17,21 @@ use Rattle.ir_ast.specs.declared.ops.Callee.{Callee}
 use Rattle.ir_ast.specs.declared.ops.Callee.TheVariants as callees
 use Rattle.ir_ast.specs.Modules.{ModuleContent}
 use Rattle.ir_ast.specs.Objects.{Datum, number, pointer, Object, footprint}
-use Rattle.ir_meaning.specs.Accesses.{Place, accessed}
-use Rattle.ir_meaning.specs.Calls.{allocated, allocating, called, checked, entering, function_in, made, stepped, taking}
-use Rattle.ir_meaning.specs.Comparisons.{bit, same_pointer}
-use Rattle.ir_meaning.specs.Computing.{value_of_line}
-use Rattle.ir_meaning.specs.Frames.{entered, group_length, grouped, passed}
-use Rattle.ir_meaning.specs.Jumps.{branch_taken, case_taken, jumped, label_at}
-use Rattle.ir_meaning.specs.Lines.{Line}
-use Rattle.ir_meaning.specs.Numbers.{width_of}
-use Rattle.ir_meaning.specs.Registers.{nothing, number_in, operand, pointer_in, value}
-use Rattle.ir_meaning.specs.Runs.{Next, Go, End as Over, advance, goes, Ends, Reaches}
-use Rattle.ir_meaning.specs.SourceRuns.{Progress, SourceRun, after, no_go, opening, proceeds, source_setting}
-use Rattle.ir_meaning.specs.States.{Frame, State, Setting, Effect, goes_on, prints, ends}
-use Rattle.ir_meaning.specs.Steps.{accesses, acts, loading, returned, settled, step, steps_at, storing}
-use Rattle.ir_meaning.specs.Tasks.{handed_over, started, task_ended, with_event}
-use Rattle.ir_meaning.specs.Texts.{printed_line, text_of}
+use Rattle.object_meaning.specs.Accesses.{Place, accessed}
+use Rattle.object_meaning.specs.Calls.{allocated, allocating, called, checked, entering, function_in, made, stepped, taking}
+use Rattle.object_meaning.specs.Comparisons.{bit, same_pointer}
+use Rattle.object_meaning.specs.Computing.{value_of_line}
+use Rattle.object_meaning.specs.Frames.{entered, group_length, grouped, passed}
+use Rattle.object_meaning.specs.Jumps.{branch_taken, case_taken, jumped, label_at}
+use Rattle.object_meaning.specs.Lines.{Line}
+use Rattle.object_meaning.specs.Numbers.{width_of}
+use Rattle.object_meaning.specs.Registers.{nothing, number_in, operand, pointer_in, value}
+use Rattle.object_meaning.specs.Runs.{Next, Go, End as Over, advance, goes, Ends, Reaches}
+use Rattle.object_meaning.specs.SourceRuns.{Progress, SourceRun, after, no_go, opening, proceeds, source_setting}
+use Rattle.object_meaning.specs.States.{Frame, State, Setting, Effect, goes_on, prints, ends}
+use Rattle.object_meaning.specs.Steps.{accesses, acts, loading, returned, settled, step, steps_at, storing}
+use Rattle.object_meaning.specs.Tasks.{handed_over, started, task_ended, with_event}
+use Rattle.object_meaning.specs.Texts.{printed_line, text_of}
 
 -- ---- one end
 

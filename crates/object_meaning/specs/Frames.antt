@@ -1,16 +1,15 @@
 -- Frames: a new one, one that goes on, and one that gets its call's answer.
-use Rattle.std.specs.Prelude.{ℕ, ◌-◌, Bool, true, false, List, [], ◌∷◌, ◌++◌, length, take, drop, map, replicate, Option, Some, None, slice_get}
+use Rattle.std.specs.Prelude.{ℕ, ◌-◌, Bool, true, false, List, [], ◌∷◌, ◌++◌, length, take, drop, map, replicate, Option, Some, slice_get}
 use Rattle.std.specs.List.{prefix_len}
 use Rattle.ir_ast.specs.declared.ops.Operand.{Operand}
 use Rattle.ir_ast.specs.declared.ops.Operand.TheVariants.{Int}
 use Rattle.ir_ast.specs.declared.ops.Op.{Op}
-use Rattle.ir_ast.specs.declared.ops.Op.TheVariants.{Call, Statepoint, GcResult, GcRelocate}
-use Rattle.ir_ast.specs.Insts.{Instruction}
+use Rattle.ir_ast.specs.declared.ops.Op.TheVariants.{Statepoint, GcResult, GcRelocate}
 use Rattle.ir_ast.specs.Faults.GroupShape.{entries_of}
 use Rattle.ir_ast.specs.Objects.{Datum}
-use Rattle.ir_meaning.specs.Lines.{Line, register_count}
-use Rattle.ir_meaning.specs.Registers.{nothing, operand, Write, put, put_all}
-use Rattle.ir_meaning.specs.States.{Frame, State, Setting}
+use Rattle.object_meaning.specs.Lines.{Line, register_count}
+use Rattle.object_meaning.specs.Registers.{nothing, operand, Write, put, put_all}
+use Rattle.object_meaning.specs.States.{Frame, State, Setting}
 
 -- the first frame of a call: arguments come first, every other register starts as 0
 abbrev pub entered : Setting → ℕ → List Datum → Frame

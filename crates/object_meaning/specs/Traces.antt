@@ -5,11 +5,11 @@ use Rattle.ir_ast.specs.declared.ops.Callee.TheVariants.{New, Poll}
 use Rattle.ir_ast.specs.declared.ops.Op.{Op}
 use Rattle.ir_ast.specs.declared.ops.Op.TheVariants.{Load, Store, Call, Statepoint}
 use Rattle.sp_ids.specs.declared.ends.Trap.{Trap}
-use Rattle.ir_meaning.specs.Runs.{Next, Go, End, advance}
-use Rattle.ir_meaning.specs.Lines.{Line}
-use Rattle.ir_meaning.specs.States.{State, Setting}
-use Rattle.ir_meaning.specs.Accesses.{Place}
-use Rattle.ir_meaning.specs.Steps.{accesses}
+use Rattle.object_meaning.specs.Runs.{Next, Go, End, advance}
+use Rattle.object_meaning.specs.Lines.{Line}
+use Rattle.object_meaning.specs.States.{State, Setting}
+use Rattle.object_meaning.specs.Accesses.{Place}
+use Rattle.object_meaning.specs.Steps.{accesses}
 
 pub data Event : Type 0 where
   at_poll : Event

@@ -1,14 +1,14 @@
 -- The source meaning: the run of a source module for an input, the `go` lines of a plan and a bound on steps.
-use Rattle.std.specs.Prelude.{◌≡◌, ◌≤◌, ◌-◌, ◌^◌, ℕ, ℤ, min, List, [], ◌∷◌, ◌++◌, length, Option, None}
-use Rattle.tool_io.specs.Sink.{append_known, AppendsFront}
+use Rattle.std.specs.Prelude.{◌-◌, ◌^◌, ℕ, ℤ, min, List, [], ◌∷◌, ◌++◌, length, Option, None}
+use Rattle.tool_io.specs.Sink.{AppendsFront}
 use Rattle.sp_ids.specs.declared.ends.End.{End}
 use Rattle.ir_ast.specs.Modules.{ModuleContent}
-use Rattle.ir_meaning.specs.Runs.{Next, Go, End as Over, Ends, Reaches}
-use Rattle.ir_meaning.specs.Lines.{poll, lines_of, main_of}
-use Rattle.ir_meaning.specs.States.{State, Setting, Effect, goes_on, prints, ends}
-use Rattle.ir_meaning.specs.Frames.{entered}
-use Rattle.ir_meaning.specs.Steps.{step}
-use Rattle.ir_meaning.specs.Texts.{printed_line, text_of, closing_text}
+use Rattle.object_meaning.specs.Runs.{Next, Go, End as Over, Ends, Reaches}
+use Rattle.object_meaning.specs.Lines.{poll, lines_of, main_of}
+use Rattle.object_meaning.specs.States.{State, Setting, Effect, goes_on, prints, ends}
+use Rattle.object_meaning.specs.Frames.{entered}
+use Rattle.object_meaning.specs.Steps.{step}
+use Rattle.object_meaning.specs.Texts.{printed_line, text_of, closing_text}
 
 -- a state, and the lines that were printed, newest first
 pub record Progress : Type 0 where

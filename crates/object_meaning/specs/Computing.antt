@@ -1,5 +1,5 @@
 -- The lines that compute a value from values alone.
-use Rattle.std.specs.Prelude.{ℕ, ◌+◌, ◌*◌, ◌/◌, ◌%◌, ◌^◌, if◌then◌else◌, List, length, Option, Some, None, slice_get, Result, Ok, Err}
+use Rattle.std.specs.Prelude.{ℕ, ◌+◌, ◌*◌, ◌/◌, if◌then◌else◌, List, length, Option, Some, None, slice_get, Result, Ok, Err}
 use Rattle.std.specs.Option.{option_map_or}
 use Rattle.std.specs.Int.{w64, cast_unsigned}
 use Rattle.sp_ids.specs.Numbers.{signed}
@@ -13,9 +13,9 @@ use Rattle.ir_ast.specs.declared.ops.Op.TheVariants.{Icmp, Trunc, Zext, Sext, Se
 use Rattle.ir_ast.specs.declared.ops.Operand.{Operand}
 use Rattle.ir_ast.specs.Layouts.{ObjectLayout}
 use Rattle.ir_ast.specs.Objects.{Pointer, Datum, number, pointer, advanced}
-use Rattle.ir_meaning.specs.Numbers.{width_of, arithmetic, truncated, sign_extended, spelled}
-use Rattle.ir_meaning.specs.Comparisons.{compares, bit}
-use Rattle.ir_meaning.specs.Registers.{operand, number_in, pointer_in, is_set}
+use Rattle.object_meaning.specs.Numbers.{width_of, arithmetic, truncated, sign_extended}
+use Rattle.object_meaning.specs.Comparisons.{compares, bit}
+use Rattle.object_meaning.specs.Registers.{operand, number_in, pointer_in, is_set}
 
 -- the bytes of a source element: each field of a layout has 8
 abbrev pub element_bytes : List ObjectLayout → Elem → ℕ

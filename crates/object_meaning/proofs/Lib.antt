@@ -1,0 +1,5 @@
+pub mod ListLemmas
+pub mod NumberLemmas
+pub mod RunLaws
+pub mod StepLaws
+pub mod EndLaws

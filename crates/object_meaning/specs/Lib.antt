@@ -1,0 +1,17 @@
+pub mod Runs
+pub mod Numbers
+pub mod Comparisons
+pub mod Lines
+pub mod States
+pub mod Registers
+pub mod Computing
+pub mod Accesses
+pub mod Frames
+pub mod Tasks
+pub mod Calls
+pub mod Jumps
+pub mod Steps
+pub mod Traces
+pub mod Texts
+pub mod SourceRuns
+pub mod TargetRuns

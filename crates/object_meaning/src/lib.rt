@@ -1,0 +1,2 @@
+//! Definitions and laws of what a module means on objects that never move.
+#![tactic(auto)]
