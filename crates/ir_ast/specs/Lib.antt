@@ -1,5 +1,6 @@
 pub mod Cells
 pub mod Layouts
+pub mod Sizes
 pub mod Ops
 pub mod Insts
 pub mod Blocks

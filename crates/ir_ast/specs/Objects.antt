@@ -1,8 +1,10 @@
 -- What registers and cells hold, and the objects of the managed heap. Nothing here has an address.
-use Rattle.std.specs.Prelude.{ℕ, ◌+◌, ◌*◌, ◌%◌, ◌^◌, List, map, max, length, replicate}
+use Rattle.std.specs.Prelude.{ℕ, ◌+◌, ◌*◌, ◌%◌, ◌^◌, List, map, max, replicate}
 use Rattle.std.specs.List.{flat_map}
 use Rattle.ir_ast.specs.declared.cells.Cell.{Cell}
 use Rattle.ir_ast.specs.declared.cells.Cell.TheVariants.{I64, Ptr}
+use Rattle.ir_ast.specs.Layouts.{ObjectLayout}
+use Rattle.ir_ast.specs.Sizes.{aligned, size_of, fields_in}
 
 -- an object by its number, from 1, or 0 for none; and an offset modulo 2^64
 pub record Pointer : Type 0 where
@@ -39,9 +41,13 @@ new_object layout fields count = record {
   cells = flat_map (map blank) (replicate count fields);
 }
 
-abbrev pub byte_count : Object → ℕ
-byte_count object = 8 * length object.cells
+abbrev pub byte_count : List ObjectLayout → Object → ℕ
+byte_count layouts object = object.count * size_of (fields_in layouts object.layout)
+
+-- objects begin at multiples of this many bytes
+abbrev pub granule : ℕ
+granule = 8
 
 -- the bytes that the object takes in the heap, which differ from none
-abbrev pub footprint : Object → ℕ
-footprint object = max 8 (byte_count object)
+abbrev pub footprint : List ObjectLayout → Object → ℕ
+footprint layouts object = max granule (aligned granule (byte_count layouts object))

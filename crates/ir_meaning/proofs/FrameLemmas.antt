@@ -16,7 +16,8 @@ use Rattle.ir_meaning.specs.declared.words.Word.{Word}
 use Rattle.ir_meaning.specs.declared.words.Word.TheVariants.{Number}
 use Rattle.object_meaning.specs.Lines.{Line, numbered, insts_of, lines_of, first_register, register_count}
 use Rattle.object_meaning.specs.Registers.{nothing, value, number_in, put}
-use Rattle.object_meaning.specs.States.{Frame, State, goes_on, ends}
+use Rattle.object_meaning.specs.States.{Frame, State}
+use Rattle.object_meaning.specs.Effects.{goes_on, ends}
 use Rattle.object_meaning.specs.Frames.{entered, answered_by, answered_at, resumed}
 use Rattle.object_meaning.specs.Jumps.{arrived, jumped}
 use Rattle.object_meaning.specs.Steps.{returned}

@@ -7,3 +7,4 @@ pub mod FrameLemmas
 pub mod RunLemmas
 pub mod ReadyLemmas
 pub mod OpeningLemmas
+pub mod ReferenceLaws

@@ -4,7 +4,7 @@ use Rattle.std.specs.Prelude.{Some, None, slice_get, Result, Ok, Err}
 use Rattle.sp_ids.specs.declared.ends.Trap.{Trap as Kind}
 use Rattle.ir_ast.specs.Objects.{Datum}
 use Rattle.object_meaning.specs.Computing.{computed, value_of_line}
-use Rattle.object_meaning.specs.Registers.{operand}
+use Rattle.object_meaning.specs.Registers.{nothing, operand}
 use Rattle.tool_io.specs.Counts.{raised}
 use Rattle.ir_ast.specs.Insts.{Instruction}
 use Rattle.ir_ast.specs.Modules.{ModuleContent}
@@ -16,8 +16,10 @@ use Rattle.ir_meaning.specs.declared.spots.Due.TheVariants.{Front, Line as Next,
 use Rattle.ir_meaning.specs.declared.spots.Spot.{Spot}
 use Rattle.ir_meaning.specs.declared.words.Word.{Word}
 use Rattle.object_meaning.specs.Lines.{Line, poll, numbered, retreats, insts_of}
-use Rattle.object_meaning.specs.States.{State, goes_on, ends}
-use Rattle.object_meaning.specs.Frames.{passed}
+use Rattle.object_meaning.specs.States.{State}
+use Rattle.object_meaning.specs.Effects.{goes_on, ends}
+use Rattle.object_meaning.specs.Frames.{answered_at, passed}
+use Rattle.object_meaning.specs.Tasks.{with_event}
 use Rattle.object_meaning.specs.Steps.{step, settled}
 use Rattle.object_meaning.proofs.StepLaws.{step_is}
 use Rattle.ir_meaning.specs.Stacks.{Frames, word_at, passed_frame, waiting_spot, lines_at, lines_behind}
@@ -78,7 +80,9 @@ pub step_polls : (content : ModuleContent) (bound : ℕ) (frames : Frames) (inpu
     → goes_on (state_from content (record frames { running = record frames.running { spot = record frames.running.spot { due = due } } }) input steps (raised events))
     ≡ step (today content bound) (state_from content frames input steps events)
 step_polls content bound frames input steps events due e =
-    sym (step_is (today content bound) (state_from content frames input steps events) poll (lines_at content (record frames.running.spot { due = due })) e)
+    let state = state_from content frames input steps events in
+    ap (λ (lines : List Line). goes_on (record (with_event state) { running = answered_at state.running lines nothing })) (sym e)
+    ∙ sym (step_is (today content bound) state poll (lines_at content (record frames.running.spot { due = due })) e)
 
 pub passed_is : (content : ModuleContent) (frames : Frames) (input : List ℤ) (steps events : ℕ) (inst : Instruction) (one : Word)
     → state_from content (record frames { running = passed_frame frames.running inst one }) input steps events

@@ -8,7 +8,7 @@ use Rattle.ir_ast.specs.Funcs.{Function, LinedFunction, content_of}
 use Rattle.ir_ast.specs.Modules.{ModuleContent}
 use Rattle.ir_meaning.specs.declared.machine.Machine.{Machine}
 use Rattle.object_meaning.specs.Lines.{main_of, register_count}
-use Rattle.object_meaning.specs.SourceRuns.{opening}
+use Rattle.object_meaning.specs.Outcomes.{opening}
 use Rattle.ir_meaning.specs.References.{unprinted}
 use Rattle.ir_meaning.specs.Machines.{state_of, today, IsOpened}
 use Rattle.ir_meaning.proofs.FrameLemmas.{zeros_are}

@@ -21,7 +21,7 @@ use Rattle.object_meaning.specs.States.{State}
 use Rattle.ir_meaning.specs.Stacks.{Seen, lines_due, frame_of}
 use Rattle.ir_meaning.specs.Stages.{runs_today, is_null, FunctionIsToday, IsToday, IsReady, AllReady, IsReadyModule}
 use Rattle.object_meaning.proofs.ListLemmas.{take_front, drop_front}
-use Rattle.object_meaning.specs.Texts.{bundle_of, bundle_line, bundle_text, closing_text}
+use Rattle.object_meaning.specs.Texts.{bundle_of, bundle_line, bundle_lines, closing_lines, function_name}
 
 first_holds : (a b : Bool) → a && b ≡ true → a ≡ true
 first_holds true b e = refl
@@ -75,16 +75,16 @@ quiet_lines Behind block next [] all = refl
 quiet_lines Behind block next (inst ∷ insts) all = (All-head IsReady inst insts all).no_bundle
 
 quiet_frames : (content : ModuleContent) → IsReadyModule content → (place : ℕ) (seens : List Seen)
-    → bundle_text content place (map (frame_of content) seens) ≡ []
+    → bundle_lines (function_name content) place (map (frame_of content) seens) ≡ []
 quiet_frames content ready place [] = refl
 quiet_frames content ready place (seen ∷ seens) =
     let insts = insts_of content seen.spot.func seen.spot.block in
     let quiet = quiet_lines seen.spot.due seen.spot.block seen.spot.next (drop seen.spot.at insts) (All-drop IsReady seen.spot.at insts (ready seen.spot.func seen.spot.block)) in
-    ap (λ (bundle : List (Ty × Operand)). bundle_line content place (frame_of content seen) bundle ++ bundle_text content (place + 1) (map (frame_of content) seens)) quiet
+    ap (λ (bundle : List (Ty × Operand)). bundle_line (function_name content) place (frame_of content seen) bundle ++ bundle_lines (function_name content) (place + 1) (map (frame_of content) seens)) quiet
     ∙ quiet_frames content ready (place + 1) seens
 
 -- nothing is shown at a trap
 pub quiet_end : (content : ModuleContent) → IsReadyModule content → (end : End) (state : State) (seens : List Seen)
-    → state.below ≡ map (frame_of content) seens → closing_text content end state ≡ []
-quiet_end content ready (Trap trap) state seens below = ap (bundle_text content 1) below ∙ quiet_frames content ready 1 seens
+    → state.below ≡ map (frame_of content) seens → closing_lines (function_name content) end state ≡ []
+quiet_end content ready (Trap trap) state seens below = ap (bundle_lines (function_name content) 1) below ∙ quiet_frames content ready 1 seens
 quiet_end content ready _ state seens below = refl

@@ -12,11 +12,13 @@ use Rattle.ir_meaning.specs.Machines.{effect_of}
 use Rattle.ir_meaning.specs.declared.interpret.Ran.{Ran}
 use Rattle.object_meaning.specs.Runs.{Reaches}
 use Rattle.object_meaning.proofs.RunLaws.{reaches_more, ends_more}
-use Rattle.object_meaning.specs.States.{State, Setting, goes_on, prints, ends}
+use Rattle.object_meaning.specs.States.{State, Setting}
 use Rattle.object_meaning.specs.Steps.{step}
-use Rattle.object_meaning.specs.Texts.{printed_line, text_of, closing_text}
-use Rattle.object_meaning.specs.SourceRuns.{Progress, after, proceeds, WritesFrontFrom}
-use Rattle.ir_meaning.specs.References.{IsRunFrom, unprinted, Follows, ended_of, Wrote, WroteFront}
+use Rattle.object_meaning.specs.Effects.{goes_on, prints, ends, Progress, after, printed_line, text_of}
+use Rattle.object_meaning.specs.Texts.{closing_lines}
+use Rattle.object_meaning.specs.Outcomes.{proceeds}
+use Rattle.std.specs.List.{concat}
+use Rattle.ir_meaning.specs.References.{IsRunFrom, WritesFrontFrom, unprinted, Follows, ended_of, Wrote, WroteFront}
 
 pub follows_start : (setting : Setting) (state : State) (old : Option (List ℕ)) → Follows setting (unprinted state) state 0 old old
 follows_start setting state old = record {
@@ -26,7 +28,7 @@ follows_start setting state old = record {
   written = sym (append_known-nil old);
 }
 
-pub follows_on : (setting : Setting) (start : Progress) (state next : State) (count : ℕ) (old now : Option (List ℕ))
+pub follows_on : (setting : Setting) (start : Progress State) (state next : State) (count : ℕ) (old now : Option (List ℕ))
     → Follows setting start state count old now → goes_on next ≡ step setting state → Follows setting start next count old now
 unfolding proceeds
 follows_on setting start state next count old now follows e = record {
@@ -38,7 +40,7 @@ follows_on setting start state next count old now follows e = record {
 }
 
 -- the run has printed one more line, and it was written
-reaches_printed : (setting : Setting) (start : Progress) (state next : State) (word count : ℕ) (old now : Option (List ℕ))
+reaches_printed : (setting : Setting) (start : Progress State) (state next : State) (word count : ℕ) (old now : Option (List ℕ))
     → (follows : Follows setting start state count old now) → prints word next ≡ step setting state
     → Reaches {E = End} (proceeds setting) start (record { state = next; lines = printed_line word ∷ follows.lines })
 unfolding proceeds
@@ -49,7 +51,7 @@ reaches_printed setting start state next word count old now follows e =
 counted_more : (length count more : ℕ) → count ≡ min length (2 ^ 64 - 1) → more ≡ min (count + 1) (2 ^ 64 - 1) → more ≡ min (suc length) (2 ^ 64 - 1)
 counted_more length count more one two = omega arith
 
-pub follows_printed : (setting : Setting) (start : Progress) (state next : State) (word count more : ℕ) (old now new : Option (List ℕ))
+pub follows_printed : (setting : Setting) (start : Progress State) (state next : State) (word count more : ℕ) (old now new : Option (List ℕ))
     → Follows setting start state count old now → prints word next ≡ step setting state
     → more ≡ min (count + 1) (2 ^ 64 - 1) → new ≡ append_known now (printed_line word) → Follows setting start next more old new
 follows_printed setting start state next word count more old now new follows e counts added = record {
@@ -59,7 +61,7 @@ follows_printed setting start state next word count more old now new follows e c
   written = append_known-then old now new (text_of follows.lines) (printed_line word) follows.written added;
 }
 
-pub follows_front : (setting : Setting) (start : Progress) (state : State) (count : ℕ) (old now : Option (List ℕ))
+pub follows_front : (setting : Setting) (start : Progress State) (state : State) (count : ℕ) (old now : Option (List ℕ))
     → Follows setting start state count old now → WritesFrontFrom setting start old now
 follows_front setting start state count old now follows = record {
   now = record { state = state; lines = follows.lines };
@@ -67,7 +69,7 @@ follows_front setting start state count old now follows = record {
   front = AppendsFront-all old now (text_of follows.lines) follows.written;
 }
 
-pub front_printed : (setting : Setting) (start : Progress) (state next : State) (word count : ℕ) (old now new : Option (List ℕ))
+pub front_printed : (setting : Setting) (start : Progress State) (state next : State) (word count : ℕ) (old now new : Option (List ℕ))
     → Follows setting start state count old now → prints word next ≡ step setting state
     → AppendsFront now new (printed_line word) → WritesFrontFrom setting start old new
 front_printed setting start state next word count old now new follows e front = record {
@@ -76,9 +78,9 @@ front_printed setting start state next word count old now new follows e front = 
   front = AppendsFront-second old (text_of follows.lines) follows.written front;
 }
 
-pub follows_end : (setting : Setting) (start : Progress) (state last : State) (end : End) (count : ℕ) (func : FuncId) (steps events : ℕ) (old now : Option (List ℕ))
+pub follows_end : (setting : Setting) (start : Progress State) (state last : State) (end : End) (count : ℕ) (func : FuncId) (steps events : ℕ) (old now : Option (List ℕ))
     → Follows setting start state count old now → ends end last ≡ step setting state
-    → func.0 ≡ last.running.func → steps ≡ last.steps → events ≡ last.events → closing_text setting.content end last ≡ []
+    → func.0 ≡ last.running.func → steps ≡ last.steps → events ≡ last.events → closing_lines setting.names end last ≡ []
     → IsRunFrom setting start (record { end = end; func = func; steps = steps; events = events; lines = count }) old now
 unfolding proceeds
 follows_end setting start state last end count func steps events old now follows e in_func takes sees quiet = record {
@@ -89,11 +91,13 @@ follows_end setting start state last end count func steps events old now follows
   steps = takes;
   events = sees;
   lines = follows.counted;
-  written = follows.written ∙ ap (append_known old) (sym (ap (λ more. text_of follows.lines ++ more) quiet ∙ append-nil (text_of follows.lines)));
+  written =
+      follows.written
+      ∙ ap (append_known old) (sym (ap (λ (more : List (List ℕ)). text_of follows.lines ++ concat more) quiet ∙ append-nil (text_of follows.lines)));
 }
 
 -- a step of the machine that isn't the last
-pub follows_more : (setting : Setting) (start : Progress) (state next : State) (did : Did) (count more : ℕ) (old now new : Option (List ℕ))
+pub follows_more : (setting : Setting) (start : Progress State) (state next : State) (did : Did) (count more : ℕ) (old now new : Option (List ℕ))
     → Follows setting start state count old now → effect_of did next ≡ step setting state → ended_of did ≡ None → Wrote did count more now new
     → Follows setting start next more old new
 follows_more setting start state next GoesOn count more old now new follows e goes wrote =
@@ -102,7 +106,7 @@ follows_more setting start state next (Prints word) count more old now new follo
     follows_printed setting start state next word count more old now new follows e wrote.0 wrote.1
 follows_more setting start state next (Finishes end) count more old now new follows e goes wrote = cc
 
-pub front_more : (setting : Setting) (start : Progress) (state next : State) (did : Did) (count : ℕ) (old now new : Option (List ℕ))
+pub front_more : (setting : Setting) (start : Progress State) (state next : State) (did : Did) (count : ℕ) (old now new : Option (List ℕ))
     → Follows setting start state count old now → effect_of did next ≡ step setting state → ended_of did ≡ None → WroteFront did now new
     → WritesFrontFrom setting start old new
 front_more setting start state next GoesOn count old now new follows e goes wrote = record {
@@ -115,10 +119,10 @@ front_more setting start state next (Prints word) count old now new follows e go
 front_more setting start state next (Finishes end) count old now new follows e goes wrote = cc
 
 -- the last step
-pub end_more : (setting : Setting) (start : Progress) (state last : State) (did : Did) (end : End) (count : ℕ) (ran : Ran) (old now : Option (List ℕ))
+pub end_more : (setting : Setting) (start : Progress State) (state last : State) (did : Did) (end : End) (count : ℕ) (ran : Ran) (old now : Option (List ℕ))
     → Follows setting start state count old now → effect_of did last ≡ step setting state → ended_of did ≡ Some end
     → ran ≡ record { end = end; func = record { 0 = last.running.func }; steps = last.steps; events = last.events; lines = count }
-    → closing_text setting.content end last ≡ [] → IsRunFrom setting start ran old now
+    → closing_lines setting.names end last ≡ [] → IsRunFrom setting start ran old now
 end_more setting start state last GoesOn end count ran old now follows e ended is quiet = cc
 end_more setting start state last (Prints word) end count ran old now follows e ended is quiet = cc
 end_more setting start state last (Finishes over) end count ran old now follows e ended is quiet =
@@ -127,6 +131,6 @@ end_more setting start state last (Finishes over) end count ran old now follows 
     rw is (follows_end setting start state last end count (record { 0 = last.running.func }) last.steps last.events old now follows ends_so refl refl refl quiet)
 
 -- nothing was written
-pub front_none : (setting : Setting) (start : Progress) (old : Option (List ℕ)) → WritesFrontFrom setting start old old
+pub front_none : (setting : Setting) (start : Progress State) (old : Option (List ℕ)) → WritesFrontFrom setting start old old
 front_none setting start old =
     record { now = start; reached = record { after = 0; by = refl }; front = AppendsFront-nothing old (text_of start.lines) }

@@ -9,7 +9,8 @@ use Rattle.ir_ast.specs.Insts.{Instruction}
 use Rattle.ir_meaning.specs.declared.spots.Due.TheVariants.{Front}
 use Rattle.ir_meaning.specs.declared.words.Word.TheVariants.{Number}
 use Rattle.object_meaning.specs.Lines.{numbered, insts_of, main_of, first_register, register_count}
-use Rattle.object_meaning.specs.States.{State, Setting, Effect, goes_on, prints, ends}
+use Rattle.object_meaning.specs.States.{State, Setting}
+use Rattle.object_meaning.specs.Effects.{Effect, goes_on, prints, ends}
 use Rattle.ir_meaning.specs.Stages.{IsReady}
 use Rattle.object_meaning.specs.SourceRuns.{source_setting, no_go}
 use Rattle.ir_meaning.specs.Stacks.{Frames, frame_of, lines_at, lines_behind}
@@ -42,11 +43,11 @@ pub record StandsAt (content : ModuleContent) (spot : Spot) (inst : Instruction)
   pub ready : IsReady inst
 
 -- what the meaning does at this instruction
-abbrev pub does : ModuleContent → ℕ → State → Spot → Instruction → Effect
+abbrev pub does : ModuleContent → ℕ → State → Spot → Instruction → Effect State
 does content bound state spot inst =
     acts (today content bound) state (numbered spot.next inst) (lines_behind content spot inst) inst.op
 
-abbrev pub effect_of : Did → State → Effect
+abbrev pub effect_of : Did → State → Effect State
 effect_of GoesOn state = goes_on state
 effect_of (Prints word) state = prints word state
 effect_of (Ends end) state = ends end state

@@ -1,10 +1,10 @@
 //! The lines that compute a value from values alone.
 
-ghost use Rattle.std.specs.Prelude.{◌≡◌, ◌≤◌, true};
-ghost use Rattle.object_meaning.specs.Comparisons.{compares, bit, pointers_related};
+ghost use Rattle.std.specs.Prelude.{◌≡◌, true};
+ghost use Rattle.object_meaning.specs.Comparisons.{compares, bit, pointers_related, same_pointer};
 ghost use Rattle.object_meaning.specs.Computing.{computed, with_number};
 ghost use Rattle.ir_meaning.specs.Stages.{runs_today};
-ghost use Rattle.object_meaning.specs.Registers.{number_in, is_set};
+ghost use Rattle.object_meaning.specs.Registers.{number_in, pointer_in, is_set};
 ghost use Rattle.ir_meaning.specs.Words.{datum, datum_result};
 
 use crate::numbers::{arithmetic, compare, sign_extended, truncated, width_of};
@@ -25,7 +25,7 @@ pub fn computed(
     ensures { datum_result result ≡ computed layouts.now op.now ty.now (datum first) (datum second) (datum third) }
 {
     match op {
-        Op::Icmp(pred) => Ok(bit(compares(*pred, width_of(ty), first, second))),
+        Op::Icmp(pred) => Ok(bit(compares(*pred, ty, first, second))),
         Op::Trunc(to) => Ok(Word::Number(truncated(width_of(&Ty::Int(*to)), number_in(first)))),
         Op::Zext(_) => Ok(Word::Number(number_in(first))),
         Op::Sext(to) => Ok(Word::Number(sign_extended(
@@ -48,27 +48,19 @@ fn with_number(outcome: Result<u64, Trap>) -> Result<Word, Trap>
     }
 }
 
-fn compares(pred: Pred, width: u32, left: Word, right: Word) -> bool
-    requires some_bits { 1 ≤ width }
-    requires word { width ≤ 64 }
-    ensures { result ≡ compares pred width (datum left) (datum right) }
+fn compares(pred: Pred, ty: &Ty, left: Word, right: Word) -> bool
+    ensures { result ≡ compares pred ty.now (datum left) (datum right) }
 {
-    match left {
-        Word::Number(left) => match right {
-            Word::Number(right) => compare(pred, width, left, right),
-            Word::Pointer { .. } => false,
-        },
-        Word::Pointer {
-            object: left,
-            offset: left_offset,
-        } => match right {
-            Word::Number(_) => false,
-            Word::Pointer {
-                object: right,
-                offset: right_offset,
-            } => compare_pointers(pred, left == right && left_offset == right_offset),
-        },
+    match ty {
+        Ty::Ptr => compare_pointers(pred, same_pointer(left, right)),
+        _ => compare(pred, width_of(ty), number_in(left), number_in(right)),
     }
+}
+
+fn same_pointer(left: Word, right: Word) -> bool
+    ensures { result ≡ same_pointer (pointer_in (datum left)) (pointer_in (datum right)) }
+{
+    object_in(left) == object_in(right) && offset_in(left) == offset_in(right)
 }
 
 fn compare_pointers(pred: Pred, same: bool) -> bool
@@ -94,6 +86,26 @@ pub fn number_in(word: Word) -> u64
     match word {
         Word::Number(number) => number,
         Word::Pointer { .. } => 0,
+    }
+}
+
+// The object that a register points into.
+fn object_in(word: Word) -> u64
+    ensures { result ≡ (pointer_in (datum word)).object }
+{
+    match word {
+        Word::Number(_) => 0,
+        Word::Pointer { object, .. } => object,
+    }
+}
+
+// The offset of the pointer in a register.
+fn offset_in(word: Word) -> u64
+    ensures { result ≡ (pointer_in (datum word)).offset }
+{
+    match word {
+        Word::Number(_) => 0,
+        Word::Pointer { offset, .. } => offset,
     }
 }
 

@@ -7,10 +7,10 @@ ghost use Rattle.ir_cfg.specs.SourceModules.{IsSourceModule};
 ghost use Rattle.tool_io.specs.Counts.{Rose};
 ghost use Rattle.object_meaning.specs.Lines.{main_of};
 ghost use Rattle.ir_meaning.specs.Machines.{state_of, today, IsOpened};
-ghost use Rattle.object_meaning.specs.SourceRuns.{no_go, WritesFrontFrom, WritesFrontOfRun};
+ghost use Rattle.object_meaning.specs.SourceRuns.{no_go};
 ghost use Rattle.ir_meaning.specs.Stages.{IsToday, IsReadyModule};
-ghost use Rattle.object_meaning.specs.Texts.{printed_line};
-ghost use Rattle.ir_meaning.specs.References.{IsRun, IsRunFrom, unprinted, ended_of, Wrote, WroteFront};
+ghost use Rattle.object_meaning.specs.Effects.{printed_line};
+ghost use Rattle.ir_meaning.specs.References.{IsRun, IsRunFrom, WritesFrontFrom, WritesFrontOfRun, unprinted, ended_of, Wrote, WroteFront};
 
 use crate::codes::Code;
 use crate::machine::{Did, Machine, front_of};
@@ -190,7 +190,7 @@ fn how_ran(end: End, machine: &Machine, lines: u64) -> Ran
 }
 
 // The signed decimal of an `i64`, and a newline.
-#[tactic(auto, unfolding(object_meaning::specs::Texts::printed_line))]
+#[tactic(auto, unfolding(object_meaning::specs::Effects::printed_line))]
 fn printed_line(word: u64) -> ArrayVec<u8, 64>
     ensures { result.items ≡ printed_line word }
 {

@@ -14,7 +14,7 @@ ghost use Rattle.object_meaning.specs.Numbers.{width_of};
 ghost use Rattle.object_meaning.specs.Steps.{step, returned, settled, skipped};
 ghost use Rattle.object_meaning.specs.Computing.{value_of_line};
 ghost use Rattle.ir_meaning.specs.Stacks.{lines_at, lines_behind, waiting_spot, frame_of};
-ghost use Rattle.object_meaning.specs.States.{goes_on, prints, ends};
+ghost use Rattle.object_meaning.specs.Effects.{goes_on, prints, ends};
 ghost use Rattle.ir_meaning.specs.Words.{datum};
 ghost use Rattle.ir_meaning.specs.declared.spots.Due.TheVariants as dues;
 ghost use Rattle.ir_meaning.specs.Machines.{state_of, effect_of, today, StandsAt, does};

@@ -3,3 +3,4 @@ pub mod NumberLemmas
 pub mod RunLaws
 pub mod StepLaws
 pub mod EndLaws
+pub mod OutcomeLaws

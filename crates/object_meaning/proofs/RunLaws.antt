@@ -1,6 +1,7 @@
--- Runs of any step function, one step longer.
-use Rattle.std.proofs.Common.{◌≡◌, ℕ, zero, suc, refl, ap, ◌∙◌}
+-- Runs of any step function: one step longer, with one end, and what their states do.
+use Rattle.std.proofs.Common.{◌≡◌, ℕ, zero, suc, List, [], ◌++◌, refl, sym, ap, ◌∙◌}
 use Rattle.object_meaning.specs.Runs.{Next, Go, End as Over, advance, goes, Ends, Reaches}
+use Rattle.object_meaning.specs.Traces.{done_at, traced}
 
 -- one more step comes last
 pub goes_more : {E A : Type 0} (step : A → Next E A) (count : ℕ) (next : Next E A) → goes step (suc count) next ≡ advance step (goes step count next)
@@ -16,3 +17,55 @@ pub ends_more : {E A : Type 0} (step : A → Next E A) (start now : A) (end : E)
     → step now ≡ Over end last → Ends step start end last
 ends_more step start now end last reached e =
     record { within = suc reached.after; by = goes_more step reached.after (Go start) ∙ ap (advance step) reached.by ∙ e }
+
+-- two ends of a run are one
+pub record SameEnd {E A : Type 0} (one other : E) (one_last other_last : A) : Type 0 where
+  pub end : one ≡ other
+  pub last : one_last ≡ other_last
+
+pub same_over : {E A : Type 0} (end other : E) (last other_last : A) → Over end last ≡ Over other other_last → SameEnd end other last other_last
+same_over end other last other_last is = record { end = cc; last = cc }
+
+pub not_over : {E A : Type 0} (end : E) (last state : A) → Over end last ≡ Go state → ⊥
+not_over end last state is = cc
+
+-- a run that has ended stays as it is
+pub goes_over : {E A : Type 0} (step : A → Next E A) (count : ℕ) (end : E) (last : A) → goes step count (Over end last) ≡ Over end last
+goes_over step zero end last = refl
+goes_over step (suc count) end last = goes_over step count end last
+
+one_end_at : {E A : Type 0} (step : A → Next E A) (count more : ℕ) (next : Next E A) (end other : E) (last other_last : A)
+    → goes step count next ≡ Over end last → goes step more next ≡ Over other other_last → SameEnd end other last other_last
+one_end_at step zero more next end other last other_last one two =
+    same_over end other last other_last (sym (goes_over step more end last) ∙ (ap (goes step more) (sym one) ∙ two))
+one_end_at step (suc count) zero next end other last other_last one two =
+    same_over end other last other_last (sym one ∙ (ap (goes step (suc count)) two ∙ goes_over step (suc count) other other_last))
+one_end_at step (suc count) (suc more) next end other last other_last one two = one_end_at step count more (advance step next) end other last other_last one two
+
+pub one_end : {E A : Type 0} (step : A → Next E A) (start : A) (end other : E) (last other_last : A) → Ends step start end last
+    → Ends step start other other_last → SameEnd end other last other_last
+one_end step start end other last other_last one two =
+    one_end_at step one.within two.within (Go start) end other last other_last one.by two.by
+
+-- the end is that of the run from each state that it comes to
+pub ends_at : {E A : Type 0} (step : A → Next E A) (count more : ℕ) (next : Next E A) (now : A) (end : E) (last : A)
+    → goes step count next ≡ Go now → goes step more next ≡ Over end last → Ends step now end last
+ends_at step zero more next now end last one two = record { within = more; by = ap (goes step more) (sym one) ∙ two }
+ends_at step (suc count) zero next now end last one two =
+    absurd (not_over end last now (sym (goes_over step (suc count) end last) ∙ (ap (goes step (suc count)) (sym two) ∙ one)))
+ends_at step (suc count) (suc more) next now end last one two = ends_at step count more (advance step next) now end last one two
+
+-- nothing is done after the end
+traced_over : {E A T : Type 0} (did : A → List T) (step : A → Next E A) (count : ℕ) (end : E) (last : A) → traced did step count (Over end last) ≡ []
+traced_over did step zero end last = refl
+traced_over did step (suc count) end last = traced_over did step count end last
+
+-- more steps after the end add nothing
+pub traced_more : {E A T : Type 0} (did : A → List T) (step : A → Next E A) (count more : ℕ) (next : Next E A) (end other : E) (last other_last : A)
+    → goes step count next ≡ Over end last → goes step more next ≡ Over other other_last → traced did step count next ≡ traced did step more next
+traced_more did step zero more next end other last other_last one two =
+    sym (ap (traced did step more) one ∙ traced_over did step more end last)
+traced_more did step (suc count) zero next end other last other_last one two =
+    ap (traced did step (suc count)) two ∙ traced_over did step (suc count) other other_last
+traced_more did step (suc count) (suc more) next end other last other_last one two =
+    ap (λ rest. done_at did next ++ rest) (traced_more did step count more (advance step next) end other last other_last one two)

@@ -3,7 +3,8 @@ use Rattle.std.proofs.Common.{◌≡◌, List, [], ◌∷◌, ap}
 use Rattle.sp_ids.specs.declared.ends.End.TheVariants.{Trap}
 use Rattle.sp_ids.specs.declared.ends.Trap.TheVariants.{Unreachable}
 use Rattle.object_meaning.specs.Lines.{Line}
-use Rattle.object_meaning.specs.States.{State, Setting, ends}
+use Rattle.object_meaning.specs.States.{State, Setting}
+use Rattle.object_meaning.specs.Effects.{ends}
 use Rattle.object_meaning.specs.Steps.{step, steps_at, acts}
 
 -- the step at a line

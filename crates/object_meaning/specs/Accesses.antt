@@ -1,41 +1,55 @@
 -- Loads and stores: the cell that a pointer names, or the trap.
-use Rattle.std.specs.Prelude.{ℕ, ◌+◌, ◌-◌, ◌/◌, ◌%◌, ◌==◌, ◌||◌, not, nat_lt, if◌then◌else◌, List, length, slice_get, slice_set, slice_index_or, Result, Ok, Err}
+use Rattle.std.specs.Prelude.{ℕ, ◌+◌, ◌-◌, ◌*◌, ◌/◌, ◌%◌, ◌==◌, ◌||◌, ◌&&◌, not, nat_lt, if◌then◌else◌, List, length, Option, Some, None, slice_get, slice_set, slice_index_or, Result, Ok, Err}
+use Rattle.std.specs.List.{position}
 use Rattle.std.specs.Option.{option_map_or}
 use Rattle.sp_ids.specs.declared.ends.Trap.{Trap}
 use Rattle.sp_ids.specs.declared.ends.Trap.TheVariants.{Null, Bounds, Kind}
-use Rattle.ir_ast.specs.declared.cells.Cell.TheVariants.{I64}
+use Rattle.ir_ast.specs.declared.cells.Cell.{Cell}
+use Rattle.ir_ast.specs.declared.cells.Cell.TheVariants.{I64, Ptr}
 use Rattle.ir_ast.specs.declared.types.Ty.{Ty}
 use Rattle.ir_ast.specs.declared.types.Ty.TheVariants.{Ptr as Managed}
 use Rattle.ir_ast.specs.Cells.{kind_of}
 use Rattle.ir_ast.specs.Layouts.{ObjectLayout}
-use Rattle.ir_ast.specs.Objects.{Pointer, Datum, Object, byte_count}
+use Rattle.ir_ast.specs.Sizes.{bytes, laid, size_of, fields_in}
+use Rattle.ir_ast.specs.Objects.{Pointer, Datum, Object}
 use Rattle.object_meaning.specs.Registers.{nothing}
 
--- a cell by the number of its object and its place among the object's cells
+-- a cell: its object, where it begins in it, and its place among the object's cells
 pub record Place : Type 0 where
   pub object : ℕ
+  pub offset : ℕ
   pub cell : ℕ
 
--- the kind of a cell: 0 for an integer, 1 for a pointer. The fields of the layout come again in each element
-abbrev pub kind_at : List ObjectLayout → Object → ℕ → ℕ
-kind_at layouts object cell =
-    option_map_or (λ layout. kind_of (slice_index_or layout.fields (cell % length layout.fields) I64)) (slice_get layouts object.layout) 0
+-- the cell that has a type, and the one that the literal of a check names
+abbrev pub cell_of : Ty → Cell
+cell_of Managed = Ptr
+cell_of _ = I64
 
-abbrev pub kind_asked : Ty → ℕ
-kind_asked Managed = 1
-kind_asked _ = 0
+abbrev pub cell_named : ℕ → Cell
+cell_named kind = if kind == kind_of Ptr then Ptr else I64
 
-abbrev pub within : List ObjectLayout → ℕ → Pointer → Object → Result Place Trap
-within layouts kind at object =
-    if nat_lt (byte_count object) (at.offset + 8) || not (at.offset % 8 == 0) then Err Bounds
-    else (if kind_at layouts object (at.offset / 8) == kind then Ok (record { object = at.object; cell = at.offset / 8 })
-    else Err Kind)
+-- the place of the field of a kind that begins at this byte of an element
+unfoldable pub field_at : List Cell → Cell → ℕ → Option ℕ
+field_at fields asked byte =
+    position (λ field. (field.begins == byte) && (kind_of field.cell == kind_of asked)) (laid fields)
+
+-- the fields of the layout come again in each element
+abbrev pub cell_at : Pointer → List Cell → Option ℕ → Result Place Trap
+cell_at at fields (Some field) =
+    Ok (record { object = at.object; offset = at.offset; cell = at.offset / size_of fields * length fields + field })
+cell_at at fields None = Err Kind
+
+abbrev pub within : Pointer → List Cell → Cell → ℕ → Result Place Trap
+within at fields asked count =
+    if nat_lt (count * size_of fields) (at.offset + bytes asked) || not (at.offset % bytes asked == 0) then Err Bounds
+    else cell_at at fields (field_at fields asked (at.offset % size_of fields))
 
 -- the cell of a kind that a pointer names: `null` where it has no object, then `bounds`, then `kind`
-abbrev pub accessed : List ObjectLayout → List Object → ℕ → Pointer → Result Place Trap
-accessed layouts objects kind at =
+abbrev pub accessed : List ObjectLayout → List Object → Cell → Pointer → Result Place Trap
+accessed layouts objects asked at =
     if at.object == 0 then Err Null
-    else option_map_or (within layouts kind at) (slice_get objects (at.object - 1)) (Err Null)
+    else option_map_or (λ object. within at (fields_in layouts object.layout) asked object.count)
+    (slice_get objects (at.object - 1)) (Err Null)
 
 abbrev pub loaded : List Object → Place → Datum
 loaded objects place =

@@ -10,7 +10,8 @@ use Rattle.ir_ast.specs.Faults.PhiEdges.{is_phi}
 use Rattle.ir_ast.specs.Objects.{Datum}
 use Rattle.object_meaning.specs.Lines.{Line}
 use Rattle.object_meaning.specs.Registers.{nothing, operand, is_set, number_in, Write, put_all}
-use Rattle.object_meaning.specs.States.{Frame, State, Setting, Effect, goes_on}
+use Rattle.object_meaning.specs.States.{Frame, State, Setting}
+use Rattle.object_meaning.specs.Effects.{Effect, goes_on}
 
 -- the operand of a phi on an edge from this block: its first entry with the block's label
 abbrev pub incoming : ℕ → List Datum → Instruction → Datum
@@ -31,7 +32,7 @@ arrived frame block lines = record frame {
   registers = put_all (map (phi_write frame.block frame.registers) (take (phi_count lines) lines)) frame.registers;
 }
 
-abbrev pub jumped : Setting → ℕ → State → Effect
+abbrev pub jumped : Setting → ℕ → State → Effect State
 jumped setting block state =
     goes_on (record state { running = arrived state.running block (setting.lines state.running.func block) })
 

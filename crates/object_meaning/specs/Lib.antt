@@ -1,9 +1,10 @@
 pub mod Runs
+pub mod Effects
 pub mod Numbers
-pub mod Comparisons
 pub mod Lines
 pub mod States
 pub mod Registers
+pub mod Comparisons
 pub mod Computing
 pub mod Accesses
 pub mod Frames
@@ -13,5 +14,6 @@ pub mod Jumps
 pub mod Steps
 pub mod Traces
 pub mod Texts
+pub mod Outcomes
 pub mod SourceRuns
 pub mod TargetRuns

@@ -1,5 +1,5 @@
 -- What a run does besides printing, read off its states: its events and its accesses.
-use Rattle.std.specs.Prelude.{ℕ, zero, suc, List, [], ◌∷◌, ◌++◌, ◌*◌, Result, Ok, Err}
+use Rattle.std.specs.Prelude.{ℕ, zero, suc, List, [], ◌∷◌, ◌++◌, Result, Ok, Err}
 use Rattle.ir_ast.specs.declared.ops.Callee.{Callee}
 use Rattle.ir_ast.specs.declared.ops.Callee.TheVariants.{New, Poll}
 use Rattle.ir_ast.specs.declared.ops.Op.{Op}
@@ -31,11 +31,11 @@ event_of (Statepoint id callee types) = event_at callee
 event_of _ = []
 
 abbrev pub reading : Result Place Trap → List Access
-reading (Ok place) = reads place.object (8 * place.cell) ∷ []
+reading (Ok place) = reads place.object place.offset ∷ []
 reading (Err trap) = []
 
 abbrev pub writing : Result Place Trap → List Access
-writing (Ok place) = writes place.object (8 * place.cell) ∷ []
+writing (Ok place) = writes place.object place.offset ∷ []
 writing (Err trap) = []
 
 abbrev pub access_of : Setting → State → Line → Op → List Access

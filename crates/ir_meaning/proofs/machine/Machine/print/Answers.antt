@@ -3,7 +3,7 @@ use Rattle.ir_ast.specs.declared.ops.Operand.{Operand}
 use Rattle.ir_meaning.specs.declared.words.Word.{Word}
 use Rattle.ir_meaning.specs.declared.words.Word.TheVariants.{Number}
 use Rattle.object_meaning.specs.Registers.{operand, number_in}
-use Rattle.object_meaning.specs.States.{prints}
+use Rattle.object_meaning.specs.Effects.{prints}
 use Rattle.ir_meaning.specs.Words.{datum}
 use Rattle.ir_meaning.proofs.WordLemmas.{operand_is}
 use Rattle.ir_meaning.proofs.LineLemmas.{passed_is}
