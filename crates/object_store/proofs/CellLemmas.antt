@@ -5,7 +5,7 @@ use Rattle.std.specs.List.{sum_by}
 use Rattle.std.specs.Option.{option_map, option_map_or, option_and_then}
 use Rattle.std.proofs.lemmas.Bool.{lt-ltb, le-ltb, cases_lt}
 use Rattle.std.proofs.lemmas.Bool.Decides.{eqb_tells}
-use Rattle.std.proofs.lemmas.List.{map_push, length-take, length-drop, length-map, set_past, take-append-le, drop-append-le, get_or_append_left, get_or_push, length_push, length-append, take_all, append_assoc, append-nil}
+use Rattle.std.proofs.lemmas.List.{map-set, get_or-map, get_or_past, get_or-drop, get_or-take, take-map, drop-map, map_push, length-take, length-drop, length-map, set_past, take-append-le, drop-append-le, get_or_append_left, get_or_push, length_push, length-append, take_all, append_assoc, append-nil}
 use Rattle.std.proofs.lemmas.List.Sums.{sum_by-cons, sum_by_push}
 use Rattle.std.proofs.Math.Nat.{mul-le-mul_right}
 use Rattle.std.proofs.Math.Seq.{take-suc}
@@ -13,13 +13,14 @@ use Rattle.sp_ids.specs.declared.ends.Trap.{Trap}
 use Rattle.ir_ast.specs.declared.cells.Cell.{Cell}
 use Rattle.ir_ast.specs.Layouts.{ObjectLayout}
 use Rattle.ir_ast.specs.Sizes.{fields_in}
-use Rattle.ir_ast.specs.Objects.{Datum, Object, Pointer}
+use Rattle.ir_ast.specs.Objects.{Datum, Object, Pointer, footprint}
 use Rattle.object_store.specs.declared.cells.Shape.{Shape}
 use Rattle.object_store.specs.declared.words.Word.{Word}
+use Rattle.object_meaning.specs.Registers.{nothing, pointer_in}
 use Rattle.object_store.specs.Words.{datum}
 use Rattle.sp_ids.specs.declared.ends.Trap.TheVariants.{Null}
 use Rattle.object_meaning.specs.Accesses.{Place, accessed, within}
-use Rattle.object_store.specs.Stored.{reached, object_at, objects_of, blank_word, blank_words, sizes, before, place_in}
+use Rattle.object_store.specs.Stored.{bytes_taken, held, written, reached, object_at, objects_of, blank_word, blank_words, sizes, before, place_in}
 
 below : (a b : ℕ) → suc a < suc b → a < b
 below a b h = omega arith
@@ -113,3 +114,95 @@ no_object layouts shapes asked at l =
       | inl is ↦ rw is.0 refl
       | inr is ↦ rw is.0 (absent (λ (shape : Shape). within at (fields_in layouts shape.layout) asked shape.count) (Err Null) shapes (at.object - 1) l)
     ]
+
+along : (cells : List Datum) (n : ℕ) (place : Option ℕ) → held (drop n cells) place ≡ held cells (option_map (λ p. n + p) place)
+along cells n None = refl
+along cells n (Some place) = get_or-drop n cells place nothing
+
+pub loaded_is : (shapes : List Shape) (words : List Word) (k cell : ℕ)
+    → option_map_or (λ (object : Object). get_or object.cells cell nothing) (slice_get (objects_of shapes words) k) nothing
+    ≡ held (map datum words) (place_in shapes k cell)
+loaded_is [] words k cell = refl
+loaded_is (shape ∷ shapes) words zero cell =
+    elim (cases_lt cell shape.cells) [
+      | inl a ↦ rw (lt-ltb cell shape.cells a) (ap (λ (ws : List Datum). get_or ws cell nothing) (sym (take-map datum shape.cells words)) ∙ get_or-take shape.cells (map datum words) cell nothing a)
+      | inr b ↦ rw (le-ltb cell shape.cells b)
+          (get_or_past (map datum (take shape.cells words)) cell nothing (let m = length-map (take shape.cells words) datum in let t = length-take shape.cells words in omega arith))
+    ]
+loaded_is (shape ∷ shapes) words (suc k) cell =
+    loaded_is shapes (drop shape.cells words) k cell
+    ∙ ap (λ (ds : List Datum). held ds (place_in shapes k cell)) (sym (drop-map datum shape.cells words))
+    ∙ along (map datum words) shape.cells (place_in shapes k cell)
+
+-- a pointer by its parts
+pub at_is : (word : Word) (object offset : ℕ) → object ≡ (pointer_in (datum word)).object → offset ≡ (pointer_in (datum word)).offset
+    → ◌≡◌ {A = Pointer} (record { object = object; offset = offset }) (pointer_in (datum word))
+at_is word object offset o f = rw (o, f) refl
+
+-- a write
+take-set-lt : {X : Type 0} (n i : ℕ) (xs : List X) (x : X) → i < n → take n (set xs i x) ≡ set (take n xs) i x
+take-set-lt zero i xs x l = absurd (omega arith)
+take-set-lt (suc n) i [] x l = refl
+take-set-lt (suc n) zero (y ∷ xs) x l = refl
+take-set-lt (suc n) (suc i) (y ∷ xs) x l = ap (λ rest. y ∷ rest) (take-set-lt n i xs x (below i n l))
+
+drop-set-before : {X : Type 0} (n i : ℕ) (xs : List X) (x : X) → i < n → drop n (set xs i x) ≡ drop n xs
+drop-set-before zero i xs x l = absurd (omega arith)
+drop-set-before (suc n) i [] x l = refl
+drop-set-before (suc n) zero (y ∷ xs) x l = refl
+drop-set-before (suc n) (suc i) (y ∷ xs) x l = drop-set-before n i xs x (below i n l)
+
+take-set-behind : {X : Type 0} (n i : ℕ) (xs : List X) (x : X) → take n (set xs (n + i) x) ≡ take n xs
+take-set-behind zero i xs x = refl
+take-set-behind (suc n) i [] x = refl
+take-set-behind (suc n) i (y ∷ xs) x = let e : suc n + i ≡ suc (n + i) = omega arith in rw e (ap (λ rest. y ∷ rest) (take-set-behind n i xs x))
+
+drop-set-behind : {X : Type 0} (n i : ℕ) (xs : List X) (x : X) → drop n (set xs (n + i) x) ≡ set (drop n xs) i x
+drop-set-behind zero i xs x = let e : 0 + i ≡ i = omega arith in rw e refl
+drop-set-behind (suc n) i [] x = refl
+drop-set-behind (suc n) i (y ∷ xs) x = let e : suc n + i ≡ suc (n + i) = omega arith in rw e (drop-set-behind n i xs x)
+
+-- the objects with this cell of one of them written
+abbrev pub with_cell : List Object → ℕ → ℕ → Datum → List Object
+with_cell [] k cell to = []
+with_cell (object ∷ objects) zero cell to = record object { cells = set object.cells cell to } ∷ objects
+with_cell (object ∷ objects) (suc k) cell to = object ∷ with_cell objects k cell to
+
+more_set : (object : Object) (objects : List Object) (k cell : ℕ) (to : Datum) (found : Option Object)
+    → option_map_or (λ (o : Object). set (object ∷ objects) (suc k) (record o { cells = set o.cells cell to })) found (object ∷ objects)
+    ≡ object ∷ option_map_or (λ (o : Object). set objects k (record o { cells = set o.cells cell to })) found objects
+more_set object objects k cell to None = refl
+more_set object objects k cell to (Some o) = refl
+
+pub with_cell_is : (objects : List Object) (k cell : ℕ) (to : Datum)
+    → option_map_or (λ (o : Object). set objects k (record o { cells = set o.cells cell to })) (slice_get objects k) objects ≡ with_cell objects k cell to
+with_cell_is [] k cell to = refl
+with_cell_is (object ∷ objects) zero cell to = refl
+with_cell_is (object ∷ objects) (suc k) cell to = more_set object objects k cell to (slice_get objects k) ∙ ap (λ rest. object ∷ rest) (with_cell_is objects k cell to)
+
+write_rest : (shape : Shape) (shapes : List Shape) (words : List Word) (place : Option ℕ) (word : Word)
+    → objects_of (shape ∷ shapes) (written words (option_map (λ p. shape.cells + p) place) word)
+    ≡ object_at shape words ∷ objects_of shapes (written (drop shape.cells words) place word)
+write_rest shape shapes words None word = refl
+write_rest shape shapes words (Some place) word = rw (take-set-behind shape.cells place words word, drop-set-behind shape.cells place words word) refl
+
+pub write_is : (shapes : List Shape) (words : List Word) (k cell : ℕ) (word : Word)
+    → objects_of shapes (written words (place_in shapes k cell) word) ≡ with_cell (objects_of shapes words) k cell (datum word)
+write_is [] words k cell word = refl
+write_is (shape ∷ shapes) words zero cell word =
+    elim (cases_lt cell shape.cells) [
+      | inl a ↦ rw (lt-ltb cell shape.cells a, take-set-lt shape.cells cell words word a, drop-set-before shape.cells cell words word a, map-set datum (take shape.cells words) cell word) refl
+      | inr b ↦ rw (le-ltb cell shape.cells b, set_past (map datum (take shape.cells words)) cell (datum word)
+          (let m = length-map (take shape.cells words) datum in let t = length-take shape.cells words in omega arith)) refl
+    ]
+write_is (shape ∷ shapes) words (suc k) cell word =
+    write_rest shape shapes words (place_in shapes k cell) word ∙ ap (λ rest. object_at shape words ∷ rest) (write_is shapes (drop shape.cells words) k cell word)
+
+-- the bytes that objects take don't depend on what they hold
+pub bytes_same : (layouts : List ObjectLayout) (shapes : List Shape) (one other : List Word)
+    → bytes_taken layouts (objects_of shapes one) ≡ bytes_taken layouts (objects_of shapes other)
+bytes_same layouts [] one other = refl
+bytes_same layouts (shape ∷ shapes) one other =
+    sum_by-cons (footprint layouts) (object_at shape one) (objects_of shapes (drop shape.cells one))
+    ∙ ap (λ n. footprint layouts (object_at shape one) + n) (bytes_same layouts shapes (drop shape.cells one) (drop shape.cells other))
+    ∙ sym (sum_by-cons (footprint layouts) (object_at shape other) (objects_of shapes (drop shape.cells other)))

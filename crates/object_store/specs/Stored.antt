@@ -1,5 +1,5 @@
 -- Objects whose cells stand one after another in one list.
-use Rattle.std.specs.Prelude.{◌≡◌, ℕ, zero, suc, ◌+◌, ◌-◌, ◌*◌, ◌<◌, ◌≤◌, ◌^◌, ◌==◌, Bool, true, false, List, [], ◌∷◌, ◌++◌, nat_lt, if◌then◌else◌, length, map, take, drop, Option, Some, None, slice_get, slice_index_or, Result, Ok, Err}
+use Rattle.std.specs.Prelude.{◌≡◌, ℕ, zero, suc, ◌+◌, ◌-◌, ◌*◌, ◌<◌, ◌≤◌, ◌^◌, ◌==◌, Bool, true, false, List, [], ◌∷◌, ◌++◌, nat_lt, if◌then◌else◌, length, map, take, drop, Option, Some, None, slice_get, slice_set, slice_index_or, Result, Ok, Err}
 use Rattle.std.specs.List.{sum_by}
 use Rattle.std.specs.Option.{option_map, option_map_or}
 use Rattle.sp_ids.specs.declared.ends.Trap.{Trap}
@@ -10,6 +10,7 @@ use Rattle.ir_ast.specs.Layouts.{ObjectLayout}
 use Rattle.ir_ast.specs.Sizes.{fields_in}
 use Rattle.ir_ast.specs.Objects.{Pointer, Datum, Object, footprint, new_object}
 use Rattle.object_meaning.specs.Accesses.{Place, accessed, within, loaded, stored}
+use Rattle.object_meaning.specs.Registers.{nothing}
 use Rattle.object_store.specs.declared.cells.Shape.{Shape}
 use Rattle.object_store.specs.declared.cells.Spot.{Spot}
 use Rattle.object_store.specs.declared.words.Word.{Word}
@@ -75,6 +76,16 @@ abbrev pub place_in : List Shape → ℕ → ℕ → Option ℕ
 place_in [] object cell = None
 place_in (shape ∷ shapes) zero cell = if nat_lt cell shape.cells then Some cell else None
 place_in (shape ∷ shapes) (suc object) cell = option_map (λ place. shape.cells + place) (place_in shapes object cell)
+
+-- what the cell at this place holds
+abbrev pub held : List Datum → Option ℕ → Datum
+held cells None = nothing
+held cells (Some place) = slice_index_or cells place nothing
+
+-- the cells with this one written
+abbrev pub written : List Word → Option ℕ → Word → List Word
+written words None word = words
+written words (Some place) word = slice_set words place word
 
 -- the place that a pointer reaches, as `accessed`, over shapes alone
 abbrev pub reached : List ObjectLayout → List Shape → Cell → Pointer → Result Place Trap

@@ -1,9 +1,11 @@
 //! The objects of a run.
 
-ghost use Rattle.std.specs.Prelude.{◌≡◌, ◌<◌, ◌++◌, [], ◌∷◌, pos, int_lt, true, false, length, unsigned_abs, IfOk, OnErr, MatchResult, Ok, Err};
+ghost use Rattle.std.specs.Prelude.{◌≡◌, ℕ, ◌<◌, ◌++◌, [], ◌∷◌, pos, int_lt, true, false, length, map, slice_index_or, slice_set, unsigned_abs, IfOk, IfErr, OnErr, MatchResult, Ok, Err};
 ghost use Rattle.ir_ast.specs.Objects.{footprint};
-ghost use Rattle.object_meaning.specs.Registers.{pointer_in};
-ghost use Rattle.object_store.specs.Stored.{load_of, store_of, bytes_taken, object_made};
+ghost use Rattle.object_meaning.specs.Accesses.{loaded, stored};
+ghost use Rattle.object_meaning.specs.Registers.{nothing, pointer_in};
+ghost use Rattle.object_store.specs.Stored.{held, written, AreOrdered, HasCells, sizes, objects_of, load_of, store_of, bytes_taken, object_made};
+ghost use Rattle.object_store.specs.declared.cells.Shape.{Shape};
 ghost use Rattle.object_store.specs.Words.{datum, datum_result};
 
 use crate::cells::{Shape, add_blanks, fields_of, place_of, reach};
@@ -58,6 +60,52 @@ impl<'m> Objects<'m> {
             at,
         )
     }
+
+    /// Writes the cell of this kind that a pointer names, or gives the trap (LLVM Language Reference, "'store' Instruction").
+    pub fn store(&mut self, asked: Cell, at: Word, word: Word) -> Result<(), Trap>
+        ensures done { IfOk result (λ _. store_of self.old asked (pointer_in (datum at)) (datum word) ≡ Ok self.new.objects) }
+        ensures trap { IfErr result (λ trap. store_of self.old asked (pointer_in (datum at)) (datum word) ≡ Err trap) }
+        ensures kept { OnErr result (self.new ≡ self.old) }
+        ensures layouts { self.new.layouts ≡ self.old.layouts }
+    {
+        let shapes = self.shapes.as_slice();
+        let spot = reach(self.layouts, shapes, asked, at.object(), at.offset())?;
+        set_word(
+            shapes,
+            self.words.as_mut_slice(),
+            spot.object,
+            spot.cell,
+            word,
+        );
+        Ok(())
+    }
+}
+
+fn set_word(shapes: &[Shape], words: &mut [Word], object: u32, cell: u64, word: Word)
+    requires ordered { AreOrdered shapes.now }
+    ensures objects { objects_of shapes.now words.new ≡ stored (objects_of shapes.now words.old) (record { object = object; offset = 0; cell = cell }) (datum word) }
+    ensures count { length words.new ≡ length words.old }
+{
+    let place = place_of(shapes, (object as usize).saturating_sub(1), cell);
+    write_at(words, place, word);
+}
+
+fn write_at(words: &mut [Word], place: Option<usize>, word: Word)
+    ensures words { words.new ≡ written words.old place word }
+    ensures count { length words.new ≡ length words.old }
+{
+    if let Some(place) = place {
+        write_in(words, place, word);
+    }
+}
+
+fn write_in(words: &mut [Word], place: usize, word: Word)
+    ensures words { words.new ≡ slice_set words.old place word }
+    ensures count { length words.new ≡ length words.old }
+{
+    if place < words.len() {
+        words[place] = word;
+    }
 }
 
 fn load(
@@ -82,8 +130,25 @@ fn word_at(shapes: &[Shape], words: &[Word], object: u32, cell: u64) -> Word
     requires ordered { AreOrdered shapes.now }
     ensures { datum result ≡ loaded (objects_of shapes.now words.now) (record { object = object; offset = 0; cell = cell }) }
 {
-    let Some(place) = place_of(shapes, (object as usize).saturating_sub(1), cell) else {
-        return Word::of(0);
-    };
-    words.get(place).copied().unwrap_or(Word::of(0))
+    let place = place_of(shapes, (object as usize).saturating_sub(1), cell);
+    word_in(words, place)
+}
+
+fn word_in(words: &[Word], place: Option<usize>) -> Word
+    ensures { datum result ≡ held (map datum words.now) place }
+{
+    match place {
+        None => Word::of(0),
+        Some(place) => word_of(words, place),
+    }
+}
+
+fn word_of(words: &[Word], place: usize) -> Word
+    ensures { datum result ≡ slice_index_or (map datum words.now) place nothing }
+{
+    if place < words.len() {
+        words[place]
+    } else {
+        Word::of(0)
+    }
 }
