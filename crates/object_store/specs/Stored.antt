@@ -36,6 +36,10 @@ store_to objects word (Err trap) = Err trap
 abbrev pub store_of : Store → Cell → Pointer → Datum → Result (List Object) Trap
 store_of store asked at word = store_to store.objects word (accessed store.layouts store.objects asked at)
 
+abbrev pub stored_result : Result (Unit {0}) Trap → List Object → Result (List Object) Trap
+stored_result (Ok _) objects = Ok objects
+stored_result (Err trap) objects = Err trap
+
 -- the bytes that all objects take
 abbrev pub bytes_taken : List ObjectLayout → List Object → ℕ
 bytes_taken layouts objects = sum_by (footprint layouts) objects

@@ -4,7 +4,7 @@ ghost use Rattle.std.specs.Prelude.{◌≡◌, ℕ, ◌<◌, ◌++◌, [], ◌�
 ghost use Rattle.ir_ast.specs.Objects.{footprint};
 ghost use Rattle.object_meaning.specs.Accesses.{loaded, stored};
 ghost use Rattle.object_meaning.specs.Registers.{nothing, pointer_in};
-ghost use Rattle.object_store.specs.Stored.{held, written, AreOrdered, HasCells, sizes, objects_of, load_of, store_of, bytes_taken, object_made};
+ghost use Rattle.object_store.specs.Stored.{held, written, AreOrdered, HasCells, sizes, objects_of, load_of, store_of, stored_result, bytes_taken, object_made};
 ghost use Rattle.object_store.specs.declared.cells.Shape.{Shape};
 ghost use Rattle.object_store.specs.Words.{datum, datum_result};
 
@@ -63,21 +63,42 @@ impl<'m> Objects<'m> {
 
     /// Writes the cell of this kind that a pointer names, or gives the trap (LLVM Language Reference, "'store' Instruction").
     pub fn store(&mut self, asked: Cell, at: Word, word: Word) -> Result<(), Trap>
-        ensures done { IfOk result (λ _. store_of self.old asked (pointer_in (datum at)) (datum word) ≡ Ok self.new.objects) }
-        ensures trap { IfErr result (λ trap. store_of self.old asked (pointer_in (datum at)) (datum word) ≡ Err trap) }
-        ensures kept { OnErr result (self.new ≡ self.old) }
+        ensures stored { stored_result result self.new.objects ≡ store_of self.old asked (pointer_in (datum at)) (datum word) }
+        ensures kept { OnErr result (self.new.objects ≡ self.old.objects) }
         ensures layouts { self.new.layouts ≡ self.old.layouts }
     {
-        let shapes = self.shapes.as_slice();
-        let spot = reach(self.layouts, shapes, asked, at.object(), at.offset())?;
-        set_word(
-            shapes,
+        store(
+            self.layouts,
+            self.shapes.as_slice(),
             self.words.as_mut_slice(),
-            spot.object,
-            spot.cell,
+            asked,
+            at,
             word,
-        );
-        Ok(())
+        )
+    }
+}
+
+fn store(
+    layouts: &[Layout],
+    shapes: &[Shape],
+    words: &mut [Word],
+    asked: Cell,
+    at: Word,
+    word: Word,
+) -> Result<(), Trap>
+    requires ordered { AreOrdered shapes.now }
+    requires each { (k : ℕ) (d : Shape) → k < length shapes.now → HasCells layouts.now (slice_index_or shapes.now k d) }
+    ensures stored { stored_result result (objects_of shapes.now words.new)
+        ≡ store_of (record { layouts = layouts.now; objects = objects_of shapes.now words.old }) asked (pointer_in (datum at)) (datum word) }
+    ensures kept { OnErr result (words.new ≡ words.old) }
+    ensures count { length words.new ≡ length words.old }
+{
+    match reach(layouts, shapes, asked, at.object(), at.offset()) {
+        Err(trap) => Err(trap),
+        Ok(spot) => {
+            set_word(shapes, words, spot.object, spot.cell, word);
+            Ok(())
+        }
     }
 }
 

@@ -1,0 +1,18 @@
+use Rattle.std.proofs.Common.{◌≡◌, List, length, sym, ap, ◌∙◌}
+use Rattle.std.proofs.lemmas.List.{with_items_is}
+use Rattle.object_store.specs.declared.words.Word.{Word}
+use Rattle.object_store.specs.Stored.{objects_of, AreLaid}
+use Rattle.object_store.proofs.CellLemmas.{bytes_same}
+use Rattle.object_store.proofs.objects.Objects.store.Goals as goal
+
+pub invariant_of-self : goal.invariant_of-self
+invariant_of-self c =
+    let words = with_items_is c.self.inside.words c.store.new.words (c.store.ensures.count ∙ c.as_mut_slice.ensures.len) in
+    let count = c.store.ensures.count ∙ ap length c.as_mut_slice.ensures.value in
+    rw words (record {
+      ordered = c.self.invariant.ordered;
+      whole = c.self.invariant.whole ∙ sym count;
+      each = c.self.invariant.each;
+      used_is = c.self.invariant.used_is ∙ bytes_same c.self.inside.layouts.now c.self.inside.shapes.items c.self.inside.words.items c.store.new.words;
+      fits = c.self.invariant.fits;
+    })
