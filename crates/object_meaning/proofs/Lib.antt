@@ -4,3 +4,4 @@ pub mod RunLaws
 pub mod StepLaws
 pub mod EndLaws
 pub mod OutcomeLaws
+mod Samples
