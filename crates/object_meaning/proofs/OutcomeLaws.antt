@@ -6,7 +6,7 @@ use Rattle.std.proofs.lemmas.List.{reverse-append}
 use Rattle.std.proofs.lemmas.List.Folds.{concat-append}
 use Rattle.sp_ids.specs.declared.ends.End.{End}
 use Rattle.object_meaning.specs.Effects.{Effect, goes_on, prints, ends, Progress, after, printed_line, text_of}
-use Rattle.object_meaning.specs.Outcomes.{Outcome, Gives, accesses_from, events_from, opening, outcome_of, proceeds, text}
+use Rattle.object_meaning.specs.Outcomes.{Outcome, Gives, accesses_from, events_from, opening, outcome_of, proceeds, whole_text}
 use Rattle.object_meaning.specs.Runs.{Next, Go, End as Over, goes, Ends, Reaches}
 use Rattle.object_meaning.specs.States.{State, Setting}
 use Rattle.object_meaning.specs.Steps.{step}
@@ -114,7 +114,7 @@ concat-reverse (line ∷ lines) =
 
 -- the text of an outcome: what was printed, and what the waiting frames show
 pub text_is : (setting : Setting) (input : List ℤ) (within : ℕ) (end : End) (last : Progress State)
-    → text (outcome_of setting input within end last) ≡ text_of last.lines ++ concat (closing_lines setting.names end last.state)
+    → whole_text (outcome_of setting input within end last) ≡ text_of last.lines ++ concat (closing_lines setting.names end last.state)
 text_is setting input within end last =
     let shown = closing_lines setting.names end last.state in
     concat-append (reverse last.lines) shown ∙ ap (λ text. text ++ concat shown) (concat-reverse last.lines)
