@@ -5,3 +5,4 @@ pub mod StepLaws
 pub mod EndLaws
 pub mod OutcomeLaws
 mod Samples
+pub mod AccessLaws
