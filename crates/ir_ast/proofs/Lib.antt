@@ -1,3 +1,4 @@
 pub mod BaseLemmas
 pub mod BlockLemmas
+pub mod SizeLaws
 mod Samples

@@ -7,7 +7,7 @@ use Rattle.ir_ast.specs.Modules.{ModuleContent}
 use Rattle.ir_meaning.specs.declared.interpret.Ran.{Ran}
 use Rattle.ir_meaning.specs.References.{IsRun, IsRunFrom, WritesFrontFrom, WritesFrontOfRun}
 use Rattle.object_meaning.specs.Effects.{line_count, text_of}
-use Rattle.object_meaning.specs.Outcomes.{opening, outcome_of, text}
+use Rattle.object_meaning.specs.Outcomes.{opening, outcome_of, whole_text}
 use Rattle.object_meaning.specs.SourceRuns.{source_setting}
 use Rattle.object_meaning.specs.Texts.{closing_lines}
 use Rattle.object_meaning.proofs.EndLaws.{run_ends}
@@ -45,7 +45,7 @@ module _ (content : ModuleContent) (input : List ℤ) (go : ℕ → Option ℕ) 
         outcome = outcome_of setting input ended.run.within ended.end ended.last;
         gives = gives_end setting input ended.end ended.last ended.run;
         front =
-            AppendsFront-front writes.front (more.more ++ shown) (text (outcome_of setting input ended.run.within ended.end ended.last))
+            AppendsFront-front writes.front (more.more ++ shown) (whole_text (outcome_of setting input ended.run.within ended.end ended.last))
             (text_is setting input ended.run.within ended.end ended.last
             ∙ (ap (λ (printed : List ℕ). printed ++ shown) more.text ∙ append_assoc (text_of writes.now.lines) more.more shown));
       }

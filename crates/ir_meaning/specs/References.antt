@@ -11,7 +11,7 @@ use Rattle.object_meaning.specs.Runs.{Ends, Reaches}
 use Rattle.object_meaning.specs.States.{State, Setting}
 use Rattle.object_meaning.specs.Effects.{Progress, line_count, printed_line, text_of}
 use Rattle.object_meaning.specs.Texts.{closing_lines}
-use Rattle.object_meaning.specs.Outcomes.{Outcome, proceeds, text}
+use Rattle.object_meaning.specs.Outcomes.{Outcome, proceeds, whole_text}
 use Rattle.object_meaning.specs.SourceRuns.{SourceGives}
 
 -- what the interpreter answers of an outcome
@@ -30,17 +30,17 @@ pub record IsRun (content : ModuleContent) (input : List ℤ) (go : ℕ → Opti
   pub outcome : Outcome
   pub gives : SourceGives content input go bound outcome
   pub answer : ran ≡ ran_of outcome
-  pub written : new ≡ append_known old (text outcome)
+  pub written : new ≡ append_known old (whole_text outcome)
 
 -- a front of what the module's run writes was written
 pub record WritesFrontOfRun (content : ModuleContent) (input : List ℤ) (go : ℕ → Option ℕ) (bound : ℕ) (old new : Option (List ℕ)) : Type 0 where
   pub outcome : Outcome
   pub gives : SourceGives content input go bound outcome
-  pub front : AppendsFront old new (text outcome)
+  pub front : AppendsFront old new (whole_text outcome)
 
 -- what a run writes in all that comes to this end
-abbrev pub whole_text : Setting → End → Progress State → List ℕ
-whole_text setting end last = text_of last.lines ++ concat (closing_lines setting.names end last.state)
+abbrev pub text_from : Setting → End → Progress State → List ℕ
+text_from setting end last = text_of last.lines ++ concat (closing_lines setting.names end last.state)
 
 -- the same of a run from a state on
 pub record IsRunFrom (setting : Setting) (start : Progress State) (ran : Ran) (old new : Option (List ℕ)) : Type 0 where
@@ -50,7 +50,7 @@ pub record IsRunFrom (setting : Setting) (start : Progress State) (ran : Ran) (o
   pub steps : ran.steps ≡ last.state.steps
   pub events : ran.events ≡ last.state.events
   pub lines : ran.lines ≡ line_count last.lines
-  pub written : new ≡ append_known old (whole_text setting ran.end last)
+  pub written : new ≡ append_known old (text_from setting ran.end last)
 
 -- a sink grew by a front of what the run has printed in some state that it comes to
 pub record WritesFrontFrom (setting : Setting) (start : Progress State) (old new : Option (List ℕ)) : Type 0 where

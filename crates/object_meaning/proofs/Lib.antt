@@ -4,3 +4,5 @@ pub mod RunLaws
 pub mod StepLaws
 pub mod EndLaws
 pub mod OutcomeLaws
+mod Samples
+pub mod AccessLaws

@@ -1,13 +1,13 @@
 -- What a run gives: there is one outcome, and what was printed on the way stands first in it.
-use Rattle.std.proofs.Common.{◌≡◌, ℕ, zero, suc, List, [], ◌∷◌, ◌++◌, reverse, refl, sym, ap, subst, ◌∙◌, append_assoc, append-nil}
+use Rattle.std.proofs.Common.{◌≡◌, ℕ, zero, suc, List, [], ◌∷◌, ◌++◌, reverse, Option, Some, None, refl, sym, ap, subst, ◌∙◌, append_assoc, append-nil}
 use Rattle.std.specs.Prelude.{ℤ}
 use Rattle.std.specs.List.{concat}
 use Rattle.std.proofs.lemmas.List.{reverse-append}
 use Rattle.std.proofs.lemmas.List.Folds.{concat-append}
 use Rattle.sp_ids.specs.declared.ends.End.{End}
 use Rattle.object_meaning.specs.Effects.{Effect, goes_on, prints, ends, Progress, after, printed_line, text_of}
-use Rattle.object_meaning.specs.Outcomes.{Outcome, Gives, accesses_from, events_from, opening, outcome_of, proceeds, text}
-use Rattle.object_meaning.specs.Runs.{Go, End as Over, goes, Ends, Reaches}
+use Rattle.object_meaning.specs.Outcomes.{Outcome, Gives, accesses_from, events_from, opening, outcome_of, proceeds, whole_text}
+use Rattle.object_meaning.specs.Runs.{Next, Go, End as Over, goes, Ends, Reaches}
 use Rattle.object_meaning.specs.States.{State, Setting}
 use Rattle.object_meaning.specs.Steps.{step}
 use Rattle.object_meaning.specs.Texts.{closing_lines}
@@ -114,7 +114,26 @@ concat-reverse (line ∷ lines) =
 
 -- the text of an outcome: what was printed, and what the waiting frames show
 pub text_is : (setting : Setting) (input : List ℤ) (within : ℕ) (end : End) (last : Progress State)
-    → text (outcome_of setting input within end last) ≡ text_of last.lines ++ concat (closing_lines setting.names end last.state)
+    → whole_text (outcome_of setting input within end last) ≡ text_of last.lines ++ concat (closing_lines setting.names end last.state)
 text_is setting input within end last =
     let shown = closing_lines setting.names end last.state in
     concat-append (reverse last.lines) shown ∙ ap (λ text. text ++ concat shown) (concat-reverse last.lines)
+
+-- ---- by running
+
+-- what the run gives, if it has come to its end
+abbrev pub found : Setting → List ℤ → ℕ → Next End (Progress State) → Option Outcome
+found setting input within (Go progress) = None
+found setting input within (Over end last) = Some (outcome_of setting input within end last)
+
+gives_found : (setting : Setting) (input : List ℤ) (within : ℕ) (outcome : Outcome) (next : Next End (Progress State))
+    → goes (proceeds setting) within (Go (opening setting input)) ≡ next → found setting input within next ≡ Some outcome → Gives setting input outcome
+gives_found setting input within outcome (Go progress) by is = cc
+gives_found setting input within outcome (Over end last) by is =
+    let same : outcome_of setting input within end last ≡ outcome = cc in
+    subst (Gives setting input) same (gives_end setting input end last (record { within = within; by = by }))
+
+pub gives_within : (setting : Setting) (input : List ℤ) (within : ℕ) (outcome : Outcome)
+    → found setting input within (goes (proceeds setting) within (Go (opening setting input))) ≡ Some outcome → Gives setting input outcome
+gives_within setting input within outcome is =
+    gives_found setting input within outcome (goes (proceeds setting) within (Go (opening setting input))) refl is

@@ -43,8 +43,8 @@ pub record Outcome : Type 0 where
   pub accesses : List Access
   pub objects : List Object
 
-abbrev pub text : Outcome → List ℕ
-text outcome = concat outcome.lines
+abbrev pub whole_text : Outcome → List ℕ
+whole_text outcome = concat outcome.lines
 
 -- what the steps from here on do
 abbrev pub events_from : Setting → ℕ → Next End (Progress State) → List Event

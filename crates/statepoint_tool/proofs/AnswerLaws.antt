@@ -2,8 +2,10 @@
 use Rattle.std.proofs.Common.{◌≡◌, ◌≢◌, ℕ, ◌⊎◌, inl, inr, List, [], Option, Some, None, Result, Ok, Err, refl, sym, ap, subst, ◌∙◌, arith}
 use Rattle.sp_ids.specs.declared.ends.End.{End}
 use Rattle.sp_ids.specs.declared.ends.End.TheVariants as ended_by
-use Rattle.object_meaning.specs.SourceRuns.{Progress, SourceRun, no_go}
-use Rattle.object_meaning.proofs.EndLaws.{not_poison, not_lost}
+use Rattle.object_meaning.specs.Outcomes.{Outcome}
+use Rattle.object_meaning.specs.SourceRuns.{SourceGives, no_go, source_setting}
+use Rattle.object_meaning.proofs.EndLaws.{IsFinal}
+use Rattle.object_meaning.proofs.OutcomeLaws.{gives_final}
 use Rattle.statepoint_tool.specs.Answers.{SinkSeen, Gained, GainedFront, SinkFailed, Came, IsBegun, IsTold, IsSaid, IsSaidInPart, IsAnswer}
 use Rattle.statepoint_tool.specs.Causes.{CannotRead, Ends, by_showing, by_running, Runs, module_run, steps_asked, Shows}
 use Rattle.statepoint_tool.specs.Notes.{refusal_line, status_of_cause, status_of_refusal}
@@ -108,24 +110,26 @@ module _ (words : List (List ℕ)) (files : FilesSeen) (out notes : SinkSeen) (g
   ends_of : (output : Output) → work words given (Go output) → Ends words given output
   ends_of output due = Explains-work words given (Go output) due
 
-  writes_run : (runs : Runs words given) (end : End) (last : Progress) → SourceRun (module_run runs) [] no_go (steps_asked runs) end last →
-      Gained out (output_of (module_run runs) end last).text → Writes (status_of_end end) words files out
-  writes_run runs (ended_by.Return number) last run written =
-      let end = ended_by.Return number in
-      record { given = given; may = may; holds = ((output_of (module_run runs) end last, by_running runs end last run, refl), written) }
-  writes_run runs (ended_by.Trap trap) last run written =
-      let end = ended_by.Trap trap in
-      record { given = given; may = may; holds = ((output_of (module_run runs) end last, by_running runs end last run, refl), written) }
-  writes_run runs ended_by.OutOfSteps last run written =
-      let end = ended_by.OutOfSteps in
-      record { given = given; may = may; holds = ((output_of (module_run runs) end last, by_running runs end last run, refl), written) }
-  writes_run runs ended_by.Poison last run written = absurd (not_poison (module_run runs) [] (steps_asked runs) last run)
-  writes_run runs ended_by.LostFrame last run written = absurd (not_lost (module_run runs) [] (steps_asked runs) last run)
+  writes_at : (runs : Runs words given) (outcome : Outcome) → SourceGives (module_run runs) [] no_go (steps_asked runs) outcome
+      → (end : End) → outcome.end ≡ end → IsFinal end → Gained out (output_of (module_run runs) outcome).text → Writes (status_of_end end) words files out
+  writes_at runs outcome gives (ended_by.Return number) is final written =
+      record { given = given; may = may; holds = ((output_of (module_run runs) outcome, by_running runs outcome gives, ap status_of_end is), written) }
+  writes_at runs outcome gives (ended_by.Trap trap) is final written =
+      record { given = given; may = may; holds = ((output_of (module_run runs) outcome, by_running runs outcome gives, ap status_of_end is), written) }
+  writes_at runs outcome gives ended_by.OutOfSteps is final written =
+      record { given = given; may = may; holds = ((output_of (module_run runs) outcome, by_running runs outcome gives, ap status_of_end is), written) }
+  writes_at runs outcome gives ended_by.Poison is final written = absurd final
+  writes_at runs outcome gives ended_by.LostFrame is final written = absurd final
+
+  writes_run : (runs : Runs words given) (outcome : Outcome) → SourceGives (module_run runs) [] no_go (steps_asked runs) outcome
+      → Gained out (output_of (module_run runs) outcome).text → Writes (status_of_end outcome.end) words files out
+  writes_run runs outcome gives written =
+      writes_at runs outcome gives outcome.end refl (gives_final (source_setting (module_run runs) no_go (steps_asked runs)) [] outcome gives) written
 
   writes_output : (output : Output) → Ends words given output → Gained out output.text → Writes output.status words files out
   writes_output _ (by_showing shows) written =
       record { given = given; may = may; holds = ((shown (content_of shows.lines), by_showing shows, refl), written) }
-  writes_output _ (by_running runs end last run) written = writes_run runs end last run written
+  writes_output _ (by_running runs outcome gives) written = writes_run runs outcome gives written
 
   writes_nothing : (reason : Cause) → Gained out [] → Writes (status_of_cause reason) words files out
   writes_nothing cause.Words unwritten = unwritten
@@ -159,17 +163,17 @@ module _ (words : List (List ℕ)) (files : FilesSeen) (out notes : SinkSeen) (g
   writes_of (Err Memory) status came (inl said) = subst (λ (s : Status). Writes s words files out) (sym said.status_is) (writes_front came)
   writes_of (Err Memory) status came (inr part) = subst (λ (s : Status). Writes s words files out) (sym part.status_is) (writes_front came)
 
-  says_nothing : (runs : Runs words given) (end : End) (last : Progress) → SourceRun (module_run runs) [] no_go (steps_asked runs) end last →
-      Gained notes [] → Says (status_of_end end) words files out notes
-  says_nothing runs (ended_by.Return number) last run silent = silent
-  says_nothing runs (ended_by.Trap trap) last run silent = silent
-  says_nothing runs ended_by.OutOfSteps last run silent = silent
-  says_nothing runs ended_by.Poison last run silent = absurd (not_poison (module_run runs) [] (steps_asked runs) last run)
-  says_nothing runs ended_by.LostFrame last run silent = absurd (not_lost (module_run runs) [] (steps_asked runs) last run)
+  says_nothing : (end : End) → IsFinal end → Gained notes [] → Says (status_of_end end) words files out notes
+  says_nothing (ended_by.Return number) final silent = silent
+  says_nothing (ended_by.Trap trap) final silent = silent
+  says_nothing ended_by.OutOfSteps final silent = silent
+  says_nothing ended_by.Poison final silent = absurd final
+  says_nothing ended_by.LostFrame final silent = absurd final
 
   says_output : (output : Output) → Ends words given output → Gained notes [] → Says output.status words files out notes
   says_output _ (by_showing shows) silent = silent
-  says_output _ (by_running runs end last run) silent = says_nothing runs end last run silent
+  says_output _ (by_running runs outcome gives) silent =
+      says_nothing outcome.end (gives_final (source_setting (module_run runs) no_go (steps_asked runs)) [] outcome gives) silent
 
   says_line : (reason : Cause) → Explains (Stop reason) words given → Gained notes (refusal_line (Defined reason)) → Says (status_of_cause reason) words files out notes
   says_line cause.Words explains line = line

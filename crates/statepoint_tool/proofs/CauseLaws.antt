@@ -3,8 +3,10 @@ use Rattle.std.proofs.Common.{◌≡◌, inl, inr, ℕ, List, [], ◌∷◌, Opt
 use Rattle.sp_ids.specs.declared.ends.End.{End}
 use Rattle.sp_ids.specs.declared.ends.End.TheVariants as ended
 use Rattle.ir_ast.specs.Modules.{ModuleContent}
-use Rattle.object_meaning.specs.SourceRuns.{Progress, SourceRun, no_go}
-use Rattle.object_meaning.proofs.EndLaws.{not_poison, not_lost}
+use Rattle.object_meaning.specs.Outcomes.{Outcome}
+use Rattle.object_meaning.specs.SourceRuns.{SourceGives, no_go, source_setting}
+use Rattle.object_meaning.proofs.EndLaws.{IsFinal}
+use Rattle.object_meaning.proofs.OutcomeLaws.{gives_final}
 use Rattle.tool_io.specs.Counts.{Rose}
 use Rattle.statepoint_tool.specs.Causes.{AsksToShow, AsksForRun, Shows, ReadsModule, Prepares, ReadsInput, Runs, module_run, steps_asked, Ends, by_showing, by_running, EndsWith, NoCommand, NamesModule, to_show, to_run, HasTextFault, IsAccepted, HasModuleFault, in_text, not_yet, HasSomeModuleFault, HasInputFault, HasPlanFault, FileGives, module_gives, input_gives, plan_gives, CannotRead, IsTooLong}
 use Rattle.statepoint_tool.specs.NotYet.{first_not_yet}
@@ -102,7 +104,7 @@ module _ (words : List (List ℕ)) (given : Given) where
   -- running
 
   running_explains : (runs : Runs words given) (step : Step Output) → run_phase (module_run runs) (steps_asked runs) step → Explains step words given
-  running_explains runs _ (comes end last run) = by_running runs end last run
+  running_explains runs _ (comes outcome gives) = by_running runs outcome gives
 
   plan_explains : (reads : ReadsInput words given) (plan : Taken) → given.plan ≡ plan → (step : Step Output) →
       after_input reads.prepares.reads.asks.plan (content_of reads.prepares.reads.lines) reads.prepares.reads.asks.steps plan step → Explains step words given
@@ -167,18 +169,18 @@ module _ (words : List (List ℕ)) (given : Given) where
   pub Explains-work : (step : Step Output) → work words given step → Explains step words given
   Explains-work step due = command_explains (command_of words) refl step due
 
-  cause_at_end : (runs : Runs words given) (end : End) (last : Progress) → SourceRun (module_run runs) [] no_go (steps_asked runs) end last
-      → CauseOf (status_of_end end) words given
-  cause_at_end runs (ended.Return number) last run =
-      (output_of (module_run runs) (ended.Return number) last, by_running runs (ended.Return number) last run, refl)
-  cause_at_end runs (ended.Trap trap) last run = (output_of (module_run runs) (ended.Trap trap) last, by_running runs (ended.Trap trap) last run, refl)
-  cause_at_end runs ended.OutOfSteps last run = (output_of (module_run runs) ended.OutOfSteps last, by_running runs ended.OutOfSteps last run, refl)
-  cause_at_end runs ended.Poison last run = absurd (not_poison (module_run runs) [] (steps_asked runs) last run)
-  cause_at_end runs ended.LostFrame last run = absurd (not_lost (module_run runs) [] (steps_asked runs) last run)
+  cause_at_end : (runs : Runs words given) (outcome : Outcome) → SourceGives (module_run runs) [] no_go (steps_asked runs) outcome
+      → (end : End) → outcome.end ≡ end → IsFinal end → CauseOf (status_of_end end) words given
+  cause_at_end runs outcome gives (ended.Return number) is final = (output_of (module_run runs) outcome, by_running runs outcome gives, ap status_of_end is)
+  cause_at_end runs outcome gives (ended.Trap trap) is final = (output_of (module_run runs) outcome, by_running runs outcome gives, ap status_of_end is)
+  cause_at_end runs outcome gives ended.OutOfSteps is final = (output_of (module_run runs) outcome, by_running runs outcome gives, ap status_of_end is)
+  cause_at_end runs outcome gives ended.Poison is final = absurd final
+  cause_at_end runs outcome gives ended.LostFrame is final = absurd final
 
   cause_of_output : (output : Output) → Ends words given output → CauseOf output.status words given
   cause_of_output _ (by_showing shows) = (shown (content_of shows.lines), by_showing shows, refl)
-  cause_of_output _ (by_running runs end last run) = cause_at_end runs end last run
+  cause_of_output _ (by_running runs outcome gives) =
+      cause_at_end runs outcome gives outcome.end refl (gives_final (source_setting (module_run runs) no_go (steps_asked runs)) [] outcome gives)
 
   -- and so has its status
   pub CauseOf-explained : (step : Step Output) → Explains step words given → CauseOf (status_of_step step) words given
@@ -225,11 +227,11 @@ module _ (words : List (List ℕ)) (given : Given) where
       (subst (λ (taken : Taken). file_phase shows.asks.module_file module_phase taken (Go (content_of shows.lines))) (sym shows.taken)
       (as-accepted shows.text shows.lines shows.accepted))
       refl)
-  work-ends _ (by_running runs end last run) =
-      with_input runs.reads (Go (output_of (module_run runs) end last))
-      (goes_on tt (Go (output_of (module_run runs) end last))
+  work-ends _ (by_running runs outcome gives) =
+      with_input runs.reads (Go (output_of (module_run runs) outcome))
+      (goes_on tt (Go (output_of (module_run runs) outcome))
       (subst (λ (taken : Taken). file_phase runs.reads.prepares.reads.asks.plan plan_phase taken (Go tt)) (sym runs.empty) refl)
-      (comes end last run))
+      (comes outcome gives))
 
   -- the work comes to a step of this status
   abbrev pub ComesWith : Status → Type 0

@@ -4,10 +4,10 @@ use Rattle.ir_reader.specs.Text.{Numbered, Fault, syntax_fault, limit_fault, tex
 use Rattle.ir_lines.specs.declared.faults.Fault.{Fault as TypeFault}
 use Rattle.ir_lines.specs.Statements.{Line, lines_of}
 use Rattle.ir_types.specs.FaultSet.{HasNoFault, IsLeastFault}
-use Rattle.sp_ids.specs.declared.ends.End.{End}
 use Rattle.ir_ast.specs.declared.modules.Form.TheVariants as text_forms
 use Rattle.ir_ast.specs.Modules.{ModuleContent}
-use Rattle.object_meaning.specs.SourceRuns.{Progress, SourceRun, no_go}
+use Rattle.object_meaning.specs.Outcomes.{Outcome}
+use Rattle.object_meaning.specs.SourceRuns.{SourceGives, no_go}
 use Rattle.statepoint_tool.specs.NotYet.{first_not_yet}
 use Rattle.statepoint_tool.specs.Taken.{Taken, Bytes, Longer, Faulty}
 use Rattle.statepoint_tool.specs.Words.{command_of}
@@ -96,8 +96,8 @@ steps_asked runs = runs.reads.prepares.reads.asks.steps
 -- the work comes to its end, with this output: a module is shown, or runs, and so ends by the source meaning
 pub data Ends (words : List (List ℕ)) (given : Given) : Output → Type 0 where
   by_showing : (shows : Shows words given) → Ends words given (shown (content_of shows.lines))
-  by_running : (runs : Runs words given) (end : End) (last : Progress) → SourceRun (module_run runs) [] no_go (steps_asked runs) end last
-      → Ends words given (output_of (module_run runs) end last)
+  by_running : (runs : Runs words given) (outcome : Outcome) → SourceGives (module_run runs) [] no_go (steps_asked runs) outcome
+      → Ends words given (output_of (module_run runs) outcome)
 
 abbrev pub EndsWith : Status → List (List ℕ) → Given → Type 0
 EndsWith status words given = (output : Output) × Ends words given output × (output.status ≡ status)

@@ -1,7 +1,6 @@
 -- The order of work: the words; then the module is taken, read and typed; to show it, its text is written; to run it,
 -- the input and the plan are taken, and it runs by the source meaning.
 use Rattle.std.specs.Prelude.{◌≡◌, ℕ, ⊤, List, [], ◌∷◌, ◌++◌, Option, Some, None, Result, Ok, Err}
-use Rattle.sp_ids.specs.declared.ends.End.{End}
 use Rattle.ir_ast.specs.declared.modules.Form.TheVariants as text_forms
 use Rattle.ir_ast.specs.Modules.{ModuleContent}
 use Rattle.ir_reader.specs.Text.{Numbered, Fault, syntax_fault, limit_fault, text_readings}
@@ -10,7 +9,8 @@ use Rattle.ir_lines.specs.Statements.{Line, lines_of}
 use Rattle.ir_types.specs.FaultSet.{HasNoFault, IsLeastFault}
 use Rattle.ir_lines.specs.Modules.{module_of}
 use Rattle.ir_printer.specs.Texts.{text_of}
-use Rattle.object_meaning.specs.SourceRuns.{Progress, SourceRun, no_go, whole_text}
+use Rattle.object_meaning.specs.Outcomes.{Outcome, whole_text}
+use Rattle.object_meaning.specs.SourceRuns.{SourceGives, no_go}
 use Rattle.statepoint_tool.specs.Closings.{closing_line, status_of_end}
 use Rattle.statepoint_tool.specs.NotYet.{first_not_yet}
 use Rattle.statepoint_tool.specs.Steps.{Step, Go, Stop, comes_to, Then}
@@ -103,18 +103,16 @@ shown content = record { text = text_of content; status = Done }
 abbrev pub show_phase : ModuleContent → Step Output → Type 0
 show_phase content = comes_to (Go (shown content))
 
--- what a run writes that ends so, in this last state, and the status that it ends with
-abbrev pub output_of : ModuleContent → End → Progress → Output
-output_of content end last = record {
-  text =
-      whole_text content end last
-      ++ closing_line content end last.state.running.func last.state.steps last.state.events;
-  status = status_of_end end;
+-- what a run writes that gives this outcome, and the status that it ends with
+abbrev pub output_of : ModuleContent → Outcome → Output
+output_of content outcome = record {
+  text = whole_text outcome ++ closing_line content outcome.end outcome.func outcome.steps outcome.events;
+  status = status_of_end outcome.end;
 }
 
 -- a run writes what the source meaning says and ends as it does, over no input and under a plan without lines so far
 pub data Running (content : ModuleContent) (steps : ℕ) : Step Output → Type 0 where
-  comes : (end : End) (last : Progress) → SourceRun content [] no_go steps end last → Running content steps (Go (output_of content end last))
+  comes : (outcome : Outcome) → SourceGives content [] no_go steps outcome → Running content steps (Go (output_of content outcome))
 
 abbrev pub run_phase : ModuleContent → ℕ → Step Output → Type 0
 run_phase content steps = Running content steps
