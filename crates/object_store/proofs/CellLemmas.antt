@@ -1,26 +1,28 @@
 -- Cells in one list, and the objects that they are of.
-use Rattle.std.proofs.Common.{◌≡◌, ◌≢◌, ℕ, zero, suc, ◌+◌, ◌*◌, ◌<◌, ◌≤◌, ◌^◌, Bool, true, false, inl, inr, List, [], ◌∷◌, ◌++◌, length, take, drop, map, get_or, set, refl, sym, ap, ◌∙◌, arith, cond, ltb, Option, Some, None}
-use Rattle.std.specs.Prelude.{slice_get, slice_set, slice_index_or, ◌-◌, if◌then◌else◌, ◌==◌, Result, Ok, Err}
-use Rattle.std.specs.List.{sum_by}
-use Rattle.std.specs.Option.{option_map, option_map_or, option_and_then}
+use Rattle.std.proofs.Common.{◌≡◌, ◌≢◌, ℕ, zero, suc, ◌+◌, ◌*◌, ◌<◌, ◌≤◌, ◌^◌, Bool, true, false, inl, inr, List, [], ◌∷◌, ◌++◌, length, max, replicate, take, drop, map, get_or, set, refl, sym, ap, ◌∙◌, arith, cond, ltb, Option, Some, None}
+use Rattle.std.specs.Prelude.{slice_get, ◌-◌, if◌then◌else◌, ◌==◌, Result, Err}
+use Rattle.std.specs.List.{flat_map}
+use Rattle.std.specs.Option.{option_map, option_map_or}
 use Rattle.std.proofs.lemmas.Bool.{lt-ltb, le-ltb, cases_lt}
 use Rattle.std.proofs.lemmas.Bool.Decides.{eqb_tells}
-use Rattle.std.proofs.lemmas.List.{map-set, get_or-map, get_or_past, get_or-drop, get_or-take, take-map, drop-map, map_push, length-take, length-drop, length-map, set_past, take-append-le, drop-append-le, get_or_append_left, get_or_push, length_push, length-append, take_all, append_assoc, append-nil}
+use Rattle.std.proofs.lemmas.List.{map-append, map-set, get_or_past, get_or-drop, get_or-take, take-map, drop-map, map_push, length-take, length-drop, length-map, set_past, take-append-le, drop-append-le, get_or_append_left, get_or_push, length_push, length-append, take_all, append_assoc, append-nil}
 use Rattle.std.proofs.lemmas.List.Sums.{sum_by-cons, sum_by_push}
 use Rattle.std.proofs.Math.Nat.{mul-le-mul_right}
 use Rattle.std.proofs.Math.Seq.{take-suc}
 use Rattle.sp_ids.specs.declared.ends.Trap.{Trap}
 use Rattle.ir_ast.specs.declared.cells.Cell.{Cell}
+use Rattle.ir_ast.specs.declared.cells.Cell.TheVariants.{I64, Ptr}
+use Rattle.ir_ast.proofs.SizeLaws.{footprint_is}
 use Rattle.ir_ast.specs.Layouts.{ObjectLayout}
 use Rattle.ir_ast.specs.Sizes.{fields_in}
-use Rattle.ir_ast.specs.Objects.{Datum, Object, Pointer, footprint}
+use Rattle.ir_ast.specs.Objects.{Datum, Object, Pointer, footprint, blank}
 use Rattle.object_store.specs.declared.cells.Shape.{Shape}
 use Rattle.object_store.specs.declared.words.Word.{Word}
 use Rattle.object_meaning.specs.Registers.{nothing, pointer_in}
 use Rattle.object_store.specs.Words.{datum}
 use Rattle.sp_ids.specs.declared.ends.Trap.TheVariants.{Null}
 use Rattle.object_meaning.specs.Accesses.{Place, accessed, within}
-use Rattle.object_store.specs.Stored.{bytes_taken, held, written, reached, object_at, objects_of, blank_word, blank_words, sizes, before, place_in}
+use Rattle.object_store.specs.Stored.{is_full, object_made, HasCells, AreOrdered, AreLaid, bytes_taken, held, written, reached, object_at, objects_of, blank_word, blank_words, sizes, before, place_in}
 
 below : (a b : ℕ) → suc a < suc b → a < b
 below a b h = omega arith
@@ -192,8 +194,11 @@ write_is [] words k cell word = refl
 write_is (shape ∷ shapes) words zero cell word =
     elim (cases_lt cell shape.cells) [
       | inl a ↦ rw (lt-ltb cell shape.cells a, take-set-lt shape.cells cell words word a, drop-set-before shape.cells cell words word a, map-set datum (take shape.cells words) cell word) refl
-      | inr b ↦ rw (le-ltb cell shape.cells b, set_past (map datum (take shape.cells words)) cell (datum word)
-          (let m = length-map (take shape.cells words) datum in let t = length-take shape.cells words in omega arith)) refl
+      | inr b ↦ rw (
+        le-ltb cell shape.cells b,
+        set_past (map datum (take shape.cells words)) cell (datum word)
+            (let m = length-map (take shape.cells words) datum in let t = length-take shape.cells words in omega arith),
+      ) refl
     ]
 write_is (shape ∷ shapes) words (suc k) cell word =
     write_rest shape shapes words (place_in shapes k cell) word ∙ ap (λ rest. object_at shape words ∷ rest) (write_is shapes (drop shape.cells words) k cell word)
@@ -206,3 +211,115 @@ bytes_same layouts (shape ∷ shapes) one other =
     sum_by-cons (footprint layouts) (object_at shape one) (objects_of shapes (drop shape.cells one))
     ∙ ap (λ n. footprint layouts (object_at shape one) + n) (bytes_same layouts shapes (drop shape.cells one) (drop shape.cells other))
     ∙ sym (sum_by-cons (footprint layouts) (object_at shape other) (objects_of shapes (drop shape.cells other)))
+
+-- a further object
+objects_push : (shapes : List Shape) (shape : Shape) (words more : List Word) → sizes shapes ≡ length words
+    → objects_of (shapes ++ shape ∷ []) (words ++ more) ≡ objects_of shapes words ++ object_at shape more ∷ []
+objects_push [] shape [] more sum = refl
+objects_push [] shape (w ∷ words) more sum = absurd (omega arith)
+objects_push (one ∷ shapes) shape words more sum =
+    let whole = sum_by-cons (λ (x : Shape). x.cells) one shapes in
+    let fits : one.cells ≤ length words = omega arith in let dropped = length-drop one.cells words in
+    rw (take-append-le one.cells words more fits, drop-append-le one.cells words more fits)
+    (ap (λ rest. object_at one words ∷ rest) (objects_push shapes shape (drop one.cells words) more (omega arith)))
+
+blank_is : (cell : Cell) → datum (blank_word cell) ≡ blank cell
+blank_is I64 = refl
+blank_is Ptr = refl
+
+blanks_are : (fields : List Cell) → map datum (map blank_word fields) ≡ map blank fields
+blanks_are [] = refl
+blanks_are (cell ∷ fields) = rw (blank_is cell, blanks_are fields) refl
+
+blank_data : (fields : List Cell) (count : ℕ) → map datum (blank_words fields count) ≡ flat_map (map blank) (replicate count fields)
+blank_data fields zero = refl
+blank_data fields (suc count) = map-append datum (map blank_word fields) (blank_words fields count) ∙ rw (blanks_are fields, blank_data fields count) refl
+
+blank_object : (layouts : List ObjectLayout) (shape : Shape) → shape.cells ≡ shape.count * length (fields_in layouts shape.layout)
+    → object_at shape (blank_words (fields_in layouts shape.layout) shape.count) ≡ object_made layouts shape.layout shape.count
+blank_object layouts shape are =
+    let fields = fields_in layouts shape.layout in let many = blank_length fields shape.count in
+    ap (λ (ws : List Word). let o : Object = record { layout = shape.layout; count = shape.count; cells = map datum ws } in o)
+    (take_all shape.cells (blank_words fields shape.count) (omega arith))
+    ∙ ap (λ (ds : List Datum). let o : Object = record { layout = shape.layout; count = shape.count; cells = ds } in o) (blank_data fields shape.count)
+
+pub object_added : (layouts : List ObjectLayout) (shapes : List Shape) (shape : Shape) (words : List Word) → sizes shapes ≡ length words
+    → shape.cells ≡ shape.count * length (fields_in layouts shape.layout)
+    → objects_of (shapes ++ shape ∷ []) (words ++ blank_words (fields_in layouts shape.layout) shape.count)
+    ≡ objects_of shapes words ++ object_made layouts shape.layout shape.count ∷ []
+object_added layouts shapes shape words sum are =
+    objects_push shapes shape words (blank_words (fields_in layouts shape.layout) shape.count) sum
+    ∙ ap (λ (o : Object). objects_of shapes words ++ o ∷ []) (blank_object layouts shape are)
+
+-- the bytes with a further object
+pub bytes_added : (layouts : List ObjectLayout) (objects : List Object) (layout count : ℕ)
+    → bytes_taken layouts (objects ++ object_made layouts layout count ∷ []) ≡ bytes_taken layouts objects + max 8 (8 * (count * length (fields_in layouts layout)))
+bytes_added layouts objects layout count =
+    sum_by_push (footprint layouts) objects (object_made layouts layout count)
+    ∙ ap (λ (n : ℕ). bytes_taken layouts objects + n) (footprint_is layouts (object_made layouts layout count))
+
+before-push : (shapes : List Shape) (shape : Shape) (k : ℕ) → k < length shapes → before (shapes ++ shape ∷ []) k ≡ before shapes k
+before-push [] shape k l = absurd (omega arith)
+before-push (one ∷ shapes) shape zero l = refl
+before-push (one ∷ shapes) shape (suc k) l = ap (λ n. one.cells + n) (before-push shapes shape k (below k (length shapes) l))
+
+before-all : (shapes : List Shape) (shape : Shape) → before (shapes ++ shape ∷ []) (length shapes) ≡ sizes shapes
+before-all [] shape = refl
+before-all (one ∷ shapes) shape = ap (λ n. one.cells + n) (before-all shapes shape) ∙ sym (sum_by-cons (λ (x : Shape). x.cells) one shapes)
+
+ordered_push : (shapes : List Shape) (shape : Shape) → AreOrdered shapes → shape.first ≡ sizes shapes → sizes shapes + shape.cells < 2 ^ 32 → AreOrdered (shapes ++ shape ∷ [])
+ordered_push shapes shape are first small =
+    let count = length_push shapes shape in
+    record {
+      firsts = λ k d l. elim (cases_lt k (length shapes)) [
+        | inl a ↦ rw (get_or_append_left shapes (shape ∷ []) d k a, before-push shapes shape k a) (are.firsts k d a)
+        | inr b ↦ (let e : length shapes ≡ k = omega arith in
+            ap (λ (x : Shape). x.first) (get_or_push shapes shape d k e) ∙ first ∙ sym (before-all shapes shape) ∙ ap (before (shapes ++ shape ∷ [])) e)
+      ];
+      small = let s = sum_by_push (λ (x : Shape). x.cells) shapes shape in omega arith;
+    }
+
+each_push : (layouts : List ObjectLayout) (shapes : List Shape) (shape : Shape) → ((k : ℕ) (d : Shape) → k < length shapes → HasCells layouts (get_or shapes k d))
+    → HasCells layouts shape → (k : ℕ) (d : Shape) → k < length (shapes ++ shape ∷ []) → HasCells layouts (get_or (shapes ++ shape ∷ []) k d)
+each_push layouts shapes shape each has k d l =
+    let count = length_push shapes shape in
+    elim (cases_lt k (length shapes)) [
+      | inl a ↦ rw (get_or_append_left shapes (shape ∷ []) d k a) (each k d a)
+      | inr b ↦ (let e : length shapes ≡ k = omega arith in rw (get_or_push shapes shape d k e) has)
+    ]
+
+pub laid_added : (layouts : List ObjectLayout) (shapes : List Shape) (words : List Word) (used : ℕ) (shape : Shape) → AreLaid layouts shapes words used
+    → HasCells layouts shape → shape.first ≡ length words → used + max 8 (8 * shape.cells) ≤ 67108864
+    → AreLaid layouts (shapes ++ shape ∷ []) (words ++ blank_words (fields_in layouts shape.layout) shape.count) (used + max 8 (8 * shape.cells))
+laid_added layouts shapes words used shape are has first fits =
+    let sum = sum_by_push (λ (x : Shape). x.cells) shapes shape in let count = length_push shapes shape in
+    let many = length-append words (blank_words (fields_in layouts shape.layout) shape.count) in
+    let blanks = blank_length (fields_in layouts shape.layout) shape.count in
+    record {
+      ordered = ordered_push shapes shape are.ordered (first ∙ sym are.whole) (omega (arith, are.cells_fit));
+      whole = omega (arith, are.whole, has.are);
+      each = each_push layouts shapes shape are.each has;
+      cells_fit = omega (arith, are.cells_fit);
+      count_fits = omega (arith, are.count_fits);
+      used_is =
+          ap (λ (n : ℕ). n + max 8 (8 * shape.cells)) are.used_is
+          ∙ ap (λ (n : ℕ). bytes_taken layouts (objects_of shapes words) + max 8 (8 * n)) has.are
+          ∙ sym (bytes_added layouts (objects_of shapes words) shape.layout shape.count)
+          ∙ ap (bytes_taken layouts) (sym (object_added layouts shapes shape words are.whole has.are));
+      fits = fits;
+    }
+
+pub full_is : (layouts : List ObjectLayout) (objects : List Object) (layout count used : ℕ) (fields : List Cell) → used ≡ bytes_taken layouts objects
+    → fields ≡ fields_in layouts layout → 67108864 < used + max 8 (8 * (count * length fields)) → is_full layouts (objects ++ object_made layouts layout count ∷ []) ≡ true
+full_is layouts objects layout count used fields used_is fields_are more =
+    rw (bytes_added layouts objects layout count, ← used_is, ← fields_are) (lt-ltb 67108864 (used + max 8 (8 * (count * length fields))) more)
+
+pub not_full_is : (layouts : List ObjectLayout) (objects : List Object) (layout count used cells : ℕ) (fields : List Cell) → used ≡ bytes_taken layouts objects
+    → fields ≡ fields_in layouts layout → cells ≡ count * length fields → used + max 8 (8 * cells) ≤ 67108864
+    → is_full layouts (objects ++ object_made layouts layout count ∷ []) ≡ false
+not_full_is layouts objects layout count used cells fields used_is fields_are cells_are fits =
+    rw (bytes_added layouts objects layout count, ← used_is, ← fields_are, ← cells_are) (le-ltb 67108864 (used + max 8 (8 * cells)) fits)
+
+pub count_is : (shapes : List Shape) (words : List Word) → length (objects_of shapes words) ≡ length shapes
+count_is [] words = refl
+count_is (shape ∷ shapes) words = ap suc (count_is shapes (drop shape.cells words))

@@ -48,6 +48,18 @@ bytes_taken layouts objects = sum_by (footprint layouts) objects
 abbrev pub object_made : List ObjectLayout → ℕ → ℕ → Object
 object_made layouts layout count = new_object layout (fields_in layouts layout) count
 
+-- whether objects take more than the heap has
+abbrev pub is_full : List ObjectLayout → List Object → Bool
+is_full layouts objects = nat_lt 67108864 (bytes_taken layouts objects)
+
+-- a new object has the next number; where the heap has no room for it, there is none
+abbrev pub Makes : Store → Store → ℕ → ℕ → Option ℕ → Type 0
+Makes old new layout count None = (is_full old.layouts (old.objects ++ object_made old.layouts layout count ∷ []) ≡ true) × (new ≡ old)
+Makes old new layout count (Some number) =
+    (is_full old.layouts (old.objects ++ object_made old.layouts layout count ∷ []) ≡ false)
+    × (number ≡ length old.objects + 1)
+    × (new ≡ record old { objects = old.objects ++ object_made old.layouts layout count ∷ [] })
+
 -- ---- how they stand in one list
 
 abbrev pub object_at : Shape → List Word → Object
@@ -115,5 +127,7 @@ pub record AreLaid (layouts : List ObjectLayout) (shapes : List Shape) (words : 
   pub ordered : AreOrdered shapes
   pub whole : sizes shapes ≡ length words
   pub each : (k : ℕ) (d : Shape) → k < length shapes → HasCells layouts (slice_index_or shapes k d)
+  pub cells_fit : 8 * sizes shapes ≤ used
+  pub count_fits : 8 * length shapes ≤ used
   pub used_is : used ≡ bytes_taken layouts (objects_of shapes words)
   pub fits : used ≤ 67108864

@@ -76,13 +76,7 @@ pub(crate) fn fields_of(layouts: &[Layout], layout: u32) -> &[Cell]
 }
 
 // The cell at an offset of an object with so many elements.
-fn within(
-    object: u32,
-    offset: u64,
-    fields: &[Cell],
-    asked: Cell,
-    count: u64,
-) -> Result<Spot, Trap>
+fn within(object: u32, offset: u64, fields: &[Cell], asked: Cell, count: u64) -> Result<Spot, Trap>
     requires { count * length fields.now < 2 ^ 32 }
     ensures { place_result result ≡ within (record { object = object; offset = offset }) fields.now asked count }
 {

@@ -2,10 +2,8 @@
 #![tactic(auto)]
 
 mod cells;
-
-mod words;
-
 mod objects;
+mod words;
 
 pub use cells::{Shape, Spot};
 pub use objects::Objects;

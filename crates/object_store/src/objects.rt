@@ -1,10 +1,10 @@
 //! The objects of a run.
 
-ghost use Rattle.std.specs.Prelude.{◌≡◌, ℕ, ◌<◌, ◌++◌, [], ◌∷◌, pos, int_lt, true, false, length, map, slice_index_or, slice_set, unsigned_abs, IfOk, IfErr, OnErr, MatchResult, Ok, Err};
+ghost use Rattle.std.specs.Prelude.{◌≡◌, ℕ, ◌+◌, ◌*◌, ◌≤◌, ◌<◌, max, ◌++◌, [], ◌∷◌, pos, int_lt, true, false, length, map, slice_index_or, slice_set, unsigned_abs, IfOk, IfErr, IfSome, IfNone, OnOk, OnErr, MatchResult, Ok, Err};
 ghost use Rattle.ir_ast.specs.Objects.{footprint};
 ghost use Rattle.object_meaning.specs.Accesses.{loaded, stored};
 ghost use Rattle.object_meaning.specs.Registers.{nothing, pointer_in};
-ghost use Rattle.object_store.specs.Stored.{held, written, AreOrdered, HasCells, sizes, objects_of, load_of, store_of, stored_result, bytes_taken, object_made};
+ghost use Rattle.object_store.specs.Stored.{held, written, AreOrdered, HasCells, sizes, objects_of, load_of, store_of, stored_result, blank_words, Makes};
 ghost use Rattle.object_store.specs.declared.cells.Shape.{Shape};
 ghost use Rattle.object_store.specs.Words.{datum, datum_result};
 
@@ -59,6 +59,27 @@ impl<'m> Objects<'m> {
             asked,
             at,
         )
+    }
+
+    /// Makes an object of so many elements of a layout, and gives its number; or nothing, where the footprints of all objects
+    /// would pass 67,108,864 bytes.
+    pub fn add(&mut self, layout: u32, count: u64) -> Result<Option<u32>, Memory>
+        ensures made { IfOk result (Makes self.old self.new layout count) }
+        ensures kept { OnErr result (self.new ≡ self.old) }
+    {
+        let fields = fields_of(self.layouts, layout);
+        let Some(cells) = room_of(fields, count, self.used) else {
+            return Ok(None);
+        };
+        let shape = Shape {
+            count,
+            layout,
+            first: self.words.len() as u32,
+            cells,
+        };
+        push_object(&mut self.shapes, &mut self.words, shape, fields)?;
+        self.used += footprint_of(cells);
+        Ok(Some(self.shapes.len() as u32))
     }
 
     /// Writes the cell of this kind that a pointer names, or gives the trap (LLVM Language Reference, "'store' Instruction").
@@ -172,4 +193,44 @@ fn word_of(words: &[Word], place: usize) -> Word
     } else {
         Word::of(0)
     }
+}
+
+// The cells of so many elements with these fields, where the heap has room for them.
+fn room_of(fields: &[Cell], count: u64, used: u64) -> Option<u32>
+    requires { used ≤ 67108864 }
+    ensures some { IfSome result (λ cells. (cells ≡ count * length fields.now) × (used + max 8 (8 * cells) ≤ 67108864)) }
+    ensures none { IfNone result (67108864 < used + max 8 (8 * (count * length fields.now))) }
+{
+    let cells = count.checked_mul(fields.len() as u64)?;
+    if cells <= HEAP_BYTES / 8 && footprint_of(cells as u32) <= HEAP_BYTES - used {
+        Some(cells as u32)
+    } else {
+        None
+    }
+}
+
+fn footprint_of(cells: u32) -> u64
+    ensures { result ≡ max 8 (8 * cells) }
+{
+    (u64::from(cells) * 8).max(8)
+}
+
+// A further object, whose cells are blank.
+fn push_object(
+    shapes: &mut Vec<Shape>,
+    words: &mut Vec<Word>,
+    shape: Shape,
+    fields: &[Cell],
+) -> Result<(), Memory>
+    requires { shape.cells ≡ shape.count * length fields.now }
+    ensures shapes { OnOk result (shapes.new.items ≡ shapes.old.items ++ shape ∷ []) }
+    ensures words { OnOk result (words.new.items ≡ words.old.items ++ blank_words fields.now shape.count) }
+    ensures shapes_kept { OnErr result (shapes.new.items ≡ shapes.old.items) }
+    ensures words_kept { OnErr result (words.new.items ≡ words.old.items) }
+{
+    words.reserve(shape.cells as usize)?;
+    shapes.reserve(1)?;
+    add_blanks(words, fields, shape.count);
+    let _ = shapes.push(shape);
+    Ok(())
 }

@@ -1,4 +1,4 @@
-use Rattle.std.proofs.Common.{◌≡◌, List, ◌++◌, sym, ap, ◌∙◌, arith, length, map, append_assoc}
+use Rattle.std.proofs.Common.{List, ◌++◌, sym, ap, ◌∙◌, arith, length, map, append_assoc}
 use Rattle.std.proofs.lemmas.List.{length-append}
 use Rattle.object_store.specs.declared.words.Word.{Word}
 use Rattle.object_store.specs.Stored.{blank_word, blank_words}

@@ -1,12 +1,9 @@
-use Rattle.std.proofs.Common.{◌≡◌, ℕ, ◌+◌, ◌-◌, ◌*◌, ◌<◌, List, length, get_or, refl, sym, ap, ◌∙◌, arith}
-use Rattle.std.specs.Prelude.{Result, Err, slice_get}
-use Rattle.std.specs.Option.{option_map_or}
-use Rattle.sp_ids.specs.declared.ends.Trap.{Trap}
+use Rattle.std.proofs.Common.{◌-◌, List, get_or, sym, ap, ◌∙◌, arith}
 use Rattle.ir_ast.specs.declared.cells.Cell.{Cell}
 use Rattle.ir_ast.specs.Objects.{Pointer}
-use Rattle.object_meaning.specs.Accesses.{Place, within}
+use Rattle.object_meaning.specs.Accesses.{within}
 use Rattle.object_store.specs.declared.cells.Shape.{Shape}
-use Rattle.object_store.proofs.CellLemmas.{some_object, no_object}
+use Rattle.object_store.proofs.CellLemmas.{some_object}
 use Rattle.object_store.proofs.cells.reach.Goals as goal
 
 abbrev empty : Shape

@@ -1,4 +1,4 @@
-use Rattle.std.proofs.Common.{◌≡◌, ◌+◌, ◌*◌, ◌/◌, ◌%◌, inl, inr, length, get_or, sym, refl, ◌∙◌, true, false}
+use Rattle.std.proofs.Common.{◌≡◌, ◌/◌, ◌%◌, inl, inr, length, get_or, sym, refl, ◌∙◌, true, false}
 use Rattle.std.specs.Prelude.{◌==◌}
 use Rattle.ir_ast.specs.declared.cells.Cell.TheVariants.{I64}
 use Rattle.ir_ast.specs.Cells.{kind_of}
@@ -18,10 +18,10 @@ pub returns-then-is_same : goal.returns-then-is_same
 returns-then-is_same c =
     let at : Pointer = record { object = c.args.object; offset = c.args.offset } in
     let same : (kind_of (get_or c.args.fields.now (c.args.offset / 8 % length c.args.fields.now) I64) == kind_of c.args.asked) ≡ true = sym c.is_same.ensures ∙ c.if-is_same.true in
-    rw (some_cell at c.args.fields.now c.args.asked I64 c.args.count c.if-offset-ne0.false c.if-cell-cells.false, same) refl
+    rw (some_cell at c.args.fields.now c.args.asked c.args.count c.if-offset-ne0.false c.if-cell-cells.false, same) refl
 
 pub returns-else-is_same : goal.returns-else-is_same
 returns-else-is_same c =
     let at : Pointer = record { object = c.args.object; offset = c.args.offset } in
     let same : (kind_of (get_or c.args.fields.now (c.args.offset / 8 % length c.args.fields.now) I64) == kind_of c.args.asked) ≡ false = sym c.is_same.ensures ∙ c.if-is_same.false in
-    rw (some_cell at c.args.fields.now c.args.asked I64 c.args.count c.if-offset-ne0.false c.if-cell-cells.false, same) refl
+    rw (some_cell at c.args.fields.now c.args.asked c.args.count c.if-offset-ne0.false c.if-cell-cells.false, same) refl

@@ -1,8 +1,7 @@
-use Rattle.std.proofs.Common.{◌≡◌, List, sym, ap, ◌∙◌}
+use Rattle.std.proofs.Common.{List, sym, ap, ◌∙◌}
 use Rattle.std.specs.Prelude.{Result, Ok}
 use Rattle.sp_ids.specs.declared.ends.Trap.{Trap}
 use Rattle.ir_ast.specs.Objects.{Object, Datum}
-use Rattle.object_meaning.specs.Accesses.{Place, accessed}
 use Rattle.object_meaning.specs.Registers.{pointer_in}
 use Rattle.object_store.specs.Stored.{objects_of, place_result, reached, load_from}
 use Rattle.object_store.specs.Words.{datum}

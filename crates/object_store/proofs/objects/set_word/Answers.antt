@@ -1,6 +1,5 @@
-use Rattle.std.proofs.Common.{ℕ, List, ◌-◌, sym, ap, ◌∙◌}
+use Rattle.std.proofs.Common.{ℕ, ◌-◌, sym, ap, ◌∙◌}
 use Rattle.std.specs.Prelude.{Option}
-use Rattle.object_store.specs.declared.words.Word.{Word}
 use Rattle.object_store.specs.Stored.{objects_of, place_in, written}
 use Rattle.object_store.specs.Words.{datum}
 use Rattle.object_store.proofs.CellLemmas.{write_is, with_cell_is}

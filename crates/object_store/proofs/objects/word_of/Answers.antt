@@ -1,4 +1,4 @@
-use Rattle.std.proofs.Common.{◌≤◌, length, map, sym, ap, ◌∙◌, arith, false}
+use Rattle.std.proofs.Common.{map, sym, ap, ◌∙◌, arith, false}
 use Rattle.std.proofs.lemmas.List.{length-map, get_or-map, get_or_past}
 use Rattle.object_meaning.specs.Registers.{nothing}
 use Rattle.object_store.specs.declared.words.Word.{Word}

@@ -1,7 +1,5 @@
-use Rattle.std.proofs.Common.{◌≡◌, List, length, sym, ap, ◌∙◌}
+use Rattle.std.proofs.Common.{length, sym, ap, ◌∙◌}
 use Rattle.std.proofs.lemmas.List.{with_items_is}
-use Rattle.object_store.specs.declared.words.Word.{Word}
-use Rattle.object_store.specs.Stored.{objects_of, AreLaid}
 use Rattle.object_store.proofs.CellLemmas.{bytes_same}
 use Rattle.object_store.proofs.objects.Objects.store.Goals as goal
 
@@ -13,6 +11,8 @@ invariant_of-self c =
       ordered = c.self.invariant.ordered;
       whole = c.self.invariant.whole ∙ sym count;
       each = c.self.invariant.each;
+      cells_fit = c.self.invariant.cells_fit;
+      count_fits = c.self.invariant.count_fits;
       used_is = c.self.invariant.used_is ∙ bytes_same c.self.inside.layouts.now c.self.inside.shapes.items c.self.inside.words.items c.store.new.words;
       fits = c.self.invariant.fits;
     })
