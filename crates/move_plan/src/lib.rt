@@ -1,0 +1,10 @@
+//! Plans and inputs: which objects move at which event, which events flip, and which task goes on; and the numbers that a
+//! program reads.
+#![tactic(auto)]
+
+mod faults;
+mod plan_lines;
+mod words;
+
+pub use faults::{InputFault, PlanFault};
+pub use plan_lines::{Move, PlanLine};
