@@ -1,2 +1,4 @@
+pub mod InputLemmas
+pub mod NumberLemmas
 pub mod WordLemmas
 mod Examples

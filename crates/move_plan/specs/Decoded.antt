@@ -1,14 +1,30 @@
 -- The reading of a line's words, word by word.
-use Rattle.std.specs.Prelude.{ℕ, ◌^◌, Bool, true, false, ◌==◌, ◌&&◌, nat_lt, if◌then◌else◌, List, [], ◌∷◌, codes, Option, Some, None, option_map, option_and_then}
+use Rattle.std.specs.Prelude.{ℕ, ◌+◌, ◌*◌, ◌^◌, Bool, true, false, ◌==◌, ◌&&◌, nat_lt, if◌then◌else◌, List, [], ◌∷◌, codes, Option, Some, None, option_map, option_and_then}
 use Rattle.std.specs.Str.{bytes_eq}
-use Rattle.std.specs.Str.Parse.{digits_value}
-use Rattle.sp_text.specs.Tokens.{is_numeral}
+use Rattle.std.specs.Char.{digit_value}
+use Rattle.sp_text.specs.Bytes.{zero_digit}
 use Rattle.move_plan.specs.declared.plan_lines.PlanLine.{PlanLine}
 use Rattle.move_plan.specs.declared.plan_lines.PlanLine.TheVariants.{Every, Move, Flip, Go}
 
--- the number that digits without a leading zero spell
-unfoldable pub number_of : List ℕ → Option ℕ
-number_of word = if is_numeral word && nat_lt (digits_value 10 word) (2 ^ 64) then Some (digits_value 10 word) else None
+-- a digit behind those that spell n, where the number has 64 bits
+abbrev pub with_digit : ℕ → ℕ → Option ℕ
+with_digit n c = if nat_lt (digit_value c) 10 && nat_lt (n * 10 + digit_value c) (2 ^ 64) then Some (n * 10 + digit_value c) else None
+
+-- digits behind those that spell n
+unfoldable pub numeral_after : ℕ → List ℕ → Option ℕ
+numeral_after n [] = Some n
+numeral_after n (c ∷ cs) = option_and_then (λ m. numeral_after m cs) (with_digit n c)
+
+-- the number that one or more digits spell, where it has 64 bits
+abbrev pub numeral_of : List ℕ → Option ℕ
+numeral_of [] = None
+numeral_of (c ∷ cs) = numeral_after 0 (c ∷ cs)
+
+-- the same without leading zeros
+abbrev pub number_of : List ℕ → Option ℕ
+number_of [] = None
+number_of (c ∷ []) = numeral_of (c ∷ [])
+number_of (c ∷ d ∷ more) = if c == zero_digit then None else numeral_of (c ∷ d ∷ more)
 
 abbrev pub positive : ℕ → Option ℕ
 positive n = if n == 0 then None else Some n

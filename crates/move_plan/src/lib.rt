@@ -3,6 +3,7 @@
 #![tactic(auto)]
 
 mod faults;
+mod numbers;
 mod plan_lines;
 mod words;
 
