@@ -1,3 +1,4 @@
+pub mod DecodeLemmas
 pub mod InputLemmas
 pub mod NumberLemmas
 pub mod WordLemmas
