@@ -1,5 +1,6 @@
 pub mod DecodeLemmas
 pub mod InputLemmas
 pub mod NumberLemmas
+pub mod SortedLemmas
 pub mod WordLemmas
 mod Examples

@@ -3,6 +3,7 @@ pub mod Texts
 pub mod PlanLines
 pub mod Decoded
 pub mod Plans
+pub mod Tables
 pub mod PlanFaults
 pub mod InputNumbers
 pub mod Inputs

@@ -3,6 +3,7 @@
 #![tactic(auto)]
 
 mod faults;
+mod lookups;
 mod numbers;
 mod plan_lines;
 mod words;

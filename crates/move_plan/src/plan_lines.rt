@@ -4,6 +4,8 @@ ghost use Rattle.std.specs.Prelude.{◌≡◌, ◌∷◌, MatchOption};
 ghost use Rattle.move_plan.specs.Words.{words};
 ghost use Rattle.move_plan.specs.Texts.{HasNoReading};
 ghost use Rattle.move_plan.specs.PlanLines.{ReadsAs};
+ghost use Rattle.move_plan.specs.Tables.{is_flip, move_of, moved_at, task_of};
+ghost use Rattle.move_plan.specs.Plans.{event_of};
 ghost use Rattle.move_plan.specs.Decoded.{decoded, decoded_at, decoded_every, decoded_go, decoded_move, decoded_verb, is_last, is_none, last_number, only_if};
 ghost use Rattle.move_plan.specs.declared.plan_lines.PlanLine.TheVariants.{Flip};
 
@@ -30,6 +32,54 @@ pub enum PlanLine {
     Flip(u64),
     /// At this event, where it is a poll, the task goes on.
     Go { event: u64, task: u64 },
+}
+
+impl PlanLine {
+    // The event of an `at` line; an `every` line stands before all events.
+    pub(crate) fn event(&self) -> u64
+        ensures { result ≡ event_of self.now }
+    {
+        match self {
+            PlanLine::Every(_) => 0,
+            PlanLine::Move { event, .. } | PlanLine::Flip(event) | PlanLine::Go { event, .. } => *event,
+        }
+    }
+
+    // The task that a `go` line names.
+    pub(crate) fn task(&self) -> Option<u64>
+        ensures { result ≡ task_of self.now }
+    {
+        match self {
+            PlanLine::Go { task, .. } => Some(*task),
+            _ => None,
+        }
+    }
+
+    // The move of a move line.
+    pub(crate) fn moved(&self) -> Option<Move>
+        ensures { result ≡ move_of self.now }
+    {
+        match self {
+            PlanLine::Move { obj, to, .. } => Some(Move { obj: *obj, to: *to }),
+            _ => None,
+        }
+    }
+
+    // The event of a move line.
+    pub(crate) fn moved_at(&self) -> Option<u64>
+        ensures { result ≡ moved_at self.now }
+    {
+        match self {
+            PlanLine::Move { event, .. } => Some(*event),
+            _ => None,
+        }
+    }
+
+    pub(crate) fn is_flip(&self) -> bool
+        ensures { result ≡ is_flip self.now }
+    {
+        matches!(self, PlanLine::Flip(_))
+    }
 }
 
 // What a line says, where it has a reading; a blank line says nothing.
