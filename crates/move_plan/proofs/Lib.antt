@@ -1,4 +1,5 @@
 pub mod DecodeLemmas
+pub mod EventLemmas
 pub mod InputLemmas
 pub mod NumberLemmas
 pub mod SortedLemmas

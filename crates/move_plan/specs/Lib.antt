@@ -4,6 +4,7 @@ pub mod PlanLines
 pub mod Decoded
 pub mod Plans
 pub mod Tables
+pub mod Steps
 pub mod PlanFaults
 pub mod InputNumbers
 pub mod Inputs

@@ -1,5 +1,5 @@
 -- The tables in which the lines of an event are found.
-use Rattle.std.specs.Prelude.{◌≡◌, ℕ, Bool, true, false, List, Option, Some, None}
+use Rattle.std.specs.Prelude.{◌≡◌, ℕ, ◌%◌, Bool, true, false, ◌==◌, List, ◌∷◌, Option, Some, None}
 use Rattle.std.specs.List.{filter_map}
 use Rattle.move_plan.specs.declared.plan_lines.Move.{Move}
 use Rattle.move_plan.specs.declared.plan_lines.PlanLine.{PlanLine}
@@ -27,3 +27,8 @@ pub record AreTables (plan : List PlanLine) (moves : List Move) (events : List �
   pub plan_is : IsPlan plan
   pub moves_are : moves ≡ filter_map move_of plan
   pub events_are : events ≡ filter_map moved_at plan
+
+-- the event is a multiple of the number of the line `every`, which stands first
+abbrev pub flips_each : List PlanLine → ℕ → Bool
+flips_each (lines.Every period ∷ more) k = k % period == 0
+flips_each _ k = false

@@ -1,8 +1,11 @@
 //! The lines of an event, among lines whose events don't fall.
 
-ghost use Rattle.std.specs.Prelude.{◌≡◌, ◌<◌, ◌≤◌, ◌==◌, length, filter, nat_lt, nat_le, true, false, slice_range};
+ghost use Rattle.std.specs.Prelude.{◌≡◌, ◌<◌, ◌≤◌, ◌==◌, length, filter, nat_lt, nat_le, true, false, slice_range, slice_get};
+ghost use Rattle.std.specs.List.{All, filter_map, list_any};
 ghost use Rattle.std.specs.List.Sorted.{IsNonDecreasingBy, IsPartitionPoint};
-ghost use Rattle.move_plan.specs.Plans.{event_of};
+ghost use Rattle.move_plan.specs.PlanLines.{IsInRange};
+ghost use Rattle.move_plan.specs.Plans.{IsPlan, event_of, flips, go};
+ghost use Rattle.move_plan.specs.Tables.{flips_each, is_flip, task_of};
 
 use crate::plan_lines::PlanLine;
 
@@ -39,4 +42,49 @@ pub(crate) fn between<T>(xs: &[T], from: usize, to: usize) -> &[T]
     ensures { result.now ≡ slice_range xs.now from to }
 {
     &xs[from..to]
+}
+
+// The task that the event's `go` line names.
+pub(crate) fn task_of(plan: &[PlanLine], event: u64) -> Option<u64>
+    requires { IsNonDecreasingBy event_of plan.now }
+    ensures { result ≡ go plan.now event }
+{
+    first_task(lines_of(plan, event))
+}
+
+// The task that the first `go` line names.
+fn first_task(plan: &[PlanLine]) -> Option<u64>
+    ensures { result ≡ slice_get (filter_map task_of plan.now) 0 }
+{
+    for line in plan {
+        if let Some(task) = line.task() {
+            return Some(task);
+        }
+    }
+    None
+}
+
+// Whether the event flips.
+pub(crate) fn flips(plan: &[PlanLine], event: u64) -> bool
+    requires { IsPlan plan.now }
+    ensures { result ≡ flips plan.now event }
+{
+    flips_each(plan, event) || has_flip(lines_of(plan, event))
+}
+
+// Whether the event flips by the line `every`.
+fn flips_each(plan: &[PlanLine], event: u64) -> bool
+    requires { All IsInRange plan.now }
+    ensures { result ≡ flips_each plan.now event }
+{
+    match plan.first() {
+        Some(PlanLine::Every(period)) => event % *period == 0,
+        _ => false,
+    }
+}
+
+fn has_flip(plan: &[PlanLine]) -> bool
+    ensures { result ≡ list_any is_flip plan.now }
+{
+    plan.iter().any(|line| line.is_flip())
 }
