@@ -1,5 +1,6 @@
 pub mod DecodeLemmas
 pub mod EventLemmas
+pub mod GroupLemmas
 pub mod InputLemmas
 pub mod NumberLemmas
 pub mod SortedLemmas

@@ -6,7 +6,9 @@ mod faults;
 mod lookups;
 mod numbers;
 mod plan_lines;
+mod plans;
 mod words;
 
 pub use faults::{InputFault, PlanFault};
 pub use plan_lines::{Move, PlanLine};
+pub use plans::Plan;

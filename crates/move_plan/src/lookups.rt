@@ -2,7 +2,7 @@
 
 ghost use Rattle.std.specs.Prelude.{◌≡◌, ◌<◌, ◌≤◌, ◌==◌, length, filter, nat_lt, nat_le, true, false, slice_range, slice_get};
 ghost use Rattle.std.specs.List.{All, filter_map, list_any};
-ghost use Rattle.std.specs.List.Sorted.{IsNonDecreasingBy, IsPartitionPoint};
+ghost use Rattle.std.specs.List.Sorted.{IsNonDecreasing, IsNonDecreasingBy, IsPartitionPoint};
 ghost use Rattle.move_plan.specs.PlanLines.{IsInRange};
 ghost use Rattle.move_plan.specs.Plans.{IsPlan, event_of, flips, go};
 ghost use Rattle.move_plan.specs.Tables.{flips_each, is_flip, task_of};
@@ -87,4 +87,22 @@ fn has_flip(plan: &[PlanLine]) -> bool
     ensures { result ≡ list_any is_flip plan.now }
 {
     plan.iter().any(|line| line.is_flip())
+}
+
+// How many events stand before this one.
+pub(crate) fn events_below(events: &[u64], event: u64) -> usize
+    requires { IsNonDecreasing events.now }
+    ensures within { result ≤ length events.now }
+    ensures point { IsPartitionPoint (λ at. nat_lt at event ≡ true) (λ at. nat_lt at event ≡ false) events.now result }
+{
+    events.partition_point(|at| *at < event)
+}
+
+// How many events stand up to this one.
+pub(crate) fn events_up_to(events: &[u64], event: u64) -> usize
+    requires { IsNonDecreasing events.now }
+    ensures within { result ≤ length events.now }
+    ensures point { IsPartitionPoint (λ at. nat_le at event ≡ true) (λ at. nat_le at event ≡ false) events.now result }
+{
+    events.partition_point(|at| *at <= event)
 }
