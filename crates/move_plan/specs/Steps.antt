@@ -16,7 +16,7 @@ is_empty (line ∷ more) = false
 
 -- the event of the last line, and 0 where there is none
 abbrev pub last_event : List PlanLine → ℕ
-last_event plan = option_map_or event_of 0 (slice_get plan (length plan - 1))
+last_event plan = option_map_or event_of (slice_get plan (length plan - 1)) 0
 
 -- the line is out of order
 abbrev pub is_late : List PlanLine → PlanLine → Bool

@@ -7,6 +7,7 @@ mod lookups;
 mod numbers;
 mod plan_lines;
 mod plans;
+mod reader;
 mod words;
 
 pub use faults::{InputFault, PlanFault};
