@@ -1,8 +1,11 @@
 pub mod DecodeLemmas
 pub mod EventLemmas
+pub mod FaultLaws
 pub mod GroupLemmas
 pub mod InputLemmas
 pub mod NumberLemmas
+pub mod PlanLemmas
 pub mod SortedLemmas
+pub mod TextLemmas
 pub mod WordLemmas
 mod Examples
