@@ -31,7 +31,7 @@ fits-neg : (m : ℕ) → FitsSigned w64 (neg_ℤ (pos m)) → m ≤ 2 ^ 63
 fits-neg m fits = omega (arith, ints, fits)
 
 -- a `-` is no digit
-minus_apart : (digits : List ℕ) → ¬ AreDigits (minus ∷ digits)
+pub minus_apart : (digits : List ℕ) → ¬ AreDigits (minus ∷ digits)
 minus_apart digits are = omega (arith, are.each.1.0)
 
 signed_value : (digits : List ℕ) (n : ℤ) → Spells (minus ∷ digits) n → AreDigits digits × (n ≡ neg_ℤ (pos (digits_value 10 digits)))

@@ -2,6 +2,7 @@ pub mod DecodeLemmas
 pub mod EventLemmas
 pub mod FaultLaws
 pub mod GroupLemmas
+pub mod InputLaws
 pub mod InputLemmas
 pub mod NumberLemmas
 pub mod PlanLemmas

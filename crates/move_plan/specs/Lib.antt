@@ -8,3 +8,4 @@ pub mod Steps
 pub mod PlanFaults
 pub mod InputNumbers
 pub mod Inputs
+pub mod InputSteps

@@ -3,6 +3,7 @@
 #![tactic(auto)]
 
 mod faults;
+mod inputs;
 mod lookups;
 mod numbers;
 mod plan_lines;
@@ -11,5 +12,6 @@ mod reader;
 mod words;
 
 pub use faults::{InputFault, PlanFault};
+pub use inputs::read_input;
 pub use plan_lines::{Move, PlanLine};
 pub use plans::Plan;

@@ -1,12 +1,14 @@
 //! Plans, and what they say of an event.
 
-ghost use Rattle.std.specs.Prelude.{◌≡◌, IfOk, IfErr};
+ghost use Rattle.std.specs.Prelude.{◌≡◌, ◌<◌, ◌≤◌, ◌↔◌, [], length, slice_get, IfOk, IfErr, OnOk, IsTrue, Some};
 ghost use Rattle.std.specs.List.{filter_map};
 ghost use Rattle.move_plan.specs.Tables.{move_of, moved_at};
 
 use crate::faults::PlanFault;
 use crate::lookups::{between, events_below, events_up_to, flips, task_of};
 use crate::plan_lines::{Move, PlanLine};
+use crate::reader::plan_lines;
+use sp_ids::limits::FILE_BYTES;
 use std::alloc::{AllocError, Global};
 use std::marker::Model;
 
@@ -31,8 +33,20 @@ impl Model for Plan {
 }
 
 impl Plan {
-    ghost use Rattle.move_plan.specs.Plans.{IsPlan, flips, go, group};
+    ghost use Rattle.move_plan.specs.Plans.{IsPlan, IsPlanOf, flips, go, group};
+    ghost use Rattle.move_plan.specs.PlanFaults.{HasNoFault, IsFaultOf};
     ghost use Rattle.move_plan.specs.declared.faults.PlanFault.TheVariants as faults;
+
+    /// The plan that a text of at most [`FILE_BYTES`] bytes stands for, or its least fault. [`PlanFault::Memory`] says
+    /// nothing of the text.
+    pub fn read(alloc: Global, text: &[u8]) -> Result<Plan, PlanFault>
+        requires { length text.now ≤ FILE_BYTES }
+        ensures plan { IfOk result (λ plan. IsPlanOf text.now plan) }
+        ensures faultless { OnOk result (HasNoFault text.now) }
+        ensures fault { IfErr result (IsFaultOf text.now) }
+    {
+        Plan::of(alloc, plan_lines(alloc, text)?)
+    }
 
     // The plan of these lines.
     fn of(alloc: Global, lines: Vec<PlanLine>) -> Result<Plan, PlanFault>
@@ -47,6 +61,28 @@ impl Plan {
             moves,
             events,
         })
+    }
+
+    /// How many lines the plan has, blank ones not counted.
+    pub fn len(&self) -> u32
+        ensures { result ≡ length self.now }
+    {
+        self.lines.len() as u32
+    }
+
+    /// Whether the plan says nothing.
+    pub fn is_empty(&self) -> bool
+        ensures { IsTrue result ↔ (self.now ≡ []) }
+    {
+        self.lines.is_empty()
+    }
+
+    /// The plan's line at a place, counted from 0.
+    pub fn line(&self, index: u32) -> PlanLine
+        requires { index < length self.now }
+        ensures { slice_get self.now index ≡ Some result }
+    {
+        self.lines[index as usize]
     }
 
     /// The moves of the event's lines, in the order of the lines. It looks at no other event's lines.
