@@ -1,14 +1,13 @@
 -- What the lines of an event say, of the event's lines alone.
-use Rattle.std.proofs.Common.{◌≡◌, refl, ap, sym, ◌∙◌, ℕ, suc, ◌+◌, ◌<◌, ◌≤◌, Bool, true, false, List, [], ◌∷◌, ◌++◌, length, cond, eqb, arith, None, Some, Option, inl, inr}
-use Rattle.std.specs.Prelude.{filter, map, slice_get, ◌&&◌, ◌||◌, ◌%◌}
+use Rattle.std.proofs.Common.{◌≡◌, refl, ap, sym, ◌∙◌, ℕ, suc, Bool, true, false, List, [], ◌∷◌, cond, eqb, arith, None, Some, Option, inl, inr}
+use Rattle.std.specs.Prelude.{filter, map, slice_get, ◌&&◌, ◌||◌}
 use Rattle.std.specs.List.{filter_map, list_any}
 use Rattle.std.proofs.lemmas.Bool.{and_right, cases_Bool}
 use Rattle.std.proofs.lemmas.Bool.Decides.{nat_tests}
-use Rattle.move_plan.specs.declared.plan_lines.Move.{Move as OneMove}
 use Rattle.move_plan.specs.declared.plan_lines.PlanLine.{PlanLine}
 use Rattle.move_plan.specs.declared.plan_lines.PlanLine.TheVariants.{Every, Move, Flip, Go}
-use Rattle.move_plan.specs.Plans.{event_of, flips, flips_at, go, group, move_at, task_at, IsPlan}
-use Rattle.move_plan.specs.Tables.{flips_each, is_flip, move_of, moved_at, task_of}
+use Rattle.move_plan.specs.Plans.{event_of, flips, flips_at, go, task_at}
+use Rattle.move_plan.specs.Tables.{flips_each, is_flip, task_of}
 
 -- what is kept of the elements that pass
 pub filter_map-filter : {X Y : Type 0} (f g : X → Option Y) (p : X → Bool) → ((x : X) → f x ≡ cond (p x) (g x) None) → (xs : List X)

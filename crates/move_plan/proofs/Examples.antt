@@ -1,5 +1,5 @@
 -- What the definitions say of some texts.
-use Rattle.std.proofs.Common.{◌≡◌, refl, List, [], ◌∷◌}
+use Rattle.std.proofs.Common.{◌≡◌, refl, [], ◌∷◌}
 use Rattle.std.specs.Prelude.{codes}
 use Rattle.move_plan.specs.Words.{words}
 

@@ -1,7 +1,7 @@
 -- The reader of a plan stops at the least fault of its text, and only there.
-use Rattle.std.proofs.Common.{◌≡◌, refl, ap, sym, subst, ◌∙◌, ℕ, zero, suc, ◌+◌, ◌-◌, ◌<◌, ◌≤◌, Bool, true, false, List, [], ◌∷◌, ◌++◌, length, take, drop, arith, None, Some, Option, inl, inr}
-use Rattle.std.specs.Prelude.{slice_get, not, ◌⊎◌, nat_lt}
-use Rattle.std.specs.Option.{is_some, option_to_list}
+use Rattle.std.proofs.Common.{◌≡◌, refl, ap, sym, subst, ◌∙◌, ℕ, ◌+◌, ◌<◌, ◌≤◌, Bool, true, false, List, [], ◌∷◌, ◌++◌, length, take, drop, arith, None, Some, Option, inl, inr}
+use Rattle.std.specs.Prelude.{slice_get, not, nat_lt}
+use Rattle.std.specs.Option.{option_to_list}
 use Rattle.std.specs.Str.Lines.{lines}
 use Rattle.std.proofs.lemmas.Bool.{cases_eq, cases_lt}
 use Rattle.std.proofs.lemmas.Bool.Decides.{nat_tests}
@@ -17,12 +17,12 @@ use Rattle.move_plan.specs.Words.{words, IsBlank}
 use Rattle.move_plan.specs.Texts.{HasLine, HasNoReading, LinesSay}
 use Rattle.move_plan.specs.PlanLines.{ReadsAs}
 use Rattle.move_plan.specs.Decoded.{decoded}
-use Rattle.move_plan.specs.Plans.{event_of, go, IsPlan, IsPlanOf}
-use Rattle.move_plan.specs.PlanFaults.{at_event, ComesFirst, HasFault, HasNoFault, IsFaultOf, IsLeastFault, LineSays, falls, late, limit, no_form, order, second_go, syntax, too_many, two_go}
+use Rattle.move_plan.specs.Plans.{event_of, IsPlan, IsPlanOf}
+use Rattle.move_plan.specs.PlanFaults.{at_event, HasFault, HasNoFault, IsFaultOf, IsLeastFault, LineSays, falls, late, limit, no_form, order, second_go, syntax, too_many, two_go}
 use Rattle.move_plan.specs.Steps.{is_empty, is_late, is_second_go, last_event, IsLate, IsOverLimit, IsSecondGo, MayFollow, StopsAt, TakesLine}
 use Rattle.move_plan.proofs.DecodeLemmas.{decoded-complete}
 use Rattle.move_plan.proofs.PlanLemmas.{event-le-last, go-contains, go-from, last-from, plan_none, plan_push, some-from}
-use Rattle.move_plan.proofs.TextLemmas.{all_numbered, get_from_take, get_take, next_numbered, none_numbered, reading_at, same_line, says_at, says_from, says_none, says_push, says_unique, take_line_more}
+use Rattle.move_plan.proofs.TextLemmas.{all_numbered, get_from_take, get_take, next_numbered, none_numbered, reading_at, same_line, says_at, says_from, says_none, says_push, take_line_more}
 
 -- ---- a line has at most one reading
 

@@ -1,19 +1,18 @@
 -- The moves of an event, found among all moves by their events.
-use Rattle.std.proofs.Common.{◌≡◌, refl, ap, sym, subst, ◌∙◌, ℕ, ◌+◌, ◌-◌, ◌<◌, ◌≤◌, Bool, true, false, List, [], ◌∷◌, length, get_or, take, drop, cond, eqb, ltb, leb, arith, None, Some, Option}
+use Rattle.std.proofs.Common.{◌≡◌, refl, ap, sym, subst, ◌∙◌, ℕ, ◌-◌, ◌<◌, ◌≤◌, Bool, true, false, List, [], ◌∷◌, length, take, drop, cond, eqb, ltb, leb, arith, None, Some}
 use Rattle.std.specs.Prelude.{filter, map, slice_range, ◌&&◌}
 use Rattle.std.specs.List.{filter_map, AllWithin}
 use Rattle.std.specs.Option.{is_some, unwrap_or}
-use Rattle.std.specs.List.Sorted.{IsNonDecreasing, IsNonDecreasingBy, IsPartitionPoint}
+use Rattle.std.specs.List.Sorted.{IsNonDecreasing, IsNonDecreasingBy}
 use Rattle.std.proofs.lemmas.List.{length-map, get_or-map, take-map, drop-map}
 use Rattle.std.proofs.lemmas.List.Kept.{IsNonDecreasingBy-filter}
-use Rattle.std.proofs.lemmas.Bool.Decides.{nat_tests}
 use Rattle.move_plan.specs.declared.plan_lines.Move.{Move as OneMove}
 use Rattle.move_plan.specs.declared.plan_lines.PlanLine.{PlanLine}
 use Rattle.move_plan.specs.declared.plan_lines.PlanLine.TheVariants.{Every, Move, Flip, Go}
-use Rattle.move_plan.specs.Plans.{event_of, group, move_at, IsPlan}
+use Rattle.move_plan.specs.Plans.{event_of, group, move_at}
 use Rattle.move_plan.specs.Tables.{move_of, moved_at, AreTables}
 use Rattle.move_plan.proofs.EventLemmas.{filter_map-map, filter-filter}
-use Rattle.move_plan.proofs.SortedLemmas.{ArePlacesOf, places-order, slice_of_key}
+use Rattle.move_plan.proofs.SortedLemmas.{ArePlacesOf, slice_of_key}
 
 abbrev is_move : PlanLine → Bool
 is_move line = is_some (move_of line)
@@ -79,10 +78,14 @@ places-map n xs k i j are =
     record {
       fits_from = from_fits;
       fits_to = to_fits;
-      from = (within-map (λ m. ltb m k ≡ true) n xs 0 i from_fits are.from.0,
-        within-map (λ m. ltb m k ≡ false) n xs i (length xs) (omega arith) (λ place d low high. are.from.1 place d low (omega (arith, same))));
-      to = (within-map (λ m. leb m k ≡ true) n xs 0 j to_fits are.to.0,
-        within-map (λ m. leb m k ≡ false) n xs j (length xs) (omega arith) (λ place d low high. are.to.1 place d low (omega (arith, same))));
+      from = (
+        within-map (λ m. ltb m k ≡ true) n xs 0 i from_fits are.from.0,
+        within-map (λ m. ltb m k ≡ false) n xs i (length xs) (omega arith) (λ place d low high. are.from.1 place d low (omega (arith, same))),
+      );
+      to = (
+        within-map (λ m. leb m k ≡ true) n xs 0 j to_fits are.to.0,
+        within-map (λ m. leb m k ≡ false) n xs j (length xs) (omega arith) (λ place d low high. are.to.1 place d low (omega (arith, same))),
+      );
     }
 
 pub moves_fit : (plan : List PlanLine) (moves : List OneMove) (events : List ℕ) → AreTables plan moves events → length moves ≡ length events

@@ -1,6 +1,6 @@
 -- The reader of an input stops at the first fault of its text, and only there.
-use Rattle.std.proofs.Common.{◌≡◌, refl, ap, sym, subst, ◌∙◌, ℕ, ◌+◌, ◌-◌, ◌<◌, ◌≤◌, List, [], ◌∷◌, ◌++◌, length, take, drop, arith, None, Some, Option, inl, inr}
-use Rattle.std.specs.Prelude.{ℤ, pos, neg_ℤ, slice_get, ◌⊎◌}
+use Rattle.std.proofs.Common.{◌≡◌, refl, ap, sym, subst, ◌∙◌, ℕ, ◌+◌, ◌-◌, ◌≤◌, List, [], ◌∷◌, ◌++◌, length, take, drop, arith, None, Some, Option, inl, inr}
+use Rattle.std.specs.Prelude.{ℤ, pos, neg_ℤ, slice_get}
 use Rattle.std.specs.Option.{option_to_list}
 use Rattle.std.specs.Str.Lines.{lines}
 use Rattle.std.specs.Int.{w64}
@@ -11,7 +11,6 @@ use Rattle.std.proofs.lemmas.Bool.{cases_eq, cases_lt}
 use Rattle.std.proofs.lemmas.List.{append-nil, length_push, take_all}
 use Rattle.std.proofs.lemmas.Option.{slice_get_within}
 use Rattle.sp_ids.specs.declared.limits.TheConstants.{INPUT_NUMBERS}
-use Rattle.sp_text.specs.Bytes.{minus}
 use Rattle.sp_text.specs.Lines.{NumberedLine, lines_of, numbered}
 use Rattle.move_plan.specs.declared.faults.InputFault.{InputFault}
 use Rattle.move_plan.specs.declared.faults.InputFault.TheVariants as faults
@@ -163,8 +162,9 @@ loop_stops text left more numbers line fault so_far first is =
 
 pub loop_ends : (text : List ℕ) (left : List NumberedLine) (numbers : List ℤ) → HeldSoFar text left numbers → left ≡ [] → IsInputOf text numbers × HasNoInputFault text
 loop_ends text left numbers so_far none =
-    let all = none_numbered (lines text) so_far.count (sym none ∙ so_far.left_are) in
-    (subst (λ (ls : List (List ℕ)). LinesSay Holds ls numbers) (take_all so_far.count (lines text) all) so_far.so_far.says,
+    let all = none_numbered (lines text) so_far.count (sym none ∙ so_far.left_are) in (
+      subst (λ (ls : List (List ℕ)). LinesSay Holds ls numbers) (take_all so_far.count (lines text) all) so_far.so_far.says,
       λ number fault. (let at = fault_line text number fault in
-      let within = slice_get_within (lines text) at.1.place at.0 at.1.stands in
-      so_far.so_far.faultless number (omega (arith, at.1.counted, within)) fault))
+          let within = slice_get_within (lines text) at.1.place at.0 at.1.stands in
+          so_far.so_far.faultless number (omega (arith, at.1.counted, within)) fault),
+    )

@@ -1,6 +1,6 @@
 -- Numbers of an input.
-use Rattle.std.proofs.Common.{◌≡◌, refl, ap, sym, subst, ◌∙◌, ℕ, suc, ◌+◌, ◌*◌, ◌<◌, ◌≤◌, ◌^◌, List, [], ◌∷◌, length, arith, None, Some, Option, lit<}
-use Rattle.std.specs.Prelude.{ℤ, pos, negsuc, neg_ℤ, FitsSigned}
+use Rattle.std.proofs.Common.{◌≡◌, refl, ap, sym, subst, ◌∙◌, ℕ, ◌<◌, ◌≤◌, ◌^◌, List, [], ◌∷◌, length, arith, None, Some, Option, lit<}
+use Rattle.std.specs.Prelude.{ℤ, pos, neg_ℤ, FitsSigned}
 use Rattle.std.specs.Int.{w64}
 use Rattle.std.specs.Option.{MatchOption, SomeIff}
 use Rattle.std.specs.Str.Parse.{AllDigits, digits_value}
@@ -8,9 +8,9 @@ use Rattle.std.proofs.lemmas.Int.{ints}
 use Rattle.std.proofs.lemmas.Option.{none-some}
 use Rattle.std.proofs.lemmas.Str.Parse.{numerals_by_value, tells_digits, digits_value_short}
 use Rattle.sp_text.specs.Bytes.{minus}
-use Rattle.move_plan.specs.Decoded.{numeral_of, numeral_after}
+use Rattle.move_plan.specs.Decoded.{numeral_of}
 use Rattle.move_plan.specs.InputNumbers.{AreDigits, Spells, positive, negative, IsNumber}
-use Rattle.move_plan.proofs.NumberLemmas.{numeral-sound, numeral-complete, numeral_of-some}
+use Rattle.move_plan.proofs.NumberLemmas.{numeral-sound, numeral-complete}
 
 -- a few digits are what the reader takes for a number, and spell its value
 pub few_digits : (ds : List ℕ) (r : Option ℕ) → r ≡ numeral_of ds → length ds ≤ 19 → SomeIff r (AreDigits ds) (digits_value 10 ds)

@@ -5,6 +5,7 @@ pub mod GroupLemmas
 pub mod InputLaws
 pub mod InputLemmas
 pub mod NumberLemmas
+pub mod OneLaws
 pub mod PlanLemmas
 pub mod SortedLemmas
 pub mod TextLemmas

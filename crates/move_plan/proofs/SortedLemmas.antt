@@ -1,5 +1,5 @@
 -- What two binary searches part from a list whose keys don't fall.
-use Rattle.std.proofs.Common.{◌≡◌, refl, ap, sym, subst, ◌∙◌, ℕ, ◌+◌, ◌-◌, ◌<◌, ◌≤◌, Bool, true, false, List, [], ◌∷◌, ◌++◌, length, get_or, take, drop, arith, cond, ltb, leb, eqb, inl, inr}
+use Rattle.std.proofs.Common.{◌≡◌, refl, ap, sym, ◌∙◌, ℕ, ◌+◌, ◌-◌, ◌<◌, ◌≤◌, Bool, true, false, List, [], ◌∷◌, ◌++◌, length, take, drop, arith, ltb, leb, eqb, inl, inr}
 use Rattle.std.specs.Prelude.{filter, slice_range}
 use Rattle.std.specs.List.{All, AllWithin}
 use Rattle.std.specs.List.Sorted.{IsPartitionPoint}
@@ -40,9 +40,13 @@ filter_band p xs i j order fits front middle rest =
     let parts : xs ≡ take i xs ++ (slice_range xs i j ++ drop j xs) = sym (take-append-drop i xs) ∙ ap (λ ys. take i xs ++ ys) (drop_split xs i j order) in
     ap (filter p) parts
     ∙ filter-append p (take i xs) (slice_range xs i j ++ drop j xs)
-    ∙ rw (filter_none p (take i xs) (all_front (λ x. p x ≡ false) xs i (omega arith) front), filter-append p (slice_range xs i j) (drop j xs),
-      filter_all p (slice_range xs i j) (all_middle (λ x. p x ≡ true) xs i j order fits middle), filter_none p (drop j xs) (all_rest (λ x. p x ≡ false) xs j rest))
-      (append-nil (slice_range xs i j))
+    ∙ rw (
+      filter_none p (take i xs) (all_front (λ x. p x ≡ false) xs i (omega arith) front),
+      filter-append p (slice_range xs i j) (drop j xs),
+      filter_all p (slice_range xs i j) (all_middle (λ x. p x ≡ true) xs i j order fits middle),
+      filter_none p (drop j xs) (all_rest (λ x. p x ≡ false) xs j rest),
+    )
+    (append-nil (slice_range xs i j))
 
 -- the places below a key and up to it
 pub record ArePlacesOf {X : Type 0} (n : X → ℕ) (xs : List X) (k i j : ℕ) : Type 0 where

@@ -1,11 +1,11 @@
 -- Texts of which each line that isn't blank says one thing.
-use Rattle.std.proofs.Common.{◌≡◌, refl, ap, sym, subst, ◌∙◌, ℕ, zero, suc, ◌+◌, ◌-◌, ◌<◌, ◌≤◌, List, [], ◌∷◌, ◌++◌, length, get_or, take, drop, arith, None, Some, Option, inl, inr}
+use Rattle.std.proofs.Common.{◌≡◌, refl, ap, sym, subst, ◌∙◌, ℕ, zero, suc, ◌+◌, ◌<◌, ◌≤◌, List, [], ◌∷◌, ◌++◌, length, get_or, take, drop, arith, None, Some, Option, inl, inr}
 use Rattle.std.specs.Prelude.{slice_get}
 use Rattle.std.specs.List.{AllZip, filter_map}
 use Rattle.std.specs.Option.{option_to_list}
 use Rattle.std.specs.Str.Lines.{lines}
 use Rattle.std.proofs.lemmas.Bool.{cases_lt}
-use Rattle.std.proofs.lemmas.List.{append-nil, drop_all, drop_more, take_more, length-drop}
+use Rattle.std.proofs.lemmas.List.{drop_all, drop_more, take_more}
 use Rattle.std.proofs.lemmas.List.Elements.{filter_map-append}
 use Rattle.std.proofs.lemmas.Option.{none-some, same_Some, slice_get-get_or, slice_get_within, get_or_from_slice_get}
 use Rattle.sp_text.specs.Lines.{NumberedLine, lines_of, numbered}
@@ -23,10 +23,11 @@ pub next_numbered : (ls : List (List ℕ)) (k : ℕ) (x : NumberedLine) (xs : Li
     → (slice_get ls k ≡ Some x.bytes) × (x.number ≡ k + 1) × (xs ≡ numbered (k + 1 + 1) (drop (k + 1) ls))
 next_numbered ls k x xs e = elim (cases_lt k (length ls)) [
   | inl some ↦ (let parts : x ∷ xs ≡ record { number = k + 1; bytes = get_or ls k [] } ∷ numbered (k + 1 + 1) (drop (k + 1) ls) = rw (drop_more ls k [] some) at e in
-      let first : x ≡ record { number = k + 1; bytes = get_or ls k [] } = cc in
-      (slice_get-get_or ls k [] some ∙ ap (λ bytes. Some bytes) (sym (ap (λ (l : NumberedLine). l.bytes) first)),
+      let first : x ≡ record { number = k + 1; bytes = get_or ls k [] } = cc in (
+        slice_get-get_or ls k [] some ∙ ap (λ bytes. Some bytes) (sym (ap (λ (l : NumberedLine). l.bytes) first)),
         ap (λ (l : NumberedLine). l.number) first,
-        cc))
+        cc,
+      ))
   | inr none ↦ (let nothing : x ∷ xs ≡ [] = rw (drop_all k ls none) at e in absurd (cc))
 ]
 

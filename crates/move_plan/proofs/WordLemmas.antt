@@ -1,11 +1,11 @@
 -- The first word of a line.
-use Rattle.std.proofs.Common.{◌≡◌, refl, ap, sym, subst, ◌∙◌, ℕ, suc, ◌+◌, ◌<◌, ◌≤◌, Bool, true, false, List, [], ◌∷◌, length, get_or, take, drop, arith, inl, inr, cond}
+use Rattle.std.proofs.Common.{◌≡◌, refl, ap, sym, subst, ◌∙◌, ℕ, suc, ◌+◌, ◌<◌, true, false, List, [], ◌∷◌, length, get_or, take, drop, arith, inl, inr}
 use Rattle.std.specs.Prelude.{not, filter}
-use Rattle.std.specs.List.{prefix_len, position_or_len, before_first, after_first, slice_split, All}
+use Rattle.std.specs.List.{prefix_len, position_or_len, after_first, slice_split, All}
 use Rattle.std.proofs.lemmas.Bool.{cases_Bool, cases_lt}
 use Rattle.std.proofs.lemmas.List.{take_all, drop_all, drop_more, nil_from_length, length-take-le}
 use Rattle.std.proofs.lemmas.List.Splits.{slice_split-cons_yes, slice_split_first, slice_split_none}
-use Rattle.std.proofs.lemmas.List.Sums.{prefix_len-le-length, prefix_len_stops, fails_before_first, passes_at_first}
+use Rattle.std.proofs.lemmas.List.Sums.{prefix_len-le-length, fails_before_first, passes_at_first}
 use Rattle.sp_text.specs.Bytes.{is_blank, after_blanks}
 use Rattle.move_plan.specs.Words.{is_word, words}
 

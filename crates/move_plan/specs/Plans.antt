@@ -1,5 +1,5 @@
 -- A plan: its lines in order, and what they say of an event.
-use Rattle.std.specs.Prelude.{◌≡◌, ◌≢◌, ℕ, ◌<◌, ◌≤◌, ◌%◌, Bool, false, ◌==◌, if◌then◌else◌, List, length, slice_get, Option, Some, None}
+use Rattle.std.specs.Prelude.{◌≡◌, ℕ, ◌≤◌, ◌%◌, Bool, false, ◌==◌, if◌then◌else◌, List, length, slice_get, Option, Some, None}
 use Rattle.std.specs.List.{All, list_any, filter_map}
 use Rattle.std.specs.List.Sorted.{IsNonDecreasingBy}
 use Rattle.sp_ids.specs.declared.limits.TheConstants.{PLAN_LINES}

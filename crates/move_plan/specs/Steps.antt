@@ -1,5 +1,5 @@
 -- One more line behind those of a plan.
-use Rattle.std.specs.Prelude.{◌≡◌, ℕ, ◌+◌, ◌-◌, ◌<◌, ◌≤◌, Bool, true, false, not, nat_lt, if◌then◌else◌, List, [], ◌∷◌, ◌++◌, length, slice_get, Option, Some, None}
+use Rattle.std.specs.Prelude.{◌≡◌, ℕ, ◌-◌, ◌<◌, ◌≤◌, Bool, true, false, not, nat_lt, if◌then◌else◌, List, [], ◌∷◌, ◌++◌, length, slice_get, Option, Some, None}
 use Rattle.std.specs.Option.{is_some, option_map_or, option_to_list}
 use Rattle.sp_ids.specs.declared.limits.TheConstants.{PLAN_LINES}
 use Rattle.move_plan.specs.declared.faults.PlanFault.{PlanFault}

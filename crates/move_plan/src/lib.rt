@@ -4,6 +4,7 @@
 
 mod faults;
 mod inputs;
+mod laws;
 mod lookups;
 mod numbers;
 mod plan_lines;
@@ -13,5 +14,6 @@ mod words;
 
 pub use faults::{InputFault, PlanFault};
 pub use inputs::read_input;
+pub use laws::{one_fault, one_input, one_input_fault, one_number, one_plan, one_reading};
 pub use plan_lines::{Move, PlanLine};
 pub use plans::Plan;

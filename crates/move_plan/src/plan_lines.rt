@@ -41,7 +41,8 @@ impl PlanLine {
     {
         match self {
             PlanLine::Every(_) => 0,
-            PlanLine::Move { event, .. } | PlanLine::Flip(event) | PlanLine::Go { event, .. } => *event,
+            PlanLine::Move { event, .. } | PlanLine::Flip(event) | PlanLine::Go { event, .. } =>
+                *event,
         }
     }
 

@@ -42,6 +42,7 @@ impl Plan {
     pub fn read(alloc: Global, text: &[u8]) -> Result<Plan, PlanFault>
         requires { length text.now ≤ FILE_BYTES }
         ensures plan { IfOk result (λ plan. IsPlanOf text.now plan) }
+        ensures in_order { IfOk result IsPlan }
         ensures faultless { OnOk result (HasNoFault text.now) }
         ensures fault { IfErr result (IsFaultOf text.now) }
     {
@@ -121,5 +122,8 @@ fn moves_of(alloc: Global, lines: &[PlanLine]) -> Result<Vec<Move>, AllocError>
 fn move_events(alloc: Global, lines: &[PlanLine]) -> Result<Vec<u64>, AllocError>
     ensures { IfOk result (λ events. events.items ≡ filter_map moved_at lines.now) }
 {
-    lines.iter().filter_map(|line| line.moved_at()).collect(alloc)
+    lines
+        .iter()
+        .filter_map(|line| line.moved_at())
+        .collect(alloc)
 }

@@ -1,4 +1,4 @@
-use Rattle.std.proofs.Common.{◌≡◌, ◌<◌, ◌∙◌, sym, length, arith}
+use Rattle.std.proofs.Common.{◌<◌, ◌∙◌, sym, length, arith}
 use Rattle.std.proofs.lemmas.Bool.Decides.{nat_tests}
 use Rattle.move_plan.proofs.NumberLemmas.{numeral-more, numeral-stops, numeral-done, numeral_of-some}
 use Rattle.move_plan.proofs.numbers.numeral.Goals as goal
