@@ -1,0 +1,28 @@
+use Rattle.std.proofs.lemmas.Result.{err_from_is_err_and}
+use Rattle.std.proofs.Common.{refl}
+use Rattle.sp_text.specs.Lines.{lines_left, seen_line}
+use Rattle.move_plan.proofs.FaultLaws.{loop_begins, loop_ends, loop_goes_on, loop_stops}
+use Rattle.move_plan.proofs.reader.plan_lines.Goals as goal
+
+pub loop-line-init : goal.loop-line-init
+loop-line-init c =
+    loop_begins c.args.text.now (lines_left c.of-lines.result) c.new-plan.result.items c.of-lines.ensures.all c.new-plan.ensures.items
+
+pub loop-line-preserved : goal.loop-line-preserved
+loop-line-preserved c =
+    loop_goes_on c.args.text.now (lines_left c.loop-line.lines) (lines_left c.next_line.new.self) c.loop-line.plan.items c.take_line.new.plan.items (seen_line c.in-Some.line)
+    c.loop-line.invariant c.in-Some.ensures.next c.in_ok-take_line.ensures.ok
+
+pub returns-in_err-take_line-clause-fault : goal.returns-in_err-take_line-clause-fault
+returns-in_err-take_line-clause-fault c =
+    let p = err_from_is_err_and c.from_residual.result c.from_residual.ensures.1 in
+    rw (p.1, p.2) (loop_stops c.args.text.now (lines_left c.loop-line.lines) (lines_left c.next_line.new.self) c.loop-line.plan.items (seen_line c.in-Some.line) c.in_err-take_line.field-0.0
+    c.loop-line.invariant c.in-Some.ensures.next c.in_err-take_line.ensures.err)
+
+pub returns-clause-plan : goal.returns-clause-plan
+returns-clause-plan c =
+    (loop_ends c.args.text.now (lines_left c.loop-line.lines) c.loop-line.plan.items c.loop-line.invariant (c.in_default.ensures.end.0 refl)).0
+
+pub returns-clause-faultless : goal.returns-clause-faultless
+returns-clause-faultless c =
+    (loop_ends c.args.text.now (lines_left c.loop-line.lines) c.loop-line.plan.items c.loop-line.invariant (c.in_default.ensures.end.0 refl)).1

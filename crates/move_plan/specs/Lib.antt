@@ -1,0 +1,11 @@
+pub mod Words
+pub mod Texts
+pub mod PlanLines
+pub mod Decoded
+pub mod Plans
+pub mod Tables
+pub mod Steps
+pub mod PlanFaults
+pub mod InputNumbers
+pub mod Inputs
+pub mod InputSteps
