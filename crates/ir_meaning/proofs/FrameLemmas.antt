@@ -12,8 +12,8 @@ use Rattle.ir_ast.specs.Modules.{ModuleContent}
 use Rattle.ir_ast.specs.Objects.{Datum}
 use Rattle.ir_meaning.specs.declared.spots.Due.TheVariants.{Front, Behind}
 use Rattle.ir_meaning.specs.declared.spots.Spot.{Spot}
-use Rattle.ir_meaning.specs.declared.words.Word.{Word}
-use Rattle.ir_meaning.specs.declared.words.Word.TheVariants.{Number}
+use Rattle.object_store.specs.declared.words.Word.{Word}
+use Rattle.object_store.specs.Words.{number_word}
 use Rattle.object_meaning.specs.Lines.{Line, numbered, insts_of, lines_of, first_register, register_count}
 use Rattle.object_meaning.specs.Registers.{nothing, value, number_in, put}
 use Rattle.object_meaning.specs.States.{Frame, State}
@@ -23,7 +23,7 @@ use Rattle.object_meaning.specs.Jumps.{arrived, jumped}
 use Rattle.object_meaning.specs.Steps.{returned}
 use Rattle.ir_meaning.specs.Stages.{runs_today}
 use Rattle.ir_meaning.specs.Stacks.{Seen, Frames, frame_of, word, waiting_spot, lines_at, lines_behind, passed_frame, phis_of, moves_of, arrived_frames, entered_frames}
-use Rattle.ir_meaning.specs.Words.{datum}
+use Rattle.object_store.specs.Words.{datum}
 use Rattle.ir_meaning.specs.Machines.{state_from, today}
 use Rattle.ir_meaning.proofs.WordLemmas.{words_are, moves_are}
 use Rattle.ir_meaning.proofs.LineLemmas.{at_behind, at_behind_end, passed_is}
@@ -48,7 +48,7 @@ pub jumped_is : (content : ModuleContent) (bound : ℕ) (frames : Frames) (input
 jumped_is content bound frames input steps events block =
     ap (λ (frame : Frame). goes_on (record (state_from content frames input steps events) { running = frame })) (arrived_is content frames block)
 
-pub zeros_are : (count : ℕ) → map datum (replicate count (Number 0)) ≡ replicate count nothing
+pub zeros_are : (count : ℕ) → map datum (replicate count (number_word 0)) ≡ replicate count nothing
 zeros_are zero = refl
 zeros_are (suc count) = ap (λ rest. nothing ∷ rest) (zeros_are count)
 
@@ -60,7 +60,7 @@ pub entered_is : (content : ModuleContent) (bound : ℕ) (frames : Frames) (spot
 entered_is content bound frames spot func operands e =
     let registers = frames.running.registers in
     let count = register_count content func - length operands in
-    let apart = map-append datum (map (word registers) operands) (replicate count (Number 0)) in
+    let apart = map-append datum (map (word registers) operands) (replicate count (number_word 0)) in
     let arguments = words_are registers operands in
     let zeros = zeros_are count in
     let many = length-map operands (value (map datum registers)) in

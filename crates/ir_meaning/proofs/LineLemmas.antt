@@ -10,11 +10,11 @@ use Rattle.ir_ast.specs.Insts.{Instruction}
 use Rattle.ir_ast.specs.Modules.{ModuleContent}
 use Rattle.std.specs.Int.{w64, cast_unsigned}
 use Rattle.object_meaning.specs.Calls.{taking}
-use Rattle.ir_meaning.specs.declared.words.Word.TheVariants.{Number}
+use Rattle.object_store.specs.Words.{number_word}
 use Rattle.ir_meaning.specs.declared.spots.Due.{Due}
 use Rattle.ir_meaning.specs.declared.spots.Due.TheVariants.{Front, Line as Next, Behind}
 use Rattle.ir_meaning.specs.declared.spots.Spot.{Spot}
-use Rattle.ir_meaning.specs.declared.words.Word.{Word}
+use Rattle.object_store.specs.declared.words.Word.{Word}
 use Rattle.object_meaning.specs.Lines.{Line, poll, numbered, retreats, insts_of}
 use Rattle.object_meaning.specs.States.{State}
 use Rattle.object_meaning.specs.Effects.{goes_on, ends}
@@ -23,7 +23,7 @@ use Rattle.object_meaning.specs.Tasks.{with_event}
 use Rattle.object_meaning.specs.Steps.{step, settled}
 use Rattle.object_meaning.proofs.StepLaws.{step_is}
 use Rattle.ir_meaning.specs.Stacks.{Frames, word_at, passed_frame, waiting_spot, lines_at, lines_behind}
-use Rattle.ir_meaning.specs.Words.{datum, datum_result}
+use Rattle.object_store.specs.Words.{datum, datum_result}
 use Rattle.ir_meaning.specs.Machines.{state_from, today, does}
 use Rattle.object_meaning.proofs.ListLemmas.{drop_at, drop_end}
 use Rattle.ir_meaning.proofs.WordLemmas.{operand_is, put_is}
@@ -117,7 +117,7 @@ settled_err state line rest trap value e = ap (settled state line rest) e
 -- the next number of the input
 pub taken_is : (content : ModuleContent) (frames : Frames) (input : List ℤ) (steps events : ℕ) (inst : Instruction) (first : ℤ) (word : ℕ) (rest : List ℤ)
     → slice_get input 0 ≡ Some first → word ≡ cast_unsigned w64 first → rest ≡ drop 1 input
-    → goes_on (state_from content (record frames { running = passed_frame frames.running inst (Number word) }) rest steps events)
+    → goes_on (state_from content (record frames { running = passed_frame frames.running inst (number_word word) }) rest steps events)
     ≡ taking (state_from content frames input steps events)
     (passed (state_from content frames input steps events) (numbered frames.running.spot.next inst) (lines_behind content frames.running.spot inst)) input
 taken_is content frames [] steps events inst first word rest found is left = cc
@@ -125,4 +125,4 @@ taken_is content frames (number ∷ numbers) steps events inst first word rest f
     let same : number ≡ first = cc in
     let spelled : word ≡ cast_unsigned w64 number = is ∙ ap (cast_unsigned w64) (sym same) in
     rw (left, spelled) (ap (λ (state : State). goes_on (record state { input = numbers }))
-    (passed_is content frames (number ∷ numbers) steps events inst (Number (cast_unsigned w64 number))))
+    (passed_is content frames (number ∷ numbers) steps events inst (number_word (cast_unsigned w64 number))))

@@ -8,12 +8,12 @@ use Rattle.ir_ast.specs.declared.ops.Op.TheVariants.{Phi}
 use Rattle.ir_ast.specs.Insts.{Instruction}
 use Rattle.ir_ast.specs.Ops.{is_terminator}
 use Rattle.ir_ast.specs.Faults.PhiEdges.{is_phi}
-use Rattle.ir_meaning.specs.declared.words.Word.{Word}
+use Rattle.object_store.specs.declared.words.Word.{Word}
 use Rattle.object_meaning.specs.Lines.{poll, numbered, following, after_all, retreats, lines_from}
 use Rattle.object_meaning.specs.Jumps.{phi_count, phi_write, incoming}
-use Rattle.ir_meaning.specs.Words.{datum}
+use Rattle.object_store.specs.Words.{datum}
 use Rattle.ir_meaning.specs.Stacks.{word_at, word_from, phis_of, moves_of}
-use Rattle.ir_meaning.specs.declared.words.Word.TheVariants.{Number}
+use Rattle.object_store.specs.Words.{number_word}
 use Rattle.object_meaning.specs.Registers.{nothing, operand}
 use Rattle.object_meaning.proofs.ListLemmas.{known}
 use Rattle.ir_meaning.proofs.WordLemmas.{operand_is, write_of}
@@ -54,7 +54,7 @@ phi_rest block next (inst ∷ insts) = elim (known (is_phi inst.op)) [
 incoming_is : (from : ℕ) (registers : List Word) (phi : Instruction)
     → datum (word_from from registers phi) ≡ incoming from (map datum registers) phi
 incoming_is from registers phi =
-    elim (position (λ label. label.0 == from) phi.labels) as (λ found. datum (option_map_or (word_at registers phi.operands) found (Number 0)) ≡ option_map_or (operand (map datum registers) phi.operands) found nothing) [
+    elim (position (λ label. label.0 == from) phi.labels) as (λ found. datum (option_map_or (word_at registers phi.operands) found (number_word 0)) ≡ option_map_or (operand (map datum registers) phi.operands) found nothing) [
       | None ↦ refl
       | Some place ↦ operand_is registers phi.operands place
     ]

@@ -3,7 +3,7 @@ use Rattle.std.proofs.Common.{◌≡◌, ℕ, ◌+◌, ◌<◌, List, [], ◌∷
 use Rattle.std.proofs.lemmas.List.{drop_more}
 use Rattle.ir_ast.specs.Insts.{Instruction}
 use Rattle.ir_ast.specs.Blocks.{BasicBlock}
-use Rattle.ir_meaning.specs.declared.words.Word.{Word}
+use Rattle.object_store.specs.declared.words.Word.{Word}
 use Rattle.ir_meaning.specs.declared.stacks.Move.{Move}
 use Rattle.object_meaning.specs.Lines.{following, after_all, first_registers}
 use Rattle.ir_meaning.specs.Stacks.{move_of, moves_of}

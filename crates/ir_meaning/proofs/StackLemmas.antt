@@ -2,7 +2,7 @@
 use Rattle.std.proofs.Common.{◌≡◌, ℕ, suc, ◌+◌, ◌≤◌, List, [], ◌∷◌, ◌++◌, length, take, drop, set, reverse, refl, ap, ◌∙◌}
 use Rattle.std.proofs.lemmas.List.{length-reverse, reverse-append, take-set-le, drop-set-add}
 use Rattle.ir_meaning.specs.declared.stacks.Saved.{Saved}
-use Rattle.ir_meaning.specs.declared.words.Word.{Word}
+use Rattle.object_store.specs.declared.words.Word.{Word}
 use Rattle.ir_meaning.specs.Stacks.{frames_below, waiting_spot}
 
 pub below_count : (saved : List Saved) (registers : List Word) → length (frames_below saved registers) ≡ length saved

@@ -6,15 +6,15 @@ use Rattle.std.proofs.lemmas.List.{map-set}
 use lib.ListN.{get_or-map}
 use Rattle.ir_ast.specs.declared.ops.Operand.{Operand}
 use Rattle.ir_ast.specs.declared.ops.Operand.TheVariants.{Value, Int, Null, Fun}
-use Rattle.ir_meaning.specs.declared.words.Word.{Word}
-use Rattle.ir_meaning.specs.declared.words.Word.TheVariants.{Number}
+use Rattle.object_store.specs.declared.words.Word.{Word}
+use Rattle.object_store.specs.Words.{number_word}
 use Rattle.ir_meaning.specs.declared.stacks.Move.{Move}
 use Rattle.object_meaning.specs.Registers.{nothing, value, operand, Write, put, put_all}
-use Rattle.ir_meaning.specs.Words.{datum}
+use Rattle.object_store.specs.Words.{datum}
 use Rattle.ir_meaning.specs.Stacks.{word, word_at, moved}
 
 pub word_is : (registers : List Word) (one : Operand) → datum (word registers one) ≡ value (map datum registers) one
-word_is registers (Value id) = sym (get_or-map datum registers id.0 (Number 0))
+word_is registers (Value id) = sym (get_or-map datum registers id.0 (number_word 0))
 word_is registers (Int literal) = refl
 word_is registers Null = refl
 word_is registers (Fun func) = refl
@@ -22,7 +22,7 @@ word_is registers (Fun func) = refl
 pub operand_is : (registers : List Word) (operands : List Operand) (place : ℕ)
     → datum (word_at registers operands place) ≡ operand (map datum registers) operands place
 operand_is registers operands place =
-    elim (slice_get operands place) as (λ found. datum (option_map_or (word registers) found (Number 0)) ≡ option_map_or (value (map datum registers)) found nothing) [
+    elim (slice_get operands place) as (λ found. datum (option_map_or (word registers) found (number_word 0)) ≡ option_map_or (value (map datum registers)) found nothing) [
       | None ↦ refl
       | Some one ↦ word_is registers one
     ]

@@ -1,5 +1,4 @@
 pub mod Stages
-pub mod Words
 pub mod Stacks
 pub mod Machines
 pub mod References

@@ -7,7 +7,7 @@ use Rattle.ir_meaning.specs.declared.machine.Machine.{Machine}
 use Rattle.ir_meaning.specs.declared.spots.Spot.{Spot}
 use Rattle.ir_ast.specs.Insts.{Instruction}
 use Rattle.ir_meaning.specs.declared.spots.Due.TheVariants.{Front}
-use Rattle.ir_meaning.specs.declared.words.Word.TheVariants.{Number}
+use Rattle.object_store.specs.Words.{number_word}
 use Rattle.object_meaning.specs.Lines.{numbered, insts_of, main_of, first_register, register_count}
 use Rattle.object_meaning.specs.States.{State, Setting}
 use Rattle.object_meaning.specs.Effects.{Effect, goes_on, prints, ends}
@@ -55,7 +55,7 @@ effect_of (Ends end) state = ends end state
 -- the machine stands at the front of `@main`
 pub record IsOpened (content : ModuleContent) (input : List ℤ) (machine : Machine) : Type 0 where
   pub spot : machine.stack.running.spot ≡ record { func = main_of content; block = 0; at = 0; next = first_register content (main_of content) 0; due = Front }
-  pub registers : machine.stack.running.registers ≡ replicate (register_count content (main_of content)) (Number 0)
+  pub registers : machine.stack.running.registers ≡ replicate (register_count content (main_of content)) (number_word 0)
   pub below : machine.stack.below ≡ []
   pub input_is : machine.input.now ≡ input
   pub steps : machine.steps ≡ 0

@@ -7,8 +7,8 @@ use Rattle.ir_ast.specs.declared.ops.Operand.{Operand}
 use Rattle.ir_ast.specs.declared.ops.Operand.TheVariants.{Value, Int, Null, Fun}
 use Rattle.ir_ast.specs.Insts.{Instruction}
 use Rattle.ir_ast.specs.Modules.{ModuleContent}
-use Rattle.ir_meaning.specs.declared.words.Word.{Word}
-use Rattle.ir_meaning.specs.declared.words.Word.TheVariants.{Number, Pointer}
+use Rattle.object_store.specs.declared.words.Word.{Word}
+use Rattle.object_store.specs.Words.{number_word, pointer_word}
 use Rattle.ir_meaning.specs.declared.spots.Due.{Due}
 use Rattle.ir_meaning.specs.declared.spots.Due.TheVariants.{Front, Line as Next, Behind}
 use Rattle.ir_meaning.specs.declared.spots.Spot.{Spot}
@@ -18,7 +18,7 @@ use Rattle.ir_ast.specs.Faults.PhiEdges.{is_phi}
 use Rattle.object_meaning.specs.Lines.{Line, poll, numbered, following, after_all, lines_from, insts_of}
 use Rattle.object_meaning.specs.Registers.{put}
 use Rattle.object_meaning.specs.States.{Frame}
-use Rattle.ir_meaning.specs.Words.{datum}
+use Rattle.object_store.specs.Words.{datum}
 
 -- a frame of the interpreter
 pub record Seen : Type 0 where
@@ -76,20 +76,20 @@ frame_of content seen = record {
 
 -- what an operand of a frame with these registers is
 abbrev pub word : List Word → Operand → Word
-word registers (Value id) = slice_index_or registers id.0 (Number 0)
-word registers (Int literal) = Number literal
-word registers Null = Pointer 0 0
-word registers (Fun func) = Number 0
+word registers (Value id) = slice_index_or registers id.0 (number_word 0)
+word registers (Int literal) = number_word literal
+word registers Null = pointer_word 0 0
+word registers (Fun func) = number_word 0
 
 abbrev pub word_at : List Word → List Operand → ℕ → Word
-word_at registers operands place = option_map_or (word registers) (slice_get operands place) (Number 0)
+word_at registers operands place = option_map_or (word registers) (slice_get operands place) (number_word 0)
 
 -- a new frame with these operands of the running one as its first registers
 abbrev pub entered_frames : Frames → Spot → List Operand → ℕ → Frames
 entered_frames frames spot operands count = record {
   running = record {
     spot = spot;
-    registers = map (word frames.running.registers) operands ++ replicate (count - length operands) (Number 0);
+    registers = map (word frames.running.registers) operands ++ replicate (count - length operands) (number_word 0);
   };
   below = record frames.running { spot = waiting_spot frames.running.spot } ∷ frames.below;
 }
@@ -97,7 +97,7 @@ entered_frames frames spot operands count = record {
 -- what a phi assigns on an edge from a block, and where its result goes
 abbrev pub word_from : ℕ → List Word → Instruction → Word
 word_from from registers phi =
-    option_map_or (word_at registers phi.operands) (position (λ label. label.0 == from) phi.labels) (Number 0)
+    option_map_or (word_at registers phi.operands) (position (λ label. label.0 == from) phi.labels) (number_word 0)
 
 abbrev pub move_of : ℕ → List Word → ℕ → Instruction → Move
 move_of from registers next phi = record { to = (numbered next phi).to; word = word_from from registers phi }

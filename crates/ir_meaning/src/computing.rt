@@ -1,16 +1,18 @@
 //! The lines that compute a value from values alone.
 
-ghost use Rattle.std.specs.Prelude.{◌≡◌, true};
+ghost use Rattle.std.specs.Prelude.{◌≡◌, ◌≤◌};
 ghost use Rattle.object_meaning.specs.Comparisons.{compares, bit, pointers_related, same_pointer};
-ghost use Rattle.object_meaning.specs.Computing.{computed, with_number};
-ghost use Rattle.ir_meaning.specs.Stages.{runs_today};
+ghost use Rattle.object_meaning.specs.Computing.{computed, with_number, address_of, element_bytes, field_bytes};
+ghost use Rattle.ir_ast.specs.Objects.{number, pointer};
+ghost use Rattle.ir_ast.specs.Sizes.{begins_at};
 ghost use Rattle.object_meaning.specs.Registers.{number_in, pointer_in, is_set};
-ghost use Rattle.ir_meaning.specs.Words.{datum, datum_result};
+ghost use Rattle.object_store.specs.Words.{datum, datum_result};
 
 use crate::numbers::{arithmetic, compare, sign_extended, truncated, width_of};
-use crate::words::Word;
-use ir_ast::{Layout, Op, Pred, Ty};
-use sp_ids::Trap;
+use object_store::Word;
+use ir_ast::{Cell, Elem, Layout, Op, Pred, Ty};
+use object_store::fields_of;
+use sp_ids::{Trap, sign};
 
 /// The value of a line with this operator and type, of its first three operands.
 pub fn computed(
@@ -21,21 +23,31 @@ pub fn computed(
     second: Word,
     third: Word,
 ) -> Result<Word, Trap>
-    requires { runs_today op.now ≡ true }
     ensures { datum_result result ≡ computed layouts.now op.now ty.now (datum first) (datum second) (datum third) }
 {
     match op {
         Op::Icmp(pred) => Ok(bit(compares(*pred, ty, first, second))),
-        Op::Trunc(to) => Ok(Word::Number(truncated(width_of(&Ty::Int(*to)), number_in(first)))),
-        Op::Zext(_) => Ok(Word::Number(number_in(first))),
-        Op::Sext(to) => Ok(Word::Number(sign_extended(
+        Op::Trunc(to) => Ok(Word::of(truncated(width_of(&Ty::Int(*to)), first.number()))),
+        Op::Zext(_) => Ok(Word::of(first.number())),
+        Op::Sext(to) => Ok(Word::of(sign_extended(
             width_of(ty),
             width_of(&Ty::Int(*to)),
-            number_in(first),
+            first.number(),
         ))),
         Op::Select => Ok(if is_set(first) { second } else { third }),
-        Op::Gep { .. } => unreachable!(),
-        _ => with_number(arithmetic(op, width_of(ty), number_in(first), number_in(second))),
+        Op::Gep {
+            elem,
+            index_width,
+            place,
+        } => Ok(address(
+            layouts,
+            *elem,
+            width_of(&Ty::Int(*index_width)),
+            *place,
+            first,
+            second.number(),
+        )),
+        _ => with_number(arithmetic(op, width_of(ty), first.number(), second.number())),
     }
 }
 
@@ -43,7 +55,7 @@ fn with_number(outcome: Result<u64, Trap>) -> Result<Word, Trap>
     ensures { datum_result result ≡ with_number outcome }
 {
     match outcome {
-        Ok(number) => Ok(Word::Number(number)),
+        Ok(number) => Ok(Word::of(number)),
         Err(trap) => Err(trap),
     }
 }
@@ -53,14 +65,14 @@ fn compares(pred: Pred, ty: &Ty, left: Word, right: Word) -> bool
 {
     match ty {
         Ty::Ptr => compare_pointers(pred, same_pointer(left, right)),
-        _ => compare(pred, width_of(ty), number_in(left), number_in(right)),
+        _ => compare(pred, width_of(ty), left.number(), right.number()),
     }
 }
 
 fn same_pointer(left: Word, right: Word) -> bool
     ensures { result ≡ same_pointer (pointer_in (datum left)) (pointer_in (datum right)) }
 {
-    object_in(left) == object_in(right) && offset_in(left) == offset_in(right)
+    left.object() == right.object() && left.offset() == right.offset()
 }
 
 fn compare_pointers(pred: Pred, same: bool) -> bool
@@ -74,44 +86,68 @@ fn compare_pointers(pred: Pred, same: bool) -> bool
 }
 
 fn bit(test: bool) -> Word
-    ensures { result ≡ Word.Number (bit test) }
+    ensures { datum result ≡ number (bit test) }
 {
-    Word::Number(if test { 1 } else { 0 })
-}
-
-/// The number in a register.
-pub fn number_in(word: Word) -> u64
-    ensures { result ≡ number_in (datum word) }
-{
-    match word {
-        Word::Number(number) => number,
-        Word::Pointer { .. } => 0,
-    }
-}
-
-// The object that a register points into.
-fn object_in(word: Word) -> u64
-    ensures { result ≡ (pointer_in (datum word)).object }
-{
-    match word {
-        Word::Number(_) => 0,
-        Word::Pointer { object, .. } => object,
-    }
-}
-
-// The offset of the pointer in a register.
-fn offset_in(word: Word) -> u64
-    ensures { result ≡ (pointer_in (datum word)).offset }
-{
-    match word {
-        Word::Number(_) => 0,
-        Word::Pointer { offset, .. } => offset,
-    }
+    Word::of(if test { 1 } else { 0 })
 }
 
 /// Whether a condition holds.
 pub fn is_set(word: Word) -> bool
     ensures { result ≡ is_set (datum word) }
 {
-    number_in(word) > 0
+    word.number() > 0
+}
+
+// The pointer that a `getelementptr` gives.
+fn address(
+    layouts: &[Layout],
+    elem: Elem,
+    index_width: u32,
+    place: Option<u32>,
+    from: Word,
+    index: u64,
+) -> Word
+    requires some_bits { 1 ≤ index_width }
+    requires word { index_width ≤ 64 }
+    ensures { datum result ≡ pointer (address_of layouts.now elem index_width place (pointer_in (datum from)) index) }
+{
+    let scaled = sign(index_width, index)
+        .cast_unsigned()
+        .wrapping_mul(element_bytes(layouts, elem));
+    let offset = from
+        .offset()
+        .wrapping_add(scaled.wrapping_add(field_bytes(layouts, elem, place)));
+    Word::to(from.object(), offset)
+}
+
+fn element_bytes(layouts: &[Layout], elem: Elem) -> u64
+    ensures value { result ≡ element_bytes layouts.now elem }
+{
+    match elem {
+        Elem::Int(width) => u64::from(width / 8),
+        Elem::Ptr => 8,
+        Elem::Layout(layout) => 8 * fields_of(layouts, layout).len() as u64,
+    }
+}
+
+fn field_bytes(layouts: &[Layout], elem: Elem, place: Option<u32>) -> u64
+    ensures value { result ≡ field_bytes layouts.now elem place }
+{
+    match elem {
+        Elem::Layout(layout) => match place {
+            None => 0,
+            Some(place) => begins_at(fields_of(layouts, layout), place),
+        },
+        _ => 0,
+    }
+}
+
+fn begins_at(fields: &[Cell], place: u32) -> u64
+    ensures { result ≡ begins_at fields.now place }
+{
+    if (place as usize) < fields.len() {
+        8 * u64::from(place)
+    } else {
+        0
+    }
 }

@@ -8,6 +8,5 @@ mod machine;
 mod numbers;
 mod spots;
 mod stacks;
-mod words;
 
 pub use interpret::{Ran, RefFault, reference};

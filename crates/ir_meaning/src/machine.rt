@@ -15,7 +15,7 @@ ghost use Rattle.object_meaning.specs.Steps.{step, returned, settled, skipped};
 ghost use Rattle.object_meaning.specs.Computing.{value_of_line};
 ghost use Rattle.ir_meaning.specs.Stacks.{lines_at, lines_behind, waiting_spot, frame_of};
 ghost use Rattle.object_meaning.specs.Effects.{goes_on, prints, ends};
-ghost use Rattle.ir_meaning.specs.Words.{datum};
+ghost use Rattle.object_store.specs.Words.{datum};
 ghost use Rattle.ir_meaning.specs.declared.spots.Due.TheVariants as dues;
 ghost use Rattle.ir_meaning.specs.Machines.{state_of, effect_of, today, StandsAt, does};
 
@@ -24,7 +24,7 @@ use crate::computing::{computed, is_set, number_in};
 use crate::numbers::width_of;
 use crate::spots::{Due, Spot};
 use crate::stacks::{Move, Stack};
-use crate::words::Word;
+use object_store::Word;
 use ir_ast::{Callee, Inst, Op, Operand};
 use sp_ids::limits::FRAMES;
 use sp_ids::{BlockId, End, Memory, Trap, sign};
@@ -275,7 +275,7 @@ impl Machine<'_> {
         ensures { IfOk result (λ did. effect_of did (state_of code.now self.new) ≡ prints (number_in (operand (map datum self.old.stack.running.registers) inst.now.operands 0)) (passed (state_of code.now self.old) (numbered spot.next inst.now) (lines_behind code.now spot inst.now) nothing)) }
     {
         let number = number_in(self.stack.operand(inst.operands(), 0));
-        self.stack.pass(inst, Word::Number(0))?;
+        self.stack.pass(inst, Word::of(0))?;
         Ok(Did::Prints(number))
     }
 
@@ -287,7 +287,7 @@ impl Machine<'_> {
             None => Ok(Did::Ends(End::Trap(Trap::Input))),
             Some(first) => {
                 self.input = rest_of(self.input);
-                self.stack.pass(inst, Word::Number(first.cast_unsigned()))?;
+                self.stack.pass(inst, Word::of(first.cast_unsigned()))?;
                 Ok(Did::GoesOn)
             }
         }

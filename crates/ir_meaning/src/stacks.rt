@@ -2,7 +2,7 @@
 
 ghost use Rattle.std.specs.Prelude.{◌≡◌, ◌==◌, ◌-◌, ◌++◌, ◌<◌, ◌≤◌, [], ◌∷◌, length, map, take, drop, replicate, IfOk, OnOk, slice_set, slice_index_or};
 ghost use Rattle.ir_meaning.specs.declared.spots.Due.TheVariants as dues;
-ghost use Rattle.ir_meaning.specs.declared.words.Word.TheVariants.{Number};
+ghost use Rattle.object_store.specs.Words.{number_word};
 ghost use Rattle.object_meaning.specs.Lines.{numbered, after_all};
 ghost use Rattle.ir_ast.specs.Faults.PhiEdges.{is_phi};
 ghost use Rattle.ir_meaning.specs.Stacks.{passed_spot, passed_frame, word, word_at, word_from, move_of, moves_of, moved, phis_of, entered_frames, arrived_frames};
@@ -11,7 +11,7 @@ ghost use Rattle.std.specs.List.{position};
 
 use crate::codes::following;
 use crate::spots::{Due, Spot};
-use crate::words::Word;
+use object_store::Word;
 use ir_ast::{Inst, Op, Operand};
 use sp_ids::{BlockId, Memory};
 use std::alloc::Global;
@@ -55,7 +55,7 @@ impl Model for Stack {
 impl Stack {
     /// One frame, which has these many registers.
     pub fn new(alloc: Global, spot: Spot, count: usize) -> Result<Stack, Memory>
-        ensures { IfOk result (λ stack. stack ≡ record { running = record { spot = spot; registers = replicate count (Number 0) }; below = [] }) }
+        ensures { IfOk result (λ stack. stack ≡ record { running = record { spot = spot; registers = replicate count (number_word 0) }; below = [] }) }
     {
         let mut registers = Vec::with_capacity(alloc, count)?;
         fill(&mut registers, count)?;
@@ -86,7 +86,7 @@ impl Stack {
         ensures { result ≡ word_at self.now.running.registers operands.now place }
     {
         match operands.get(place) {
-            None => Word::Number(0),
+            None => Word::of(0),
             Some(operand) => self.value(operand),
         }
     }
@@ -96,23 +96,20 @@ impl Stack {
     {
         match operand {
             Operand::Value(id) => self.register(id.0),
-            Operand::Int(number) => Word::Number(*number),
-            Operand::Null => Word::Pointer {
-                object: 0,
-                offset: 0,
-            },
-            Operand::Fun(_) => Word::Number(0),
+            Operand::Int(number) => Word::of(*number),
+            Operand::Null => Word::to(0, 0),
+            Operand::Fun(_) => Word::of(0),
         }
     }
 
     fn register(&self, register: u32) -> Word
-        ensures { result ≡ slice_index_or self.now.running.registers register (Number 0) }
+        ensures { result ≡ slice_index_or self.now.running.registers register (number_word 0) }
     {
         let place = self.base as usize + register as usize;
         self.registers
             .get(place)
             .copied()
-            .unwrap_or(Word::Number(0))
+            .unwrap_or(Word::of(0))
     }
 
     /// The running frame stands elsewhere.
@@ -267,7 +264,7 @@ impl Stack {
         ensures { result ≡ word_from self.now.running.spot.block self.now.running.registers phi.now }
     {
         match entry_from(self.spot.block, phi.labels()) {
-            None => Word::Number(0),
+            None => Word::of(0),
             Some(entry) => self.operand(phi.operands(), entry),
         }
     }
@@ -312,7 +309,7 @@ fn base_of(count: usize) -> Result<u32, Memory>
 
 // More registers: these words first, and each other one 0.
 fn extend(registers: &mut Vec<Word>, words: &[Word], count: usize) -> Result<(), Memory>
-    ensures { OnOk result (registers.new.items ≡ registers.old.items ++ words.now ++ replicate (count - length words.now) (Number 0)) }
+    ensures { OnOk result (registers.new.items ≡ registers.old.items ++ words.now ++ replicate (count - length words.now) (number_word 0)) }
 {
     registers.extend_from_slice(words)?;
     fill(registers, count.saturating_sub(words.len()))
@@ -337,10 +334,10 @@ fn is_phi(op: &Op) -> bool
 
 // More registers, each 0.
 fn fill(registers: &mut Vec<Word>, count: usize) -> Result<(), Memory>
-    ensures { OnOk result (registers.new.items ≡ registers.old.items ++ replicate count (Number 0)) }
+    ensures { OnOk result (registers.new.items ≡ registers.old.items ++ replicate count (number_word 0)) }
 {
     for _ in 0..count {
-        registers.push(Word::Number(0))?;
+        registers.push(Word::of(0))?;
     }
     Ok(())
 }

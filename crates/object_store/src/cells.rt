@@ -66,7 +66,7 @@ pub(crate) fn reach(
 }
 
 /// The fields of a layout.
-pub(crate) fn fields_of(layouts: &[Layout], layout: u32) -> &[Cell]
+pub fn fields_of(layouts: &[Layout], layout: u32) -> &[Cell]
     ensures { result.now ≡ fields_in layouts.now layout }
 {
     match layouts.get(layout as usize) {

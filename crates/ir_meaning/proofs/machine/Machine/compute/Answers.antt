@@ -2,7 +2,7 @@ use Rattle.std.proofs.Common.{map}
 use Rattle.object_meaning.specs.Computing.{value_of_line}
 use Rattle.object_meaning.specs.Lines.{numbered}
 use Rattle.ir_meaning.specs.Stacks.{lines_behind}
-use Rattle.ir_meaning.specs.Words.{datum}
+use Rattle.object_store.specs.Words.{datum}
 use Rattle.ir_meaning.specs.Machines.{state_of}
 use Rattle.ir_meaning.proofs.LineLemmas.{value_is, settled_ok, settled_err}
 use Rattle.ir_meaning.proofs.machine.Machine.compute.Goals as goal

@@ -1,10 +1,10 @@
 use Rattle.std.proofs.Common.{◌≡◌, List, map, ap, ◌∙◌}
 use Rattle.ir_ast.specs.declared.ops.Operand.{Operand}
-use Rattle.ir_meaning.specs.declared.words.Word.{Word}
-use Rattle.ir_meaning.specs.declared.words.Word.TheVariants.{Number}
+use Rattle.object_store.specs.declared.words.Word.{Word}
+use Rattle.object_store.specs.Words.{number_word}
 use Rattle.object_meaning.specs.Registers.{operand, number_in}
 use Rattle.object_meaning.specs.Effects.{prints}
-use Rattle.ir_meaning.specs.Words.{datum}
+use Rattle.object_store.specs.Words.{datum}
 use Rattle.ir_meaning.proofs.WordLemmas.{operand_is}
 use Rattle.ir_meaning.proofs.LineLemmas.{passed_is}
 use Rattle.ir_meaning.proofs.machine.Machine.print.Goals as goal
@@ -17,4 +17,4 @@ returns c =
     ∙ ap (λ (operands : List Operand). number_in (operand (map datum c.args.self.now.stack.running.registers) operands 0)) c.operands.ensures in
     rw (number, c.in_ok-pass.ensures, c.requires.running)
     (ap (prints (number_in (operand (map datum c.args.self.now.stack.running.registers) c.args.inst.now.operands 0)))
-    (passed_is c.args.code.now c.args.self.now.stack c.args.self.now.input.now c.args.self.now.steps c.args.self.now.events c.args.inst.now (Number 0)))
+    (passed_is c.args.code.now c.args.self.now.stack c.args.self.now.input.now c.args.self.now.steps c.args.self.now.events c.args.inst.now (number_word 0)))
