@@ -1,4 +1,5 @@
 -- The lines at which a frame of the interpreter stands, and the step there.
+use Rattle.move_plan.specs.declared.plan_lines.PlanLine.{PlanLine}
 use Rattle.std.proofs.Common.{◌≡◌, ℕ, ℤ, true, false, List, [], ◌∷◌, map, drop, refl, sym, ap, ◌∙◌}
 use Rattle.std.specs.Prelude.{Some, None, slice_get, Result, Ok, Err}
 use Rattle.sp_ids.specs.declared.ends.Trap.{Trap as Kind}
@@ -24,7 +25,7 @@ use Rattle.object_meaning.specs.Steps.{step, settled}
 use Rattle.object_meaning.proofs.StepLaws.{step_is}
 use Rattle.ir_meaning.specs.Stacks.{Frames, word_at, passed_frame, waiting_spot, lines_at, lines_behind}
 use Rattle.object_store.specs.Words.{datum, datum_result}
-use Rattle.ir_meaning.specs.Machines.{state_from, today, does}
+use Rattle.ir_meaning.specs.Machines.{Rest, state_from, today, does}
 use Rattle.object_meaning.proofs.ListLemmas.{drop_at, drop_end}
 use Rattle.ir_meaning.proofs.WordLemmas.{operand_is, put_is}
 use Rattle.sp_ids.specs.declared.ends.End.TheVariants.{Trap}
@@ -66,29 +67,29 @@ pub at_behind_end : (content : ModuleContent) (spot : Spot) → spot.due ≡ Beh
 at_behind_end content spot due none =
     let cut = drop_end (insts_of content spot.func spot.block) spot.at none in rw (due, cut) refl
 
-pub does_is : (content : ModuleContent) (bound : ℕ) (frames : Frames) (input : List ℤ) (steps events : ℕ) (inst : Instruction)
+pub does_is : (content : ModuleContent) (plan : List PlanLine) (bound : ℕ) (frames : Frames) (others : Rest) (inst : Instruction)
     → lines_at content frames.running.spot ≡ numbered frames.running.spot.next inst ∷ lines_behind content frames.running.spot inst
-    → does content bound (state_from content frames input steps events) frames.running.spot inst
-    ≡ step (today content bound) (state_from content frames input steps events)
-does_is content bound frames input steps events inst e =
-    sym (step_is (today content bound) (state_from content frames input steps events) (numbered frames.running.spot.next inst)
+    → does content plan bound (state_from content frames others) frames.running.spot inst
+    ≡ step (today content plan bound) (state_from content frames others)
+does_is content plan bound frames others inst e =
+    sym (step_is (today content plan bound) (state_from content frames others) (numbered frames.running.spot.next inst)
     (lines_behind content frames.running.spot inst) e)
 
 -- a poll is one event, and the frame then stands behind it
-pub step_polls : (content : ModuleContent) (bound : ℕ) (frames : Frames) (input : List ℤ) (steps events : ℕ) (due : Due)
+pub step_polls : (content : ModuleContent) (plan : List PlanLine) (bound : ℕ) (frames : Frames) (others : Rest) (due : Due)
     → lines_at content frames.running.spot ≡ poll ∷ lines_at content (record frames.running.spot { due = due })
     → goes_on (state_from content (record frames { running = record frames.running { spot = record frames.running.spot { due = due } } }) input steps (raised events))
-    ≡ step (today content bound) (state_from content frames input steps events)
-step_polls content bound frames input steps events due e =
-    let state = state_from content frames input steps events in
+    ≡ step (today content plan bound) (state_from content frames others)
+step_polls content plan bound frames others due e =
+    let state = state_from content frames others in
     ap (λ (lines : List Line). goes_on (record (with_event state) { running = answered_at state.running lines nothing })) (sym e)
-    ∙ sym (step_is (today content bound) state poll (lines_at content (record frames.running.spot { due = due })) e)
+    ∙ sym (step_is (today content plan bound) state poll (lines_at content (record frames.running.spot { due = due })) e)
 
-pub passed_is : (content : ModuleContent) (frames : Frames) (input : List ℤ) (steps events : ℕ) (inst : Instruction) (one : Word)
-    → state_from content (record frames { running = passed_frame frames.running inst one }) input steps events
-    ≡ passed (state_from content frames input steps events) (numbered frames.running.spot.next inst)
+pub passed_is : (content : ModuleContent) (frames : Frames) (others : Rest) (inst : Instruction) (one : Word)
+    → state_from content (record frames { running = passed_frame frames.running inst one }) others
+    ≡ passed (state_from content frames others) (numbered frames.running.spot.next inst)
     (lines_behind content frames.running.spot inst) (datum one)
-passed_is content frames input steps events inst one =
+passed_is content frames others inst one =
     rw (put_is (numbered frames.running.spot.next inst).to one frames.running.registers) refl
 
 -- a line that computes gives what the interpreter computed
@@ -101,25 +102,25 @@ value_is content registers inst first second third outcome e one two three =
     ∙ ap (λ b. computed content.layouts inst.op inst.ty (operand (map datum registers) inst.operands 0) b (datum third)) (ap datum two ∙ operand_is registers inst.operands 1)
     ∙ ap (λ d. computed content.layouts inst.op inst.ty (operand (map datum registers) inst.operands 0) (operand (map datum registers) inst.operands 1) d) (ap datum three ∙ operand_is registers inst.operands 2)
 
-pub settled_ok : (content : ModuleContent) (frames : Frames) (input : List ℤ) (steps events : ℕ) (inst : Instruction) (one : Word)
+pub settled_ok : (content : ModuleContent) (frames : Frames) (others : Rest) (inst : Instruction) (one : Word)
     (value : Result Datum Kind) → datum_result (Ok one) ≡ value
-    → goes_on (state_from content (record frames { running = passed_frame frames.running inst one }) input steps events)
-    ≡ settled (state_from content frames input steps events) (numbered frames.running.spot.next inst)
+    → goes_on (state_from content (record frames { running = passed_frame frames.running inst one }) others)
+    ≡ settled (state_from content frames others) (numbered frames.running.spot.next inst)
     (lines_behind content frames.running.spot inst) value
-settled_ok content frames input steps events inst one value e =
-    ap goes_on (passed_is content frames input steps events inst one)
-    ∙ ap (settled (state_from content frames input steps events) (numbered frames.running.spot.next inst) (lines_behind content frames.running.spot inst)) e
+settled_ok content frames others inst one value e =
+    ap goes_on (passed_is content frames others inst one)
+    ∙ ap (settled (state_from content frames others) (numbered frames.running.spot.next inst) (lines_behind content frames.running.spot inst)) e
 
 pub settled_err : (state : State) (line : Line) (rest : List Line) (trap : Kind) (value : Result Datum Kind) → datum_result (Err trap) ≡ value
     → ends (Trap trap) state ≡ settled state line rest value
 settled_err state line rest trap value e = ap (settled state line rest) e
 
 -- the next number of the input
-pub taken_is : (content : ModuleContent) (frames : Frames) (input : List ℤ) (steps events : ℕ) (inst : Instruction) (first : ℤ) (word : ℕ) (rest : List ℤ)
+pub taken_is : (content : ModuleContent) (frames : Frames) (others : Rest) (inst : Instruction) (first : ℤ) (word : ℕ) (rest : List ℤ)
     → slice_get input 0 ≡ Some first → word ≡ cast_unsigned w64 first → rest ≡ drop 1 input
     → goes_on (state_from content (record frames { running = passed_frame frames.running inst (number_word word) }) rest steps events)
-    ≡ taking (state_from content frames input steps events)
-    (passed (state_from content frames input steps events) (numbered frames.running.spot.next inst) (lines_behind content frames.running.spot inst)) input
+    ≡ taking (state_from content frames others)
+    (passed (state_from content frames others) (numbered frames.running.spot.next inst) (lines_behind content frames.running.spot inst)) input
 taken_is content frames [] steps events inst first word rest found is left = cc
 taken_is content frames (number ∷ numbers) steps events inst first word rest found is left =
     let same : number ≡ first = cc in

@@ -27,7 +27,7 @@ main_is content funcs e =
     ∙ ap (λ found. unwrap_or found 0) (position_map (λ func. bytes_eq func.name (codes "main")) content_of funcs)
 
 pub opening_is : (content : ModuleContent) (bound : ℕ) (input : List ℤ) (machine : Machine) → IsOpened content input machine
-    → unprinted (state_of content machine) ≡ opening (today content bound) input
+    → unprinted (state_of content machine) ≡ opening (today content plan bound) input
 opening_is content bound input machine opened =
     let zeros = zeros_are (register_count content (main_of content)) in
     let whole : register_count content (main_of content) - 0 ≡ register_count content (main_of content) = omega arith in

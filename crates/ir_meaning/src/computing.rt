@@ -9,9 +9,8 @@ ghost use Rattle.object_meaning.specs.Registers.{number_in, pointer_in, is_set};
 ghost use Rattle.object_store.specs.Words.{datum, datum_result};
 
 use crate::numbers::{arithmetic, compare, sign_extended, truncated, width_of};
-use object_store::Word;
 use ir_ast::{Cell, Elem, Layout, Op, Pred, Ty};
-use object_store::fields_of;
+use object_store::{Word, fields_of};
 use sp_ids::{Trap, sign};
 
 /// The value of a line with this operator and type, of its first three operands.

@@ -7,8 +7,8 @@ ghost use Rattle.ir_cfg.specs.SourceModules.{IsSourceModule};
 ghost use Rattle.tool_io.specs.Counts.{Rose};
 ghost use Rattle.object_meaning.specs.Lines.{main_of};
 ghost use Rattle.ir_meaning.specs.Machines.{state_of, today, IsOpened};
-ghost use Rattle.object_meaning.specs.SourceRuns.{no_go};
-ghost use Rattle.ir_meaning.specs.Stages.{IsToday, IsReadyModule};
+ghost use Rattle.move_plan.specs.Plans.{go};
+ghost use Rattle.ir_meaning.specs.Stages.{IsReadyModule};
 ghost use Rattle.object_meaning.specs.Effects.{printed_line};
 ghost use Rattle.ir_meaning.specs.References.{IsRun, IsRunFrom, WritesFrontFrom, WritesFrontOfRun, unprinted, ended_of, Wrote, WroteFront};
 
@@ -18,6 +18,8 @@ use crate::stacks::Stack;
 use arrayvec::ArrayVec;
 use ir_ast::{Func, Module};
 use itoa::Buffer;
+use move_plan::Plan;
+use object_store::Objects;
 use sp_ids::{End, FuncId, Memory, sign};
 use std::alloc::Global;
 use tool_io::{Failed, Sink};
@@ -63,8 +65,8 @@ impl From<Failed> for RefFault {
     }
 }
 
-/// Runs `@main` of a source module without pointers, which may take these many steps, over this input, and
-/// writes each line that it prints by one `put`.
+/// Runs `@main` of a source module, which may take these many steps, over this input and under the `go` lines of this plan,
+/// and writes each line that it prints by one `put`.
 ///
 /// `Write` comes only where the sink counted a fault. After it, and after `Memory`, a front of what the run
 /// prints was written.
@@ -72,23 +74,27 @@ pub fn reference<O: Sink>(
     alloc: Global,
     module: &Module,
     input: &[i64],
+    plan: &Plan,
     steps: u64,
     out: &mut O,
 ) -> Result<Ran, RefFault>
     requires source { IsSourceModule «module».now.content }
-    requires now { IsToday «module».now.content }
-    ensures ran { IfOk result (λ ran. IsRun «module».now.content input.now no_go steps ran (O.written out.old) (O.written out.new)) }
-    ensures front { OnErr result (WritesFrontOfRun «module».now.content input.now no_go steps (O.written out.old) (O.written out.new)) }
+    ensures ran { IfOk result (λ ran. IsRun «module».now.content input.now (go plan.now) steps ran (O.written out.old) (O.written out.new)) }
+    ensures front { OnErr result (WritesFrontOfRun «module».now.content input.now (go plan.now) steps (O.written out.old) (O.written out.new)) }
     ensures failed { IsErrOf result RefFault.Write → Rose (O.faults out.old) (O.faults out.new) }
     ensures count { O.faults out.old ≤ O.faults out.new }
 {
     let code = Code::of(alloc, module)?;
     let mut machine = opened(alloc, &code, input)?;
-    run(&code, &mut machine, steps, out)
+    run(&code, &mut machine, plan, steps, out)
 }
 
 // Task 0 at the front of `@main`.
-fn opened<'i>(alloc: Global, code: &Code, input: &'i [i64]) -> Result<Machine<'i>, Memory>
+fn opened<'c, 'i>(
+    alloc: Global,
+    code: &'c Code,
+    input: &'i [i64],
+) -> Result<Machine<'c, 'i>, Memory>
     ensures { IfOk result (λ machine. IsOpened code.now input.now machine) }
 {
     let main = main_of(code);
@@ -97,6 +103,10 @@ fn opened<'i>(alloc: Global, code: &Code, input: &'i [i64]) -> Result<Machine<'i
         stack,
         moves: Vec::new(alloc),
         args: Vec::new(alloc),
+        alloc,
+        task: 0,
+        tasks: vec![in alloc; None]?,
+        objects: Objects::new(alloc, code.module().layouts()),
         input,
         steps: 0,
         events: 0,
@@ -130,18 +140,20 @@ fn is_main(func: &Func) -> bool
 fn run<O: Sink>(
     code: &Code,
     machine: &mut Machine,
+    plan: &Plan,
     bound: u64,
     out: &mut O,
 ) -> Result<Ran, RefFault>
-    requires { IsReadyModule code.now }
-    ensures ran { IfOk result (λ ran. IsRunFrom (today code.now bound) (unprinted (state_of code.now machine.old)) ran (O.written out.old) (O.written out.new)) }
-    ensures front { OnErr result (WritesFrontFrom (today code.now bound) (unprinted (state_of code.now machine.old)) (O.written out.old) (O.written out.new)) }
+    requires ready { IsReadyModule code.now }
+    requires layouts { machine.old.objects.layouts ≡ code.now.layouts }
+    ensures ran { IfOk result (λ ran. IsRunFrom (today code.now plan.now bound) (unprinted (state_of code.now machine.old)) ran (O.written out.old) (O.written out.new)) }
+    ensures front { OnErr result (WritesFrontFrom (today code.now plan.now bound) (unprinted (state_of code.now machine.old)) (O.written out.old) (O.written out.new)) }
     ensures failed { IsErrOf result RefFault.Write → Rose (O.faults out.old) (O.faults out.new) }
     ensures count { O.faults out.old ≤ O.faults out.new }
 {
     let mut lines = 0u64;
     for _ in 0..u64::MAX {
-        let did = machine.step(code, bound)?;
+        let did = machine.step(code, plan, bound)?;
         if let Some(end) = ended(did) {
             return Ok(how_ran(end, machine, lines));
         }

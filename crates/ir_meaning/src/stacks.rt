@@ -11,8 +11,8 @@ ghost use Rattle.std.specs.List.{position};
 
 use crate::codes::following;
 use crate::spots::{Due, Spot};
-use object_store::Word;
 use ir_ast::{Inst, Op, Operand};
+use object_store::Word;
 use sp_ids::{BlockId, Memory};
 use std::alloc::Global;
 use std::marker::Model;
@@ -67,6 +67,20 @@ impl Stack {
         })
     }
 
+    /// One frame with this argument, which has so many registers at least.
+    pub fn started(alloc: Global, spot: Spot, argument: Word, count: usize) -> Result<Stack, Memory>
+        ensures { IfOk result (λ stack. stack ≡ record { running = record { spot = spot; registers = argument ∷ replicate (count - 1) (number_word 0) }; below = [] }) }
+    {
+        let mut registers = Vec::new(alloc);
+        extend(&mut registers, &[argument], count)?;
+        Ok(Stack {
+            registers,
+            saved: Vec::new(alloc),
+            spot,
+            base: 0,
+        })
+    }
+
     /// Where the running frame stands.
     pub fn spot(&self) -> Spot
         ensures { result ≡ self.now.running.spot }
@@ -106,10 +120,7 @@ impl Stack {
         ensures { result ≡ slice_index_or self.now.running.registers register (number_word 0) }
     {
         let place = self.base as usize + register as usize;
-        self.registers
-            .get(place)
-            .copied()
-            .unwrap_or(Word::of(0))
+        self.registers.get(place).copied().unwrap_or(Word::of(0))
     }
 
     /// The running frame stands elsewhere.

@@ -1,3 +1,4 @@
+use Rattle.ir_meaning.specs.Machines.{rest_of}
 use Rattle.std.proofs.Common.{◌≡◌, List, map, ap, ◌∙◌}
 use Rattle.ir_ast.specs.declared.ops.Operand.{Operand}
 use Rattle.object_store.specs.declared.words.Word.{Word}
@@ -17,4 +18,4 @@ returns c =
     ∙ ap (λ (operands : List Operand). number_in (operand (map datum c.args.self.now.stack.running.registers) operands 0)) c.operands.ensures in
     rw (number, c.in_ok-pass.ensures, c.requires.running)
     (ap (prints (number_in (operand (map datum c.args.self.now.stack.running.registers) c.args.inst.now.operands 0)))
-    (passed_is c.args.code.now c.args.self.now.stack c.args.self.now.input.now c.args.self.now.steps c.args.self.now.events c.args.inst.now (number_word 0)))
+    (passed_is c.args.code.now c.args.self.now.stack (rest_of c.args.self.now) c.args.inst.now (number_word 0)))
