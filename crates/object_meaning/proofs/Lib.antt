@@ -6,3 +6,4 @@ pub mod EndLaws
 pub mod OutcomeLaws
 mod Samples
 pub mod AccessLaws
+pub mod SimulationLaws

@@ -56,7 +56,7 @@ ends_at step (suc count) zero next now end last one two =
 ends_at step (suc count) (suc more) next now end last one two = ends_at step count more (advance step next) now end last one two
 
 -- nothing is done after the end
-traced_over : {E A T : Type 0} (did : A → List T) (step : A → Next E A) (count : ℕ) (end : E) (last : A) → traced did step count (Over end last) ≡ []
+pub traced_over : {E A T : Type 0} (did : A → List T) (step : A → Next E A) (count : ℕ) (end : E) (last : A) → traced did step count (Over end last) ≡ []
 traced_over did step zero end last = refl
 traced_over did step (suc count) end last = traced_over did step count end last
 
