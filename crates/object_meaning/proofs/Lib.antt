@@ -7,3 +7,4 @@ pub mod OutcomeLaws
 mod Samples
 pub mod AccessLaws
 pub mod SimulationLaws
+pub mod StandingLaws

@@ -1,16 +1,16 @@
 -- One run follows another: where each step of the first is some steps of the second that do the same, the second comes to the
 -- end of the first and does all that it does. Since each run has just one outcome, this ties two meanings both ways.
-use Rattle.std.proofs.Common.{◌≡◌, ℕ, zero, suc, ◌+◌, List, [], ◌∷◌, ◌++◌, refl, sym, ap, ◌∙◌, append_assoc, append-nil, reverse, subst, zero-add, suc-add}
+use Rattle.std.proofs.Common.{◌≡◌, ℕ, zero, suc, ◌+◌, List, ◌++◌, refl, sym, ap, ◌∙◌, append_assoc, append-nil, reverse, subst, zero-add, suc-add}
 use Rattle.std.specs.Prelude.{ℤ}
 use Rattle.sp_ids.specs.declared.ends.End.{End}
 use Rattle.object_meaning.specs.Effects.{Progress, line_count}
 use Rattle.object_meaning.specs.Outcomes.{Gives, Outcome, accesses_from, events_from, opening, outcome_of, proceeds}
-use Rattle.object_meaning.specs.Runs.{Next, Go, End as Over, advance, goes, Ends}
+use Rattle.object_meaning.specs.Runs.{Next, Go, End as Over, advance, goes}
 use Rattle.object_meaning.specs.States.{State, Setting}
 use Rattle.object_meaning.specs.Texts.{closing_lines}
 use Rattle.object_meaning.specs.Traces.{Access, Event, accesses_at, done_at, events_at, traced}
 use Rattle.object_meaning.proofs.RunLaws.{goes_over, not_over, traced_over}
-use Rattle.object_meaning.proofs.OutcomeLaws.{Given, gives_end, gives_one, gives_some}
+use Rattle.object_meaning.proofs.OutcomeLaws.{gives_end, gives_one, gives_some}
 
 -- ---- steps after steps
 
