@@ -7,4 +7,6 @@ pub mod OutcomeLaws
 mod Samples
 pub mod AccessLaws
 pub mod SimulationLaws
+pub mod TaskLists
 pub mod StandingLaws
+pub mod WaitingLaws

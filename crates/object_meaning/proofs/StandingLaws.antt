@@ -1,5 +1,5 @@
 -- Where frames stand: the lines of each frame are a rest of its block's lines, in each state that a run comes to.
-use Rattle.std.proofs.Common.{◌≡◌, ℕ, zero, suc, ◌+◌, Bool, true, false, ◌==◌, List, [], ◌∷◌, ◌++◌, length, map, take, drop, Option, Some, None, Result, Ok, Err, refl, sym, ap, subst, ◌∙◌}
+use Rattle.std.proofs.Common.{◌≡◌, ℕ, ◌+◌, Bool, true, false, ◌==◌, List, [], ◌∷◌, ◌++◌, length, map, take, drop, Option, Some, None, Result, Ok, Err, refl, sym, ap, subst, ◌∙◌}
 use Rattle.std.specs.Prelude.{ℤ, pos, nat_lt, int_lt, if◌then◌else◌, slice_get, slice_set, unsigned_abs}
 use Rattle.std.specs.Int.{w64, cast_unsigned}
 use Rattle.std.specs.List.{sum_by}
@@ -32,6 +32,7 @@ use Rattle.object_meaning.specs.States.{Frame, State, Setting}
 use Rattle.object_meaning.specs.Steps.{accesses, acts, loading, returned, settled, step, steps_at, storing}
 use Rattle.object_meaning.specs.Tasks.{handed_over, polled, started, switched, switched_to, task_ended, with_event}
 use Rattle.object_meaning.proofs.ListLemmas.{drop_front}
+use Rattle.object_meaning.proofs.TaskLists.{Each, EachTask, each_get, each_push, each_set}
 use Rattle.object_meaning.proofs.RunLaws.{gone, not_over, reaches_keep}
 
 -- a frame stands behind so many lines of its block. The lines before the first block stand before those of each block, so
@@ -43,18 +44,10 @@ pub record Stands (setting : Setting) (func block : ℕ) (rest : List Line) : Ty
 abbrev pub FrameStands : Setting → Frame → Type 0
 FrameStands setting frame = Stands setting frame.func frame.block frame.rest
 
-abbrev pub FramesStand : Setting → List Frame → Type 0
-FramesStand setting [] = Unit {0}
-FramesStand setting (frame ∷ frames) = FrameStands setting frame × FramesStand setting frames
-
-abbrev pub TasksStand : Setting → List (List Frame) → Type 0
-TasksStand setting [] = Unit {0}
-TasksStand setting (task ∷ tasks) = FramesStand setting task × TasksStand setting tasks
-
 pub record AllStand (setting : Setting) (state : State) : Type 0 where
   pub running : FrameStands setting state.running
-  pub below : FramesStand setting state.below
-  pub tasks : TasksStand setting state.tasks
+  pub below : Each (FrameStands setting) state.below
+  pub tasks : EachTask (FrameStands setting) state.tasks
 
 -- ---- frames
 
@@ -91,28 +84,14 @@ module _ (setting : Setting) where
 
   -- ---- tasks
 
-  stands_set : (tasks : List (List Frame)) (task : ℕ) (now : List Frame) → TasksStand setting tasks → FramesStand setting now → TasksStand setting (slice_set tasks task now)
-  stands_set [] task now all here = all
-  stands_set (first ∷ tasks) zero now all here = (here, all.1)
-  stands_set (first ∷ tasks) (suc task) now all here = (all.0, stands_set tasks task now all.1 here)
-
-  stands_get : (tasks : List (List Frame)) (task : ℕ) (found : List Frame) → TasksStand setting tasks → slice_get tasks task ≡ Some found → FramesStand setting found
-  stands_get [] task found all is = cc
-  stands_get (first ∷ tasks) zero found all is = let same : first ≡ found = cc in subst (FramesStand setting) same all.0
-  stands_get (first ∷ tasks) (suc task) found all is = stands_get tasks task found all.1 is
-
-  stands_push : (tasks : List (List Frame)) → TasksStand setting tasks → TasksStand setting (tasks ++ [] ∷ [])
-  stands_push [] all = (tt, tt)
-  stands_push (first ∷ tasks) all = (all.0, stands_push tasks all.1)
-
   switches_to : (state : State) (to : ℕ) (found : Option (List Frame)) → slice_get state.tasks to ≡ found → AllStand setting state → AllStand setting (switched_to state to found)
   switches_to state to (Some (frame ∷ below)) is all =
-      let there = stands_get state.tasks to (frame ∷ below) all.tasks is in
+      let there = each_get (FrameStands setting) state.tasks to (frame ∷ below) all.tasks is in
       record {
         running = there.0;
         below = there.1;
-        tasks = stands_set (slice_set state.tasks state.task (state.running ∷ state.below)) to []
-            (stands_set state.tasks state.task (state.running ∷ state.below) all.tasks (all.running, all.below)) tt;
+        tasks = each_set (FrameStands setting) (slice_set state.tasks state.task (state.running ∷ state.below)) to []
+            (each_set (FrameStands setting) state.tasks state.task (state.running ∷ state.below) all.tasks (all.running, all.below)) tt;
       }
   switches_to state to (Some []) is all = all
   switches_to state to None is all = all
@@ -150,9 +129,9 @@ module _ (setting : Setting) where
 
   after_handed_over : (state : State) (frames : Option (List Frame)) → slice_get state.tasks 0 ≡ frames → AllStand setting state → After (handed_over state frames)
   after_handed_over state (Some (frame ∷ below)) is all =
-      let there = stands_get state.tasks 0 (frame ∷ below) all.tasks is in
+      let there = each_get (FrameStands setting) state.tasks 0 (frame ∷ below) all.tasks is in
       resumes (record state { running = frame; below = below; task = 0; tasks = slice_set state.tasks 0 [] }) nothing
-      (record { running = there.0; below = there.1; tasks = stands_set state.tasks 0 [] all.tasks tt })
+      (record { running = there.0; below = there.1; tasks = each_set (FrameStands setting) state.tasks 0 [] all.tasks tt })
   after_handed_over state (Some []) is all = all
   after_handed_over state None is all = all
 
@@ -163,7 +142,7 @@ module _ (setting : Setting) where
       by true = all
       by false = after_handed_over state (slice_get state.tasks 0) refl all
 
-  after_returned : (width : ℕ) (answer : Datum) (below : List Frame) (state : State) → FramesStand setting below → AllStand setting state → After (returned width answer below state)
+  after_returned : (width : ℕ) (answer : Datum) (below : List Frame) (state : State) → Each (FrameStands setting) below → AllStand setting state → After (returned width answer below state)
   after_returned width answer [] state waiting all = after_task_ended state width answer all
   after_returned width answer (caller ∷ below) state waiting all =
       resumes (record state { running = caller; below = below }) answer (record { running = waiting.0; below = waiting.1; tasks = all.tasks })
@@ -182,7 +161,7 @@ module _ (setting : Setting) where
       by true = record {
         running = stands_entered func (argument ∷ []);
         below = tt;
-        tasks = stands_push (slice_set state.tasks state.task (state.running ∷ state.below)) (stands_set state.tasks state.task (state.running ∷ state.below) all.tasks (all.running, all.below));
+        tasks = each_push (FrameStands setting) (slice_set state.tasks state.task (state.running ∷ state.below)) (each_set (FrameStands setting) state.tasks state.task (state.running ∷ state.below) all.tasks (all.running, all.below));
       }
       by false = all
 
@@ -191,8 +170,8 @@ module _ (setting : Setting) (state : State) (all : AllStand setting state) (don
   like : (answer : Datum) (next : State) → next.running ≡ (done answer).running → next.below ≡ (done answer).below → next.tasks ≡ (done answer).tasks → AllStand setting next
   like answer next running below tasks = record {
     running = subst (FrameStands setting) (sym running) (there answer).running;
-    below = subst (FramesStand setting) (sym below) (there answer).below;
-    tasks = subst (TasksStand setting) (sym tasks) (there answer).tasks;
+    below = subst (Each (FrameStands setting)) (sym below) (there answer).below;
+    tasks = subst (EachTask (FrameStands setting)) (sym tasks) (there answer).tasks;
   }
 
   with_one : AllStand setting (with_event state)
