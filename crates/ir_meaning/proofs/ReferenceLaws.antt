@@ -1,14 +1,17 @@
 -- What the interpreter answers is what the module's run gives.
 use Rattle.std.proofs.Common.{◌≡◌, ℕ, ℤ, List, ◌++◌, Option, sym, ap, ◌∙◌, append_assoc}
 use Rattle.std.specs.List.{concat}
-use Rattle.tool_io.specs.Sink.{append_known}
-use Rattle.tool_io.proofs.AppendLaws.{AppendsFront-front}
+use Rattle.tool_io.specs.Sink.{append_known, AppendsFront}
+use Rattle.tool_io.proofs.AppendLaws.{AppendsFront-front, AppendsFront-same}
+use Rattle.sp_ids.specs.declared.ends.End.{End}
 use Rattle.ir_ast.specs.Modules.{ModuleContent}
 use Rattle.ir_meaning.specs.declared.interpret.Ran.{Ran}
-use Rattle.ir_meaning.specs.References.{IsRun, IsRunFrom, WritesFrontFrom, WritesFrontOfRun}
-use Rattle.object_meaning.specs.Effects.{line_count, text_of}
-use Rattle.object_meaning.specs.Outcomes.{opening, outcome_of, whole_text}
+use Rattle.ir_meaning.specs.References.{text_from, IsRun, IsRunFrom, WritesFrontFrom, WritesFrontOfRun}
+use Rattle.object_meaning.specs.Effects.{Progress, line_count, text_of}
+use Rattle.object_meaning.specs.Outcomes.{opening, outcome_of, proceeds, whole_text}
+use Rattle.object_meaning.specs.Runs.{Ends}
 use Rattle.object_meaning.specs.SourceRuns.{source_setting}
+use Rattle.object_meaning.specs.States.{State}
 use Rattle.object_meaning.specs.Texts.{closing_lines}
 use Rattle.object_meaning.proofs.EndLaws.{run_ends}
 use Rattle.object_meaning.proofs.OutcomeLaws.{gives_end, printed_first, text_is}
@@ -48,4 +51,15 @@ module _ (content : ModuleContent) (input : List ℤ) (go : ℕ → Option ℕ) 
             AppendsFront-front writes.front (more.more ++ shown) (whole_text (outcome_of setting input ended.run.within ended.end ended.last))
             (text_is setting input ended.run.within ended.end ended.last
             ∙ (ap (λ (printed : List ℕ). printed ++ shown) more.text ∙ append_assoc (text_of writes.now.lines) more.more shown));
+      }
+
+  -- and so is a front of all that it writes, where it has ended
+  pub front_at_end : (end : End) (last : Progress State) → Ends (proceeds (source_setting content go bound)) (opening (source_setting content go bound) input) end last
+      → AppendsFront old new (text_from (source_setting content go bound) end last) → WritesFrontOfRun content input go bound old new
+  front_at_end end last run front =
+      let setting = source_setting content go bound in
+      record {
+        outcome = outcome_of setting input run.within end last;
+        gives = gives_end setting input end last run;
+        front = AppendsFront-same front (whole_text (outcome_of setting input run.within end last)) (text_is setting input run.within end last);
       }

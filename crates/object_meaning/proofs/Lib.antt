@@ -6,3 +6,7 @@ pub mod EndLaws
 pub mod OutcomeLaws
 mod Samples
 pub mod AccessLaws
+pub mod SimulationLaws
+pub mod TaskLists
+pub mod StandingLaws
+pub mod WaitingLaws

@@ -34,7 +34,7 @@ gives_some setting input =
     record { outcome = outcome_of setting input halted.run.within halted.end halted.last; final = halted.final; gives = gives_end setting input halted.end halted.last halted.run }
 
 -- more steps after the end add nothing
-outcome_same : (setting : Setting) (input : List ℤ) (end : End) (last : Progress State) (one two : Ends (proceeds setting) (opening setting input) end last)
+pub outcome_same : (setting : Setting) (input : List ℤ) (end : End) (last : Progress State) (one two : Ends (proceeds setting) (opening setting input) end last)
     → outcome_of setting input one.within end last ≡ outcome_of setting input two.within end last
 outcome_same setting input end last one two =
     let start = opening setting input in

@@ -1,5 +1,5 @@
 -- Runs of any step function: one step longer, with one end, and what their states do.
-use Rattle.std.proofs.Common.{◌≡◌, ℕ, zero, suc, List, [], ◌++◌, refl, sym, ap, ◌∙◌}
+use Rattle.std.proofs.Common.{◌≡◌, ℕ, zero, suc, List, [], ◌++◌, refl, sym, ap, subst, ◌∙◌}
 use Rattle.object_meaning.specs.Runs.{Next, Go, End as Over, advance, goes, Ends, Reaches}
 use Rattle.object_meaning.specs.Traces.{done_at, traced}
 
@@ -56,7 +56,7 @@ ends_at step (suc count) zero next now end last one two =
 ends_at step (suc count) (suc more) next now end last one two = ends_at step count more (advance step next) now end last one two
 
 -- nothing is done after the end
-traced_over : {E A T : Type 0} (did : A → List T) (step : A → Next E A) (count : ℕ) (end : E) (last : A) → traced did step count (Over end last) ≡ []
+pub traced_over : {E A T : Type 0} (did : A → List T) (step : A → Next E A) (count : ℕ) (end : E) (last : A) → traced did step count (Over end last) ≡ []
 traced_over did step zero end last = refl
 traced_over did step (suc count) end last = traced_over did step count end last
 
@@ -69,3 +69,23 @@ traced_more did step (suc count) zero next end other last other_last one two =
     ap (traced did step (suc count)) two ∙ traced_over did step (suc count) other other_last
 traced_more did step (suc count) (suc more) next end other last other_last one two =
     ap (λ rest. done_at did next ++ rest) (traced_more did step count more (advance step next) end other last other_last one two)
+
+pub gone : {E A : Type 0} (one other : A) → ◌≡◌ {A = Next E A} (Go one) (Go other) → one ≡ other
+gone one other is = cc
+
+-- what each step keeps holds in each state that a run comes to
+keeps_on : {E A : Type 0} (step : A → Next E A) (P : A → Type 0) (count : ℕ) (start now : A) (after : Next E A) → step start ≡ after → P start
+    → ((one other : A) → step one ≡ Go other → P one → P other) → ((next : A) → P next → goes step count (Go next) ≡ Go now → P now)
+    → goes step count after ≡ Go now → P now
+keeps_on step P count start now (Go next) steps first keeps rest is = rest next (keeps start next steps first) is
+keeps_on step P count start now (Over end last) steps first keeps rest is = absurd (not_over end last now (sym (goes_over step count end last) ∙ is))
+
+keeps_at : {E A : Type 0} (step : A → Next E A) (P : A → Type 0) (keeps : (one other : A) → step one ≡ Go other → P one → P other) (count : ℕ) (start now : A)
+    → P start → goes step count (Go start) ≡ Go now → P now
+keeps_at step P keeps zero start now first is = subst P (gone start now is) first
+keeps_at step P keeps (suc count) start now first is =
+    keeps_on step P count start now (step start) refl first keeps (λ next holds rest. keeps_at step P keeps count next now holds rest) is
+
+pub reaches_keep : {E A : Type 0} (step : A → Next E A) (P : A → Type 0) (start now : A) → P start → ((one other : A) → step one ≡ Go other → P one → P other)
+    → Reaches {E = E} step start now → P now
+reaches_keep step P start now first keeps reached = keeps_at step P keeps reached.after start now first reached.by
