@@ -8,3 +8,5 @@ pub mod RunLemmas
 pub mod ReadyLemmas
 pub mod OpeningLemmas
 pub mod ReferenceLaws
+pub mod MemoryLemmas
+pub mod SizeLemmas

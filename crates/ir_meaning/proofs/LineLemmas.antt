@@ -6,7 +6,6 @@ use Rattle.sp_ids.specs.declared.ends.Trap.{Trap as Kind}
 use Rattle.ir_ast.specs.Objects.{Datum}
 use Rattle.object_meaning.specs.Computing.{computed, value_of_line}
 use Rattle.object_meaning.specs.Registers.{nothing, operand}
-use Rattle.tool_io.specs.Counts.{raised}
 use Rattle.ir_ast.specs.Insts.{Instruction}
 use Rattle.ir_ast.specs.Modules.{ModuleContent}
 use Rattle.std.specs.Int.{w64, cast_unsigned}
@@ -19,8 +18,8 @@ use Rattle.object_store.specs.declared.words.Word.{Word}
 use Rattle.object_meaning.specs.Lines.{Line, poll, numbered, retreats, insts_of}
 use Rattle.object_meaning.specs.States.{State}
 use Rattle.object_meaning.specs.Effects.{goes_on, ends}
-use Rattle.object_meaning.specs.Frames.{answered_at, passed}
-use Rattle.object_meaning.specs.Tasks.{with_event}
+use Rattle.object_meaning.specs.Frames.{passed}
+use Rattle.object_meaning.specs.Tasks.{polled}
 use Rattle.object_meaning.specs.Steps.{step, settled}
 use Rattle.object_meaning.proofs.StepLaws.{step_is}
 use Rattle.ir_meaning.specs.Stacks.{Frames, word_at, passed_frame, waiting_spot, lines_at, lines_behind}
@@ -75,15 +74,10 @@ does_is content plan bound frames others inst e =
     sym (step_is (today content plan bound) (state_from content frames others) (numbered frames.running.spot.next inst)
     (lines_behind content frames.running.spot inst) e)
 
--- a poll is one event, and the frame then stands behind it
-pub step_polls : (content : ModuleContent) (plan : List PlanLine) (bound : ℕ) (frames : Frames) (others : Rest) (due : Due)
-    → lines_at content frames.running.spot ≡ poll ∷ lines_at content (record frames.running.spot { due = due })
-    → goes_on (state_from content (record frames { running = record frames.running { spot = record frames.running.spot { due = due } } }) input steps (raised events))
-    ≡ step (today content plan bound) (state_from content frames others)
-step_polls content plan bound frames others due e =
-    let state = state_from content frames others in
-    ap (λ (lines : List Line). goes_on (record (with_event state) { running = answered_at state.running lines nothing })) (sym e)
-    ∙ sym (step_is (today content plan bound) state poll (lines_at content (record frames.running.spot { due = due })) e)
+-- the step at a poll
+pub step_polls : (content : ModuleContent) (plan : List PlanLine) (bound : ℕ) (state : State) (rest : List Line) → state.running.rest ≡ poll ∷ rest
+    → goes_on (polled (today content plan 0) state) ≡ step (today content plan bound) state
+step_polls content plan bound state rest e = sym (step_is (today content plan bound) state poll rest e)
 
 pub passed_is : (content : ModuleContent) (frames : Frames) (others : Rest) (inst : Instruction) (one : Word)
     → state_from content (record frames { running = passed_frame frames.running inst one }) others
@@ -116,14 +110,20 @@ pub settled_err : (state : State) (line : Line) (rest : List Line) (trap : Kind)
 settled_err state line rest trap value e = ap (settled state line rest) e
 
 -- the next number of the input
-pub taken_is : (content : ModuleContent) (frames : Frames) (others : Rest) (inst : Instruction) (first : ℤ) (word : ℕ) (rest : List ℤ)
-    → slice_get input 0 ≡ Some first → word ≡ cast_unsigned w64 first → rest ≡ drop 1 input
-    → goes_on (state_from content (record frames { running = passed_frame frames.running inst (number_word word) }) rest steps events)
+pub taken_is : (content : ModuleContent) (frames : Frames) (others : Rest) (inst : Instruction) (first : ℤ) (word : ℕ) (left : List ℤ)
+    → slice_get others.input 0 ≡ Some first → word ≡ cast_unsigned w64 first → left ≡ drop 1 others.input
+    → goes_on (state_from content (record frames { running = passed_frame frames.running inst (number_word word) }) (record others { input = left }))
     ≡ taking (state_from content frames others)
-    (passed (state_from content frames others) (numbered frames.running.spot.next inst) (lines_behind content frames.running.spot inst)) input
-taken_is content frames [] steps events inst first word rest found is left = cc
-taken_is content frames (number ∷ numbers) steps events inst first word rest found is left =
-    let same : number ≡ first = cc in
-    let spelled : word ≡ cast_unsigned w64 number = is ∙ ap (cast_unsigned w64) (sym same) in
-    rw (left, spelled) (ap (λ (state : State). goes_on (record state { input = numbers }))
-    (passed_is content frames (number ∷ numbers) steps events inst (number_word (cast_unsigned w64 number))))
+    (passed (state_from content frames others) (numbered frames.running.spot.next inst) (lines_behind content frames.running.spot inst)) others.input
+taken_is content frames others inst first word left found is rest_is = taken_from others.input found rest_is
+  where
+    taken_from : (input : List ℤ) → slice_get input 0 ≡ Some first → left ≡ drop 1 input
+        → goes_on (state_from content (record frames { running = passed_frame frames.running inst (number_word word) }) (record others { input = left }))
+        ≡ taking (state_from content frames others)
+        (passed (state_from content frames others) (numbered frames.running.spot.next inst) (lines_behind content frames.running.spot inst)) input
+    taken_from [] found left_is = cc
+    taken_from (number ∷ numbers) found left_is =
+        let same : number ≡ first = cc in
+        let spelled : word ≡ cast_unsigned w64 number = is ∙ ap (cast_unsigned w64) (sym same) in
+        rw (left_is, spelled) (ap (λ (state : State). goes_on (record state { input = numbers }))
+        (passed_is content frames others inst (number_word (cast_unsigned w64 number))))

@@ -6,11 +6,12 @@ use Rattle.std.specs.Str.{bytes_eq}
 use Rattle.std.proofs.lemmas.List.{length-map}
 use Rattle.ir_ast.specs.Funcs.{Function, LinedFunction, content_of}
 use Rattle.ir_ast.specs.Modules.{ModuleContent}
+use Rattle.move_plan.specs.declared.plan_lines.PlanLine.{PlanLine}
 use Rattle.ir_meaning.specs.declared.machine.Machine.{Machine}
 use Rattle.object_meaning.specs.Lines.{main_of, register_count}
 use Rattle.object_meaning.specs.Outcomes.{opening}
 use Rattle.ir_meaning.specs.References.{unprinted}
-use Rattle.ir_meaning.specs.Machines.{state_of, today, IsOpened}
+use Rattle.ir_meaning.specs.Machines.{Rest, state_of, state_from, today, IsOpened}
 use Rattle.ir_meaning.proofs.FrameLemmas.{zeros_are}
 
 prefix_map : {A B : Type 0} (test : B → Bool) (f : A → B) (xs : List A) → prefix_len test (map f xs) ≡ prefix_len (λ x. test (f x)) xs
@@ -26,9 +27,10 @@ main_is content funcs e =
     ap (λ (all : List Function). unwrap_or (position (λ func. bytes_eq func.name (codes "main")) all) 0) (sym e)
     ∙ ap (λ found. unwrap_or found 0) (position_map (λ func. bytes_eq func.name (codes "main")) content_of funcs)
 
-pub opening_is : (content : ModuleContent) (bound : ℕ) (input : List ℤ) (machine : Machine) → IsOpened content input machine
+pub opening_is : (content : ModuleContent) (plan : List PlanLine) (bound : ℕ) (input : List ℤ) (machine : Machine) → IsOpened content input machine
     → unprinted (state_of content machine) ≡ opening (today content plan bound) input
-opening_is content bound input machine opened =
+opening_is content plan bound input machine opened =
     let zeros = zeros_are (register_count content (main_of content)) in
     let whole : register_count content (main_of content) - 0 ≡ register_count content (main_of content) = omega arith in
-    rw (opened.spot, opened.registers, opened.below, opened.input_is, opened.steps, opened.events, zeros, whole) refl
+    ap (λ (others : Rest). unprinted (state_from content machine.stack others)) opened.others
+    ∙ rw (opened.spot, opened.registers, opened.below, zeros, whole) refl

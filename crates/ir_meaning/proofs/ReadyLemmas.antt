@@ -1,5 +1,5 @@
--- Source modules without pointers are what the interpreter asks for.
-use Rattle.std.proofs.Common.{◌≡◌, ℕ, zero, suc, ◌+◌, Bool, true, false, not, ◌&&◌, List, [], ◌∷◌, ◌++◌, length, map, take, drop, get_or, refl, sym, ap, ◌∙◌}
+-- Source modules without bundles are what the interpreter asks for.
+use Rattle.std.proofs.Common.{◌≡◌, ℕ, zero, suc, ◌+◌, Bool, true, false, not, ◌&&◌, List, [], ◌∷◌, ◌++◌, length, map, take, drop, get_or, refl, sym, ap, subst, ◌∙◌}
 use Rattle.std.specs.Prelude.{slice_get, if◌then◌else◌}
 use Rattle.std.specs.List.{All, list_all}
 use Rattle.std.specs.Option.{option_map_or}
@@ -8,7 +8,10 @@ use Rattle.sp_ids.specs.declared.ends.End.{End}
 use Rattle.sp_ids.specs.declared.ends.End.TheVariants.{Trap}
 use Rattle.ir_ast.specs.declared.types.Ty.{Ty}
 use Rattle.ir_ast.specs.declared.ops.Operand.{Operand}
-use Rattle.ir_ast.specs.Types.{is_pointer}
+use Rattle.ir_ast.specs.declared.modules.Form.{Form}
+use Rattle.ir_ast.specs.declared.modules.Form.TheVariants.{Source}
+use Rattle.ir_ast.specs.Bundles.{HasNoBundle}
+use Rattle.ir_ast.specs.Faultless.{OfForm}
 use Rattle.ir_ast.specs.Insts.{Instruction}
 use Rattle.ir_ast.specs.Blocks.{BasicBlock}
 use Rattle.ir_ast.specs.Funcs.{Function, instructions_of}
@@ -19,13 +22,9 @@ use Rattle.ir_meaning.specs.declared.spots.Due.TheVariants.{Front, Line as Next,
 use Rattle.object_meaning.specs.Lines.{poll, numbered, following, retreats, lines_from, insts_in, insts_of}
 use Rattle.object_meaning.specs.States.{State}
 use Rattle.ir_meaning.specs.Stacks.{Seen, lines_due, frame_of}
-use Rattle.ir_meaning.specs.Stages.{runs_today, is_null, FunctionIsToday, IsToday, IsReady, AllReady, IsReadyModule}
+use Rattle.ir_meaning.specs.Stages.{IsReady, AllReady, IsReadyModule}
 use Rattle.object_meaning.proofs.ListLemmas.{take_front, drop_front}
 use Rattle.object_meaning.specs.Texts.{bundle_of, bundle_line, bundle_lines, closing_lines, function_name}
-
-first_holds : (a b : Bool) → a && b ≡ true → a ≡ true
-first_holds true b e = refl
-first_holds false b e = e
 
 fronts : {X : Type 0} (P : X → Type 0) (xs ys : List X) → All P (xs ++ ys) → All P xs
 fronts P xs ys all = All-same P xs (take (length xs) (xs ++ ys)) (sym (take_front xs ys)) (All-take P (length xs) (xs ++ ys) all)
@@ -49,18 +48,15 @@ func_ready [] all func number = All-nil IsReady
 func_ready (first ∷ funcs) all zero number = block_ready first.blocks (All-head FunctionIsReady first funcs all) number
 func_ready (first ∷ funcs) all (suc func) number = func_ready funcs (All-tail FunctionIsReady first funcs all) func number
 
-ready_function : (func : Function) → IsSourceFunction func → FunctionIsToday func → FunctionIsReady func
-ready_function func source today = λ k d h.
-    let inst = get_or (instructions_of func.blocks) k d in
-    record {
-      runs = first_holds (runs_today inst.op) (not (is_pointer inst.ty))
-          (first_holds (runs_today inst.op && not (is_pointer inst.ty)) (list_all (λ operand. not (is_null operand)) inst.operands) (today k d h));
-      no_bundle = source.no_bundle k d h;
-    }
+ready_function : (content : ModuleContent) (func : Function) → content.form ≡ Source → OfForm content.form func → HasNoBundle func → FunctionIsReady func
+ready_function content func form of_form bare = λ k d h. record {
+  source = (subst (λ (f : Form). OfForm f func) form of_form).0.lines k d h;
+  no_bundle = bare k d h;
+}
 
-pub ready_module : (content : ModuleContent) → IsSourceModule content → IsToday content → IsReadyModule content
-ready_module content source today = λ func block.
-    func_ready content.funcs (λ k d h. ready_function (get_or content.funcs k d) (source.functions k d h) (today k d h)) func block
+pub ready_module : (content : ModuleContent) → IsSourceModule content → IsReadyModule content
+ready_module content source = λ func block.
+    func_ready content.funcs (λ k d h. ready_function content (get_or content.funcs k d) source.form (source.no_fault.functions k d h).form (source.functions k d h).no_bundle) func block
 
 -- the line at which a frame stands has no bundle
 quiet_lines : (due : Due) (block next : ℕ) (insts : List Instruction) → AllReady insts → bundle_of (lines_due due block next insts) ≡ []

@@ -77,6 +77,10 @@ switched_so whole to (Some (Some next)) = record {
 }
 switched_so whole to _ = whole
 
+abbrev pub gone_to : Whole → Option ℕ → Whole
+gone_to whole None = whole
+gone_to whole (Some to) = switched_so whole to (slice_get whole.others.tasks to)
+
 -- the run of a source module under the `go` lines of a plan
 abbrev pub today : ModuleContent → List PlanLine → ℕ → Setting
 today content plan bound = source_setting content (go plan) bound

@@ -1,6 +1,6 @@
 //! The lines that compute a value from values alone.
 
-ghost use Rattle.std.specs.Prelude.{◌≡◌, ◌≤◌};
+ghost use Rattle.std.specs.Prelude.{◌≡◌, ◌≤◌, ◌%◌, ◌^◌};
 ghost use Rattle.object_meaning.specs.Comparisons.{compares, bit, pointers_related, same_pointer};
 ghost use Rattle.object_meaning.specs.Computing.{computed, with_number, address_of, element_bytes, field_bytes};
 ghost use Rattle.ir_ast.specs.Objects.{number, pointer};
@@ -120,17 +120,17 @@ fn address(
 }
 
 fn element_bytes(layouts: &[Layout], elem: Elem) -> u64
-    ensures value { result ≡ element_bytes layouts.now elem }
+    ensures { result ≡ element_bytes layouts.now elem % 2 ^ 64 }
 {
     match elem {
         Elem::Int(width) => u64::from(width / 8),
         Elem::Ptr => 8,
-        Elem::Layout(layout) => 8 * fields_of(layouts, layout).len() as u64,
+        Elem::Layout(layout) => (fields_of(layouts, layout).len() as u64).wrapping_mul(8),
     }
 }
 
 fn field_bytes(layouts: &[Layout], elem: Elem, place: Option<u32>) -> u64
-    ensures value { result ≡ field_bytes layouts.now elem place }
+    ensures { result ≡ field_bytes layouts.now elem place }
 {
     match elem {
         Elem::Layout(layout) => match place {

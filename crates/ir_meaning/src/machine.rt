@@ -21,7 +21,7 @@ ghost use Rattle.ir_meaning.specs.Stacks.{lines_at, lines_behind, waiting_spot, 
 ghost use Rattle.object_meaning.specs.Effects.{goes_on, prints, ends};
 ghost use Rattle.object_store.specs.Words.{datum};
 ghost use Rattle.ir_meaning.specs.declared.spots.Due.TheVariants as dues;
-ghost use Rattle.ir_meaning.specs.Machines.{state_of, seen_of, switched_so, effect_of, today, StandsAt, does};
+ghost use Rattle.ir_meaning.specs.Machines.{state_of, seen_of, switched_so, gone_to, effect_of, today, StandsAt, does};
 
 use crate::codes::Code;
 use crate::computing::{computed, is_set};
@@ -53,7 +53,7 @@ pub struct Machine<'m, 'i> {
     pub moves: Vec<Move>,
     pub args: Vec<Word>,
     pub alloc: Global,
-    pub task: u32,
+    pub task: u64,
     pub tasks: Vec<Option<Stack>>,
     pub objects: Objects<'m>,
     pub input: &'i [i64],
@@ -116,10 +116,19 @@ impl Machine<'_, '_> {
         ensures layouts { self.new.objects.layouts ≡ self.old.objects.layouts }
     {
         self.events = self.events.saturating_add(1);
-        if let Some(to) = plan.go(self.events) {
-            self.switch(to);
-        }
+        self.go_to(plan.go(self.events));
         self.answered(code, Word::of(0))
+    }
+
+    // The task of a `go` line runs, if there is one.
+    fn go_to(&mut self, to: Option<u64>)
+        ensures frames { seen_of self.new ≡ gone_to (seen_of self.old) to }
+        ensures layouts { self.new.objects.layouts ≡ self.old.objects.layouts }
+    {
+        match to {
+            None => {}
+            Some(to) => self.switch(to),
+        }
     }
 
     // Another task runs, if it was started, has not ended and isn't the running one.
@@ -131,9 +140,9 @@ impl Machine<'_, '_> {
             return;
         };
         let waits = mem::replace(&mut self.stack, stack);
-        set_task(&mut self.tasks, u64::from(self.task), Some(waits));
+        set_task(&mut self.tasks, self.task, Some(waits));
         set_task(&mut self.tasks, to, None);
-        self.task = to as u32;
+        self.task = to;
     }
 
     // The line at which the running frame stands.
@@ -505,9 +514,9 @@ impl Machine<'_, '_> {
             argument,
             code.register_count(func),
         )?;
-        let task = self.tasks.len() as u32;
+        let task = self.tasks.len() as u64;
         let waits = mem::replace(&mut self.stack, stack);
-        set_task(&mut self.tasks, u64::from(self.task), Some(waits));
+        set_task(&mut self.tasks, self.task, Some(waits));
         self.tasks.push(None)?;
         self.task = task;
         Ok(Did::GoesOn)

@@ -11,17 +11,17 @@ act-requires-clause-stands c = record {
   ready = c.in-Some.ensures.ready;
 }
 
-pub returns-in-None : goal.returns-in-None
-returns-in-None c =
+pub returns-in-None-clause-effect : goal.returns-in-None-clause-effect
+returns-in-None-clause-effect c =
     let due = rw c.requires.running at c.requires.due in
     let none = rw c.requires.running at c.in-None.ensures.there in
     sym (step_at_end (today c.args.code.now c.args.plan.now c.args.bound) (state_of c.args.code.now c.args.self.now)
     (at_behind_end c.args.code.now c.args.self.now.stack.running.spot due none))
 
-pub returns-in-Some : goal.returns-in-Some
-returns-in-Some c =
+pub returns-in-Some-clause-effect : goal.returns-in-Some-clause-effect
+returns-in-Some-clause-effect c =
     let due = rw c.requires.running at c.requires.due in
     let there = rw c.requires.running at c.in-Some.ensures.there in
     let is = does_is c.args.code.now c.args.plan.now c.args.bound c.args.self.now.stack (rest_of c.args.self.now) c.in-Some.inst.now
     (at_behind c.args.code.now c.args.self.now.stack.running.spot c.in-Some.inst.now due there) in
-    rw (← is) (rw c.requires.running at c.act.ensures)
+    rw (← is) (rw c.requires.running at c.act.ensures.effect)

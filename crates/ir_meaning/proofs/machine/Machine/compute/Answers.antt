@@ -7,8 +7,8 @@ use Rattle.ir_meaning.specs.Machines.{rest_of, state_of}
 use Rattle.ir_meaning.proofs.LineLemmas.{value_is, settled_ok, settled_err}
 use Rattle.ir_meaning.proofs.machine.Machine.compute.Goals as goal
 
-pub returns-in_ok-pass-in-Ok : goal.returns-in_ok-pass-in-Ok
-returns-in_ok-pass-in-Ok c =
+pub returns-in_ok-pass-in-Ok-clause-effect : goal.returns-in_ok-pass-in-Ok-clause-effect
+returns-in_ok-pass-in-Ok-clause-effect c =
     let value = value_is c.args.code.now c.args.self.now.stack.running.registers c.args.inst.now c.operand.result c.operand-2.result c.operand-3.result c.computed-outcome.result
     (rw (c.layouts.ensures.value, c.module.ensures, c.op.ensures, c.ty.ensures) at c.computed-outcome.ensures)
     (rw c.operands.ensures at c.operand.ensures) (rw c.operands-2.ensures at c.operand-2.ensures) (rw c.operands-3.ensures at c.operand-3.ensures) in
@@ -17,8 +17,8 @@ returns-in_ok-pass-in-Ok c =
     (value_of_line c.args.code.now.layouts (map datum c.args.self.now.stack.running.registers) c.args.inst.now.op c.args.inst.now.ty c.args.inst.now.operands)
     (rw c.in-Ok.is at value))
 
-pub returns-in-Err : goal.returns-in-Err
-returns-in-Err c =
+pub returns-in-Err-clause-effect : goal.returns-in-Err-clause-effect
+returns-in-Err-clause-effect c =
     let value = value_is c.args.code.now c.args.self.now.stack.running.registers c.args.inst.now c.operand.result c.operand-2.result c.operand-3.result c.computed-outcome.result
     (rw (c.layouts.ensures.value, c.module.ensures, c.op.ensures, c.ty.ensures) at c.computed-outcome.ensures)
     (rw c.operands.ensures at c.operand.ensures) (rw c.operands-2.ensures at c.operand-2.ensures) (rw c.operands-3.ensures at c.operand-3.ensures) in

@@ -5,8 +5,8 @@ use Rattle.ir_meaning.specs.Stacks.{frame_of}
 use Rattle.ir_meaning.proofs.FrameLemmas.{entering_is}
 use Rattle.ir_meaning.proofs.machine.Machine.enter.Goals as goal
 
-pub returns : goal.returns
-returns c =
+pub returns-clause-effect : goal.returns-clause-effect
+returns-clause-effect c =
     let below : c.args.self.now.steps < c.args.bound = omega arith in
     let left = lt-ltb c.args.self.now.steps c.args.bound below in
     let same = length-map c.args.self.now.stack.below (frame_of c.args.code.now) in

@@ -3,8 +3,8 @@ use Rattle.std.proofs.Common.{◌<◌, ◌+◌, lt-ltb, arith}
 use Rattle.ir_meaning.proofs.FrameLemmas.{jumped_is}
 use Rattle.ir_meaning.proofs.machine.Machine.jump.Goals as goal
 
-pub returns : goal.returns
-returns c =
+pub returns-clause-effect : goal.returns-clause-effect
+returns-clause-effect c =
     let below : c.args.self.now.steps < c.args.bound = omega arith in
     let left = lt-ltb c.args.self.now.steps c.args.bound below in
     rw (left, c.in_ok-arrive.ensures, c.insts.ensures.value, c.first_register.ensures, c.spot-func.ensures)

@@ -1,0 +1,33 @@
+use Rattle.std.proofs.Common.{◌≡◌, ℕ, ℤ, pos, ◌+◌, false, List, ◌++◌, ◌∷◌, [], length, map, ap, ◌∙◌}
+use Rattle.std.specs.Prelude.{int_lt, unsigned_abs}
+use Rattle.ir_ast.specs.declared.ops.Operand.{Operand}
+use Rattle.ir_ast.specs.Layouts.{ObjectLayout}
+use Rattle.ir_ast.specs.Objects.{Object}
+use Rattle.sp_ids.specs.Numbers.{signed}
+use Rattle.tool_io.specs.Counts.{raised}
+use Rattle.object_meaning.specs.Calls.{made}
+use Rattle.object_meaning.specs.Registers.{number_in, operand}
+use Rattle.object_store.specs.declared.words.Word.{Word}
+use Rattle.object_store.specs.Stored.{Store, is_full}
+use Rattle.object_store.specs.Words.{datum}
+use Rattle.ir_meaning.specs.Stacks.{word_at}
+use Rattle.ir_meaning.specs.Machines.{rest_of}
+use Rattle.ir_meaning.proofs.WordLemmas.{operand_is}
+use Rattle.ir_meaning.proofs.MemoryLemmas.{make_is}
+use Rattle.ir_meaning.proofs.machine.Machine.make.Goals as goal
+
+pub returns-in_ok-pass-in-Some-clause-effect : goal.returns-in_ok-pass-in-Some-clause-effect
+returns-in_ok-pass-in-Some-clause-effect c =
+    let now = c.args.self.now in let inst = c.args.inst.now in let layouts = c.args.code.now.layouts in
+    let count_is : c.sign-count.result ≡ signed 64 (number_in (operand (map datum now.stack.running.registers) inst.operands 0)) =
+    c.sign-count.ensures ∙ ap (signed 64) (c.number.ensures ∙ ap (λ (word : Word). number_in (datum word)) c.operand.ensures
+    ∙ ap number_in (operand_is now.stack.running.registers c.operands.result.now 0)
+    ∙ ap (λ (os : List Operand). number_in (operand (map datum now.stack.running.registers) os 0)) c.operands.ensures) in
+    let made_so = rw c.in-Some.is at c.in_ok-add.ensures.made in
+    let amount = c.unsigned_abs.ensures in
+    let room = rw (c.requires.layouts, amount) at made_so.0 in
+    let objects = rw (c.requires.layouts, amount) at (ap (λ (s : Store). s.objects) made_so.2) in
+    let some : int_lt c.sign-count.result (pos 0) ≡ false = ? in
+    rw (c.in_ok-pass-in-Some.ensures, c.to.ensures, c.requires.running)
+    (make_is c.args.code.now c.args.plan.now c.args.bound now.stack (rest_of now) inst c.args.layout c.sign-count.result c.in-Some.object c.saturating_add-self.result c.add.new.self.objects
+    count_is some c.saturating_add-self.ensures room made_so.1 objects)
