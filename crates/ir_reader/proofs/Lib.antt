@@ -1,10 +1,3 @@
-pub mod Decimals
-pub mod TokenCount
-pub mod Dropping
-pub mod Listing
-pub mod Stopping
 pub mod AllOf
-pub mod LineByLine
-pub mod Openings
-pub mod FamilyLines
 pub mod FittingLines
+pub mod LineByLine

@@ -5,11 +5,11 @@ use Rattle.std.specs.Char.{is_ascii_digit}
 use Rattle.sp_text.specs.Tokens.{Tok, tok, tokens, is_name, are_digits}
 use Rattle.sp_text.specs.declared.tokens.Kind.TheVariants as kinds
 use Rattle.ir_ast.specs.declared.modules.Form.TheVariants as text_forms
-use Rattle.ir_reader.specs.declared.forms.Form.TheVariants as forms
-use Rattle.ir_reader.specs.declared.forms.DroppedLine.TheVariants as drop_lines
-use Rattle.ir_reader.specs.declared.words.Dropped.TheVariants as drops
-use Rattle.ir_reader.specs.Families.{statepoint_name, relocate_name, result_suffix, result_front, is_family_name}
-use Rattle.ir_reader.specs.Forms.{slots, form_in, declared_form, declared_of, first_global}
+use Rattle.line_forms.specs.declared.forms.Form.TheVariants as forms
+use Rattle.line_forms.specs.declared.forms.DroppedLine.TheVariants as drop_lines
+use Rattle.line_tokens.specs.declared.words.Dropped.TheVariants as drops
+use Rattle.line_tokens.specs.Families.{statepoint_name, relocate_name, result_suffix, result_front, is_family_name}
+use Rattle.line_forms.specs.Forms.{slots, form_in, declared_form, declared_of, first_global}
 use Rattle.read_back.proofs.Steps.{Reads, past_all-none, end, word, spaced, space, over_blank, drop_at, drop_end}
 use Rattle.read_back.proofs.Spellings.{integer_type, integer_other, pointer_type, pointer_other, decimal-is, decimal-digits}
 use Rattle.read_back.proofs.ListForms.{word_none}

@@ -8,21 +8,21 @@ use Rattle.sp_text.specs.Tokens.{Tok, tok, tokens, is_token, is_name}
 use Rattle.sp_text.specs.declared.tokens.Kind.{Kind}
 use Rattle.sp_text.specs.declared.tokens.Kind.TheVariants as kinds
 use Rattle.sp_text.proofs.Spelled.{stops, continues, tokens-spelled, tokens-blank}
-use Rattle.ir_reader.specs.declared.readings.TypeWord.{TypeWord}
-use Rattle.ir_reader.specs.declared.readings.TypeWord.TheVariants as types
-use Rattle.ir_reader.specs.declared.readings.Literal.{Literal}
-use Rattle.ir_reader.specs.declared.words.Dropped.TheVariants as drops
-use Rattle.ir_reader.specs.Drops.{past_all, after_bracket}
-use Rattle.ir_reader.specs.Families.{is_result_of, is_family_name}
+use Rattle.line_parts.specs.declared.readings.TypeWord.{TypeWord}
+use Rattle.line_parts.specs.declared.readings.TypeWord.TheVariants as types
+use Rattle.line_tokens.specs.declared.literals.Literal.{Literal}
+use Rattle.line_tokens.specs.declared.words.Dropped.TheVariants as drops
+use Rattle.line_parts.specs.Drops.{past_all, after_bracket}
+use Rattle.line_tokens.specs.Families.{is_result_of, is_family_name}
 use Rattle.ir_printer.specs.Lists.{joined}
-use Rattle.ir_reader.specs.Gives.{Found, after, one_at, with_rest}
-use Rattle.ir_reader.specs.Lists.{Given, given, comma, list_to, is_argument_type, is_task_start, passed_at, given_behind}
-use Rattle.ir_reader.specs.Marks.{is_mark, is_word, begins, stands}
-use Rattle.ir_reader.specs.Numbers.{decimal_from}
-use Rattle.ir_reader.specs.Parts.{Val, mark_at, value_at, is_value_type, is_answer_type, is_managed, allowed_type_at, spelled_type_at}
-use Rattle.ir_reader.specs.Parts as values
-use Rattle.ir_reader.specs.Slots.{Item, name, ty, guarded, live, literal, Slot, g, a_statepoint_type, a_family_answer, a_family, a_bracketing, a_token, a_guarded, a_live, a_result, a_number, part, parse}
-use Rattle.ir_reader.specs.Statepoints.{Signature, Guarded, first_types_at, last_types_at, statepoint_type_at, number_at, is_zero, zero_at, token_at, signature_at, is_type_of, element_at, target_at, closing_at, begins_argument, handed_at, id_at, count_at, guarded_at, live_entry_at, bundle_at, live_at, suffix_of, result_at, family_answer_at, bracketing_at}
+use Rattle.line_parts.specs.Gives.{Found, after, one_at, with_rest}
+use Rattle.line_parts.specs.Lists.{Given, given, comma, list_to, is_argument_type, is_task_start, passed_at, given_behind}
+use Rattle.line_tokens.specs.Marks.{is_mark, is_word, begins, stands}
+use Rattle.line_tokens.specs.Numbers.{decimal_from}
+use Rattle.line_parts.specs.Parts.{Val, mark_at, value_at, is_value_type, is_answer_type, is_managed, allowed_type_at, spelled_type_at}
+use Rattle.line_parts.specs.Parts as values
+use Rattle.line_forms.specs.Slots.{Item, name, ty, guarded, live, literal, Slot, g, a_statepoint_type, a_family_answer, a_family, a_bracketing, a_token, a_guarded, a_live, a_result, a_number, part, parse}
+use Rattle.group_parts.specs.Statepoints.{Signature, Guarded, first_types_at, last_types_at, statepoint_type_at, number_at, is_zero, zero_at, token_at, signature_at, is_type_of, element_at, target_at, closing_at, begins_argument, handed_at, id_at, count_at, guarded_at, live_entry_at, bundle_at, live_at, suffix_of, result_at, family_answer_at, bracketing_at}
 use Rattle.read_back.proofs.Steps.{Reads, Stops, IsClean, clean-both, name-clean, one, step, step_to, past_all-none, first_of, stops-kind}
 use Rattle.read_back.proofs.Spellings.{SpellsType, SpellsValue, SpellsLiteral, allowed, pointer_type}
 use Rattle.read_back.proofs.Listed.{SpellsElement, others, comma_spelled, clean_others, ends_others, listed, list_read, list_clean}

@@ -7,10 +7,10 @@ use Rattle.std.proofs.lemmas.Bool.{and_parts, not-true}
 use Rattle.sp_text.specs.Tokens.{Tok, tokens, is_name}
 use Rattle.sp_text.specs.Bytes.{is_blank}
 use Rattle.sp_text.proofs.Spelled.{label-spelled}
-use Rattle.ir_reader.specs.Gives.{after}
-use Rattle.ir_reader.specs.Forms.{slots, form_of, form_in}
-use Rattle.ir_reader.specs.Slots.{Item, parse}
-use Rattle.ir_reader.specs.Places.{behind, behind_label, is_dropped_form}
+use Rattle.line_parts.specs.Gives.{after}
+use Rattle.line_forms.specs.Forms.{slots, form_of, form_in, is_dropped_form}
+use Rattle.line_forms.specs.Slots.{Item, parse}
+use Rattle.ir_reader.specs.Places.{behind, behind_label}
 use Rattle.ir_reader.specs.Limits as limits
 use Rattle.ir_reader.specs.Limits.{said_fits, said_counts_as}
 use Rattle.read_back.proofs.Steps.{IsClean, in_line}
@@ -19,11 +19,11 @@ use Rattle.sp_text.specs.Lines.{numbered}
 use Rattle.sp_text.specs.Labels.{label_of, is_metadata, is_colon}
 use Rattle.ir_ast.specs.declared.modules.Form.{Form as TextForm}
 use Rattle.ir_ast.specs.declared.modules.Form.TheVariants as text_forms
-use Rattle.ir_reader.specs.declared.forms.Counted.TheVariants as kinds
-use Rattle.ir_reader.specs.declared.forms.Form.{Form}
-use Rattle.ir_reader.specs.declared.forms.Place.{Place}
-use Rattle.ir_reader.specs.declared.forms.State.{State}
-use Rattle.ir_reader.specs.Seen.{Said, label, of_form, line_at}
+use Rattle.ir_reader.specs.declared.states.Counted.TheVariants as kinds
+use Rattle.line_forms.specs.declared.forms.Form.{Form}
+use Rattle.ir_reader.specs.declared.states.Place.{Place}
+use Rattle.ir_reader.specs.declared.states.State.{State}
+use Rattle.line_forms.specs.Seen.{Said, label, of_form, line_at}
 use Rattle.ir_reader.specs.Text.{nothing, said, outcome, Fault, Numbered, with_first, readings, is_top, within, labelled, tokens_outcome}
 use Rattle.ir_reader.specs.Text as texts
 use Rattle.ir_lines.specs.Statements.{Statement, stated}
