@@ -1,5 +1,5 @@
 -- The parts of a statepoint group's lines: what a statepoint calls and passes, its live entries, its result.
-use Rattle.std.specs.Prelude.{ℕ, Bool, true, false, ◌&&◌, ◌||◌, not, List, [], ◌∷◌, drop, Some, None, is_some, option_map, codes, if◌then◌else◌}
+use Rattle.std.specs.Prelude.{ℕ, Bool, true, false, ◌&&◌, ◌||◌, not, List, [], ◌∷◌, Option, Some, None, drop, is_some, option_map, codes, if◌then◌else◌}
 use Rattle.std.specs.List.{list_any}
 use Rattle.std.specs.Str.{bytes_eq}
 use Rattle.sp_text.specs.Tokens.{Tok, tok}
@@ -162,9 +162,10 @@ abbrev pub declares_family : Tok → Bool
 declares_family (tok kinds.Global bytes) = is_family_name (drop 1 bytes)
 declares_family _ = false
 
--- `void`, `token` or T
-unfoldable pub family_answer_at : List Tok → Found (Unit {0})
-family_answer_at ts = if begins (is_word (codes "token")) ts then word_at (codes "token") ts else after (allowed_type_at is_answer_type ts) (λ _ rest. Some (tt, rest))
+-- `token`, or what a function answers else
+unfoldable pub family_answer_at : List Tok → Found (Option TypeWord)
+family_answer_at ts = if begins (is_word (codes "token")) ts then after (word_at (codes "token") ts) (λ _ rest. Some (None, rest))
+    else after (allowed_type_at is_answer_type ts) (λ answer rest. Some (Some answer, rest))
 
 -- any tokens in parentheses, which are balanced
 unfoldable pub bracketing_at : List Tok → Found (Unit {0})

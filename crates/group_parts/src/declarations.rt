@@ -6,7 +6,7 @@ ghost use Rattle.line_tokens.specs.Marks.{stands};
 ghost use Rattle.line_parts.specs.Gives.{Gives, one_at};
 ghost use Rattle.group_parts.specs.Statepoints.{declares_family, family_answer_at, bracketing_at};
 
-use line_parts::{Cursor, Stop};
+use line_parts::{Cursor, Stop, TypeWord};
 use line_tokens::{global, is_family_name};
 use sp_text::Token;
 
@@ -34,16 +34,17 @@ pub fn family_name(cursor: &mut Cursor) -> Result<(), Stop>
     }
 }
 
-/// Passes what a function of the three families answers: `void`, `token` or a type.
+/// What a function of the three families answers: a type or `void`, or nothing of these where it is `token`.
 #[tactic(auto, unfolding(crate::specs::Statepoints::family_answer_at, line_parts::specs::Gives::after))]
-pub fn family_answer(cursor: &mut Cursor) -> Result<(), Stop>
-    ensures { Gives (λ _. tt) result cursor.new (family_answer_at cursor.old) }
+pub fn family_answer(cursor: &mut Cursor) -> Result<Option<TypeWord>, Stop>
+    ensures { Gives (λ answer. answer) result cursor.new (family_answer_at cursor.old) }
 {
     if cursor.begins_word(b"token") {
-        return cursor.word(b"token");
+        cursor.word(b"token")?;
+        return Ok(None);
     }
-    cursor.answer_type()?;
-    Ok(())
+    let answer = cursor.answer_type()?;
+    Ok(Some(answer))
 }
 
 /// Passes parentheses, with any tokens between them.

@@ -1,3 +1,5 @@
 pub mod AllOf
+pub mod Counting
 pub mod FittingLines
+pub mod Judging
 pub mod LineByLine

@@ -13,7 +13,7 @@ abbrev pub with_lines : List Numbered → Result (List Numbered) Fault → Resul
 with_lines front (Ok xs) = Ok (front ++ xs)
 with_lines front (Err fault) = Err fault
 
-with_one : (front : List Numbered) (x : Numbered) (read : Result (List Numbered) Fault) → with_lines front (with_first x read) ≡ with_lines (front ++ x ∷ []) read
+pub with_one : (front : List Numbered) (x : Numbered) (read : Result (List Numbered) Fault) → with_lines front (with_first x read) ≡ with_lines (front ++ x ∷ []) read
 with_one front x (Ok xs) = ap (λ (ys : List Numbered). Ok ys) (sym (append_assoc front (x ∷ []) xs))
 with_one front x (Err fault) = refl
 

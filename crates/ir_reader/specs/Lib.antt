@@ -1,7 +1,9 @@
+pub mod Judged
 pub mod Limits
 pub mod LineFaults
 pub mod Outcomes
 pub mod Places
-pub mod Text
+pub mod Quantities
 pub mod Raws
 pub mod Reads
+pub mod Text

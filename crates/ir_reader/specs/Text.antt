@@ -37,9 +37,13 @@ next_state s place what = record { form = s.form; place = place; counts = counte
 abbrev pub within : State → Place → Said → Outcome
 within s place what = if said_fits what && counts_fit (next_state s place what).counts then said what (next_state s place what) else over_limit
 
+-- a line that is dropped, if it passes no limit
+abbrev pub dropped_within : Said → Outcome
+dropped_within what = if said_fits what then nothing else over_limit
+
 abbrev pub said_by : State → Form → Place → Option Said → Outcome
 said_by s form place None = no_reading
-said_by s form place (Some what) = if is_dropped_form form then nothing else within s place what
+said_by s form place (Some what) = if is_dropped_form form then dropped_within what else within s place what
 
 -- a line of this form
 abbrev pub formed : State → Form → List Tok → Option Place → Outcome

@@ -13,7 +13,7 @@ mod text;
 
 pub use faults::ReadFault;
 pub use group_parts::{FunctionType, StatepointCall};
-pub use laws::fitting_line;
+pub use laws::{fitting_line, judged_text};
 pub use line_forms::{Reading, one_form, one_reading, own_form};
 pub use line_parts::{
     AllPassed, Argument, Arguments, Entries, Entry, Fields, Passed, TypeWord, Value,

@@ -1,16 +1,17 @@
 //! One line in its place.
 
-ghost use Rattle.std.specs.Prelude.{◌≡◌, IsTrue, IfOk, IfSome};
+ghost use Rattle.std.specs.Prelude.{◌≡◌, IsTrue, IfOk, IfSome, None};
 ghost use Rattle.sp_text.specs.Tokens.{tokens};
-ghost use Rattle.line_forms.specs.Seen.{seen};
+ghost use Rattle.line_forms.specs.Slots.{answer_says};
+ghost use Rattle.line_forms.specs.Seen.{seen, of_form};
 ghost use Rattle.ir_reader.specs.Limits.{counts_fit};
-ghost use Rattle.ir_reader.specs.Text.{is_top, within, tokens_outcome, outcome};
+ghost use Rattle.ir_reader.specs.Text.{is_top, within, dropped_within, tokens_outcome, outcome};
 
 use crate::faults::LineFault;
-use crate::limits::{counted_as, reading_fits};
+use crate::limits::{answer_fits, counted_as, reading_fits};
 use crate::states::{Counted, Place, State};
-use line_forms::{Form, Reading, form_in, whole_dropped, whole_kept};
-use line_parts::Cursor;
+use line_forms::{DroppedLine, Form, Reading, form_in, whole_dropped, whole_kept};
+use line_parts::{Cursor, TypeWord};
 use sp_text::Line;
 use std::alloc::Global;
 
@@ -60,6 +61,18 @@ impl<'a> Step<'a> {
         }
     }
 
+    // A line that is dropped, if it passes no limit.
+    fn dropped(which: DroppedLine, answer: Option<TypeWord>) -> Result<Option<Step<'a>>, LineFault>
+        ensures came { Came result (dropped_within (of_form (Form.Dropped which) (answer_says answer))) }
+        ensures none { IfOk result (λ found. found ≡ None) }
+    {
+        if answer_fits(answer) {
+            Ok(None)
+        } else {
+            Err(LineFault::OverLimit)
+        }
+    }
+
     // A line of tokens.
     #[tactic(auto, unfolding(crate::specs::Text::tokens_outcome))]
     fn of_tokens(alloc: Global, state: State, line: Line<'a>) -> Result<Option<Step<'a>>, LineFault>
@@ -79,8 +92,8 @@ impl<'a> Step<'a> {
         };
         match form {
             Form::Dropped(which) => {
-                whole_dropped(&mut cursor, which)?;
-                Ok(None)
+                let answer = whole_dropped(&mut cursor, which)?;
+                Step::dropped(which, answer)
             }
             _ => {
                 let reading = whole_kept(&mut cursor, alloc, form)?;

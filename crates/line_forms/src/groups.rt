@@ -1,8 +1,8 @@
 //! The lines of statepoint groups, and the declarations of what they call.
 #![tactic(auto, unfolding(crate::specs::Seen::line_at, crate::specs::Slots::parse, crate::specs::Slots::part, line_parts::specs::Gives::after))]
 
-ghost use Rattle.std.specs.Prelude.{[]};
 ghost use Rattle.line_parts.specs.Gives.{Gives};
+ghost use Rattle.line_forms.specs.Slots.{answer_says};
 ghost use Rattle.line_forms.specs.Seen.{seen, of_form, line_at};
 
 use crate::forms::{DroppedLine, Form};
@@ -11,7 +11,7 @@ use group_parts::{
     bracketing, family_answer, family_name, guarded, live_if_any, number_of, relocate_function,
     result_type, statepoint_function, statepoint_type, token_name,
 };
-use line_parts::{Cursor, Stop};
+use line_parts::{Cursor, Stop, TypeWord};
 use line_tokens::{Dropped, Flags};
 use std::alloc::Global;
 
@@ -81,15 +81,16 @@ pub fn gc_relocate<'a>(cursor: &mut Cursor<'a>) -> Result<Reading<'a>, Stop>
     })
 }
 
-pub fn family_declaration(cursor: &mut Cursor) -> Result<(), Stop>
-    ensures { Gives (λ _. of_form (Form.Dropped DroppedLine.Family) []) result cursor.new (line_at (Form.Dropped DroppedLine.Family) cursor.old) }
+// What the declared function answers, unless it is a token.
+pub fn family_declaration(cursor: &mut Cursor) -> Result<Option<TypeWord>, Stop>
+    ensures { Gives (λ answer. of_form (Form.Dropped DroppedLine.Family) (answer_says answer)) result cursor.new (line_at (Form.Dropped DroppedLine.Family) cursor.old) }
 {
     cursor.word(b"declare")?;
     cursor.skip(Dropped::HeadAttachments);
     cursor.skip(Dropped::Groups);
-    family_answer(cursor)?;
+    let answer = family_answer(cursor)?;
     family_name(cursor)?;
     bracketing(cursor)?;
     cursor.skip(Dropped::Groups);
-    Ok(())
+    Ok(answer)
 }

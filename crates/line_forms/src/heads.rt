@@ -3,12 +3,13 @@
 
 ghost use Rattle.std.specs.Prelude.{[]};
 ghost use Rattle.line_parts.specs.Gives.{Gives};
+ghost use Rattle.line_forms.specs.Slots.{answer_says};
 ghost use Rattle.line_forms.specs.Seen.{seen, of_form, line_at};
 
 use crate::forms::{DroppedLine, Form};
 use crate::groups::family_declaration;
 use crate::readings::Reading;
-use line_parts::{Cursor, Stop};
+use line_parts::{Cursor, Stop, TypeWord};
 use line_tokens::Dropped;
 use std::alloc::Global;
 
@@ -68,17 +69,18 @@ pub fn close<'a>(cursor: &mut Cursor<'a>) -> Result<Reading<'a>, Stop>
 
 // ---- lines that are dropped
 
-/// Passes a line that is dropped.
-pub fn dropped_line(cursor: &mut Cursor, which: DroppedLine) -> Result<(), Stop>
-    ensures { Gives (λ _. of_form (Form.Dropped which) []) result cursor.new (line_at (Form.Dropped which) cursor.old) }
+// The one thing that a dropped line may say: what a function of a statepoint group answers.
+pub fn dropped_line(cursor: &mut Cursor, which: DroppedLine) -> Result<Option<TypeWord>, Stop>
+    ensures { Gives (λ answer. of_form (Form.Dropped which) (answer_says answer)) result cursor.new (line_at (Form.Dropped which) cursor.old) }
 {
     match which {
-        DroppedLine::SourceFilename => source_filename(cursor),
-        DroppedLine::DataLayout => data_layout(cursor),
-        DroppedLine::Triple => triple(cursor),
-        DroppedLine::Attributes => attributes(cursor),
-        DroppedLine::Family => family_declaration(cursor),
+        DroppedLine::SourceFilename => source_filename(cursor)?,
+        DroppedLine::DataLayout => data_layout(cursor)?,
+        DroppedLine::Triple => triple(cursor)?,
+        DroppedLine::Attributes => attributes(cursor)?,
+        DroppedLine::Family => return family_declaration(cursor),
     }
+    Ok(None)
 }
 
 fn source_filename(cursor: &mut Cursor) -> Result<(), Stop>

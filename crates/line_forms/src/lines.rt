@@ -1,8 +1,9 @@
 //! Whole lines of a form.
 
-ghost use Rattle.std.specs.Prelude.{◌≡◌, [], false};
+ghost use Rattle.std.specs.Prelude.{◌≡◌, false};
 ghost use Rattle.line_parts.specs.Gives.{Gives};
 ghost use Rattle.line_forms.specs.Forms.{is_dropped_form};
+ghost use Rattle.line_forms.specs.Slots.{answer_says};
 ghost use Rattle.line_forms.specs.Seen.{seen, of_form, line_at, ended, Reads};
 
 use crate::accesses::{layout_element, load, scalar_element, store, value_call, void_call};
@@ -14,7 +15,7 @@ use crate::forms::{DroppedLine, Form};
 use crate::groups::{gc_relocate, gc_result, statepoint};
 use crate::heads::{close, declare, define, dropped_line, layout};
 use crate::readings::Reading;
-use line_parts::{Cursor, Stop};
+use line_parts::{Cursor, Stop, TypeWord};
 use std::alloc::Global;
 
 // What a line of this form says.
@@ -71,13 +72,13 @@ pub fn whole_kept<'a>(
     }
 }
 
-/// Passes a whole line that is dropped.
-pub fn whole_dropped(cursor: &mut Cursor, which: DroppedLine) -> Result<(), Stop>
-    ensures { Reads (λ _. of_form (Form.Dropped which) []) result (ended (line_at (Form.Dropped which) cursor.old)) }
+/// Passes a whole line that is dropped. The one thing that it may say is what a function of a statepoint group answers.
+pub fn whole_dropped(cursor: &mut Cursor, which: DroppedLine) -> Result<Option<TypeWord>, Stop>
+    ensures { Reads (λ answer. of_form (Form.Dropped which) (answer_says answer)) result (ended (line_at (Form.Dropped which) cursor.old)) }
 {
-    dropped_line(cursor, which)?;
+    let answer = dropped_line(cursor, which)?;
     if cursor.is_at_end() {
-        Ok(())
+        Ok(answer)
     } else {
         Err(Stop::NoReading)
     }
