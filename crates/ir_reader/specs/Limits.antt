@@ -14,7 +14,7 @@ use Rattle.line_parts.specs.Lists.{Named, Given, given, function}
 use Rattle.ir_ast.specs.declared.modules.Form.{Form as TextForm}
 use Rattle.ir_ast.specs.declared.modules.Form.TheVariants as text_forms
 use Rattle.group_parts.specs.Statepoints.{Signature, Guarded}
-use Rattle.line_forms.specs.Slots.{Item, layout_name, width, ty, value, place, fields, entries, declared, defined, called, guarded, live, literal}
+use Rattle.line_forms.specs.Slots.{Item, layout_name, width, ty, value, place, fields, entries, declared, defined, called, guarded, live, literal, family_answer}
 use Rattle.line_forms.specs.Seen.{Said, label, line}
 
 -- ---- what one line says
@@ -63,6 +63,11 @@ guarded_fits c = literal_fits c.id && signature_fits c.signature && literal_fits
 abbrev pub live_fits : List Val → Bool
 live_fits vs = nat_le (length vs) 16384 && list_all value_fits vs
 
+-- what a function of a statepoint group answers
+abbrev pub answer_fits : Option TypeWord → Bool
+answer_fits None = true
+answer_fits (Some answer) = type_fits answer
+
 abbrev pub item_fits : Item → Bool
 item_fits (width bits) = width_fits bits
 item_fits (ty t) = type_fits t
@@ -77,6 +82,7 @@ item_fits (called n ps) = list_all given_fits ps
 item_fits (guarded c) = guarded_fits c
 item_fits (live vs) = live_fits vs
 item_fits (literal n) = literal_fits n
+item_fits (family_answer answer) = answer_fits answer
 item_fits _ = true
 
 abbrev pub said_fits : Said → Bool

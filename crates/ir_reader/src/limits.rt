@@ -2,8 +2,8 @@
 
 ghost use Rattle.std.specs.Prelude.{◌≡◌, IsTrue, map, length, nat_le, ◌&&◌};
 ghost use Rattle.std.specs.List.{list_all};
-ghost use Rattle.ir_reader.specs.Limits.{width_fits, type_fits, literal_fits, value_fits, place_fits, argument_fits, given_fits, entry_value_fits, name_fits, item_fits, signature_fits, guarded_fits, live_fits, said_fits, said_counts_as, counts_fit, counted, counted_in};
-ghost use Rattle.line_forms.specs.Slots.{defined, answer_says};
+ghost use Rattle.ir_reader.specs.Limits.{width_fits, type_fits, literal_fits, value_fits, place_fits, argument_fits, given_fits, entry_value_fits, name_fits, item_fits, signature_fits, guarded_fits, live_fits, answer_fits, said_fits, said_counts_as, counts_fit, counted, counted_in};
+ghost use Rattle.line_forms.specs.Slots.{defined};
 ghost use Rattle.line_forms.specs.Seen.{seen};
 ghost use Rattle.line_parts.specs.Seen.{seen_value, seen_argument, seen_passed, seen_entry};
 ghost use Rattle.group_parts.specs.Seen.{seen_type, seen_guarded};
@@ -165,7 +165,7 @@ fn values_fit(values: &[Value]) -> bool
 
 /// Whether what a function of a statepoint group answers is within the limits.
 pub fn answer_fits(answer: Option<TypeWord>) -> bool
-    ensures { result ≡ list_all item_fits (answer_says answer) }
+    ensures { result ≡ answer_fits answer }
 {
     match answer {
         Some(ty) => type_fits(ty),

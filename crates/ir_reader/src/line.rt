@@ -2,8 +2,7 @@
 
 ghost use Rattle.std.specs.Prelude.{◌≡◌, IsTrue, IfOk, IfSome, None};
 ghost use Rattle.sp_text.specs.Tokens.{tokens};
-ghost use Rattle.line_forms.specs.Slots.{answer_says};
-ghost use Rattle.line_forms.specs.Seen.{seen, of_form};
+ghost use Rattle.line_forms.specs.Seen.{seen, of_form, dropped_says};
 ghost use Rattle.ir_reader.specs.Limits.{counts_fit};
 ghost use Rattle.ir_reader.specs.Text.{is_top, within, dropped_within, tokens_outcome, outcome};
 
@@ -62,14 +61,16 @@ impl<'a> Step<'a> {
     }
 
     // A line that is dropped, if it passes no limit.
-    fn dropped(which: DroppedLine, answer: Option<TypeWord>) -> Result<Option<Step<'a>>, LineFault>
-        ensures came { Came result (dropped_within (of_form (Form.Dropped which) (answer_says answer))) }
+    fn dropped(
+        which: DroppedLine,
+        answer: Option<TypeWord>,
+    ) -> Result<Option<Step<'a>>, LineFault>
+        ensures came { Came result (dropped_within (of_form (Form.Dropped which) (dropped_says which answer))) }
         ensures none { IfOk result (λ found. found ≡ None) }
     {
-        if answer_fits(answer) {
-            Ok(None)
-        } else {
-            Err(LineFault::OverLimit)
+        match which {
+            DroppedLine::Family if !answer_fits(answer) => Err(LineFault::OverLimit),
+            _ => Ok(None),
         }
     }
 

@@ -28,7 +28,7 @@ use Rattle.line_parts.specs.Parts.{word_at, mark_at, local_at, global_at, value_
 use Rattle.line_tokens.specs.Words.{pred_of}
 use Rattle.line_parts.specs.Lists.{Named, Given, fields_at, entries_at, head_at, called_at, arguments_at, all_passed_at, is_task_start}
 use Rattle.group_parts.specs.Statepoints.{first_types_at, last_types_at, statepoint_type_at, number_at, token_at, guarded_at, live_at, result_at, named_result, suffix_of, declares_family, family_answer_at, bracketing_at}
-use Rattle.line_forms.specs.Slots.{Slot, Item, says, says_nothing, answer_says, part, parse, blank, m, w, g, dropped, a_managed, a_quoted, a_hash, to_brace, a_local, a_layout_name, a_width, a_type, an_answer, a_cast_type, a_value, a_case, a_pred, a_scalar, a_layout, a_place, some_fields, some_entries, a_declared, a_defined, a_called, a_strategy, a_statepoint_type, a_family_answer, a_family, a_bracketing, a_token, a_guarded, a_live, a_result, a_number, name, layout_name, width, ty, value, pred, scalar, layout, place, fields, entries, declared, defined, called, strategy, guarded, live, literal}
+use Rattle.line_forms.specs.Slots.{Slot, Item, says, says_nothing, part, parse, blank, m, w, g, dropped, a_managed, a_quoted, a_hash, to_brace, a_local, a_layout_name, a_width, a_type, an_answer, a_cast_type, a_value, a_case, a_pred, a_scalar, a_layout, a_place, some_fields, some_entries, a_declared, a_defined, a_called, a_strategy, a_statepoint_type, a_family_answer, a_family, a_bracketing, a_token, a_guarded, a_live, a_result, a_number, name, layout_name, width, ty, value, pred, scalar, layout, place, fields, entries, declared, defined, called, strategy, guarded, live, literal, family_answer}
 use Rattle.line_forms.specs.Forms.{slots, form_of, first_global, callee_of, declared_of, behind_result, called_form, declared_form, group_form, form_in, is_group_form, names_family, stands_in}
 use Rattle.line_forms.proofs.Openings.{told, rest_is, said_is, word_found, mark_found, local_found, like, opens, found_is}
 
@@ -87,15 +87,6 @@ unfolding after
 says_unnamed item None none here rest e = absurd cc
 says_unnamed item (Some x) none here rest e = none_unnamed (item x.0 ∷ [], x.1) here rest (or_false (names_family (item x.0)) (none x.0)) e
 
-answer_unnamed : (answer : Option TypeWord) → Names (answer_says answer) ≡ false
-answer_unnamed None = refl
-answer_unnamed (Some answer) = refl
-
-family_answer_unnamed : (found : Found (Option TypeWord)) (here : List Item) (rest : List Tok) → after found (λ answer rest. Some (answer_says answer, rest)) ≡ Some (here, rest) → Names here ≡ false
-unfolding after
-family_answer_unnamed None here rest e = absurd cc
-family_answer_unnamed (Some x) here rest e = none_unnamed (answer_says x.0, x.1) here rest (answer_unnamed x.0) e
-
 neither : (a b : Bool) → (a || b) ≡ false → (a ≡ false) × (b ≡ false)
 neither false false e = (refl, refl)
 neither false true e = absurd cc
@@ -118,7 +109,7 @@ unnamed_part a_hash ts here rest names e = nothing_unnamed (one_at (stands is_ha
 unnamed_part to_brace ts here rest names e = nothing_unnamed (to_brace_at ts) here rest e
 unnamed_part (g text) ts here rest names e = nothing_unnamed (one_at (stands (is_global text)) ts) here rest e
 unnamed_part a_statepoint_type ts here rest names e = nothing_unnamed (statepoint_type_at ts) here rest e
-unnamed_part a_family_answer ts here rest names e = family_answer_unnamed (family_answer_at ts) here rest e
+unnamed_part a_family_answer ts here rest names e = says_unnamed family_answer (family_answer_at ts) (λ x. refl) here rest e
 unnamed_part a_family ts here rest names e = nothing_unnamed (one_at (stands declares_family) ts) here rest e
 unnamed_part a_bracketing ts here rest names e = nothing_unnamed (bracketing_at ts) here rest e
 unnamed_part a_local ts here rest names e = says_unnamed name (local_at ts) (λ x. refl) here rest e
@@ -569,11 +560,10 @@ unfolding part
 family_answer_split f ts said end e =
     let a = split a_family_answer (blank ∷ f) ts said end e in
     let b = split blank f a.rest a.more end a.parse_is in
-    let x = after_some (family_answer_at ts) (λ (answer : Option TypeWord) rest. Some (answer_says answer, rest)) (a.here, a.rest) a.part_is in
-    let found : family_answer_at ts ≡ Some (x.0.0, a.rest) = x.1 ∙ ap (λ (r : List Tok). told (x.0.0, r)) (rest_is (answer_says x.0.0, x.0.1) (a.here, a.rest) x.2) in
+    let t = says_is family_answer (family_answer_at ts) a.here a.rest a.part_is in
     record {
       behind = record { at = b.rest; more = b.more; parse_is = b.parse_is; names = past_slot a_family_answer _ ts said end a refl ∙ past_slot blank _ a.rest a.more end b refl };
-      first = keeps_is ts (family_answer_at ts) x.0.0 a.rest (family_answer-keeps ts) found ∙ ap (λ (r : List Tok). first_global r) (blank_is a.rest b.here b.rest b.part_is);
+      first = keeps_is ts (family_answer_at ts) t.thing a.rest (family_answer-keeps ts) t.found_is ∙ ap (λ (r : List Tok). first_global r) (blank_is a.rest b.here b.rest b.part_is);
     }
 
 function_named : (text : List ℕ) (f : List Slot) (ts : List Tok) (said : List Item) (end : List Tok) → parse (g text ∷ f) ts ≡ Some (said, end) → first_global ts ≡ Some text

@@ -1,18 +1,21 @@
 -- A reading as its form and what it says at the slots of that form.
 use Rattle.std.specs.Prelude.{◌≡◌, ℕ, List, [], ◌∷◌, map, Option, Some, None, Result, Ok, Err, if◌then◌else◌}
+use Rattle.line_forms.specs.declared.forms.DroppedLine.{DroppedLine}
+use Rattle.line_forms.specs.declared.forms.DroppedLine.TheVariants as drop_lines
 use Rattle.line_forms.specs.declared.forms.Form.{Form}
 use Rattle.line_forms.specs.declared.forms.Form.TheVariants as forms
 use Rattle.line_forms.specs.declared.readings.Reading.{Reading}
 use Rattle.line_forms.specs.declared.readings.Reading.TheVariants as readings
 use Rattle.std.specs.Option.{option_copied}
 use Rattle.sp_text.specs.Tokens.{Tok}
+use Rattle.line_parts.specs.declared.readings.TypeWord.{TypeWord}
 use Rattle.line_parts.specs.declared.faults.Stop.{Stop}
 use Rattle.line_parts.specs.declared.faults.Stop.TheVariants as stops
 use Rattle.line_parts.specs.Gives.{Found, after, is_nil}
 use Rattle.line_parts.specs.Seen.{seen_value, seen_argument, seen_passed, seen_entry}
 use Rattle.group_parts.specs.Seen.{seen_guarded}
 use Rattle.line_forms.specs.Forms.{slots}
-use Rattle.line_forms.specs.Slots.{Item, parse, name, layout_name, width, ty, value, pred, scalar, layout, place, fields, entries, declared, defined, called, strategy, guarded, live, literal}
+use Rattle.line_forms.specs.Slots.{Item, parse, name, layout_name, width, ty, value, pred, scalar, layout, place, fields, entries, declared, defined, called, strategy, guarded, live, literal, family_answer}
 
 -- a line that is made of tokens: its form, and what it says at the form's slots
 pub record Line : Type 0 where
@@ -65,6 +68,11 @@ line_at form ts = after (parse (slots form) ts) (λ items rest. Some (of_form fo
 abbrev pub ended : Found Said → Option Said
 ended None = None
 ended (Some (what, rest)) = if is_nil rest then Some what else None
+
+-- what a dropped line says: what a function of a statepoint group answers
+abbrev pub dropped_says : DroppedLine → Option TypeWord → List Item
+dropped_says drop_lines.Family answer = family_answer answer ∷ []
+dropped_says _ answer = []
 
 -- what a function returned for a whole line, seen by view
 abbrev pub Reads : {X : Type 0} → (X → Said) → Result X Stop → Option Said → Type 0

@@ -1,5 +1,5 @@
 -- A form is a list of slots. The same list serves the reader, the printer and reading back.
-use Rattle.std.specs.Prelude.{ℕ, true, false, List, [], ◌∷◌, ◌++◌, Option, Some, None}
+use Rattle.std.specs.Prelude.{ℕ, true, false, List, [], ◌∷◌, ◌++◌, Option, Some}
 use Rattle.sp_text.specs.Tokens.{Tok}
 use Rattle.line_parts.specs.declared.readings.TypeWord.{TypeWord}
 use Rattle.line_tokens.specs.declared.literals.Literal.{Literal}
@@ -34,6 +34,8 @@ pub data Item : Type 0 where
   guarded : Guarded → Item
   live : List Val → Item
   literal : Literal → Item
+  -- none where it is `token`
+  family_answer : Option TypeWord → Item
 
 pub data Slot : Type 0 where
   -- nothing to the reader, a space to the printer
@@ -86,11 +88,6 @@ says_nothing found = after found (λ _ rest. Some ([], rest))
 abbrev pub says : {A : Type 0} → (A → Item) → Found A → Found (List Item)
 says item found = after found (λ x rest. Some (item x ∷ [], rest))
 
--- `token` is no type
-abbrev pub answer_says : Option TypeWord → List Item
-answer_says None = []
-answer_says (Some answer) = ty answer ∷ []
-
 -- what stands at a slot
 unfoldable pub part : Slot → List Tok → Found (List Item)
 part blank ts = Some ([], ts)
@@ -103,7 +100,7 @@ part a_hash ts = says_nothing (one_at (stands is_hash) ts)
 part to_brace ts = says_nothing (to_brace_at ts)
 part (g text) ts = says_nothing (one_at (stands (is_global text)) ts)
 part a_statepoint_type ts = says_nothing (statepoint_type_at ts)
-part a_family_answer ts = after (family_answer_at ts) (λ answer rest. Some (answer_says answer, rest))
+part a_family_answer ts = says family_answer (family_answer_at ts)
 part a_family ts = says_nothing (one_at (stands declares_family) ts)
 part a_bracketing ts = says_nothing (bracketing_at ts)
 part a_local ts = says name (local_at ts)

@@ -2,8 +2,7 @@
 #![tactic(auto, unfolding(crate::specs::Seen::line_at, crate::specs::Slots::parse, crate::specs::Slots::part, line_parts::specs::Gives::after))]
 
 ghost use Rattle.line_parts.specs.Gives.{Gives};
-ghost use Rattle.line_forms.specs.Slots.{answer_says};
-ghost use Rattle.line_forms.specs.Seen.{seen, of_form, line_at};
+ghost use Rattle.line_forms.specs.Seen.{seen, of_form, line_at, dropped_says};
 
 use crate::forms::{DroppedLine, Form};
 use crate::readings::Reading;
@@ -83,7 +82,7 @@ pub fn gc_relocate<'a>(cursor: &mut Cursor<'a>) -> Result<Reading<'a>, Stop>
 
 // What the declared function answers, unless it is a token.
 pub fn family_declaration(cursor: &mut Cursor) -> Result<Option<TypeWord>, Stop>
-    ensures { Gives (λ answer. of_form (Form.Dropped DroppedLine.Family) (answer_says answer)) result cursor.new (line_at (Form.Dropped DroppedLine.Family) cursor.old) }
+    ensures { Gives (λ answer. of_form (Form.Dropped DroppedLine.Family) (dropped_says DroppedLine.Family answer)) result cursor.new (line_at (Form.Dropped DroppedLine.Family) cursor.old) }
 {
     cursor.word(b"declare")?;
     cursor.skip(Dropped::HeadAttachments);

@@ -3,8 +3,7 @@
 
 ghost use Rattle.std.specs.Prelude.{[]};
 ghost use Rattle.line_parts.specs.Gives.{Gives};
-ghost use Rattle.line_forms.specs.Slots.{answer_says};
-ghost use Rattle.line_forms.specs.Seen.{seen, of_form, line_at};
+ghost use Rattle.line_forms.specs.Seen.{seen, of_form, line_at, dropped_says};
 
 use crate::forms::{DroppedLine, Form};
 use crate::groups::family_declaration;
@@ -71,7 +70,7 @@ pub fn close<'a>(cursor: &mut Cursor<'a>) -> Result<Reading<'a>, Stop>
 
 // The one thing that a dropped line may say: what a function of a statepoint group answers.
 pub fn dropped_line(cursor: &mut Cursor, which: DroppedLine) -> Result<Option<TypeWord>, Stop>
-    ensures { Gives (λ answer. of_form (Form.Dropped which) (answer_says answer)) result cursor.new (line_at (Form.Dropped which) cursor.old) }
+    ensures { Gives (λ answer. of_form (Form.Dropped which) (dropped_says which answer)) result cursor.new (line_at (Form.Dropped which) cursor.old) }
 {
     match which {
         DroppedLine::SourceFilename => source_filename(cursor)?,

@@ -3,8 +3,7 @@
 ghost use Rattle.std.specs.Prelude.{◌≡◌, false};
 ghost use Rattle.line_parts.specs.Gives.{Gives};
 ghost use Rattle.line_forms.specs.Forms.{is_dropped_form};
-ghost use Rattle.line_forms.specs.Slots.{answer_says};
-ghost use Rattle.line_forms.specs.Seen.{seen, of_form, line_at, ended, Reads};
+ghost use Rattle.line_forms.specs.Seen.{seen, of_form, line_at, ended, Reads, dropped_says};
 
 use crate::accesses::{layout_element, load, scalar_element, store, value_call, void_call};
 use crate::computing::{binary, cast, compare, convert, phi, select};
@@ -74,7 +73,7 @@ pub fn whole_kept<'a>(
 
 /// Passes a whole line that is dropped. The one thing that it may say is what a function of a statepoint group answers.
 pub fn whole_dropped(cursor: &mut Cursor, which: DroppedLine) -> Result<Option<TypeWord>, Stop>
-    ensures { Reads (λ answer. of_form (Form.Dropped which) (answer_says answer)) result (ended (line_at (Form.Dropped which) cursor.old)) }
+    ensures { Reads (λ answer. of_form (Form.Dropped which) (dropped_says which answer)) result (ended (line_at (Form.Dropped which) cursor.old)) }
 {
     let answer = dropped_line(cursor, which)?;
     if cursor.is_at_end() {

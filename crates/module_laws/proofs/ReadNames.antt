@@ -534,12 +534,13 @@ result_good ts g =
     after-good IsName (λ (x : TypeWord). ⊤) (global_at r1) _ (global_good r1 g1) (λ x2 r2 q2 g2.
     chosen_good (λ (x : TypeWord). ⊤) (is_result_of (suffix_of x1 ts) x2) (Some (x1, r2)) None (tt, g2) tt))
 
-family_answer_good : (ts : List Tok) → Good ts → GF Nothing (family_answer_at ts)
+family_answer_good : (ts : List Tok) → Good ts → GF (λ (x : Option TypeWord). ⊤) (family_answer_at ts)
 unfolding family_answer_at
 family_answer_good ts g =
-    chosen_good Nothing (begins (is_word (codes "token")) ts) (word_at (codes "token") ts) (after (allowed_type_at is_answer_type ts) (λ _ rest. Some (tt, rest)))
-    (word_good (codes "token") ts g)
-    (after-good (λ (x : TypeWord). ⊤) Nothing (allowed_type_at is_answer_type ts) _ (type_good is_answer_type ts g) (λ x1 r1 q1 g1. (tt, g1)))
+    chosen_good (λ (x : Option TypeWord). ⊤) (begins (is_word (codes "token")) ts) (after (word_at (codes "token") ts) (λ _ rest. Some (None, rest)))
+    (after (allowed_type_at is_answer_type ts) (λ answer rest. Some (Some answer, rest)))
+    (after-good Nothing (λ (x : Option TypeWord). ⊤) (word_at (codes "token") ts) _ (word_good (codes "token") ts g) (λ x1 r1 q1 g1. (tt, g1)))
+    (after-good (λ (x : TypeWord). ⊤) (λ (x : Option TypeWord). ⊤) (allowed_type_at is_answer_type ts) _ (type_good is_answer_type ts g) (λ x1 r1 q1 g1. (tt, g1)))
 
 end_good : (o : Option (List Tok)) → GO o → GF Nothing (option_map (λ end. (tt, end)) o)
 end_good None h = tt
@@ -580,7 +581,7 @@ part_good a_hash ts g = nothing_good (λ (x : Unit {0}). ⊤) (one_at (stands is
 part_good to_brace ts g = nothing_good (λ (x : Unit {0}). ⊤) (to_brace_at ts) (brace_good ts g)
 part_good (items.g text) ts h = nothing_good (λ (x : Unit {0}). ⊤) (one_at (stands (is_global text)) ts) (any_good (stands (is_global text)) ts h)
 part_good a_statepoint_type ts g = nothing_good (λ (x : Unit {0}). ⊤) (statepoint_type_at ts) (statepoint_type_good ts g)
-part_good a_family_answer ts g = nothing_good (λ (x : Unit {0}). ⊤) (family_answer_at ts) (family_answer_good ts g)
+part_good a_family_answer ts g = says_good (λ (x : Option TypeWord). ⊤) (λ a. items.family_answer a) (family_answer_at ts) (λ x q. tt) (family_answer_good ts g)
 part_good a_family ts g = nothing_good (λ (x : Unit {0}). ⊤) (one_at (stands declares_family) ts) (any_good (stands declares_family) ts g)
 part_good a_bracketing ts g = nothing_good (λ (x : Unit {0}). ⊤) (bracketing_at ts) (bracketed_good ts g)
 part_good a_local ts g = says_good IsName (λ n. items.name n) (local_at ts) (λ x q. q) (local_good ts g)

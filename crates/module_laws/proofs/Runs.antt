@@ -19,7 +19,7 @@ use Rattle.ir_reader.specs.Places.{behind, behind_label}
 use Rattle.ir_reader.specs.Limits.{said_fits, said_counts_as, counted, counted_in, counts_fit}
 use Rattle.line_forms.proofs.FamilyLines.{stands_where_read}
 use Rattle.line_forms.specs.Seen.{Said, label, line, of_form, line_at, ended}
-use Rattle.ir_reader.specs.Text.{Outcome, no_reading, over_limit, nothing, said, is_top, next_state, within, said_by, formed, by_form, tokens_outcome, label_outcome, labelled, outcome, Fault, syntax_fault, limit_fault, Numbered, with_first, readings_by, readings}
+use Rattle.ir_reader.specs.Text.{Outcome, no_reading, over_limit, nothing, said, is_top, next_state, within, dropped_within, said_by, formed, by_form, tokens_outcome, label_outcome, labelled, outcome, Fault, syntax_fault, limit_fault, Numbered, with_first, readings_by, readings}
 
 -- ---- what a line comes to
 
@@ -76,9 +76,13 @@ within-step s form place items bytes true what next f p e fits o =
 
 dropped-step : (s : State) (form : Form) (place : Place) (items : List Item) (bytes : List ℕ) (b : Bool) (what : Said) (next : State)
     → form_in s.form (tokens bytes) ≡ Some form → parse (slots form) (tokens bytes) ≡ Some (items, []) → behind s.place form ≡ Some place
-    → (if b then nothing else within s place (of_form form items)) ≡ said what next
+    → (if b then dropped_within (of_form form items) else within s place (of_form form items)) ≡ said what next
     → IsStep s what next
-dropped-step s form place items bytes true what next f p e o = absurd (let bad : nothing ≡ said what next = o in cc)
+dropped-step s form place items bytes true what next f p e o = absurd (by (said_fits (of_form form items)) o)
+  where
+    by : (fits : Bool) → (if fits then nothing else over_limit) ≡ said what next → ⊥
+    by true bad = cc
+    by false bad = cc
 dropped-step s form place items bytes false what next f p e o =
     within-step s form place items bytes (said_fits (of_form form items) && counts_fit (next_state s place (of_form form items)).counts) what next f p e refl o
 

@@ -65,10 +65,10 @@ no_text_fault test lines ss e all line f =
     All-contains (λ (l : Line). test l.says ≡ false) lines f.found (All-from_recursion (λ (l : Line). test l.says ≡ false) lines (lines_all (Passes test) lines ss e all)) f.inside in
     let bad : true ≡ false = sym f.faulty ∙ clear in cc
 
--- the layout of a `gc_new` is one of so many, and a result has at most 64 bits
+-- the layout of a `gc_new` is one of so many, and a result has 1 to 64 bits
 abbrev pub IsBelow : ℕ → External → Type 0
 IsBelow count (externs.New number) = number < count
-IsBelow count (externs.ResultOf width) = width ≤ 64
+IsBelow count (externs.ResultOf width) = (1 ≤ width) × (width ≤ 64)
 IsBelow count _ = ⊤
 
 made_below : (count first more : ℕ) → first + more ≤ count → AllByRecursion (IsBelow count) (map externs.New (range_with_len first more))
@@ -79,13 +79,13 @@ fixed_below : (count : ℕ) → AllByRecursion (IsBelow count) fixed_externals
 unfolding fixed_externals
 fixed_below count = (tt, (tt, (tt, (tt, (tt, (tt, (tt, (tt, tt))))))))
 
-results_below : (count first more : ℕ) → first + more ≤ 65 → AllByRecursion (IsBelow count) (map externs.ResultOf (range_with_len first more))
-results_below count first zero few = tt
-results_below count first (suc more) few = (omega arith, results_below count (first + 1) more (omega arith))
+results_below : (count first more : ℕ) → 1 ≤ first → first + more ≤ 65 → AllByRecursion (IsBelow count) (map externs.ResultOf (range_with_len first more))
+results_below count first zero some few = tt
+results_below count first (suc more) some few = ((some, omega arith), results_below count (first + 1) more (omega arith) (omega arith))
 
 widths_below : (count : ℕ) → AllByRecursion (IsBelow count) (map externs.ResultOf integer_widths)
 unfolding integer_widths
-widths_below count = results_below count 1 64 (omega arith)
+widths_below count = results_below count 1 64 (omega arith) (omega arith)
 
 pub externals_below : (layouts : List ObjectLayout) → AllByRecursion (IsBelow (length layouts)) (externals layouts)
 externals_below layouts =

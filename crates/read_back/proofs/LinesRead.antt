@@ -175,10 +175,10 @@ tokens_said s (t ∷ ts) form place items is fitting stands kept fits counts =
     rw is (rw stands (rw fitting (rw kept (within_said s place (of_form form items) fits counts))))
 
 tokens_dropped : (s : State) (ts : List Tok) (form : Form) (place : Place) (items : List Item) → form_in s.form ts ≡ Some form → parse (slots form) ts ≡ Some (items, [])
-    → behind s.place form ≡ Some place → is_dropped_form form ≡ true → tokens_outcome s ts ≡ nothing
+    → behind s.place form ≡ Some place → is_dropped_form form ≡ true → said_fits (of_form form items) ≡ true → tokens_outcome s ts ≡ nothing
 unfolding tokens_outcome line_at after
-tokens_dropped s [] form place items is fitting stands dropped = refl
-tokens_dropped s (t ∷ ts) form place items is fitting stands dropped = rw is (rw stands (rw fitting (rw dropped refl)))
+tokens_dropped s [] form place items is fitting stands dropped fits = refl
+tokens_dropped s (t ∷ ts) form place items is fitting stands dropped fits = rw is (rw stands (rw fitting (rw dropped (rw fits refl))))
 
 -- a line of a form, where it may stand and passes no limit
 pub formed_in : (s : State) (line : List ℕ) (form : Form) (place : Place) (items : List Item) → IsClean line → (is_top s.place && is_metadata line) ≡ false
@@ -192,10 +192,10 @@ formed_in s line form place items clean other is fitting stands kept fits counts
 -- a line of a form that is dropped, where it may stand
 pub dropped_in : (s : State) (line : List ℕ) (form : Form) (place : Place) (items : List Item) → IsClean line → (is_top s.place && is_metadata line) ≡ false
     → form_in s.form (tokens line) ≡ Some form → parse (slots form) (tokens line) ≡ Some (items, []) → behind s.place form ≡ Some place → is_dropped_form form ≡ true
-    → outcome s line ≡ nothing
+    → said_fits (of_form form items) ≡ true → outcome s line ≡ nothing
 unfolding outcome
-dropped_in s line form place items clean other is fitting stands dropped =
-    rw other (rw (label-none line clean) (tokens_dropped s (tokens line) form place items is fitting stands dropped))
+dropped_in s line form place items clean other is fitting stands dropped fits =
+    rw other (rw (label-none line clean) (tokens_dropped s (tokens line) form place items is fitting stands dropped fits))
 
 -- a label
 pub label_line : (s : State) (name : List ℕ) (place : Place) → is_name name ≡ true → is_top s.place ≡ false → behind_label s.place ≡ Some place

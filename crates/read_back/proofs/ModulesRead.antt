@@ -218,8 +218,9 @@ declared_in of t allow n is own tys all = declare_in of t n is own (joined (code
 -- one of the three families, in a text of the rewritten form
 dropped_top : (c : Counts) (text : List ℕ) → IsDropped text → is_metadata text ≡ false → Says (at_top text_forms.Rewritten c) (text ++ (10 ∷ [])) (at_top text_forms.Rewritten c) []
 dropped_top c text reads other =
-    says-nothing (at_top text_forms.Rewritten c) text (ends_none-clean text reads.clean)
-    (dropped_in (at_top text_forms.Rewritten c) text (forms.Dropped drop_lines.Family) places.Top [] reads.clean other reads.form_is reads.whole refl refl)
+    says-nothing (at_top text_forms.Rewritten c) text (ends_none-clean text reads.reads.clean)
+    (dropped_in (at_top text_forms.Rewritten c) text (forms.Dropped drop_lines.Family) places.Top (parts.family_answer reads.answer ∷ []) reads.reads.clean other reads.reads.form_is reads.reads.whole refl refl
+    (rw reads.fits refl))
 
 bit_type : SpellsType (codes "i1") (types.Int 1)
 bit_type = subst (λ (ds : List ℕ). SpellsType (105 ∷ ds) (types.Int 1)) (decimal_digit 1 (omega arith)) (integer_type 1 (omega arith))
