@@ -9,12 +9,12 @@ use Rattle.ir_ast.specs.declared.ops.Op.TheVariants as ops
 use Rattle.ir_ast.specs.declared.ops.Operand.{Operand}
 use Rattle.ir_ast.specs.declared.ops.Operand.TheVariants as operands
 use Rattle.ir_ast.specs.declared.ops.Callee.TheVariants as callees
-use Rattle.ir_reader.specs.declared.readings.TypeWord.TheVariants as types
-use Rattle.ir_reader.specs.declared.readings.Literal.{Literal}
-use Rattle.ir_reader.specs.declared.words.Binary.TheVariants.{Add}
-use Rattle.ir_reader.specs.Parts as values
-use Rattle.ir_reader.specs.Parts.{Val}
-use Rattle.ir_reader.specs.Lists.{given}
+use Rattle.line_parts.specs.declared.readings.TypeWord.TheVariants as types
+use Rattle.line_tokens.specs.declared.literals.Literal.{Literal}
+use Rattle.line_tokens.specs.declared.words.Binary.TheVariants.{Add}
+use Rattle.line_parts.specs.Parts as values
+use Rattle.line_parts.specs.Parts.{Val}
+use Rattle.line_parts.specs.Lists.{given}
 use Rattle.ir_lines.specs.Statements.{Statement, Line, define, declare, close, label, binary, phi, call, jump, switch, switch_case, switch_end, ret}
 use Rattle.ir_lines.specs.Sections.{Definition, definitions_of}
 use Rattle.ir_lines.specs.Scope.{Scope, scope_of}

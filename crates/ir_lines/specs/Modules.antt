@@ -23,16 +23,16 @@ use Rattle.ir_ast.specs.Blocks.{BasicBlock}
 use Rattle.ir_ast.specs.Funcs.{Function}
 use Rattle.ir_ast.specs.Layouts.{ObjectLayout}
 use Rattle.ir_ast.specs.Modules.{LinedModule}
-use Rattle.ir_reader.specs.declared.readings.TypeWord.{TypeWord}
-use Rattle.ir_reader.specs.declared.readings.TypeWord.TheVariants as types
-use Rattle.ir_reader.specs.declared.readings.Literal.{Literal}
-use Rattle.ir_reader.specs.declared.words.Binary.{Binary}
-use Rattle.ir_reader.specs.declared.words.Binary.TheVariants as binaries
-use Rattle.ir_reader.specs.declared.words.Conversion.{Conversion}
-use Rattle.ir_reader.specs.declared.words.Conversion.TheVariants as conversions
-use Rattle.ir_reader.specs.Parts.{Val}
-use Rattle.ir_reader.specs.Parts as values
-use Rattle.ir_reader.specs.Lists.{Given, given, function}
+use Rattle.line_parts.specs.declared.readings.TypeWord.{TypeWord}
+use Rattle.line_parts.specs.declared.readings.TypeWord.TheVariants as types
+use Rattle.line_tokens.specs.declared.literals.Literal.{Literal}
+use Rattle.line_tokens.specs.declared.words.Binary.{Binary}
+use Rattle.line_tokens.specs.declared.words.Binary.TheVariants as binaries
+use Rattle.line_tokens.specs.declared.words.Conversion.{Conversion}
+use Rattle.line_tokens.specs.declared.words.Conversion.TheVariants as conversions
+use Rattle.line_parts.specs.Parts.{Val}
+use Rattle.line_parts.specs.Parts as values
+use Rattle.line_parts.specs.Lists.{Given, given, function}
 use Rattle.ir_lines.specs.Statements.{Statement, Line, binary, compare, convert, select, phi, scalar_step, layout_step, load, store, call, jump, branch, switch, switch_case, ret_void, ret, unreachable, statepoint, gc_result, gc_relocate}
 use Rattle.ir_lines.specs.Parts.{live_use, token_use, index_use}
 use Rattle.ir_lines.specs.Sections.{LayoutLine, Definition, Naming, BlockLines, layouts_of, definitions_of, arguments_named, values_of, blocks_of, cases_of}

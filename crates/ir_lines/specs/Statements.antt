@@ -1,22 +1,22 @@
 -- What a line says, by its parts.
 use Rattle.std.specs.Prelude.{ℕ, List, [], ◌∷◌, map, Option, Some, None, slice_get, Bool, true, false}
-use Rattle.ir_reader.specs.declared.forms.Form.{Form}
-use Rattle.ir_reader.specs.declared.forms.Form.TheVariants as forms
-use Rattle.ir_reader.specs.declared.words.Binary.{Binary}
-use Rattle.ir_reader.specs.declared.words.Conversion.{Conversion}
-use Rattle.ir_reader.specs.declared.words.Cast.{Cast}
+use Rattle.line_forms.specs.declared.forms.Form.{Form}
+use Rattle.line_forms.specs.declared.forms.Form.TheVariants as forms
+use Rattle.line_tokens.specs.declared.words.Binary.{Binary}
+use Rattle.line_tokens.specs.declared.words.Conversion.{Conversion}
+use Rattle.line_tokens.specs.declared.words.Cast.{Cast}
 use Rattle.ir_ast.specs.declared.ops.Pred.{Pred}
 use Rattle.ir_ast.specs.declared.ops.Pred.TheVariants as preds
-use Rattle.ir_reader.specs.declared.readings.TypeWord.{TypeWord}
-use Rattle.ir_reader.specs.declared.readings.TypeWord.TheVariants as types
-use Rattle.ir_reader.specs.declared.readings.Literal.{Literal}
-use Rattle.ir_reader.specs.Parts.{Val, null}
-use Rattle.ir_reader.specs.Lists.{Named, Given}
-use Rattle.ir_reader.specs.Statepoints.{Signature, Guarded}
-use Rattle.ir_reader.specs.Slots.{Item}
-use Rattle.ir_reader.specs.Slots as items
-use Rattle.ir_reader.specs.Seen.{Said}
-use Rattle.ir_reader.specs.Seen as readings
+use Rattle.line_parts.specs.declared.readings.TypeWord.{TypeWord}
+use Rattle.line_parts.specs.declared.readings.TypeWord.TheVariants as types
+use Rattle.line_tokens.specs.declared.literals.Literal.{Literal}
+use Rattle.line_parts.specs.Parts.{Val, null}
+use Rattle.line_parts.specs.Lists.{Named, Given}
+use Rattle.group_parts.specs.Statepoints.{Signature, Guarded}
+use Rattle.line_forms.specs.Slots.{Item}
+use Rattle.line_forms.specs.Slots as items
+use Rattle.line_forms.specs.Seen.{Said}
+use Rattle.line_forms.specs.Seen as readings
 use Rattle.ir_reader.specs.Text.{Numbered}
 
 pub data Statement : Type 0 where

@@ -1,7 +1,7 @@
 -- What the tables of the code hold: the definitions, blocks and heads that they list, and when they are those of lines.
 use Rattle.std.specs.Prelude.{◌≡◌, List, ◌++◌, map, filter, length}
 use Rattle.std.specs.Option.{option_copied}
-use Rattle.ir_reader.specs.Seen.{seen_argument}
+use Rattle.line_parts.specs.Seen.{seen_argument}
 use Rattle.ir_lines.specs.declared.sections.Definition.{Definition as DefinitionTable}
 use Rattle.ir_lines.specs.declared.sections.BlockLines.{BlockLines as BlockTable}
 use Rattle.ir_lines.specs.declared.scope.Head.{Head as HeadTable}

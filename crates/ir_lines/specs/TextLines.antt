@@ -3,11 +3,11 @@ use Rattle.std.specs.Prelude.{◌≡◌, ℕ, ◌≤◌, Bool, true, false, not,
 use Rattle.std.specs.List.{All, list_all}
 use Rattle.ir_ast.specs.declared.modules.Form.{Form}
 use Rattle.ir_ast.specs.declared.modules.Form.TheVariants.{Source, Rewritten}
-use Rattle.ir_reader.specs.Statepoints.{Guarded}
-use Rattle.ir_reader.specs.declared.forms.Place.{Place}
-use Rattle.ir_reader.specs.declared.forms.Place.TheVariants as places
-use Rattle.ir_reader.specs.Parts.{is_value_type, is_answer_type, is_cast_type, is_scalar_type, is_case_value}
-use Rattle.ir_reader.specs.Lists.{Given, given, function, is_argument_type, is_task_start}
+use Rattle.group_parts.specs.Statepoints.{Guarded}
+use Rattle.ir_reader.specs.declared.states.Place.{Place}
+use Rattle.ir_reader.specs.declared.states.Place.TheVariants as places
+use Rattle.line_parts.specs.Parts.{is_value_type, is_answer_type, is_cast_type, is_scalar_type, is_case_value}
+use Rattle.line_parts.specs.Lists.{Given, given, function, is_argument_type, is_task_start}
 use Rattle.ir_reader.specs.Limits.{width_fits, type_fits, value_fits, place_fits, argument_fits, given_fits, entry_value_fits, name_fits, literal_fits, guarded_fits, live_fits}
 use Rattle.ir_lines.specs.Statements.{Statement, Line, layout, declare, define, close, label, binary, compare, convert, select, phi, scalar_step, layout_step, load, store, call, jump, branch, switch, switch_case, switch_end, ret_void, ret, unreachable, cast, statepoint, gc_result, gc_relocate}
 use Rattle.ir_lines.specs.Parts.{is_of_group}

@@ -1,10 +1,10 @@
 -- Types as lines spell them, and what fits them.
 use Rattle.std.specs.Prelude.{ℕ, ◌-◌, ◌^◌, Bool, true, false, ◌&&◌, ◌==◌, nat_lt, nat_le, List, [], ◌∷◌, Option, Some, None, if◌then◌else◌}
-use Rattle.ir_reader.specs.declared.readings.TypeWord.{TypeWord}
-use Rattle.ir_reader.specs.declared.readings.TypeWord.TheVariants.{Void, Int, Managed, Plain}
-use Rattle.ir_reader.specs.declared.readings.Literal.{Literal}
-use Rattle.ir_reader.specs.Parts.{Val}
-use Rattle.ir_reader.specs.Parts as values
+use Rattle.line_parts.specs.declared.readings.TypeWord.{TypeWord}
+use Rattle.line_parts.specs.declared.readings.TypeWord.TheVariants.{Void, Int, Managed, Plain}
+use Rattle.line_tokens.specs.declared.literals.Literal.{Literal}
+use Rattle.line_parts.specs.Parts.{Val}
+use Rattle.line_parts.specs.Parts as values
 use Rattle.ir_lines.specs.Sections.{Naming}
 use Rattle.ir_lines.specs.Scope.{Scope, value_named}
 

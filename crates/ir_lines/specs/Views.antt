@@ -1,8 +1,8 @@
 -- What readings say.
 use Rattle.std.specs.Prelude.{List, map}
-use Rattle.ir_reader.specs.declared.readings.Reading.{Reading}
+use Rattle.line_forms.specs.declared.readings.Reading.{Reading}
 use Rattle.ir_reader.specs.declared.raw.NumberedReading.{NumberedReading}
-use Rattle.ir_reader.specs.Seen.{seen}
+use Rattle.line_forms.specs.Seen.{seen}
 use Rattle.ir_reader.specs.Raws.{seen_numbered}
 use Rattle.ir_lines.specs.Statements.{Statement, Line, stated, line_of}
 

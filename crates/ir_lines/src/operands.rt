@@ -1,7 +1,7 @@
 //! Operands by number.
 
 ghost use Rattle.std.specs.Prelude.{◌≡◌};
-ghost use Rattle.ir_reader.specs.Seen.{seen_passed, seen_value};
+ghost use Rattle.line_parts.specs.Seen.{seen_passed, seen_value};
 ghost use Rattle.ir_lines.specs.Modules.{passed_type, operand_in, label_in, type_of, element_of, binary_of, conversion_of, width_of};
 
 use crate::literals::wrapped;

@@ -4,7 +4,7 @@ ghost use Rattle.std.specs.Prelude.{◌≡◌, [], ◌∷◌, ◌++◌, option_m
 ghost use Rattle.std.specs.Option.{option_copied};
 ghost use Rattle.ir_lines.specs.Parts.{gives, passed_value, entry_use, live_use, token_type, token_use, index_use, uses, targets, is_step, is_merge};
 ghost use Rattle.ir_lines.specs.Views.{said};
-ghost use Rattle.ir_reader.specs.Seen.{seen_value, seen_passed, seen_entry};
+ghost use Rattle.line_parts.specs.Seen.{seen_value, seen_passed, seen_entry};
 
 use ir_reader::{Entry, Literal, Passed, Reading, TypeWord, Value};
 use smallvec::SmallVec;

@@ -2,7 +2,7 @@
 
 ghost use Rattle.std.specs.Prelude.{◌≡◌, ◌↔◌, ◌⊎◌, IsTrue, [], ◌∷◌, ◌++◌, false, map, option_map, option_to_list, if◌then◌else◌, IfOk, OnOk};
 ghost use Rattle.ir_ast.specs.Faults.Reserved.{IsInsertedName};
-ghost use Rattle.ir_reader.specs.Seen.{seen_argument};
+ghost use Rattle.line_parts.specs.Seen.{seen_argument};
 ghost use Rattle.ir_lines.specs.Again.{at_name, named_layouts, named_heads, named_values, named_blocks, FoundAfter, IsAgain, IsBadName, TopAgain, FoundByNames, results_of, layout_line};
 ghost use Rattle.ir_lines.specs.Notes.{Notes};
 ghost use Rattle.ir_lines.specs.Parts.{gives};

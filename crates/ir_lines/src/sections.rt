@@ -2,7 +2,7 @@
 
 ghost use Rattle.std.specs.Prelude.{◌≡◌, ℕ, [], ◌++◌, ◌<◌, not, take_while, position, length, map, decimal, option_map, option_to_list, unwrap_or, IfSome, IfOk, OnOk};
 ghost use Rattle.std.specs.Option.{option_copied};
-ghost use Rattle.ir_reader.specs.Seen.{seen_argument};
+ghost use Rattle.line_parts.specs.Seen.{seen_argument};
 ghost use Rattle.ir_lines.specs.Sections.{is_close, is_label, label_said, until_label, is_digit, is_number, is_numbered, count_numbered, arguments_named, definition_said, definitions_of, first_block, block_at, labelled_blocks, blocks_of};
 ghost use Rattle.ir_lines.specs.Tables.{seen_definition, seen_block};
 ghost use Rattle.std.specs.List.{list_all};

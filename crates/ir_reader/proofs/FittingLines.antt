@@ -1,18 +1,18 @@
 -- A line that fits a form of its text and place is read by that form.
-use Rattle.std.proofs.Common.{◌≡◌, true, List, [], ◌∷◌, Option, Some, None, refl, sym, ◌∙◌}
+use Rattle.std.proofs.Common.{◌≡◌, true, List, [], ◌∷◌, Some, refl}
 use Rattle.sp_text.specs.Tokens.{Tok}
 use Rattle.ir_ast.specs.declared.modules.Form.{Form as TextForm}
 use Rattle.ir_ast.specs.declared.modules.Form.TheVariants as text_forms
-use Rattle.ir_reader.specs.declared.forms.Form.{Form}
-use Rattle.ir_reader.specs.declared.forms.Place.{Place}
-use Rattle.ir_reader.specs.declared.forms.State.{State}
-use Rattle.ir_reader.specs.Gives.{after}
-use Rattle.ir_reader.specs.Slots.{Item, parse}
-use Rattle.ir_reader.specs.Forms.{slots, form_of, form_in, stands_in}
+use Rattle.line_forms.specs.declared.forms.Form.{Form}
+use Rattle.ir_reader.specs.declared.states.Place.{Place}
+use Rattle.ir_reader.specs.declared.states.State.{State}
+use Rattle.line_parts.specs.Gives.{after}
+use Rattle.line_forms.specs.Slots.{Item, parse}
+use Rattle.line_forms.specs.Forms.{slots, form_of, form_in, stands_in}
 use Rattle.ir_reader.specs.Places.{behind}
-use Rattle.ir_reader.specs.Seen.{of_form, line_at}
+use Rattle.line_forms.specs.Seen.{of_form, line_at}
 use Rattle.ir_reader.specs.Text.{said_by, tokens_outcome}
-use Rattle.ir_reader.proofs.FamilyLines.{form_is}
+use Rattle.line_forms.proofs.FamilyLines.{form_is}
 
 no_form : (text : TextForm) (form : Form) → form_in text [] ≡ Some form → ⊥
 unfolding form_in form_of

@@ -1,10 +1,5 @@
-pub mod Decimals
-pub mod TokenCount
-pub mod Dropping
-pub mod Listing
-pub mod Stopping
 pub mod AllOf
-pub mod LineByLine
-pub mod Openings
-pub mod FamilyLines
+pub mod Counting
 pub mod FittingLines
+pub mod Judging
+pub mod LineByLine

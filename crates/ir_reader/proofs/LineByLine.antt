@@ -1,12 +1,11 @@
 -- The readings of a text line by line, as a loop does.
-use Rattle.std.proofs.Common.{◌≡◌, ℕ, ◌+◌, Bool, true, false, cond, List, [], ◌∷◌, ◌++◌, Result, Ok, Err, refl, sym, ap, ◌∙◌, append_assoc}
+use Rattle.std.proofs.Common.{◌≡◌, ℕ, ◌+◌, true, false, List, [], ◌∷◌, ◌++◌, Result, Ok, Err, refl, sym, ap, ◌∙◌, append_assoc}
 use Rattle.std.proofs.lemmas.List.{append-nil}
 use Rattle.sp_text.specs.Lines.{NumberedLine}
 use Rattle.ir_reader.specs.declared.faults.ReadFault.{ReadFault}
 use Rattle.ir_reader.specs.declared.faults.ReadFault.TheVariants as read_faults
-use Rattle.ir_reader.specs.declared.forms.State.{State}
-use Rattle.ir_reader.specs.Seen.{Said}
-use Rattle.ir_reader.specs.Text.{Outcome, no_reading, over_limit, nothing, said, outcome, Fault, syntax_fault, limit_fault, Numbered, with_first, readings_by, readings, is_top}
+use Rattle.ir_reader.specs.declared.states.State.{State}
+use Rattle.ir_reader.specs.Text.{Outcome, no_reading, over_limit, nothing, said, outcome, Fault, syntax_fault, Numbered, with_first, readings_by, readings, is_top}
 use Rattle.ir_reader.specs.Reads.{IsFault, AfterLine, FaultOfLine}
 
 -- what was read before, and what is still read
@@ -14,7 +13,7 @@ abbrev pub with_lines : List Numbered → Result (List Numbered) Fault → Resul
 with_lines front (Ok xs) = Ok (front ++ xs)
 with_lines front (Err fault) = Err fault
 
-with_one : (front : List Numbered) (x : Numbered) (read : Result (List Numbered) Fault) → with_lines front (with_first x read) ≡ with_lines (front ++ x ∷ []) read
+pub with_one : (front : List Numbered) (x : Numbered) (read : Result (List Numbered) Fault) → with_lines front (with_first x read) ≡ with_lines (front ++ x ∷ []) read
 with_one front x (Ok xs) = ap (λ (ys : List Numbered). Ok ys) (sym (append_assoc front (x ∷ []) xs))
 with_one front x (Err fault) = refl
 

@@ -1,21 +1,21 @@
 -- The limits of the profile that a line, a function or a module may pass.
-use Rattle.std.specs.Prelude.{ℕ, Bool, true, false, ◌&&◌, ◌||◌, not, List, [], ◌∷◌, length, Option, Some, None, ◌+◌, ◌^◌, nat_le}
+use Rattle.std.specs.Prelude.{ℕ, Bool, true, ◌&&◌, ◌||◌, not, List, ◌∷◌, length, Option, Some, None, ◌+◌, ◌^◌, nat_le}
 use Rattle.std.specs.List.{list_all}
-use Rattle.ir_reader.specs.declared.forms.Form.{Form}
-use Rattle.ir_reader.specs.declared.forms.Form.TheVariants as forms
-use Rattle.ir_reader.specs.declared.forms.Counts.{Counts}
-use Rattle.ir_reader.specs.declared.forms.Counted.{Counted}
-use Rattle.ir_reader.specs.declared.forms.Counted.TheVariants as kinds
-use Rattle.ir_reader.specs.declared.readings.TypeWord.{TypeWord}
-use Rattle.ir_reader.specs.declared.readings.TypeWord.TheVariants as types
-use Rattle.ir_reader.specs.declared.readings.Literal.{Literal}
-use Rattle.ir_reader.specs.Parts.{Val, local, number, truth, null}
-use Rattle.ir_reader.specs.Lists.{Named, Given, given, function}
+use Rattle.line_forms.specs.declared.forms.Form.{Form}
+use Rattle.line_forms.specs.declared.forms.Form.TheVariants as forms
+use Rattle.ir_reader.specs.declared.states.Counts.{Counts}
+use Rattle.ir_reader.specs.declared.states.Counted.{Counted}
+use Rattle.ir_reader.specs.declared.states.Counted.TheVariants as kinds
+use Rattle.line_parts.specs.declared.readings.TypeWord.{TypeWord}
+use Rattle.line_parts.specs.declared.readings.TypeWord.TheVariants as types
+use Rattle.line_tokens.specs.declared.literals.Literal.{Literal}
+use Rattle.line_parts.specs.Parts.{Val, number}
+use Rattle.line_parts.specs.Lists.{Named, Given, given, function}
 use Rattle.ir_ast.specs.declared.modules.Form.{Form as TextForm}
 use Rattle.ir_ast.specs.declared.modules.Form.TheVariants as text_forms
-use Rattle.ir_reader.specs.Statepoints.{Signature, Guarded}
-use Rattle.ir_reader.specs.Slots.{Item, name, layout_name, width, ty, value, pred, scalar, layout, place, fields, entries, declared, defined, called, strategy, guarded, live, literal}
-use Rattle.ir_reader.specs.Seen.{Line, Said, label, line}
+use Rattle.group_parts.specs.Statepoints.{Signature, Guarded}
+use Rattle.line_forms.specs.Slots.{Item, layout_name, width, ty, value, place, fields, entries, declared, defined, called, guarded, live, literal, family_answer}
+use Rattle.line_forms.specs.Seen.{Said, label, line}
 
 -- ---- what one line says
 
@@ -63,6 +63,11 @@ guarded_fits c = literal_fits c.id && signature_fits c.signature && literal_fits
 abbrev pub live_fits : List Val → Bool
 live_fits vs = nat_le (length vs) 16384 && list_all value_fits vs
 
+-- what a function of a statepoint group answers
+abbrev pub answer_fits : Option TypeWord → Bool
+answer_fits None = true
+answer_fits (Some answer) = type_fits answer
+
 abbrev pub item_fits : Item → Bool
 item_fits (width bits) = width_fits bits
 item_fits (ty t) = type_fits t
@@ -77,6 +82,7 @@ item_fits (called n ps) = list_all given_fits ps
 item_fits (guarded c) = guarded_fits c
 item_fits (live vs) = live_fits vs
 item_fits (literal n) = literal_fits n
+item_fits (family_answer answer) = answer_fits answer
 item_fits _ = true
 
 abbrev pub said_fits : Said → Bool

@@ -1,6 +1,6 @@
 -- Why a line in its place isn't read.
-use Rattle.ir_reader.specs.declared.faults.Stop.{Stop}
-use Rattle.ir_reader.specs.declared.faults.Stop.TheVariants as stops
+use Rattle.line_parts.specs.declared.faults.Stop.{Stop}
+use Rattle.line_parts.specs.declared.faults.Stop.TheVariants as stops
 use Rattle.ir_reader.specs.declared.faults.LineFault.{LineFault}
 use Rattle.ir_reader.specs.declared.faults.LineFault.TheVariants as line_faults
 

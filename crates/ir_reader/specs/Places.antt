@@ -1,14 +1,9 @@
 -- Where lines may stand.
-use Rattle.std.specs.Prelude.{Bool, true, false, Option, Some, None, if◌then◌else◌}
-use Rattle.ir_reader.specs.declared.forms.Form.{Form}
-use Rattle.ir_reader.specs.declared.forms.Form.TheVariants as forms
-use Rattle.ir_reader.specs.declared.forms.Place.{Place}
-use Rattle.ir_reader.specs.declared.forms.Place.TheVariants as places
-
--- lines that are read and say nothing
-abbrev pub is_dropped_form : Form → Bool
-is_dropped_form (forms.Dropped which) = true
-is_dropped_form _ = false
+use Rattle.std.specs.Prelude.{Option, Some, None}
+use Rattle.line_forms.specs.declared.forms.Form.{Form}
+use Rattle.line_forms.specs.declared.forms.Form.TheVariants as forms
+use Rattle.ir_reader.specs.declared.states.Place.{Place}
+use Rattle.ir_reader.specs.declared.states.Place.TheVariants as places
 
 -- the place behind a line outside functions
 abbrev pub behind_top : Form → Option Place

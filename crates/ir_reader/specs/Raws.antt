@@ -1,9 +1,9 @@
 -- The readings of a text as a value, and what a call that reads a text returns.
-use Rattle.std.specs.Prelude.{◌≡◌, ℕ, ◌≤◌, List, length, map, Result, Ok, Err}
+use Rattle.std.specs.Prelude.{◌≡◌, ℕ, ◌≤◌, List, length, map, Ok}
 use Rattle.ir_reader.specs.declared.raw.NumberedReading.{NumberedReading}
 use Rattle.ir_ast.specs.declared.modules.Form.{Form}
-use Rattle.ir_reader.specs.Seen.{seen}
-use Rattle.ir_reader.specs.Text.{Numbered, Fault, readings_in}
+use Rattle.line_forms.specs.Seen.{seen}
+use Rattle.ir_reader.specs.Text.{Numbered, readings_in}
 
 -- a text, its form and the readings of its lines
 pub record Readings : Type 0 where

@@ -1,8 +1,8 @@
 -- What a call that reads a text returns.
-use Rattle.std.specs.Prelude.{◌≡◌, ℕ, List, [], ◌∷◌, ◌++◌, map, Result, Ok, Err}
+use Rattle.std.specs.Prelude.{◌≡◌, ℕ, List, [], ◌∷◌, ◌++◌, Result, Ok, Err}
 use Rattle.ir_reader.specs.declared.faults.ReadFault.{ReadFault}
 use Rattle.ir_reader.specs.declared.faults.ReadFault.TheVariants as read_faults
-use Rattle.ir_reader.specs.declared.forms.State.{State}
+use Rattle.ir_reader.specs.declared.states.State.{State}
 use Rattle.ir_reader.specs.Text.{Numbered, Fault, syntax_fault, limit_fault, Outcome, no_reading, over_limit, nothing, said}
 
 -- The fault that is told is the one that the text has; want of memory says nothing of the text.

@@ -1,19 +1,19 @@
 -- The readings of a text: of all lines that are neither empty nor dropped, or the first fault.
-use Rattle.std.specs.Prelude.{◌≡◌, ℕ, ◌+◌, Bool, true, false, ◌&&◌, List, [], ◌∷◌, Option, Some, None, Result, Ok, Err, if◌then◌else◌}
+use Rattle.std.specs.Prelude.{ℕ, ◌+◌, Bool, true, false, ◌&&◌, List, [], ◌∷◌, Option, Some, None, Result, Ok, Err, if◌then◌else◌}
 use Rattle.sp_text.specs.Tokens.{Tok, tokens}
 use Rattle.sp_text.specs.Lines.{NumberedLine, lines_of}
 use Rattle.sp_text.specs.Labels.{label_of, is_metadata}
 use Rattle.ir_ast.specs.declared.modules.Form.{Form as TextForm}
 use Rattle.ir_ast.specs.declared.modules.Form.TheVariants as text_forms
-use Rattle.ir_reader.specs.declared.forms.Counted.TheVariants as kinds
-use Rattle.ir_reader.specs.declared.forms.Form.{Form}
-use Rattle.ir_reader.specs.declared.forms.Place.{Place}
-use Rattle.ir_reader.specs.declared.forms.Place.TheVariants as places
-use Rattle.ir_reader.specs.declared.forms.State.{State}
-use Rattle.ir_reader.specs.Gives.{Found, is_nil}
-use Rattle.ir_reader.specs.Forms.{form_in}
-use Rattle.ir_reader.specs.Places.{is_dropped_form, behind, behind_label}
-use Rattle.ir_reader.specs.Seen.{Line, Said, label, line, line_at}
+use Rattle.ir_reader.specs.declared.states.Counted.TheVariants as kinds
+use Rattle.line_forms.specs.declared.forms.Form.{Form}
+use Rattle.ir_reader.specs.declared.states.Place.{Place}
+use Rattle.ir_reader.specs.declared.states.Place.TheVariants as places
+use Rattle.ir_reader.specs.declared.states.State.{State}
+use Rattle.line_parts.specs.Gives.{is_nil}
+use Rattle.line_forms.specs.Forms.{form_in, is_dropped_form}
+use Rattle.ir_reader.specs.Places.{behind, behind_label}
+use Rattle.line_forms.specs.Seen.{Said, label, line_at, ended}
 use Rattle.ir_reader.specs.Limits.{said_fits, said_counts_as, counted, counted_in, counts_fit}
 
 -- what a line comes to
@@ -37,14 +37,13 @@ next_state s place what = record { form = s.form; place = place; counts = counte
 abbrev pub within : State → Place → Said → Outcome
 within s place what = if said_fits what && counts_fit (next_state s place what).counts then said what (next_state s place what) else over_limit
 
--- what a whole line says: nothing stands behind it
-abbrev pub ended : Found Said → Option Said
-ended None = None
-ended (Some (what, rest)) = if is_nil rest then Some what else None
+-- a line that is dropped, if it passes no limit
+abbrev pub dropped_within : Said → Outcome
+dropped_within what = if said_fits what then nothing else over_limit
 
 abbrev pub said_by : State → Form → Place → Option Said → Outcome
 said_by s form place None = no_reading
-said_by s form place (Some what) = if is_dropped_form form then nothing else within s place what
+said_by s form place (Some what) = if is_dropped_form form then dropped_within what else within s place what
 
 -- a line of this form
 abbrev pub formed : State → Form → List Tok → Option Place → Outcome

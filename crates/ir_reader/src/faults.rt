@@ -1,7 +1,6 @@
 ghost use Rattle.std.specs.Prelude.{◌≡◌};
-ghost use Rattle.ir_reader.specs.declared.faults.Stop.TheVariants.{Memory};
 
-use std::alloc::{AllocError, AllocFailed};
+use line_parts::Stop;
 
 /// Why a text is not read. Lines are numbered from 1.
 #[derive(Clone, Copy, Debug, PartialEq, Eq)]
@@ -12,29 +11,6 @@ pub enum ReadFault {
     Limit { line: u32 },
     /// Memory that was wanted and could not be had.
     Memory,
-}
-
-/// Why a line is not read.
-#[derive(Clone, Copy, Debug, PartialEq, Eq)]
-pub enum Stop {
-    NoReading,
-    Memory,
-}
-
-impl From<AllocError> for Stop {
-    ghost from_gives = { λ _ e. e ≡ Memory };
-
-    fn from(_error: AllocError) -> Stop {
-        Stop::Memory
-    }
-}
-
-impl<T: Drop> From<AllocFailed<T>> for Stop {
-    ghost from_gives = { λ _ e. e ≡ Memory };
-
-    fn from(_failed: AllocFailed<T>) -> Stop {
-        Stop::Memory
-    }
 }
 
 /// Why a line in its place isn't read.

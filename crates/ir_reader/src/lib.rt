@@ -2,38 +2,22 @@
 //! says, or the first line that has no reading or passes a limit.
 #![tactic(auto)]
 
-mod accesses;
-mod choices;
-mod computing;
-mod control;
-mod cursor;
-mod drops;
-mod families;
 mod faults;
-mod forms;
-mod heads;
 mod laws;
 mod limits;
 mod line;
-mod lists;
-mod numbers;
-mod opening;
-mod parts;
 mod places;
 mod raw;
-mod readings;
-mod statepoints;
+mod states;
 mod text;
-mod tokens;
-mod types;
-mod words;
 
 pub use faults::ReadFault;
-pub use laws::{fitting_line, one_form, one_reading, own_form};
-pub use raw::{NumberedReading, Raw};
-pub use readings::{
-    AllPassed, Argument, Arguments, Entries, Entry, Fields, FunctionType, Literal, Passed, Reading,
-    StatepointCall, TypeWord, Value,
+pub use group_parts::{FunctionType, StatepointCall};
+pub use laws::{fitting_line, judged_text};
+pub use line_forms::{Reading, one_form, one_reading, own_form};
+pub use line_parts::{
+    AllPassed, Argument, Arguments, Entries, Entry, Fields, Passed, TypeWord, Value,
 };
+pub use line_tokens::{Binary, Cast, Conversion, Literal};
+pub use raw::{NumberedReading, Raw};
 pub use text::{read, read_rewritten};
-pub use words::{Binary, Cast, Conversion};

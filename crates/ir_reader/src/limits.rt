@@ -2,15 +2,18 @@
 
 ghost use Rattle.std.specs.Prelude.{◌≡◌, IsTrue, map, length, nat_le, ◌&&◌};
 ghost use Rattle.std.specs.List.{list_all};
-ghost use Rattle.ir_reader.specs.Limits.{width_fits, type_fits, literal_fits, value_fits, place_fits, argument_fits, given_fits, entry_value_fits, name_fits, item_fits, signature_fits, guarded_fits, live_fits, said_fits, said_counts_as, counts_fit, counted, counted_in};
-ghost use Rattle.ir_reader.specs.Slots.{defined};
-ghost use Rattle.ir_reader.specs.Seen.{seen, seen_value, seen_argument, seen_passed, seen_entry, seen_type, seen_guarded};
+ghost use Rattle.ir_reader.specs.Limits.{width_fits, type_fits, literal_fits, value_fits, place_fits, argument_fits, given_fits, entry_value_fits, name_fits, item_fits, signature_fits, guarded_fits, live_fits, answer_fits, said_fits, said_counts_as, counts_fit, counted, counted_in};
+ghost use Rattle.line_forms.specs.Slots.{defined};
+ghost use Rattle.line_forms.specs.Seen.{seen};
+ghost use Rattle.line_parts.specs.Seen.{seen_value, seen_argument, seen_passed, seen_entry};
+ghost use Rattle.group_parts.specs.Seen.{seen_type, seen_guarded};
 
-use crate::forms::{Counted, Counts};
-use crate::readings::{
-    Argument, Entry, FunctionType, Literal, Passed, Reading, StatepointCall, TypeWord, Value,
-};
+use crate::states::{Counted, Counts};
+use group_parts::{FunctionType, StatepointCall};
 use ir_ast::Form as TextForm;
+use line_forms::Reading;
+use line_parts::{Argument, Entry, Passed, TypeWord, Value};
+use line_tokens::Literal;
 use sp_ids::limits::{
     ARGUMENTS, FIELDS, FUNCTION_VALUES, FUNCTIONS, LAYOUTS, LIVE_ENTRIES, MODULE_INSTRUCTIONS,
     NAME_BYTES,
@@ -160,6 +163,16 @@ fn values_fit(values: &[Value]) -> bool
     true
 }
 
+/// Whether what a function of a statepoint group answers is within the limits.
+pub fn answer_fits(answer: Option<TypeWord>) -> bool
+    ensures { result ≡ answer_fits answer }
+{
+    match answer {
+        Some(ty) => type_fits(ty),
+        None => true,
+    }
+}
+
 // The live entries of a statepoint.
 fn live_fit(live: &[Value]) -> bool
     ensures { result ≡ live_fits (map seen_value live.now) }
@@ -167,142 +180,136 @@ fn live_fit(live: &[Value]) -> bool
     live.len() <= LIVE_ENTRIES as usize && values_fit(live)
 }
 
-impl Reading<'_> {
-    /// Whether all that the line says is within the limits.
-    pub(crate) fn fits(&self) -> bool
-        ensures { result ≡ said_fits (seen self.now) }
-    {
-        match self {
-            Reading::Layout { name, fields } => name_fits(name) && fields_fit(fields.as_slice()),
-            Reading::Declare {
-                answer,
-                parameters,
-                ..
-            } => type_fits(*answer) && arguments_fit(parameters.as_slice()),
-            Reading::Define {
-                answer,
-                name,
-                arguments,
-                ..
-            } => type_fits(*answer) && head_fits(name, arguments.as_slice()),
-            Reading::Phi { ty, entries, .. } => {
-                type_fits(*ty) && entries_fit(entries.as_slice())
-            }
-            Reading::ValueCall { answer, passed, .. } => {
-                type_fits(*answer) && passed_fit(passed.as_slice())
-            }
-            Reading::VoidCall { passed, .. } => passed_fit(passed.as_slice()),
-            Reading::Binary {
-                width,
-                left,
-                right,
-                ..
-            } => width_fits(*width) && value_fits(left) && value_fits(right),
-            Reading::Compare {
-                ty,
-                left,
-                right,
-                ..
-            } => type_fits(*ty) && value_fits(left) && value_fits(right),
-            Reading::Convert {
-                width,
-                value,
-                to,
-                ..
-            } => width_fits(*width) && value_fits(value) && width_fits(*to),
-            Reading::Select {
-                condition,
-                left_ty,
-                left,
-                right_ty,
-                right,
-                ..
-            } => {
-                value_fits(condition)
-                    && type_fits(*left_ty)
-                    && value_fits(left)
-                    && type_fits(*right_ty)
-                    && value_fits(right)
-            }
-            Reading::ScalarElement {
-                address,
-                width,
-                index,
-                ..
-            } => value_fits(address) && width_fits(*width) && value_fits(index),
-            Reading::LayoutElement {
-                address,
-                width,
-                index,
-                place,
-                ..
-            } => {
-                value_fits(address) && width_fits(*width) && value_fits(index) && place_fits(*place)
-            }
-            Reading::Load { ty, address, .. } => type_fits(*ty) && value_fits(address),
-            Reading::Store { ty, value, address } => {
-                type_fits(*ty) && value_fits(value) && value_fits(address)
-            }
-            Reading::Branch { condition, .. } => value_fits(condition),
-            Reading::Switch { width, value, .. } => width_fits(*width) && value_fits(value),
-            Reading::Case { width, value, .. } => width_fits(*width) && value_fits(value),
-            Reading::Return { ty, value } => type_fits(*ty) && value_fits(value),
-            Reading::Cast {
-                from,
-                value,
-                to,
-                ..
-            } => type_fits(*from) && value_fits(value) && type_fits(*to),
-            Reading::Statepoint { call, live, .. } => {
-                call_fits(call) && live_fit(live.as_slice())
-            }
-            Reading::GcResult { answer, .. } => type_fits(*answer),
-            Reading::GcRelocate { base, derived, .. } => {
-                literal_fits(*base) && literal_fits(*derived)
-            }
-            Reading::Close => true,
-            Reading::Label { .. } => true,
-            Reading::Jump { .. } => true,
-            Reading::SwitchEnd => true,
-            Reading::ReturnVoid => true,
-            Reading::Unreachable => true,
+/// Whether all that the line says is within the limits.
+pub fn reading_fits(reading: &Reading) -> bool
+    ensures { result ≡ said_fits (seen reading.now) }
+{
+    match reading {
+        Reading::Layout { name, fields } => name_fits(name) && fields_fit(fields.as_slice()),
+        Reading::Declare {
+            answer,
+            parameters,
+            ..
+        } => type_fits(*answer) && arguments_fit(parameters.as_slice()),
+        Reading::Define {
+            answer,
+            name,
+            arguments,
+            ..
+        } => type_fits(*answer) && head_fits(name, arguments.as_slice()),
+        Reading::Phi { ty, entries, .. } => { type_fits(*ty) && entries_fit(entries.as_slice()) }
+        Reading::ValueCall { answer, passed, .. } => {
+            type_fits(*answer) && passed_fit(passed.as_slice())
         }
+        Reading::VoidCall { passed, .. } => passed_fit(passed.as_slice()),
+        Reading::Binary {
+            width,
+            left,
+            right,
+            ..
+        } => width_fits(*width) && value_fits(left) && value_fits(right),
+        Reading::Compare {
+            ty,
+            left,
+            right,
+            ..
+        } => type_fits(*ty) && value_fits(left) && value_fits(right),
+        Reading::Convert {
+            width,
+            value,
+            to,
+            ..
+        } => width_fits(*width) && value_fits(value) && width_fits(*to),
+        Reading::Select {
+            condition,
+            left_ty,
+            left,
+            right_ty,
+            right,
+            ..
+        } => {
+            value_fits(condition)
+                && type_fits(*left_ty)
+                && value_fits(left)
+                && type_fits(*right_ty)
+                && value_fits(right)
+        }
+        Reading::ScalarElement {
+            address,
+            width,
+            index,
+            ..
+        } => value_fits(address) && width_fits(*width) && value_fits(index),
+        Reading::LayoutElement {
+            address,
+            width,
+            index,
+            place,
+            ..
+        } => {
+            value_fits(address) && width_fits(*width) && value_fits(index) && place_fits(*place)
+        }
+        Reading::Load { ty, address, .. } => type_fits(*ty) && value_fits(address),
+        Reading::Store { ty, value, address } => {
+            type_fits(*ty) && value_fits(value) && value_fits(address)
+        }
+        Reading::Branch { condition, .. } => value_fits(condition),
+        Reading::Switch { width, value, .. } => width_fits(*width) && value_fits(value),
+        Reading::Case { width, value, .. } => width_fits(*width) && value_fits(value),
+        Reading::Return { ty, value } => type_fits(*ty) && value_fits(value),
+        Reading::Cast {
+            from,
+            value,
+            to,
+            ..
+        } => type_fits(*from) && value_fits(value) && type_fits(*to),
+        Reading::Statepoint { call, live, .. } => { call_fits(call) && live_fit(live.as_slice()) }
+        Reading::GcResult { answer, .. } => type_fits(*answer),
+        Reading::GcRelocate { base, derived, .. } => {
+            literal_fits(*base) && literal_fits(*derived)
+        }
+        Reading::Close => true,
+        Reading::Label { .. } => true,
+        Reading::Jump { .. } => true,
+        Reading::SwitchEnd => true,
+        Reading::ReturnVoid => true,
+        Reading::Unreachable => true,
     }
+}
 
-    /// What the line counts as.
-    pub(crate) fn counts_as(&self) -> Counted
-        ensures { result ≡ said_counts_as (seen self.now) }
-    {
-        match self {
-            Reading::Layout { .. } => Counted::Layout,
-            Reading::Define { arguments, .. } => Counted::Function(arguments.len()),
-            Reading::Declare { .. } => Counted::Nothing,
-            Reading::Close => Counted::Nothing,
-            Reading::Label { .. } => Counted::Nothing,
-            Reading::Case { .. } => Counted::Nothing,
-            Reading::SwitchEnd => Counted::Nothing,
-            Reading::Phi { .. } => Counted::Instruction,
-            Reading::ValueCall { .. } => Counted::Instruction,
-            Reading::VoidCall { .. } => Counted::Instruction,
-            Reading::Binary { .. } => Counted::Instruction,
-            Reading::Compare { .. } => Counted::Instruction,
-            Reading::Convert { .. } => Counted::Instruction,
-            Reading::Select { .. } => Counted::Instruction,
-            Reading::ScalarElement { .. } => Counted::Instruction,
-            Reading::LayoutElement { .. } => Counted::Instruction,
-            Reading::Load { .. } => Counted::Instruction,
-            Reading::Store { .. } => Counted::Instruction,
-            Reading::Jump { .. } => Counted::Instruction,
-            Reading::Branch { .. } => Counted::Instruction,
-            Reading::Switch { .. } => Counted::Instruction,
-            Reading::ReturnVoid => Counted::Instruction,
-            Reading::Return { .. } => Counted::Instruction,
-            Reading::Unreachable => Counted::Instruction,
-            Reading::Cast { .. } => Counted::Instruction,
-            Reading::Statepoint { .. } => Counted::Instruction,
-            Reading::GcResult { .. } => Counted::Instruction,
-            Reading::GcRelocate { .. } => Counted::Relocate,
-        }
+/// What the line counts as.
+pub fn counted_as(reading: &Reading) -> Counted
+    ensures { result ≡ said_counts_as (seen reading.now) }
+{
+    match reading {
+        Reading::Layout { .. } => Counted::Layout,
+        Reading::Define { arguments, .. } => Counted::Function(arguments.len()),
+        Reading::Declare { .. } => Counted::Nothing,
+        Reading::Close => Counted::Nothing,
+        Reading::Label { .. } => Counted::Nothing,
+        Reading::Case { .. } => Counted::Nothing,
+        Reading::SwitchEnd => Counted::Nothing,
+        Reading::Phi { .. } => Counted::Instruction,
+        Reading::ValueCall { .. } => Counted::Instruction,
+        Reading::VoidCall { .. } => Counted::Instruction,
+        Reading::Binary { .. } => Counted::Instruction,
+        Reading::Compare { .. } => Counted::Instruction,
+        Reading::Convert { .. } => Counted::Instruction,
+        Reading::Select { .. } => Counted::Instruction,
+        Reading::ScalarElement { .. } => Counted::Instruction,
+        Reading::LayoutElement { .. } => Counted::Instruction,
+        Reading::Load { .. } => Counted::Instruction,
+        Reading::Store { .. } => Counted::Instruction,
+        Reading::Jump { .. } => Counted::Instruction,
+        Reading::Branch { .. } => Counted::Instruction,
+        Reading::Switch { .. } => Counted::Instruction,
+        Reading::ReturnVoid => Counted::Instruction,
+        Reading::Return { .. } => Counted::Instruction,
+        Reading::Unreachable => Counted::Instruction,
+        Reading::Cast { .. } => Counted::Instruction,
+        Reading::Statepoint { .. } => Counted::Instruction,
+        Reading::GcResult { .. } => Counted::Instruction,
+        Reading::GcRelocate { .. } => Counted::Relocate,
     }
 }
 

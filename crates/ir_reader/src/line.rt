@@ -1,17 +1,16 @@
 //! One line in its place.
 
-ghost use Rattle.std.specs.Prelude.{◌≡◌, [], false, IsTrue, IfOk, IfSome};
+ghost use Rattle.std.specs.Prelude.{◌≡◌, IsTrue, IfOk, IfSome, None};
 ghost use Rattle.sp_text.specs.Tokens.{tokens};
-ghost use Rattle.ir_reader.specs.Gives.{Gives};
-ghost use Rattle.ir_reader.specs.Seen.{seen, of_form, line_at};
-ghost use Rattle.ir_reader.specs.Places.{is_dropped_form};
+ghost use Rattle.line_forms.specs.Seen.{seen, of_form, dropped_says};
 ghost use Rattle.ir_reader.specs.Limits.{counts_fit};
-ghost use Rattle.ir_reader.specs.Text.{is_top, ended, within, tokens_outcome, outcome};
+ghost use Rattle.ir_reader.specs.Text.{is_top, within, dropped_within, tokens_outcome, outcome};
 
-use crate::cursor::Cursor;
-use crate::faults::{LineFault, Stop};
-use crate::forms::{Counted, DroppedLine, Form, Place, State};
-use crate::readings::Reading;
+use crate::faults::LineFault;
+use crate::limits::{answer_fits, counted_as, reading_fits};
+use crate::states::{Counted, Place, State};
+use line_forms::{DroppedLine, Form, Reading, form_in, whole_dropped, whole_kept};
+use line_parts::{Cursor, TypeWord};
 use sp_text::Line;
 use std::alloc::Global;
 
@@ -33,72 +32,6 @@ impl Place {
     }
 }
 
-impl<'a> Cursor<'a> {
-    ghost use Rattle.ir_reader.specs.Outcomes.{Reads};
-
-    // What a line of this form says.
-    fn kept(&mut self, alloc: Global, form: Form) -> Result<Reading<'a>, Stop>
-        requires { is_dropped_form form ≡ false }
-        ensures { Gives seen result self.new (line_at form self.old) }
-    {
-        match form {
-            Form::Layout => self.layout(alloc),
-            Form::Declare => self.declare(alloc),
-            Form::Define => self.define(alloc),
-            Form::Close => self.close(),
-            Form::Binary(op) => self.binary(op),
-            Form::Compare => self.compare(),
-            Form::Convert(op) => self.convert(op),
-            Form::Cast(op) => self.cast(op),
-            Form::Select => self.select(),
-            Form::Phi => self.phi(alloc),
-            Form::ScalarElement => self.scalar_element(),
-            Form::LayoutElement => self.layout_element(),
-            Form::Load => self.load(),
-            Form::Store => self.store(),
-            Form::ValueCall => self.value_call(alloc),
-            Form::VoidCall => self.void_call(alloc),
-            Form::Jump => self.jump(),
-            Form::Branch => self.branch(),
-            Form::Switch => self.switch(),
-            Form::Case => self.case(),
-            Form::SwitchEnd => self.switch_end(),
-            Form::ReturnVoid => self.return_void(),
-            Form::Return => self.return_value(),
-            Form::Unreachable => self.unreachable(),
-            Form::Statepoint => self.statepoint(alloc),
-            Form::GcResult => self.gc_result(),
-            Form::GcRelocate => self.gc_relocate(),
-            Form::Dropped(_) => Err(Stop::NoReading),
-        }
-    }
-
-    // What a whole line of this form says.
-    fn whole_kept(&mut self, alloc: Global, form: Form) -> Result<Reading<'a>, Stop>
-        requires { is_dropped_form form ≡ false }
-        ensures { Reads seen result (ended (line_at form self.old)) }
-    {
-        let reading = self.kept(alloc, form)?;
-        if self.is_at_end() {
-            Ok(reading)
-        } else {
-            Err(Stop::NoReading)
-        }
-    }
-
-    // Passes a whole line that is dropped.
-    fn whole_dropped(&mut self, which: DroppedLine) -> Result<(), Stop>
-        ensures { Reads (λ _. of_form (Form.Dropped which) []) result (ended (line_at (Form.Dropped which) self.old)) }
-    {
-        self.dropped_line(which)?;
-        if self.is_at_end() {
-            Ok(())
-        } else {
-            Err(Stop::NoReading)
-        }
-    }
-}
-
 impl<'a> Step<'a> {
     ghost use Rattle.ir_reader.specs.Outcomes.{Came};
 
@@ -112,8 +45,8 @@ impl<'a> Step<'a> {
         ensures came { Came result (within state place (seen reading.entry)) }
         ensures counts { IfOk result (λ found. IfSome found (λ step. IsTrue (counts_fit step.state.counts))) }
     {
-        let counts = state.counts.with(reading.counts_as().in_form(state.form));
-        if reading.fits() && counts.fit() {
+        let counts = state.counts.with(counted_as(&reading).in_form(state.form));
+        if reading_fits(&reading) && counts.fit() {
             Ok(Some(Step {
                 reading,
                 state: State {
@@ -124,6 +57,20 @@ impl<'a> Step<'a> {
             }))
         } else {
             Err(LineFault::OverLimit)
+        }
+    }
+
+    // A line that is dropped, if it passes no limit.
+    fn dropped(
+        which: DroppedLine,
+        answer: Option<TypeWord>,
+    ) -> Result<Option<Step<'a>>, LineFault>
+        ensures came { Came result (dropped_within (of_form (Form.Dropped which) (dropped_says which answer))) }
+        ensures none { IfOk result (λ found. found ≡ None) }
+    {
+        match which {
+            DroppedLine::Family if !answer_fits(answer) => Err(LineFault::OverLimit),
+            _ => Ok(None),
         }
     }
 
@@ -138,7 +85,7 @@ impl<'a> Step<'a> {
         if cursor.is_at_end() {
             return Ok(None);
         }
-        let Some(form) = cursor.form_in(state.form) else {
+        let Some(form) = form_in(&cursor, state.form) else {
             return Err(LineFault::NoReading);
         };
         let Some(place) = state.place.behind(form) else {
@@ -146,11 +93,11 @@ impl<'a> Step<'a> {
         };
         match form {
             Form::Dropped(which) => {
-                cursor.whole_dropped(which)?;
-                Ok(None)
+                let answer = whole_dropped(&mut cursor, which)?;
+                Step::dropped(which, answer)
             }
             _ => {
-                let reading = cursor.whole_kept(alloc, form)?;
+                let reading = whole_kept(&mut cursor, alloc, form)?;
                 Step::within(state, place, reading)
             }
         }

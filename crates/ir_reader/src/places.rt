@@ -3,7 +3,8 @@
 ghost use Rattle.std.specs.Prelude.{◌≡◌};
 ghost use Rattle.ir_reader.specs.Places.{behind_top, behind_instruction, behind_closed, behind_case, behind, behind_label};
 
-use crate::forms::{Form, Place};
+use crate::states::Place;
+use line_forms::Form;
 
 impl Place {
     /// The place behind a line of this form, if it may stand here.

@@ -2,8 +2,8 @@
 
 ghost use Rattle.std.specs.Prelude.{◌≡◌};
 
-use crate::readings::Reading;
 use ir_ast::Form;
+use line_forms::Reading;
 use std::marker::Model;
 
 /// What a line says, with the line's number.

@@ -7,9 +7,9 @@ ghost use Rattle.ir_reader.specs.Raws.{seen_numbered};
 ghost use Rattle.ir_reader.specs.Reads.{TextGives, AfterLine, FaultOfLine};
 
 use crate::faults::{LineFault, ReadFault};
-use crate::forms::{Counts, Place, State};
 use crate::line::Step;
 use crate::raw::{NumberedReading, Raw};
+use crate::states::{Counts, Place, State};
 use ir_ast::Form;
 use sp_ids::limits::FILE_BYTES;
 use sp_text::{Line, Lines};

@@ -8,7 +8,7 @@ use Rattle.ir_ast.specs.declared.modules.Form.{Form}
 use Rattle.ir_ast.specs.Funcs.{Function, instructions_of}
 use Rattle.ir_ast.specs.Modules.{line_at}
 use Rattle.ir_cfg.specs.DefiniteUses.{UsesAreDefinite}
-use Rattle.ir_reader.specs.declared.forms.Place.TheVariants as places
+use Rattle.ir_reader.specs.declared.states.Place.TheVariants as places
 use Rattle.definite_assign.specs.Faults.{HasMissedUse, LineIsDefinite}
 use Rattle.definite_assign.proofs.UseLemmas.{use_within}
 use Rattle.ir_lines.specs.Statements.{Line}

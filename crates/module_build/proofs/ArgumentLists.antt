@@ -5,7 +5,7 @@ use Rattle.std.proofs.Math.Seq.{drop-cons}
 use Rattle.std.proofs.lemmas.List.{length-map, append-nil, drop_all}
 use Rattle.ir_ast.specs.declared.types.Ty.{Ty}
 use Rattle.ir_ast.specs.declared.funcs.Arg.{Arg}
-use Rattle.ir_reader.specs.Lists.{Named}
+use Rattle.line_parts.specs.Lists.{Named}
 use Rattle.ir_lines.specs.Sections.{Naming, arguments_named, count_numbered}
 use Rattle.ir_lines.specs.Modules.{type_of, argument_of}
 use Rattle.module_build.proofs.CaseLemmas.{moved}

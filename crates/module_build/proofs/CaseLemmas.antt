@@ -1,12 +1,12 @@
 -- One more case of a `switch`.
 use Rattle.std.proofs.Common.{◌≡◌, ◌∙◌, ℕ, ◌+◌, ◌<◌, suc, List, [], ◌∷◌, ◌++◌, length, get_or, drop, ap, sym, append_assoc, add-one}
 use Rattle.std.proofs.Math.Seq.{drop-cons}
-use Rattle.ir_reader.specs.declared.readings.Reading.{Reading}
-use Rattle.ir_reader.specs.declared.readings.Reading.TheVariants.{Case}
-use Rattle.ir_reader.specs.declared.readings.Value.{Value}
-use Rattle.ir_reader.specs.declared.readings.TypeWord.TheVariants.{Int}
+use Rattle.line_forms.specs.declared.readings.Reading.{Reading}
+use Rattle.line_forms.specs.declared.readings.Reading.TheVariants.{Case}
+use Rattle.line_parts.specs.declared.readings.Value.{Value}
+use Rattle.line_parts.specs.declared.readings.TypeWord.TheVariants.{Int}
 use Rattle.ir_reader.specs.declared.raw.NumberedReading.{NumberedReading}
-use Rattle.ir_reader.specs.Seen.{seen_value}
+use Rattle.line_parts.specs.Seen.{seen_value}
 use Rattle.ir_lines.specs.Statements.{Line}
 use Rattle.ir_lines.specs.Views.{said, seen_line}
 use Rattle.ir_lines.specs.Modules.{operand_in, label_in, case_values, case_labels}

@@ -5,7 +5,7 @@ use Rattle.std.proofs.lemmas.List.{length-map, length-append}
 use Rattle.std.proofs.lemmas.List.Sums.{take_while-cons}
 use Rattle.ir_ast.specs.Insts.{Instruction}
 use Rattle.ir_ast.specs.Funcs.{instructions_of}
-use Rattle.ir_reader.specs.Lists.{Named}
+use Rattle.line_parts.specs.Lists.{Named}
 use Rattle.ir_lines.specs.Statements.{Statement, Line, layout, define, label}
 use Rattle.ir_lines.specs.Sections.{Definition, BlockLines, is_label, label_said, until_label, block_at, labelled_blocks, first_block, blocks_of, layout_said, layouts_of, definition_said, definitions_of, arguments_named, count_numbered}
 use Rattle.ir_lines.specs.Modules.{Known, block_of, instruction_said, with_line, instructions_of as lined_instructions, insts_of}

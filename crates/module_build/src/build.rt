@@ -4,8 +4,9 @@ ghost use Rattle.std.specs.Prelude.{◌≡◌, [], ◌∷◌, ◌++◌, ◌+◌,
 ghost use Rattle.std.specs.List.{All};
 ghost use Rattle.ir_ast.specs.Blocks.{EndsAtTerminator};
 ghost use Rattle.std.specs.Option.{option_copied};
-ghost use Rattle.ir_reader.specs.Parts as values;
-ghost use Rattle.ir_reader.specs.Seen.{seen_value, seen_argument, seen_entry, seen_passed, seen_guarded};
+ghost use Rattle.line_parts.specs.Parts as values;
+ghost use Rattle.line_parts.specs.Seen.{seen_value, seen_argument, seen_entry, seen_passed};
+ghost use Rattle.group_parts.specs.Seen.{seen_guarded};
 ghost use Rattle.ir_lines.specs.Parts.{live_use, token_type};
 ghost use Rattle.ir_lines.specs.Statements.{statepoint};
 ghost use Rattle.ir_lines.specs.Places.{number_in};

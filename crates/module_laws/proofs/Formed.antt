@@ -4,22 +4,23 @@ use Rattle.std.specs.Prelude.{nat_le, codes, if◌then◌else◌}
 use Rattle.std.specs.List.{list_all, list_any}
 use Rattle.std.proofs.lemmas.Bool.{and_from, le-leb}
 use Rattle.sp_text.specs.Tokens.{Tok, tokens}
-use Rattle.ir_reader.specs.declared.readings.TypeWord.{TypeWord}
-use Rattle.ir_reader.specs.declared.readings.TypeWord.TheVariants as types
-use Rattle.ir_reader.specs.Gives.{Found, after, one_at}
-use Rattle.ir_reader.specs.declared.words.Dropped.TheVariants as drops
-use Rattle.ir_reader.specs.declared.readings.Literal.{Literal}
-use Rattle.ir_reader.specs.Families.{is_result_of}
-use Rattle.ir_reader.specs.Statepoints.{Signature, Guarded, signature_at, element_at, named_target, target_at, is_plain, is_type_of, begins_argument, handed_at, id_at, count_at, closing_at, guarded_at, suffix_of, named_result, result_at, statepoint_type_at, family_answer_at, declares_family, bracketing_at, token_at, live_at, number_at}
-use Rattle.ir_reader.specs.Marks.{is_mark, is_quoted, is_hash, is_global, stands, begins}
-use Rattle.ir_reader.specs.Numbers.{width_of}
-use Rattle.ir_reader.specs.Drops.{past, past_all}
-use Rattle.ir_reader.specs.Parts.{Val, word_at, mark_at, local_at, pred_of, place_at, strategy_at, to_brace_at, name_if_any, is_managed, global_at, value_at, spelled_type_at, allowed_type_at, case_value_at, is_value_type, is_answer_type, is_cast_type, is_scalar_type, is_case_value}
-use Rattle.ir_reader.specs.Lists.{Named, Given, given, function, at_most_at, listed_at, list_to, comma, fields_at, is_argument_type, argument_at, arguments_at, is_task_start, head_at, given_behind, passed_at, all_passed_at, called_at, entry_at, begins_entry, entries_at}
-use Rattle.ir_reader.specs.Slots.{Item, Slot, part, parse, blank, m, w, dropped, a_managed, a_quoted, a_hash, to_brace, a_local, a_layout_name, a_width, a_type, an_answer, a_cast_type, a_value, a_case, a_pred, a_scalar, a_layout, a_place, some_fields, some_entries, a_declared, a_defined, a_called, a_strategy, a_statepoint_type, a_family_answer, a_family, a_bracketing, a_token, a_guarded, a_live, a_result, a_number}
-use Rattle.ir_reader.specs.Slots as items
-use Rattle.ir_reader.specs.Forms.{slots}
-use Rattle.ir_reader.specs.Seen.{Said, label, line}
+use Rattle.line_parts.specs.declared.readings.TypeWord.{TypeWord}
+use Rattle.line_parts.specs.declared.readings.TypeWord.TheVariants as types
+use Rattle.line_parts.specs.Gives.{Found, after, one_at}
+use Rattle.line_tokens.specs.declared.words.Dropped.TheVariants as drops
+use Rattle.line_tokens.specs.declared.literals.Literal.{Literal}
+use Rattle.line_tokens.specs.Families.{is_result_of}
+use Rattle.group_parts.specs.Statepoints.{Signature, Guarded, signature_at, element_at, named_target, target_at, is_plain, is_type_of, begins_argument, handed_at, id_at, count_at, closing_at, guarded_at, suffix_of, named_result, result_at, statepoint_type_at, family_answer_at, declares_family, bracketing_at, token_at, live_at, number_at}
+use Rattle.line_tokens.specs.Marks.{is_mark, is_quoted, is_hash, is_global, stands, begins}
+use Rattle.line_tokens.specs.Numbers.{width_of}
+use Rattle.line_parts.specs.Drops.{past, past_all}
+use Rattle.line_parts.specs.Parts.{Val, word_at, mark_at, local_at, place_at, strategy_at, to_brace_at, name_if_any, is_managed, global_at, value_at, spelled_type_at, allowed_type_at, case_value_at, is_value_type, is_answer_type, is_cast_type, is_scalar_type, is_case_value}
+use Rattle.line_tokens.specs.Words.{pred_of}
+use Rattle.line_parts.specs.Lists.{Named, Given, given, function, at_most_at, listed_at, list_to, comma, fields_at, is_argument_type, argument_at, arguments_at, is_task_start, head_at, given_behind, passed_at, all_passed_at, called_at, entry_at, begins_entry, entries_at}
+use Rattle.line_forms.specs.Slots.{Item, Slot, part, parse, blank, m, w, dropped, a_managed, a_quoted, a_hash, to_brace, a_local, a_layout_name, a_width, a_type, an_answer, a_cast_type, a_value, a_case, a_pred, a_scalar, a_layout, a_place, some_fields, some_entries, a_declared, a_defined, a_called, a_strategy, a_statepoint_type, a_family_answer, a_family, a_bracketing, a_token, a_guarded, a_live, a_result, a_number}
+use Rattle.line_forms.specs.Slots as items
+use Rattle.line_forms.specs.Forms.{slots}
+use Rattle.line_forms.specs.Seen.{Said, label, line}
 use Rattle.ir_lines.specs.TextLines.{given_is_formed, call_is_formed}
 use Rattle.module_laws.proofs.Runs.{IsSpelled}
 
@@ -358,7 +359,6 @@ says_something a_hash = false
 says_something to_brace = false
 says_something (items.g text) = false
 says_something a_statepoint_type = false
-says_something a_family_answer = false
 says_something a_family = false
 says_something a_bracketing = false
 says_something _ = true
@@ -411,7 +411,7 @@ part-suits a_hash ts here mid e = nothing-here (one_at (stands is_hash) ts) here
 part-suits to_brace ts here mid e = nothing-here (to_brace_at ts) here mid e
 part-suits (items.g text) ts here mid e = nothing-here (one_at (stands (is_global text)) ts) here mid e
 part-suits a_statepoint_type ts here mid e = nothing-here (statepoint_type_at ts) here mid e
-part-suits a_family_answer ts here mid e = nothing-here (family_answer_at ts) here mid e
+part-suits a_family_answer ts here mid e = one-here a_family_answer (λ a. items.family_answer a) (family_answer_at ts) here mid (λ x rest f. refl) e
 part-suits a_family ts here mid e = nothing-here (one_at (stands declares_family) ts) here mid e
 part-suits a_bracketing ts here mid e = nothing-here (bracketing_at ts) here mid e
 part-suits a_local ts here mid e = one-here a_local (λ n. items.name n) (local_at ts) here mid (λ x rest f. refl) e

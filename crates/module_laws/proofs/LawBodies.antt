@@ -10,7 +10,7 @@ use Rattle.ir_ast.specs.Blocks.{BasicBlock}
 use Rattle.ir_ast.specs.Funcs.{instructions_of}
 use Rattle.ir_ast.specs.declared.ops.Op.TheVariants as ops
 use Rattle.ir_ast.specs.declared.types.Ty.TheVariants as tys
-use Rattle.ir_reader.specs.declared.readings.TypeWord.TheVariants as types
+use Rattle.line_parts.specs.declared.readings.TypeWord.TheVariants as types
 use Rattle.ir_lines.specs.Statements.{Line, Statement, label, switch}
 use Rattle.ir_lines.specs.Sections.{Definition, BlockLines, is_label, label_said, until_label, block_at, labelled_blocks, first_block, blocks_of, is_case, cases_of}
 use Rattle.ir_lines.specs.Modules.{Known, with_line, instruction_said, insts_of, block_of, function_of, instruction, operand_of, label_of, case_value, case_label}
@@ -41,7 +41,7 @@ cases_of-until (l ∷ ls) = by (is_label l.says) refl (cases_of-until ls)
     by false e ih =
         ap cases_of (until-other l ls e) ∙ ap (λ (cs : List Line). if is_case l.says then l ∷ cs else []) ih
 
-said-by_cases : (known : Known) (width : ℕ) (w : Rattle.ir_reader.specs.Parts.Val) (d : List ℕ) (a b : List Line) → cases_of a ≡ cases_of b
+said-by_cases : (known : Known) (width : ℕ) (w : Rattle.line_parts.specs.Parts.Val) (d : List ℕ) (a b : List Line) → cases_of a ≡ cases_of b
     → instruction_said known a (switch width w d) ≡ instruction_said known b (switch width w d)
 said-by_cases known width w d a b e =
     ap (λ (cs : List Line). Some (instruction None ops.Switch (tys.Int width)

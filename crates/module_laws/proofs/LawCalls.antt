@@ -25,11 +25,11 @@ use Rattle.ir_ast.specs.Scope.{Signature, signature_of, called_in, scope_of as m
 use Rattle.ir_ast.specs.Faults.TypeClash.{TakesOperands}
 use Rattle.ir_ast.specs.declared.modules.Form.{Form}
 use Rattle.ir_ast.specs.declared.modules.Form.TheVariants.{Source}
-use Rattle.ir_reader.specs.declared.readings.TypeWord.{TypeWord}
-use Rattle.ir_reader.specs.declared.readings.TypeWord.TheVariants.{Void, Int, Managed, Plain}
-use Rattle.ir_reader.specs.Parts.{Val}
-use Rattle.ir_reader.specs.Parts as values
-use Rattle.ir_reader.specs.Lists.{Named, Given, given, function}
+use Rattle.line_parts.specs.declared.readings.TypeWord.{TypeWord}
+use Rattle.line_parts.specs.declared.readings.TypeWord.TheVariants.{Void, Int, Managed, Plain}
+use Rattle.line_parts.specs.Parts.{Val}
+use Rattle.line_parts.specs.Parts as values
+use Rattle.line_parts.specs.Lists.{Named, Given, given, function}
 use Rattle.ir_lines.specs.Statements.{Line}
 use Rattle.ir_lines.specs.Sections.{Definition, types_of, definitions_of, arguments_named}
 use Rattle.ir_lines.specs.Places.{place_in, number_of}

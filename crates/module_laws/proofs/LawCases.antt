@@ -8,9 +8,9 @@ use Rattle.ir_ast.specs.Lists.{Distinct}
 use Rattle.ir_ast.specs.declared.ops.Operand.{Operand}
 use Rattle.ir_ast.specs.declared.ops.Operand.TheVariants as operands
 use Rattle.ir_ast.specs.declared.modules.Form.{Form}
-use Rattle.ir_reader.specs.declared.readings.TypeWord.TheVariants.{Int}
-use Rattle.ir_reader.specs.Parts.{Val, is_case_value}
-use Rattle.ir_reader.specs.Parts as values
+use Rattle.line_parts.specs.declared.readings.TypeWord.TheVariants.{Int}
+use Rattle.line_parts.specs.Parts.{Val, is_case_value}
+use Rattle.line_parts.specs.Parts as values
 use Rattle.ir_lines.specs.Statements.{Line, Statement, switch, switch_case}
 use Rattle.ir_lines.specs.Sections.{Definition, definitions_of, cases_of}
 use Rattle.ir_lines.specs.Modules.{operand_in, wrapped, case_values, case_labels}

@@ -34,9 +34,9 @@ use Rattle.ir_ast.specs.Bundles.{HasNoBundle}
 use Rattle.ir_cfg.specs.Limits.{IsName, HasNames}
 use Rattle.std.specs.Fmt.{digits}
 use Rattle.sp_text.specs.Tokens.{is_name}
-use Rattle.ir_reader.specs.declared.readings.TypeWord.{TypeWord}
-use Rattle.ir_reader.specs.declared.readings.TypeWord.TheVariants.{Void, Int, Managed, Plain}
-use Rattle.ir_reader.specs.Lists.{Named}
+use Rattle.line_parts.specs.declared.readings.TypeWord.{TypeWord}
+use Rattle.line_parts.specs.declared.readings.TypeWord.TheVariants.{Void, Int, Managed, Plain}
+use Rattle.line_parts.specs.Lists.{Named}
 use Rattle.ir_lines.specs.Statements.{Line, Statement, label, binary, compare, convert, select, phi, scalar_step, layout_step, load, store, call, jump, branch, switch, ret_void, ret, unreachable, cast, statepoint, gc_result, gc_relocate}
 use Rattle.ir_lines.specs.Parts.{gives, token_type}
 use Rattle.ir_lines.specs.Sections.{Definition, Naming, BlockLines, arguments_named, result_named, values_of, blocks_of, labelled_blocks, first_block, block_at, label_said, is_label, until_label, count_numbered, is_numbered}

@@ -21,12 +21,12 @@ use Rattle.ir_ast.specs.Operands.{is_value, functions_named as functions_in}
 use Rattle.ir_ast.specs.Widths.{IsWidth}
 use Rattle.ir_ast.specs.Scope.{Scope as ModuleScope}
 use Rattle.ir_ast.specs.Faults.TypeClash.{Fits, TakesOperands}
-use Rattle.ir_reader.specs.declared.readings.TypeWord.{TypeWord}
-use Rattle.ir_reader.specs.declared.readings.TypeWord.TheVariants.{Managed}
-use Rattle.ir_reader.specs.declared.readings.Literal.{Literal}
-use Rattle.ir_reader.specs.Parts.{Val}
-use Rattle.ir_reader.specs.Lists.{Given}
-use Rattle.ir_reader.specs.Statepoints.{Guarded}
+use Rattle.line_parts.specs.declared.readings.TypeWord.{TypeWord}
+use Rattle.line_parts.specs.declared.readings.TypeWord.TheVariants.{Managed}
+use Rattle.line_tokens.specs.declared.literals.Literal.{Literal}
+use Rattle.line_parts.specs.Parts.{Val}
+use Rattle.line_parts.specs.Lists.{Given}
+use Rattle.group_parts.specs.Statepoints.{Guarded}
 use Rattle.ir_lines.specs.Statements.{Line, statepoint, gc_result, gc_relocate}
 use Rattle.ir_lines.specs.Parts.{passed_value, live_use, token_use, index_use}
 use Rattle.ir_lines.specs.Sections.{Definition}
@@ -178,7 +178,7 @@ good_statepoint form lines func law result called live facts =
     let scope = scope_of lines func in
     let agreed = call_agrees form scope called.signature.answer called.callee called.passed in
     let more = takes_types called.signature.parameters (head_named scope called.callee)
-    && literal_fits (Rattle.ir_reader.specs.declared.readings.TypeWord.TheVariants.Int 32) called.count in
+    && literal_fits (Rattle.line_parts.specs.declared.readings.TypeWord.TheVariants.Int 32) called.count in
     let g = good_call form lines func law called.callee called.signature.answer called.passed facts.functions (and-left agreed more facts.rule) facts.read.passed in
     subst (λ (c : Callee). GoodInst form lines func (statepoint_made lines func result called live c)) (sym g.is)
     (statepoint_at form lines func law result called live facts g)

@@ -20,12 +20,12 @@ use Rattle.ir_ast.specs.Widths.{IsWidth, type_widths}
 use Rattle.ir_ast.specs.Faults.TypeClash.{Fits, HasField}
 use Rattle.ir_ast.specs.declared.ops.Elem.TheVariants as elements
 use Rattle.ir_ast.specs.declared.modules.Form.{Form}
-use Rattle.ir_reader.specs.declared.readings.TypeWord.{TypeWord}
-use Rattle.ir_reader.specs.declared.readings.TypeWord.TheVariants.{Void, Int, Managed, Plain}
-use Rattle.ir_reader.specs.declared.readings.Literal.{Literal}
-use Rattle.ir_reader.specs.Parts.{Val, is_case_value}
-use Rattle.ir_reader.specs.Parts as values
-use Rattle.ir_reader.specs.Lists.{Given, given, function}
+use Rattle.line_parts.specs.declared.readings.TypeWord.{TypeWord}
+use Rattle.line_parts.specs.declared.readings.TypeWord.TheVariants.{Void, Int, Managed, Plain}
+use Rattle.line_tokens.specs.declared.literals.Literal.{Literal}
+use Rattle.line_parts.specs.Parts.{Val, is_case_value}
+use Rattle.line_parts.specs.Parts as values
+use Rattle.line_parts.specs.Lists.{Given, given, function}
 use Rattle.ir_lines.specs.Statements.{Line, Statement, layout_step, call, switch, switch_case}
 use Rattle.ir_lines.specs.Parts.{passed_value, entry_use}
 use Rattle.ir_lines.specs.Sections.{Definition, LayoutLine, BlockLines, blocks_of, layouts_of}

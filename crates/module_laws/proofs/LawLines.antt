@@ -17,11 +17,11 @@ use Rattle.ir_ast.specs.Operands.{is_value}
 use Rattle.ir_ast.specs.Faults.TypeClash.{Fits}
 use Rattle.ir_ast.specs.declared.modules.Form.{Form}
 use Rattle.ir_ast.specs.declared.modules.Form.TheVariants.{Source}
-use Rattle.ir_reader.specs.declared.readings.TypeWord.{TypeWord}
-use Rattle.ir_reader.specs.declared.readings.TypeWord.TheVariants.{Int, Managed, Plain}
-use Rattle.ir_reader.specs.declared.readings.Literal.{Literal}
-use Rattle.ir_reader.specs.Parts.{Val}
-use Rattle.ir_reader.specs.Parts as values
+use Rattle.line_parts.specs.declared.readings.TypeWord.{TypeWord}
+use Rattle.line_parts.specs.declared.readings.TypeWord.TheVariants.{Int, Managed, Plain}
+use Rattle.line_tokens.specs.declared.literals.Literal.{Literal}
+use Rattle.line_parts.specs.Parts.{Val}
+use Rattle.line_parts.specs.Parts as values
 use Rattle.ir_lines.specs.Statements.{Line, Statement, cast}
 use Rattle.ir_lines.specs.Parts.{uses, entry_use, token_type, token_use, is_of_group, values_named, targets, entry_labels, functions_named, layouts_named}
 use Rattle.ir_lines.specs.Sections.{Definition, Naming, definitions_of, values_of}

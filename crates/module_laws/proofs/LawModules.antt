@@ -25,9 +25,9 @@ use Rattle.ir_ast.specs.Faults.Reserved.{IsExternalName, FunctionNamesAreFree}
 use Rattle.ir_ast.specs.declared.modules.Form.{Form}
 use Rattle.ir_ast.specs.declared.modules.Form.TheVariants.{Source}
 use Rattle.ir_cfg.specs.Limits.{IsName, IsWithinLimits}
-use Rattle.ir_reader.specs.declared.readings.TypeWord.{TypeWord}
-use Rattle.ir_reader.specs.declared.readings.TypeWord.TheVariants.{Void, Int, Managed, Plain}
-use Rattle.ir_reader.specs.Lists.{Named}
+use Rattle.line_parts.specs.declared.readings.TypeWord.{TypeWord}
+use Rattle.line_parts.specs.declared.readings.TypeWord.TheVariants.{Void, Int, Managed, Plain}
+use Rattle.line_parts.specs.Lists.{Named}
 use Rattle.ir_lines.specs.Statements.{Line}
 use Rattle.ir_lines.specs.Sections.{Definition, LayoutLine, BlockLines, layouts_of, definitions_of, blocks_of, arguments_named}
 use Rattle.ir_lines.specs.Modules.{known_of, type_of, cell_of, layout_of, argument_of, block_of, function_of}

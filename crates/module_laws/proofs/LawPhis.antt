@@ -20,12 +20,12 @@ use Rattle.ir_ast.specs.Edges as edged
 use Rattle.ir_ast.specs.Faults.PhiEdges.{PhiIsRight, PhisAreRight}
 use Rattle.ir_ast.specs.Faults.PhiEdges as right
 use Rattle.ir_ast.specs.declared.modules.Form.{Form}
-use Rattle.ir_reader.specs.declared.readings.TypeWord.{TypeWord}
-use Rattle.ir_reader.specs.declared.words.Binary.{Binary}
-use Rattle.ir_reader.specs.declared.words.Binary.TheVariants.{Add}
-use Rattle.ir_reader.specs.declared.words.Conversion.{Conversion}
-use Rattle.ir_reader.specs.declared.words.Conversion.TheVariants.{Trunc}
-use Rattle.ir_reader.specs.Parts.{Val}
+use Rattle.line_parts.specs.declared.readings.TypeWord.{TypeWord}
+use Rattle.line_tokens.specs.declared.words.Binary.{Binary}
+use Rattle.line_tokens.specs.declared.words.Binary.TheVariants.{Add}
+use Rattle.line_tokens.specs.declared.words.Conversion.{Conversion}
+use Rattle.line_tokens.specs.declared.words.Conversion.TheVariants.{Trunc}
+use Rattle.line_parts.specs.Parts.{Val}
 use Rattle.ir_lines.specs.Statements.{Line, Statement, layout, declare, define, close, label, binary, convert, phi, jump, branch, switch, switch_case, switch_end, cast}
 use Rattle.ir_lines.specs.Parts.{targets, is_phi}
 use Rattle.ir_lines.specs.Sections.{Definition, BlockLines, blocks_of, labelled_blocks, first_block, block_at, label_said, is_label, until_label, count_numbered}

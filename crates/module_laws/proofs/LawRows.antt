@@ -14,7 +14,7 @@ use Rattle.ir_ast.specs.declared.ops.Op.TheVariants as ops
 use Rattle.ir_ast.specs.Insts.{Instruction}
 use Rattle.ir_ast.specs.Faults.GroupShape.{is_statepoint, is_part as is_part_made, entries_of, number_at}
 use Rattle.ir_cfg.specs.TargetModules.{is_relocate as is_relocate_op, relocates_of, StatepointsAreSmall}
-use Rattle.ir_reader.specs.declared.readings.Literal.{Literal}
+use Rattle.line_tokens.specs.declared.literals.Literal.{Literal}
 use Rattle.ir_lines.specs.Statements.{Line, Statement, statepoint, gc_result, gc_relocate}
 use Rattle.ir_lines.specs.Parts.{live_use}
 use Rattle.ir_lines.specs.Sections.{Definition, Naming, values_of}
@@ -201,8 +201,8 @@ all_counted known n (l ∷ ls) =
 
 -- relocates of one number have one token
 same_token : (lines : List Line) (func : Definition) → InLaw Rewritten lines func → (a b : List ℕ)
-    → Rattle.module_laws.proofs.LawFacts.IsKnownUse (scope_of lines func) (Rattle.ir_reader.specs.Parts.local a)
-    → Rattle.module_laws.proofs.LawFacts.IsKnownUse (scope_of lines func) (Rattle.ir_reader.specs.Parts.local b)
+    → Rattle.module_laws.proofs.LawFacts.IsKnownUse (scope_of lines func) (Rattle.line_parts.specs.Parts.local a)
+    → Rattle.module_laws.proofs.LawFacts.IsKnownUse (scope_of lines func) (Rattle.line_parts.specs.Parts.local b)
     → number_in (known_of lines func).values a ≡ number_in (known_of lines func).values b → a ≡ b
 same_token lines func law a b known_a known_b same =
     let name : Naming → List ℕ = λ one. one.name in
@@ -217,7 +217,7 @@ same_token lines func law a b known_a known_b same =
 record Placed (lines : List Line) (func : Definition) (n : ℕ) (before : List Line) (l : Line) (after : List Line) : Type 0 where
   is : IsRelocate (known_of lines func) n l.says
   split : func.body ≡ before ++ (record { number = l.number; says = gc_relocate is.result is.token is.base is.derived }) ∷ after
-  known : Rattle.module_laws.proofs.LawFacts.IsKnownUse (scope_of lines func) (Rattle.ir_reader.specs.Parts.local is.token)
+  known : Rattle.module_laws.proofs.LawFacts.IsKnownUse (scope_of lines func) (Rattle.line_parts.specs.Parts.local is.token)
   group : Group func before is.token
 
 placed : (lines : List Line) (func : Definition) → InLaw Rewritten lines func → (n : ℕ) (before : List Line) (l : Line) (after : List Line)
@@ -267,7 +267,7 @@ within_parts lines func law n pre x rest p post token same g =
 
 -- parts of a group of which none is a result are relocates
 only_relocates : (token : List ℕ) (ls : List Line) → are_parts token ls ≡ true
-    → ((mid : List Line) (m : ℕ) (result : List ℕ) (ty : Rattle.ir_reader.specs.declared.readings.TypeWord.TypeWord) (more : List Line)
+    → ((mid : List Line) (m : ℕ) (result : List ℕ) (ty : Rattle.line_parts.specs.declared.readings.TypeWord.TypeWord) (more : List Line)
     → ls ≡ mid ++ (record { number = m; says = gc_result result ty token }) ∷ more → ⊥)
     → list_all (λ (l : Line). is_relocate l.says) ls ≡ true
 only_relocates token [] e h = refl
@@ -276,7 +276,7 @@ only_relocates token (l ∷ ls) e h =
     (only_relocates token ls (and-right (is_part token l.says) (are_parts token ls) e) (λ mid m result ty more f. h (l ∷ mid) m result ty more (ap (λ (xs : List Line). l ∷ xs) f)))
   where
     by : (k : ℕ) (s : Statement) → is_part token s ≡ true
-        → ((result : List ℕ) (ty : Rattle.ir_reader.specs.declared.readings.TypeWord.TypeWord) → s ≡ gc_result result ty token → ⊥)
+        → ((result : List ℕ) (ty : Rattle.line_parts.specs.declared.readings.TypeWord.TypeWord) → s ≡ gc_result result ty token → ⊥)
         → list_all (λ (one : Line). is_relocate one.says) ls ≡ true → (is_relocate s && list_all (λ (one : Line). is_relocate one.says) ls) ≡ true
     by k (gc_result result ty other) t not_result ih =
         absurd (not_result result ty (ap (λ (x : List ℕ). gc_result result ty x) (sym ((Rattle.std.proofs.lemmas.Slice.Eq.bytes_eq-Decides token other).0 t))))

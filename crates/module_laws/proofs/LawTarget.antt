@@ -13,7 +13,7 @@ use Rattle.ir_ast.specs.declared.modules.Form.{Form}
 use Rattle.ir_ast.specs.declared.modules.Form.TheVariants.{Source, Rewritten}
 use Rattle.ir_cfg.specs.DefiniteUses.{UsesAreDefinite}
 use Rattle.ir_cfg.specs.TargetModules.{IsTargetModule}
-use Rattle.ir_reader.specs.declared.forms.Place.TheVariants as places
+use Rattle.ir_reader.specs.declared.states.Place.TheVariants as places
 use Rattle.ir_lines.specs.Statements.{Line}
 use Rattle.ir_lines.specs.Sections.{Definition}
 use Rattle.ir_lines.specs.PlainFaults.{HasNoPlainFault as TextHasNoFault}

@@ -12,8 +12,8 @@ use Rattle.ir_ast.specs.declared.ops.Op.TheVariants as ops
 use Rattle.ir_ast.specs.Insts.{Instruction}
 use Rattle.ir_ast.specs.Funcs.{instructions_of}
 use Rattle.ir_ast.specs.Faults.GroupShape.{Group as ModuleGroup, is_part as is_part_made}
-use Rattle.ir_reader.specs.Parts.{Val}
-use Rattle.ir_reader.specs.Statepoints.{Guarded}
+use Rattle.line_parts.specs.Parts.{Val}
+use Rattle.group_parts.specs.Statepoints.{Guarded}
 use Rattle.ir_lines.specs.Statements.{Line, Statement, statepoint, gc_result, gc_relocate}
 use Rattle.ir_lines.specs.Parts.{token_type, live_use, gives}
 use Rattle.ir_lines.specs.Sections.{Definition, Naming, arguments_named, result_named, values_before, values_of}

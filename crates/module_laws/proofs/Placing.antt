@@ -7,10 +7,10 @@ use Rattle.std.proofs.lemmas.List.Elements.{All-nil, All-cons, All-append, All-h
 use Rattle.std.proofs.lemmas.List.Sums.{take_while-cons}
 use Rattle.std.proofs.lemmas.Bool.{leb-true}
 use Rattle.ir_ast.specs.declared.modules.Form.{Form}
-use Rattle.ir_reader.specs.declared.forms.Place.{Place}
-use Rattle.ir_reader.specs.declared.forms.Place.TheVariants as places
-use Rattle.ir_reader.specs.declared.readings.TypeWord.{TypeWord}
-use Rattle.ir_reader.specs.Lists.{Named}
+use Rattle.ir_reader.specs.declared.states.Place.{Place}
+use Rattle.ir_reader.specs.declared.states.Place.TheVariants as places
+use Rattle.line_parts.specs.declared.readings.TypeWord.{TypeWord}
+use Rattle.line_parts.specs.Lists.{Named}
 use Rattle.ir_reader.specs.Limits.{type_fits, name_fits, argument_fits}
 use Rattle.ir_lines.specs.Statements.{Statement, Line, define}
 use Rattle.ir_lines.specs.Sections.{is_close, Definition, definition_said, definitions_of, arguments_named, blocks_of}

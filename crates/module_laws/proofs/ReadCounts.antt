@@ -8,17 +8,17 @@ use Rattle.std.proofs.lemmas.List.Sums.{take_while-cons, sum_by-cons}
 use Rattle.std.proofs.lemmas.List.Elements.{All-nil, All-cons}
 use Rattle.ir_ast.specs.declared.modules.Form.{Form}
 use Rattle.ir_ast.specs.declared.modules.Form.TheVariants.{Source, Rewritten}
-use Rattle.ir_reader.specs.declared.forms.Place.{Place}
-use Rattle.ir_reader.specs.declared.forms.Place.TheVariants as places
-use Rattle.ir_reader.specs.declared.forms.State.{State}
-use Rattle.ir_reader.specs.declared.forms.Counts.{Counts}
-use Rattle.ir_reader.specs.declared.forms.Counted.{Counted}
-use Rattle.ir_reader.specs.declared.forms.Counted.TheVariants as kinds
-use Rattle.ir_reader.specs.declared.readings.Reading.{Reading}
-use Rattle.ir_reader.specs.declared.readings.Reading.TheVariants as readings
+use Rattle.ir_reader.specs.declared.states.Place.{Place}
+use Rattle.ir_reader.specs.declared.states.Place.TheVariants as places
+use Rattle.ir_reader.specs.declared.states.State.{State}
+use Rattle.ir_reader.specs.declared.states.Counts.{Counts}
+use Rattle.ir_reader.specs.declared.states.Counted.{Counted}
+use Rattle.ir_reader.specs.declared.states.Counted.TheVariants as kinds
+use Rattle.line_forms.specs.declared.readings.Reading.{Reading}
+use Rattle.line_forms.specs.declared.readings.Reading.TheVariants as readings
 use Rattle.ir_reader.specs.declared.raw.NumberedReading.{NumberedReading}
 use Rattle.ir_reader.specs.Limits.{said_counts_as, counted, counted_in, counts_fit}
-use Rattle.ir_reader.specs.Seen.{seen}
+use Rattle.line_forms.specs.Seen.{seen}
 use Rattle.ir_reader.specs.Raws.{seen_numbered}
 use Rattle.ir_lines.specs.Statements.{Statement, Line, layout, declare, define, close, label, switch_case, switch_end, gc_relocate}
 use Rattle.ir_lines.specs.Sections.{Definition, layouts_of, layout_said, definitions_of, definition_said, is_case, is_close}
@@ -414,7 +414,7 @@ abbrev OpensEntry : Place → Option Place → Type 0
 OpensEntry place None = Unit {0}
 OpensEntry place (Some next) = (place ≡ places.Top) × (next ≡ places.Entry)
 
-opens_entry : (place : Place) (answer : Rattle.ir_reader.specs.declared.readings.TypeWord.TypeWord) (name : List ℕ) (arguments : List (Rattle.ir_reader.specs.Lists.Named)) (strategy : Option (List ℕ))
+opens_entry : (place : Place) (answer : Rattle.line_parts.specs.declared.readings.TypeWord.TypeWord) (name : List ℕ) (arguments : List (Rattle.line_parts.specs.Lists.Named)) (strategy : Option (List ℕ))
     → OpensEntry place (place_behind place (define answer name arguments strategy))
 opens_entry places.Top answer name arguments strategy = (refl, refl)
 opens_entry place answer name arguments strategy = tt

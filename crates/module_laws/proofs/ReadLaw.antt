@@ -4,11 +4,11 @@ use Rattle.std.specs.List.{All, AllByRecursion, Contains, sum_by}
 use Rattle.std.proofs.lemmas.List.{length-map}
 use Rattle.std.proofs.lemmas.List.Sums.{count_by-le-length}
 use Rattle.std.proofs.lemmas.List.Elements.{All-contains, All-from_recursion, recursion_from_All}
-use Rattle.ir_reader.specs.declared.forms.Place.TheVariants as places
+use Rattle.ir_reader.specs.declared.states.Place.TheVariants as places
 use Rattle.ir_reader.specs.declared.raw.NumberedReading.{NumberedReading}
 use Rattle.ir_reader.specs.Raws.{Readings, IsRead}
 use Rattle.ir_reader.specs.Text.{opening}
-use Rattle.ir_reader.specs.declared.forms.Counts.{Counts}
+use Rattle.ir_reader.specs.declared.states.Counts.{Counts}
 use Rattle.ir_ast.specs.Modules.{LinedModule}
 use Rattle.ir_ast.specs.declared.modules.Form.{Form}
 use Rattle.ir_ast.specs.declared.modules.Form.TheVariants.{Source, Rewritten}

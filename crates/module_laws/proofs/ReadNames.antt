@@ -11,27 +11,29 @@ use Rattle.sp_text.specs.declared.tokens.Kind.{Kind}
 use Rattle.sp_text.specs.declared.tokens.Kind.TheVariants as kinds
 use Rattle.sp_text.proofs.TokenLemmas.{front_of-some, kind_of-some}
 use Rattle.ir_cfg.specs.Limits.{IsName}
-use Rattle.ir_reader.specs.declared.readings.TypeWord.{TypeWord}
-use Rattle.ir_reader.specs.declared.readings.TypeWord.TheVariants as types
-use Rattle.ir_reader.specs.declared.readings.Reading.{Reading}
-use Rattle.ir_reader.specs.declared.readings.Reading.TheVariants as readings
+use Rattle.line_parts.specs.declared.readings.TypeWord.{TypeWord}
+use Rattle.line_parts.specs.declared.readings.TypeWord.TheVariants as types
+use Rattle.line_forms.specs.declared.readings.Reading.{Reading}
+use Rattle.line_forms.specs.declared.readings.Reading.TheVariants as readings
 use Rattle.ir_reader.specs.declared.raw.NumberedReading.{NumberedReading}
-use Rattle.ir_reader.specs.declared.words.Dropped.{Dropped}
-use Rattle.ir_reader.specs.declared.words.Dropped.TheVariants as drops
-use Rattle.ir_reader.specs.Gives.{Found, after, one_at, with_rest}
-use Rattle.ir_reader.specs.declared.readings.Literal.{Literal}
-use Rattle.ir_reader.specs.Families.{is_result_of}
-use Rattle.ir_reader.specs.Statepoints.{Signature, Guarded, first_types_at, last_types_at, statepoint_type_at, number_at, is_zero, zero_at, token_at, signature_at, element_at, target_at, is_type_of, closing_at, begins_argument, handed_at, id_at, count_at, guarded_at, live_entry_at, is_live_tag, bundle_at, live_at, suffix_of, result_at, declares_family, family_answer_at, bracketing_at}
-use Rattle.ir_reader.specs.Marks.{is_mark, is_word, is_global, is_number, is_quoted, is_hash, local_of, global_of, quoted_of, stands, begins}
-use Rattle.ir_reader.specs.Numbers.{width_of, literal_of}
-use Rattle.ir_reader.specs.Drops.{past, past_all, past_at_most, past_dropped, past_group, past_word, past_quoted_value, past_bracketing, after_bracket, past_attachment, past_head_attachment, past_alignment, past_one_of, flag_words, is_attribute_word, is_bang_name, is_bang_number, is_one_of}
-use Rattle.ir_reader.specs.Parts.{Val, word_at, mark_at, local_at, global_at, addrspace_at, is_one, pointer_at, other_type_at, type_behind, spelled_type_at, allowed_type_at, value_of, value_at, case_value_at, is_case_value, pred_of, name_if_any, begins_place, place_at, strategy_at, to_brace_at, ends_with_brace, is_value_type, is_answer_type, is_cast_type, is_scalar_type, is_managed}
-use Rattle.ir_reader.specs.Lists.{Named, Given, at_most_at, listed_at, list_to, comma, fields_at, is_argument_type, argument_at, arguments_at, is_task_start, head_at, given_behind, passed_at, all_passed_at, called_at, entry_at, begins_entry, entries_at}
-use Rattle.ir_reader.specs.Slots.{Item, Slot, part, parse, blank, m, w, dropped, a_managed, a_quoted, a_hash, to_brace, a_local, a_layout_name, a_width, a_type, an_answer, a_cast_type, a_value, a_case, a_pred, a_scalar, a_layout, a_place, some_fields, some_entries, a_declared, a_defined, a_called, a_strategy, a_statepoint_type, a_family_answer, a_family, a_bracketing, a_token, a_guarded, a_live, a_result, a_number}
-use Rattle.ir_reader.specs.Slots as items
-use Rattle.ir_reader.specs.Forms.{slots}
-use Rattle.ir_reader.specs.declared.forms.State.{State}
-use Rattle.ir_reader.specs.Seen.{Said, label, line, seen, seen_argument}
+use Rattle.line_tokens.specs.declared.words.Dropped.{Dropped}
+use Rattle.line_tokens.specs.declared.words.Dropped.TheVariants as drops
+use Rattle.line_parts.specs.Gives.{Found, after, one_at, with_rest}
+use Rattle.line_tokens.specs.declared.literals.Literal.{Literal}
+use Rattle.line_tokens.specs.Families.{is_result_of}
+use Rattle.group_parts.specs.Statepoints.{Signature, Guarded, first_types_at, last_types_at, statepoint_type_at, number_at, is_zero, zero_at, token_at, signature_at, element_at, target_at, is_type_of, closing_at, begins_argument, handed_at, id_at, count_at, guarded_at, live_entry_at, is_live_tag, bundle_at, live_at, suffix_of, result_at, declares_family, family_answer_at, bracketing_at}
+use Rattle.line_tokens.specs.Marks.{is_mark, is_word, is_global, is_number, is_quoted, is_hash, local_of, global_of, quoted_of, stands, begins}
+use Rattle.line_tokens.specs.Numbers.{width_of, literal_of}
+use Rattle.line_parts.specs.Drops.{past, past_all, past_at_most, past_dropped, past_group, past_word, past_quoted_value, past_bracketing, after_bracket, past_attachment, past_head_attachment, past_alignment, past_one_of, flag_words, is_attribute_word, is_bang_name, is_bang_number, is_one_of}
+use Rattle.line_parts.specs.Parts.{Val, word_at, mark_at, local_at, global_at, addrspace_at, is_one, pointer_at, other_type_at, type_behind, spelled_type_at, allowed_type_at, value_of, value_at, case_value_at, is_case_value, name_if_any, begins_place, place_at, strategy_at, to_brace_at, ends_with_brace, is_value_type, is_answer_type, is_cast_type, is_scalar_type, is_managed}
+use Rattle.line_tokens.specs.Words.{pred_of}
+use Rattle.line_parts.specs.Lists.{Named, Given, at_most_at, listed_at, list_to, comma, fields_at, is_argument_type, argument_at, arguments_at, is_task_start, head_at, given_behind, passed_at, all_passed_at, called_at, entry_at, begins_entry, entries_at}
+use Rattle.line_forms.specs.Slots.{Item, Slot, part, parse, blank, m, w, dropped, a_managed, a_quoted, a_hash, to_brace, a_local, a_layout_name, a_width, a_type, an_answer, a_cast_type, a_value, a_case, a_pred, a_scalar, a_layout, a_place, some_fields, some_entries, a_declared, a_defined, a_called, a_strategy, a_statepoint_type, a_family_answer, a_family, a_bracketing, a_token, a_guarded, a_live, a_result, a_number}
+use Rattle.line_forms.specs.Slots as items
+use Rattle.line_forms.specs.Forms.{slots}
+use Rattle.ir_reader.specs.declared.states.State.{State}
+use Rattle.line_forms.specs.Seen.{Said, label, line, seen}
+use Rattle.line_parts.specs.Seen.{seen_argument}
 use Rattle.ir_reader.specs.Raws.{seen_numbered}
 use Rattle.ir_lines.specs.Views.{said, seen_line}
 use Rattle.ir_lines.specs.ReadLines.{IsNameIfAny}
@@ -282,14 +284,14 @@ any_name_good (t ∷ ts) g = by (local_of t) (local_name t g.0)
     by None h = (tt, g)
     by (Some name) h = (h, g.1)
 
-place_good : (ts : List Tok) → Good ts → GF (λ (x : Option Rattle.ir_reader.specs.declared.readings.Literal.Literal). ⊤) (place_at ts)
+place_good : (ts : List Tok) → Good ts → GF (λ (x : Option Rattle.line_tokens.specs.declared.literals.Literal.Literal). ⊤) (place_at ts)
 unfolding place_at
 place_good ts g =
-    chosen_good (λ (x : Option Rattle.ir_reader.specs.declared.readings.Literal.Literal). ⊤) (begins_place ts)
+    chosen_good (λ (x : Option Rattle.line_tokens.specs.declared.literals.Literal.Literal). ⊤) (begins_place ts)
     (after (mark_at (codes ",") ts) (λ _ ts. after (word_at (codes "i32") ts) (λ _ ts. after (one_at literal_of ts) (λ place ts. Some (Some place, ts))))) (Some (None, ts))
-    (after-good (λ (x : Unit {0}). ⊤) (λ (x : Option Rattle.ir_reader.specs.declared.readings.Literal.Literal). ⊤) (mark_at (codes ",") ts) _ (mark_good (codes ",") ts g) (λ x1 r1 q1 g1.
-    after-good (λ (x : Unit {0}). ⊤) (λ (x : Option Rattle.ir_reader.specs.declared.readings.Literal.Literal). ⊤) (word_at (codes "i32") r1) _ (word_good (codes "i32") r1 g1) (λ x2 r2 q2 g2.
-    after-good (λ (x : Rattle.ir_reader.specs.declared.readings.Literal.Literal). ⊤) (λ (x : Option Rattle.ir_reader.specs.declared.readings.Literal.Literal). ⊤) (one_at literal_of r2) _ (any_good literal_of r2 g2)
+    (after-good (λ (x : Unit {0}). ⊤) (λ (x : Option Rattle.line_tokens.specs.declared.literals.Literal.Literal). ⊤) (mark_at (codes ",") ts) _ (mark_good (codes ",") ts g) (λ x1 r1 q1 g1.
+    after-good (λ (x : Unit {0}). ⊤) (λ (x : Option Rattle.line_tokens.specs.declared.literals.Literal.Literal). ⊤) (word_at (codes "i32") r1) _ (word_good (codes "i32") r1 g1) (λ x2 r2 q2 g2.
+    after-good (λ (x : Rattle.line_tokens.specs.declared.literals.Literal.Literal). ⊤) (λ (x : Option Rattle.line_tokens.specs.declared.literals.Literal.Literal). ⊤) (one_at literal_of r2) _ (any_good literal_of r2 g2)
     (λ x3 r3 q3 g3. (tt, g3))))) (tt, g)
 
 strategy_good : (ts : List Tok) → Good ts → GF (λ (x : Option (List ℕ)). ⊤) (strategy_at ts)
@@ -532,12 +534,13 @@ result_good ts g =
     after-good IsName (λ (x : TypeWord). ⊤) (global_at r1) _ (global_good r1 g1) (λ x2 r2 q2 g2.
     chosen_good (λ (x : TypeWord). ⊤) (is_result_of (suffix_of x1 ts) x2) (Some (x1, r2)) None (tt, g2) tt))
 
-family_answer_good : (ts : List Tok) → Good ts → GF Nothing (family_answer_at ts)
+family_answer_good : (ts : List Tok) → Good ts → GF (λ (x : Option TypeWord). ⊤) (family_answer_at ts)
 unfolding family_answer_at
 family_answer_good ts g =
-    chosen_good Nothing (begins (is_word (codes "token")) ts) (word_at (codes "token") ts) (after (allowed_type_at is_answer_type ts) (λ _ rest. Some (tt, rest)))
-    (word_good (codes "token") ts g)
-    (after-good (λ (x : TypeWord). ⊤) Nothing (allowed_type_at is_answer_type ts) _ (type_good is_answer_type ts g) (λ x1 r1 q1 g1. (tt, g1)))
+    chosen_good (λ (x : Option TypeWord). ⊤) (begins (is_word (codes "token")) ts) (after (word_at (codes "token") ts) (λ _ rest. Some (None, rest)))
+    (after (allowed_type_at is_answer_type ts) (λ answer rest. Some (Some answer, rest)))
+    (after-good Nothing (λ (x : Option TypeWord). ⊤) (word_at (codes "token") ts) _ (word_good (codes "token") ts g) (λ x1 r1 q1 g1. (tt, g1)))
+    (after-good (λ (x : TypeWord). ⊤) (λ (x : Option TypeWord). ⊤) (allowed_type_at is_answer_type ts) _ (type_good is_answer_type ts g) (λ x1 r1 q1 g1. (tt, g1)))
 
 end_good : (o : Option (List Tok)) → GO o → GF Nothing (option_map (λ end. (tt, end)) o)
 end_good None h = tt
@@ -578,7 +581,7 @@ part_good a_hash ts g = nothing_good (λ (x : Unit {0}). ⊤) (one_at (stands is
 part_good to_brace ts g = nothing_good (λ (x : Unit {0}). ⊤) (to_brace_at ts) (brace_good ts g)
 part_good (items.g text) ts h = nothing_good (λ (x : Unit {0}). ⊤) (one_at (stands (is_global text)) ts) (any_good (stands (is_global text)) ts h)
 part_good a_statepoint_type ts g = nothing_good (λ (x : Unit {0}). ⊤) (statepoint_type_at ts) (statepoint_type_good ts g)
-part_good a_family_answer ts g = nothing_good (λ (x : Unit {0}). ⊤) (family_answer_at ts) (family_answer_good ts g)
+part_good a_family_answer ts g = says_good (λ (x : Option TypeWord). ⊤) (λ a. items.family_answer a) (family_answer_at ts) (λ x q. tt) (family_answer_good ts g)
 part_good a_family ts g = nothing_good (λ (x : Unit {0}). ⊤) (one_at (stands declares_family) ts) (any_good (stands declares_family) ts g)
 part_good a_bracketing ts g = nothing_good (λ (x : Unit {0}). ⊤) (bracketing_at ts) (bracketed_good ts g)
 part_good a_local ts g = says_good IsName (λ n. items.name n) (local_at ts) (λ x q. q) (local_good ts g)
@@ -592,7 +595,7 @@ part_good a_case ts g = says_good (λ (x : Val). ⊤) (λ v. items.value v) (cas
 part_good a_pred ts g = says_good (λ (x : Rattle.ir_ast.specs.declared.ops.Pred.Pred). ⊤) (λ p. items.pred p) (one_at pred_of ts) (λ x q. tt) (any_good pred_of ts g)
 part_good a_scalar ts g = says_good (λ (x : TypeWord). ⊤) (λ t. items.scalar t) (allowed_type_at is_scalar_type ts) (λ x q. tt) (type_good is_scalar_type ts g)
 part_good a_layout ts g = says_good IsName (λ n. items.layout n) (local_at ts) (λ x q. tt) (local_good ts g)
-part_good a_place ts g = says_good (λ (x : Option Rattle.ir_reader.specs.declared.readings.Literal.Literal). ⊤) (λ p. items.place p) (place_at ts) (λ x q. tt) (place_good ts g)
+part_good a_place ts g = says_good (λ (x : Option Rattle.line_tokens.specs.declared.literals.Literal.Literal). ⊤) (λ p. items.place p) (place_at ts) (λ x q. tt) (place_good ts g)
 part_good some_fields ts g =
     says_good (λ (xs : List TypeWord). AllByRecursion (λ (x : TypeWord). ⊤) xs) (λ fs. items.fields fs) (fields_at ts) (λ x q. tt)
     (list_good (λ (x : TypeWord). ⊤) (allowed_type_at is_value_type) (codes "}") (type_good is_value_type) ts g)

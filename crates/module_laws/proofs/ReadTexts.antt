@@ -10,14 +10,14 @@ use Rattle.std.proofs.lemmas.List.Sums.{count_by-le-length}
 use Rattle.sp_text.specs.Lines.{numbered, lines_of as text_lines}
 use Rattle.ir_ast.specs.declared.modules.Form.{Form}
 use Rattle.ir_ast.specs.declared.modules.Form.TheVariants.{Source, Rewritten}
-use Rattle.ir_reader.specs.declared.forms.Place.{Place}
-use Rattle.ir_reader.specs.declared.forms.Place.TheVariants as places
-use Rattle.ir_reader.specs.declared.forms.State.{State}
-use Rattle.ir_reader.specs.declared.readings.Reading.{Reading}
-use Rattle.ir_reader.specs.declared.readings.Reading.TheVariants as readings
+use Rattle.ir_reader.specs.declared.states.Place.{Place}
+use Rattle.ir_reader.specs.declared.states.Place.TheVariants as places
+use Rattle.ir_reader.specs.declared.states.State.{State}
+use Rattle.line_forms.specs.declared.readings.Reading.{Reading}
+use Rattle.line_forms.specs.declared.readings.Reading.TheVariants as readings
 use Rattle.ir_reader.specs.declared.raw.NumberedReading.{NumberedReading}
 use Rattle.ir_reader.specs.Limits.{said_fits}
-use Rattle.ir_reader.specs.Seen.{seen}
+use Rattle.line_forms.specs.Seen.{seen}
 use Rattle.ir_reader.specs.Raws.{Readings, IsRead, seen_numbered}
 use Rattle.ir_reader.specs.Text.{is_top, opening, readings_in}
 use Rattle.ir_lines.specs.Statements.{Line}

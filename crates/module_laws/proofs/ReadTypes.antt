@@ -6,13 +6,13 @@ use Rattle.std.proofs.lemmas.Bool.{leb-true}
 use Rattle.std.proofs.lemmas.List.Elements.{All-from_recursion, recursion_from_All}
 use Rattle.ir_ast.specs.Widths.{IsWidth}
 use Rattle.ir_cfg.specs.Limits.{IsName}
-use Rattle.ir_reader.specs.declared.readings.TypeWord.{TypeWord}
-use Rattle.ir_reader.specs.declared.readings.TypeWord.TheVariants.{Void, Int, Managed, Plain}
-use Rattle.ir_reader.specs.declared.readings.Reading.{Reading}
-use Rattle.ir_reader.specs.declared.readings.Reading.TheVariants as readings
-use Rattle.ir_reader.specs.Parts.{Val, is_value_type, is_answer_type}
-use Rattle.ir_reader.specs.Lists.{Named, Given, given, function, is_argument_type, is_task_start}
-use Rattle.ir_reader.specs.Statepoints.{Guarded}
+use Rattle.line_parts.specs.declared.readings.TypeWord.{TypeWord}
+use Rattle.line_parts.specs.declared.readings.TypeWord.TheVariants.{Void, Int, Managed, Plain}
+use Rattle.line_forms.specs.declared.readings.Reading.{Reading}
+use Rattle.line_forms.specs.declared.readings.Reading.TheVariants as readings
+use Rattle.line_parts.specs.Parts.{Val, is_value_type, is_answer_type}
+use Rattle.line_parts.specs.Lists.{Named, Given, given, function, is_argument_type, is_task_start}
+use Rattle.group_parts.specs.Statepoints.{Guarded}
 use Rattle.ir_reader.specs.Limits.{width_fits, type_fits, value_fits, place_fits, argument_fits, given_fits, entry_value_fits, name_fits, literal_fits, signature_fits, guarded_fits, live_fits}
 use Rattle.ir_lines.specs.Statements.{Statement, layout, define, label, binary, compare, convert, select, phi, scalar_step, layout_step, load, store, call, switch, switch_case, ret, statepoint, gc_result, gc_relocate}
 use Rattle.ir_lines.specs.TextLines.{statement_fits, is_formed, given_is_formed, call_is_formed}

@@ -3,7 +3,7 @@ use Rattle.std.proofs.Common.{◌≡◌, ℕ, ◌+◌, ◌≤◌, ◌<◌, zero,
 use Rattle.std.specs.Prelude.{slice_index, if◌then◌else◌}
 use Rattle.std.specs.Str.Lines.{lines}
 use Rattle.sp_text.specs.Lines.{numbered, lines_of as text_lines}
-use Rattle.ir_reader.specs.declared.forms.State.{State}
+use Rattle.ir_reader.specs.declared.states.State.{State}
 use Rattle.ir_reader.specs.declared.raw.NumberedReading.{NumberedReading}
 use Rattle.ir_reader.specs.Raws.{Readings, IsRead, seen_numbered}
 use Rattle.ir_reader.specs.Text.{Outcome, no_reading, over_limit, nothing, said, is_top, outcome, opening, Fault, syntax_fault, limit_fault, Numbered, with_first, readings_by, readings, readings_in}

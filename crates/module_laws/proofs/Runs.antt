@@ -6,20 +6,20 @@ use Rattle.sp_text.specs.Lines.{NumberedLine}
 use Rattle.sp_text.specs.Labels.{label_of, is_metadata}
 use Rattle.ir_ast.specs.declared.modules.Form.{Form as TextForm}
 use Rattle.ir_ast.specs.declared.modules.Form.TheVariants as text_forms
-use Rattle.ir_reader.specs.declared.forms.Form.{Form}
-use Rattle.ir_reader.specs.declared.forms.Counts.{Counts}
-use Rattle.ir_reader.specs.declared.forms.Counted.{Counted}
-use Rattle.ir_reader.specs.declared.forms.Counted.TheVariants as kinds
-use Rattle.ir_reader.specs.declared.forms.Place.{Place}
-use Rattle.ir_reader.specs.declared.forms.State.{State}
-use Rattle.ir_reader.specs.Gives.{Found, after, is_nil}
-use Rattle.ir_reader.specs.Forms.{slots, form_in, stands_in}
-use Rattle.ir_reader.specs.Slots.{Item, parse}
-use Rattle.ir_reader.specs.Places.{behind, behind_label, is_dropped_form}
+use Rattle.line_forms.specs.declared.forms.Form.{Form}
+use Rattle.ir_reader.specs.declared.states.Counts.{Counts}
+use Rattle.ir_reader.specs.declared.states.Counted.{Counted}
+use Rattle.ir_reader.specs.declared.states.Counted.TheVariants as kinds
+use Rattle.ir_reader.specs.declared.states.Place.{Place}
+use Rattle.ir_reader.specs.declared.states.State.{State}
+use Rattle.line_parts.specs.Gives.{Found, after, is_nil}
+use Rattle.line_forms.specs.Forms.{slots, form_in, stands_in, is_dropped_form}
+use Rattle.line_forms.specs.Slots.{Item, parse}
+use Rattle.ir_reader.specs.Places.{behind, behind_label}
 use Rattle.ir_reader.specs.Limits.{said_fits, said_counts_as, counted, counted_in, counts_fit}
-use Rattle.ir_reader.proofs.FamilyLines.{stands_where_read}
-use Rattle.ir_reader.specs.Seen.{Said, label, line, of_form, line_at}
-use Rattle.ir_reader.specs.Text.{Outcome, no_reading, over_limit, nothing, said, is_top, next_state, within, ended, said_by, formed, by_form, tokens_outcome, label_outcome, labelled, outcome, Fault, syntax_fault, limit_fault, Numbered, with_first, readings_by, readings}
+use Rattle.line_forms.proofs.FamilyLines.{stands_where_read}
+use Rattle.line_forms.specs.Seen.{Said, label, line, of_form, line_at, ended}
+use Rattle.ir_reader.specs.Text.{Outcome, no_reading, over_limit, nothing, said, is_top, next_state, within, dropped_within, said_by, formed, by_form, tokens_outcome, label_outcome, labelled, outcome, Fault, syntax_fault, limit_fault, Numbered, with_first, readings_by, readings}
 
 -- ---- what a line comes to
 
@@ -76,9 +76,13 @@ within-step s form place items bytes true what next f p e fits o =
 
 dropped-step : (s : State) (form : Form) (place : Place) (items : List Item) (bytes : List ℕ) (b : Bool) (what : Said) (next : State)
     → form_in s.form (tokens bytes) ≡ Some form → parse (slots form) (tokens bytes) ≡ Some (items, []) → behind s.place form ≡ Some place
-    → (if b then nothing else within s place (of_form form items)) ≡ said what next
+    → (if b then dropped_within (of_form form items) else within s place (of_form form items)) ≡ said what next
     → IsStep s what next
-dropped-step s form place items bytes true what next f p e o = absurd (let bad : nothing ≡ said what next = o in cc)
+dropped-step s form place items bytes true what next f p e o = absurd (by (said_fits (of_form form items)) o)
+  where
+    by : (fits : Bool) → (if fits then nothing else over_limit) ≡ said what next → ⊥
+    by true bad = cc
+    by false bad = cc
 dropped-step s form place items bytes false what next f p e o =
     within-step s form place items bytes (said_fits (of_form form items) && counts_fit (next_state s place (of_form form items)).counts) what next f p e refl o
 

@@ -20,8 +20,8 @@ use Rattle.ir_ast.specs.Values.{argument, outcome, definition_name}
 use Rattle.ir_ast.specs.Values as defs
 use Rattle.ir_ast.specs.Types.{is_first_class}
 use Rattle.ir_printer.specs.Names.{Names}
-use Rattle.ir_reader.specs.declared.readings.TypeWord.{TypeWord}
-use Rattle.ir_reader.specs.Lists.{Named}
+use Rattle.line_parts.specs.declared.readings.TypeWord.{TypeWord}
+use Rattle.line_parts.specs.Lists.{Named}
 use Rattle.ir_lines.specs.Statements.{Line, Statement, layout, declare, define, close, label, switch_end}
 use Rattle.ir_lines.specs.Parts.{gives, given_by_call}
 use Rattle.ir_lines.specs.Sections.{Definition, Naming, BlockLines, arguments_named, result_named, values_of, is_label, label_said, until_label, block_at, labelled_blocks, first_block, blocks_of, count_numbered}

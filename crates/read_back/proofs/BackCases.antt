@@ -21,9 +21,9 @@ use Rattle.ir_ast.specs.Lists.{Distinct}
 use Rattle.ir_ast.specs.Scope.{scope_of}
 use Rattle.ir_ast.specs.Faults.TypeClash.{IsTyped, FunctionIsTyped}
 use Rattle.ir_printer.specs.Names.{Names}
-use Rattle.ir_reader.specs.declared.readings.TypeWord.TheVariants as types
-use Rattle.ir_reader.specs.Parts.{Val}
-use Rattle.ir_reader.specs.Parts as values
+use Rattle.line_parts.specs.declared.readings.TypeWord.TheVariants as types
+use Rattle.line_parts.specs.Parts.{Val}
+use Rattle.line_parts.specs.Parts as values
 use Rattle.ir_lines.specs.Statements.{Line, Statement, switch, switch_case, switch_end}
 use Rattle.ir_lines.specs.Sections.{cases_of}
 use Rattle.ir_lines.specs.Modules.{known_of, operand_of, label_of, instruction, case_value, case_values, case_labels, wrapped}

@@ -19,11 +19,11 @@ use Rattle.ir_ast.specs.declared.modules.Form.{Form}
 use Rattle.ir_ast.specs.declared.modules.Form.TheVariants.{Source}
 use Rattle.ir_cfg.specs.SourceModules.{IsSourceModule}
 use Rattle.ir_printer.specs.Names.{Names}
-use Rattle.ir_reader.specs.declared.readings.TypeWord.{TypeWord}
-use Rattle.ir_reader.specs.declared.readings.TypeWord.TheVariants.{Int}
-use Rattle.ir_reader.specs.Parts.{Val}
-use Rattle.ir_reader.specs.Parts as values
-use Rattle.ir_reader.specs.Lists.{Given, given, function}
+use Rattle.line_parts.specs.declared.readings.TypeWord.{TypeWord}
+use Rattle.line_parts.specs.declared.readings.TypeWord.TheVariants.{Int}
+use Rattle.line_parts.specs.Parts.{Val}
+use Rattle.line_parts.specs.Parts as values
+use Rattle.line_parts.specs.Lists.{Given, given, function}
 use Rattle.ir_lines.specs.Statements.{Line, Statement, select, phi, scalar_step, layout_step, store, call, ret}
 use Rattle.ir_lines.specs.Parts.{gives, entry_use, local_name, values_named, leaving, is_step, is_merge, passed_value}
 use Rattle.ir_lines.specs.Places.{number_in}

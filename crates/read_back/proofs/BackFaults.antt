@@ -27,13 +27,13 @@ use Rattle.ir_printer.specs.Names.{Names}
 use Rattle.ir_printer.specs.Declarations.{calls, externals, fixed_externals, integer_widths}
 use Rattle.ir_printer.specs.declared.declarations.External.{External}
 use Rattle.ir_printer.specs.declared.declarations.External.TheVariants as externs
-use Rattle.ir_reader.specs.declared.readings.TypeWord.{TypeWord}
-use Rattle.ir_reader.specs.declared.readings.TypeWord.TheVariants as types
+use Rattle.line_parts.specs.declared.readings.TypeWord.{TypeWord}
+use Rattle.line_parts.specs.declared.readings.TypeWord.TheVariants as types
 use Rattle.ir_lines.specs.Statements.{Line, Statement, layout, declare, define, close, label, switch_end}
 use Rattle.ir_lines.specs.Sections.{Definition, definitions_of, types_of}
 use Rattle.ir_lines.specs.Externals.{external, gc_new, makers_of, externals_of, own_externals, helpers}
 use Rattle.ir_lines.specs.Faults.UnknownExtern.{UnknownExtern}
-use Rattle.ir_reader.specs.Lists.{Named}
+use Rattle.line_parts.specs.Lists.{Named}
 use Rattle.ir_ast.specs.Lists.{HasFront}
 use Rattle.ir_printer.specs.Names.{layout_name}
 use Rattle.std.specs.Option.{option_map_or}
@@ -65,10 +65,10 @@ no_text_fault test lines ss e all line f =
     All-contains (λ (l : Line). test l.says ≡ false) lines f.found (All-from_recursion (λ (l : Line). test l.says ≡ false) lines (lines_all (Passes test) lines ss e all)) f.inside in
     let bad : true ≡ false = sym f.faulty ∙ clear in cc
 
--- the layout of a `gc_new` is one of so many, and a result has at most 64 bits
+-- the layout of a `gc_new` is one of so many, and a result has 1 to 64 bits
 abbrev pub IsBelow : ℕ → External → Type 0
 IsBelow count (externs.New number) = number < count
-IsBelow count (externs.ResultOf width) = width ≤ 64
+IsBelow count (externs.ResultOf width) = (1 ≤ width) × (width ≤ 64)
 IsBelow count _ = ⊤
 
 made_below : (count first more : ℕ) → first + more ≤ count → AllByRecursion (IsBelow count) (map externs.New (range_with_len first more))
@@ -79,13 +79,13 @@ fixed_below : (count : ℕ) → AllByRecursion (IsBelow count) fixed_externals
 unfolding fixed_externals
 fixed_below count = (tt, (tt, (tt, (tt, (tt, (tt, (tt, (tt, tt))))))))
 
-results_below : (count first more : ℕ) → first + more ≤ 65 → AllByRecursion (IsBelow count) (map externs.ResultOf (range_with_len first more))
-results_below count first zero few = tt
-results_below count first (suc more) few = (omega arith, results_below count (first + 1) more (omega arith))
+results_below : (count first more : ℕ) → 1 ≤ first → first + more ≤ 65 → AllByRecursion (IsBelow count) (map externs.ResultOf (range_with_len first more))
+results_below count first zero some few = tt
+results_below count first (suc more) some few = ((some, omega arith), results_below count (first + 1) more (omega arith) (omega arith))
 
 widths_below : (count : ℕ) → AllByRecursion (IsBelow count) (map externs.ResultOf integer_widths)
 unfolding integer_widths
-widths_below count = results_below count 1 64 (omega arith)
+widths_below count = results_below count 1 64 (omega arith) (omega arith)
 
 pub externals_below : (layouts : List ObjectLayout) → AllByRecursion (IsBelow (length layouts)) (externals layouts)
 externals_below layouts =

@@ -25,10 +25,10 @@ use Rattle.ir_ast.specs.Faultless.{FunctionHasNoFault, OfForm}
 use Rattle.ir_ast.specs.Faults.GroupShape.{ResultInShape, RelocateInShape, ShapeOf, GroupsInShape, entries_of}
 use Rattle.ir_cfg.specs.TargetModules.{IsTargetFunction, IsTargetModule}
 use Rattle.ir_printer.specs.Names.{Names, value_name}
-use Rattle.ir_reader.specs.declared.readings.TypeWord.{TypeWord}
-use Rattle.ir_reader.specs.declared.readings.TypeWord.TheVariants as types
-use Rattle.ir_reader.specs.Parts.{Val}
-use Rattle.ir_reader.specs.Parts as values
+use Rattle.line_parts.specs.declared.readings.TypeWord.{TypeWord}
+use Rattle.line_parts.specs.declared.readings.TypeWord.TheVariants as types
+use Rattle.line_parts.specs.Parts.{Val}
+use Rattle.line_parts.specs.Parts as values
 use Rattle.ir_lines.specs.Statements.{Line, Statement, statepoint, gc_result, gc_relocate}
 use Rattle.ir_lines.specs.Sections.{Definition, Naming, definitions_of, values_of}
 use Rattle.ir_lines.specs.Types.{same_type}
@@ -111,7 +111,7 @@ place_is n small =
 
 entry_in : (n : ℕ) (live : List Val) → n < 2 ^ 31 → n < length live → is_entry (number_says 32 (operands.Int n)) live ≡ true
 entry_in n live small below =
-    ap (λ (place : Rattle.ir_reader.specs.declared.readings.Literal.Literal). is_entry place live) (place_is n small) ∙ (Decides-ltb n (length live)).1 below
+    ap (λ (place : Rattle.line_tokens.specs.declared.literals.Literal.Literal). is_entry place live) (place_is n small) ∙ (Decides-ltb n (length live)).1 below
 
 relocate_right : (names : Names) (one : Definition) (before : List Line) (token : ℕ) (sp : Instruction) (parts : List Instruction) → SaysGroup names one before token sp parts
     → (base derived : ℕ) → length (entries_of sp) ≤ 16384 → base < length (entries_of sp)
@@ -140,7 +140,7 @@ relocate_right names one before token sp parts s base derived few below entry wr
     by (derived_outside g bad) = true-false (is_entry (number_says 32 (operands.Int derived)) g.live) (place g derived inside) bad
     by (derived_null g bad) =
         let at : slice_get g.live (number_says 32 (operands.Int derived)).magnitude ≡ Some (values.local (value_name names.func entry.0.0)) =
-        ap (λ (literal : Rattle.ir_reader.specs.declared.readings.Literal.Literal). slice_get g.live literal.magnitude) (place_is derived (omega (arith, few, inside)))
+        ap (λ (literal : Rattle.line_tokens.specs.declared.literals.Literal.Literal). slice_get g.live literal.magnitude) (place_is derived (omega (arith, few, inside)))
         ∙ ap (λ (vs : List Val). slice_get vs derived) (live g) ∙ slice_get-map says (entries_of sp) derived ∙ ap (option_map says) entry.1 in
         let same : Some (values.local (value_name names.func entry.0.0)) ≡ Some values.null = sym at ∙ bad in cc
 

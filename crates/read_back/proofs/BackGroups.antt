@@ -21,7 +21,7 @@ use Rattle.ir_ast.specs.Faults.TypeClash.{Fits}
 use Rattle.ir_printer.specs.Names.{Names}
 use Rattle.ir_printer.specs.Operands.{operand_at}
 use Rattle.ir_printer.specs.Calls.{callee_name}
-use Rattle.ir_reader.specs.Lists.{Given}
+use Rattle.line_parts.specs.Lists.{Given}
 use Rattle.ir_lines.specs.Statements.{Line}
 use Rattle.ir_lines.specs.Parts.{live_use, token_use, index_use}
 use Rattle.ir_lines.specs.Modules.{Known, type_of, instruction_said, passed_operand, used_operand, given_type, callee_of, wrapped}

@@ -25,12 +25,12 @@ use Rattle.ir_ast.specs.Lines.{Has, LineOf, Arguments, is_argument, is_element, 
 use Rattle.ir_ast.specs.Widths.{IsWidth, type_widths, operator_widths}
 use Rattle.ir_ast.specs.Faults.TypeClash.{Fits, asked}
 use Rattle.ir_printer.specs.Names.{Names}
-use Rattle.ir_reader.specs.declared.readings.TypeWord.{TypeWord}
-use Rattle.ir_reader.specs.declared.readings.TypeWord.TheVariants as types
-use Rattle.ir_reader.specs.declared.words.Binary.{Binary}
-use Rattle.ir_reader.specs.declared.words.Binary.TheVariants as binaries
-use Rattle.ir_reader.specs.declared.words.Conversion.{Conversion}
-use Rattle.ir_reader.specs.declared.words.Conversion.TheVariants as conversions
+use Rattle.line_parts.specs.declared.readings.TypeWord.{TypeWord}
+use Rattle.line_parts.specs.declared.readings.TypeWord.TheVariants as types
+use Rattle.line_tokens.specs.declared.words.Binary.{Binary}
+use Rattle.line_tokens.specs.declared.words.Binary.TheVariants as binaries
+use Rattle.line_tokens.specs.declared.words.Conversion.{Conversion}
+use Rattle.line_tokens.specs.declared.words.Conversion.TheVariants as conversions
 use Rattle.ir_lines.specs.Statements.{Line, switch, switch_end, unreachable}
 use Rattle.ir_lines.specs.Modules.{Known, operand_of, label_of, instruction_said, insts_of, binary_of, conversion_of, case_values, case_labels}
 use Rattle.module_laws.proofs.LawBodies.{insts_said, insts-cons}

@@ -18,10 +18,10 @@ use Rattle.ir_ast.specs.Types.{is_void, is_integer, is_condition, is_pointer, is
 use Rattle.ir_ast.specs.Lines.{Has, is_element}
 use Rattle.ir_printer.specs.Names.{Names}
 use Rattle.ir_printer.specs.Operands.{operand_at, label_at}
-use Rattle.ir_reader.specs.declared.readings.TypeWord.{TypeWord}
-use Rattle.ir_reader.specs.declared.readings.TypeWord.TheVariants as types
-use Rattle.ir_reader.specs.declared.words.Binary.{Binary}
-use Rattle.ir_reader.specs.declared.words.Conversion.{Conversion}
+use Rattle.line_parts.specs.declared.readings.TypeWord.{TypeWord}
+use Rattle.line_parts.specs.declared.readings.TypeWord.TheVariants as types
+use Rattle.line_tokens.specs.declared.words.Binary.{Binary}
+use Rattle.line_tokens.specs.declared.words.Conversion.{Conversion}
 use Rattle.ir_lines.specs.Statements.{Line, Statement}
 use Rattle.ir_lines.specs.Modules.{Known, type_of, operand_of, instruction_said, insts_of, place_of, label_of, binary_of, conversion_of, instruction}
 use Rattle.module_laws.proofs.LawBodies.{insts_said, insts-cons}

@@ -6,7 +6,7 @@ use Rattle.std.proofs.lemmas.Bool.Decides.{Decides-eqb}
 use Rattle.sp_ids.specs.Numbers.{signed}
 use Rattle.sp_ids.specs.Numbers as numbers
 use Rattle.ir_ast.specs.declared.ops.Operand.TheVariants as operands
-use Rattle.ir_reader.specs.declared.readings.TypeWord.TheVariants as types
+use Rattle.line_parts.specs.declared.readings.TypeWord.TheVariants as types
 use Rattle.ir_lines.specs.Modules.{wrapped, operand_in}
 use Rattle.read_back.specs.Said.{literal_of, integer_value}
 use Rattle.std.specs.Prelude.{List}
@@ -51,7 +51,7 @@ literal-back w n low high below =
         ∙ again w n low high below
 
 truth-back : (names : List (List ℕ)) (n : ℕ) → n < 2 ^ 1
-    → operand_in names (types.Int 1) (Rattle.ir_reader.specs.Parts.truth (not (numbers.wrapped 1 n == 0))) ≡ operands.Int n
+    → operand_in names (types.Int 1) (Rattle.line_parts.specs.Parts.truth (not (numbers.wrapped 1 n == 0))) ≡ operands.Int n
 truth-back names zero below = refl
 truth-back names (suc zero) below = refl
 truth-back names (suc (suc n)) below = absurd (let few : 2 ^ 1 ≡ 2 = refl in omega arith)
@@ -63,8 +63,8 @@ integer-back names w n low high below = by (w == 1) refl
     by : (b : Bool) → (w == 1) ≡ b → operand_in names (types.Int w) (integer_value w n) ≡ operands.Int n
     by true e =
         let one : w ≡ 1 = (Decides-eqb w 1).0 e in
-        ap (λ (b : Bool). operand_in names (types.Int w) (if b then Rattle.ir_reader.specs.Parts.truth (not (numbers.wrapped 1 n == 0)) else Rattle.ir_reader.specs.Parts.number (literal_of (signed w n)))) e
+        ap (λ (b : Bool). operand_in names (types.Int w) (if b then Rattle.line_parts.specs.Parts.truth (not (numbers.wrapped 1 n == 0)) else Rattle.line_parts.specs.Parts.number (literal_of (signed w n)))) e
         ∙ truth-back names n (subst (λ (k : ℕ). n < 2 ^ k) one below)
     by false e =
-        ap (λ (b : Bool). operand_in names (types.Int w) (if b then Rattle.ir_reader.specs.Parts.truth (not (numbers.wrapped 1 n == 0)) else Rattle.ir_reader.specs.Parts.number (literal_of (signed w n)))) e
+        ap (λ (b : Bool). operand_in names (types.Int w) (if b then Rattle.line_parts.specs.Parts.truth (not (numbers.wrapped 1 n == 0)) else Rattle.line_parts.specs.Parts.number (literal_of (signed w n)))) e
         ∙ ap operands.Int (literal-back w n low high below)

@@ -34,7 +34,7 @@ use Rattle.ir_ast.specs.Lists.{Distinct}
 use Rattle.ir_ast.specs.Scope.{scope_of}
 use Rattle.ir_cfg.specs.SourceModules.{IsSourceModule}
 use Rattle.ir_printer.specs.Names.{Names}
-use Rattle.ir_reader.specs.Lists.{Named}
+use Rattle.line_parts.specs.Lists.{Named}
 use Rattle.ir_lines.specs.Statements.{Line}
 use Rattle.ir_lines.specs.Sections.{Definition, definitions_of, arguments_named, blocks_of}
 use Rattle.ir_lines.specs.Modules.{Known, known_of, type_of, argument_of, block_of, function_of, module_of}

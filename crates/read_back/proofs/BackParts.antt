@@ -31,8 +31,8 @@ use Rattle.ir_ast.specs.Values.{argument, outcome, definition_name}
 use Rattle.ir_ast.specs.Values as defs
 use Rattle.ir_ast.specs.Faults.GroupShape.{Group as ModuleGroup, is_statepoint, live_entries, entries_of, number_at, is_part as is_part_made}
 use Rattle.ir_printer.specs.Names.{Names, value_name}
-use Rattle.ir_reader.specs.Parts.{Val}
-use Rattle.ir_reader.specs.Statepoints.{Guarded}
+use Rattle.line_parts.specs.Parts.{Val}
+use Rattle.group_parts.specs.Statepoints.{Guarded}
 use Rattle.ir_lines.specs.Statements.{Line, Statement, label, switch_end, statepoint, gc_result, gc_relocate}
 use Rattle.ir_lines.specs.Sections.{Definition, Naming, values_of}
 use Rattle.ir_lines.specs.Modules.{instruction}

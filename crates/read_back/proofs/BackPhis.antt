@@ -27,8 +27,8 @@ use Rattle.ir_ast.specs.Faults.PhiEdges.{PhiIsRight}
 use Rattle.ir_ast.specs.Faults.PhiEdges as right
 use Rattle.ir_printer.specs.Names.{Names}
 use Rattle.ir_printer.specs.Operands.{label_at}
-use Rattle.ir_reader.specs.declared.readings.TypeWord.{TypeWord}
-use Rattle.ir_reader.specs.Parts.{Val}
+use Rattle.line_parts.specs.declared.readings.TypeWord.{TypeWord}
+use Rattle.line_parts.specs.Parts.{Val}
 use Rattle.ir_lines.specs.Statements.{Line, Statement, phi, switch_end}
 use Rattle.ir_lines.specs.Parts.{targets, is_phi}
 use Rattle.ir_lines.specs.Places.{number_in}

@@ -22,8 +22,8 @@ use Rattle.ir_ast.specs.Modules.{ModuleContent}
 use Rattle.ir_ast.specs.Scope as module_scope
 use Rattle.ir_ast.specs.Faults.TypeClash.{IsTyped, FunctionIsTyped, RuleOf, IsNarrower, IsWider, IsCellType}
 use Rattle.ir_printer.specs.Names.{Names}
-use Rattle.ir_reader.specs.declared.readings.TypeWord.{TypeWord}
-use Rattle.ir_reader.specs.declared.readings.TypeWord.TheVariants.{Void, Int, Managed, Plain}
+use Rattle.line_parts.specs.declared.readings.TypeWord.{TypeWord}
+use Rattle.line_parts.specs.declared.readings.TypeWord.TheVariants.{Void, Int, Managed, Plain}
 use Rattle.ir_lines.specs.Statements.{Line, Statement, switch_end, call, layout_step, statepoint}
 use Rattle.ir_lines.specs.Scope.{Scope, scope_of}
 use Rattle.ir_lines.specs.Types.{same_type, is_cell}

@@ -22,10 +22,10 @@ use Rattle.ir_ast.specs.Modules.{ModuleContent}
 use Rattle.ir_ast.specs.Types.{is_first_class, is_answer}
 use Rattle.ir_ast.specs.Lines.{LineOf, IsLine, Arguments}
 use Rattle.ir_printer.specs.Names.{Names}
-use Rattle.ir_reader.specs.declared.readings.TypeWord.{TypeWord}
-use Rattle.ir_reader.specs.declared.readings.TypeWord.TheVariants.{Managed}
-use Rattle.ir_reader.specs.Parts.{Val}
-use Rattle.ir_reader.specs.Parts as values
+use Rattle.line_parts.specs.declared.readings.TypeWord.{TypeWord}
+use Rattle.line_parts.specs.declared.readings.TypeWord.TheVariants.{Managed}
+use Rattle.line_parts.specs.Parts.{Val}
+use Rattle.line_parts.specs.Parts as values
 use Rattle.ir_lines.specs.Statements.{Line, Statement, switch_end, statepoint, gc_result, gc_relocate}
 use Rattle.ir_lines.specs.Parts.{uses, token_type, passed_value, entry_use, live_use}
 use Rattle.ir_lines.specs.Sections.{Naming}
@@ -157,7 +157,7 @@ passed_count callee (t ∷ ts) (o ∷ os) arguments = ap suc (passed_count calle
 counted : (names : Names) (id : ℕ) (callee : Callee) (ts : List Ty) (inst : Instruction) → Arguments callee (take (length ts) inst.operands) ts
     → is_count (made_says names id callee ts inst).count (length (made_says names id callee ts inst).passed) ≡ true
 counted names id callee ts inst arguments =
-    let says : Ty × Operand → Rattle.ir_reader.specs.Lists.Given = λ argument. passed_says names argument.0 argument.1 in
+    let says : Ty × Operand → Rattle.line_parts.specs.Lists.Given = λ argument. passed_says names argument.0 argument.1 in
     (Decides-eqb (length ts) (length (map says (zip ts inst.operands)))).1
     (sym (length-map (zip ts inst.operands) says ∙ passed_count callee ts inst.operands arguments))
 

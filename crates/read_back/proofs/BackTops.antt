@@ -18,7 +18,7 @@ use Rattle.ir_ast.specs.Values as defs
 use Rattle.ir_ast.specs.Faultless.{FunctionHasNoFault}
 use Rattle.ir_ast.specs.Faults.Reserved.{IsExternalName, IsInsertedName}
 use Rattle.ir_cfg.specs.SourceModules.{IsSourceModule}
-use Rattle.ir_reader.specs.Lists.{Named}
+use Rattle.line_parts.specs.Lists.{Named}
 use Rattle.ir_lines.specs.Statements.{Line}
 use Rattle.ir_lines.specs.Sections.{LayoutLine, Definition, Naming, BlockLines, layouts_of, definitions_of, values_of, blocks_of}
 use Rattle.ir_lines.specs.InBody.{Repeats}

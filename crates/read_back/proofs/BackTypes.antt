@@ -20,9 +20,9 @@ use Rattle.ir_ast.specs.Types.{is_pointer}
 use Rattle.ir_ast.specs.Values.{argument, outcome, outcome_type, definition_type}
 use Rattle.ir_ast.specs.Values as defs
 use Rattle.ir_printer.specs.Names.{Names}
-use Rattle.ir_reader.specs.declared.readings.TypeWord.{TypeWord}
-use Rattle.ir_reader.specs.declared.readings.TypeWord.TheVariants as types
-use Rattle.ir_reader.specs.Lists.{Named}
+use Rattle.line_parts.specs.declared.readings.TypeWord.{TypeWord}
+use Rattle.line_parts.specs.declared.readings.TypeWord.TheVariants as types
+use Rattle.line_parts.specs.Lists.{Named}
 use Rattle.ir_lines.specs.Statements.{Line, Statement, switch_end}
 use Rattle.ir_lines.specs.Parts.{gives, given_by_call}
 use Rattle.ir_lines.specs.Sections.{Definition, Naming, arguments_named, result_named, values_of}

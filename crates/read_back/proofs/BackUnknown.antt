@@ -38,14 +38,14 @@ use Rattle.ir_printer.specs.Operands.{operand_at, label_at}
 use Rattle.ir_printer.specs.Declarations.{is_callee, is_statepoints, is_call_of, calls, externals, fixed_externals, integer_widths}
 use Rattle.ir_printer.specs.declared.declarations.External.{External}
 use Rattle.ir_printer.specs.declared.declarations.External.TheVariants as externs
-use Rattle.ir_reader.specs.Parts.{Val}
-use Rattle.ir_reader.specs.Parts as values
-use Rattle.ir_reader.specs.declared.readings.TypeWord.{TypeWord}
-use Rattle.ir_reader.specs.Lists.{Given}
-use Rattle.ir_reader.specs.declared.words.Binary.{Binary}
-use Rattle.ir_reader.specs.declared.words.Binary.TheVariants as binaries
-use Rattle.ir_reader.specs.declared.words.Conversion.{Conversion}
-use Rattle.ir_reader.specs.declared.words.Conversion.TheVariants as conversions
+use Rattle.line_parts.specs.Parts.{Val}
+use Rattle.line_parts.specs.Parts as values
+use Rattle.line_parts.specs.declared.readings.TypeWord.{TypeWord}
+use Rattle.line_parts.specs.Lists.{Given}
+use Rattle.line_tokens.specs.declared.words.Binary.{Binary}
+use Rattle.line_tokens.specs.declared.words.Binary.TheVariants as binaries
+use Rattle.line_tokens.specs.declared.words.Conversion.{Conversion}
+use Rattle.line_tokens.specs.declared.words.Conversion.TheVariants as conversions
 use Rattle.ir_lines.specs.Statements.{Line, Statement, switch, switch_end}
 use Rattle.ir_lines.specs.Parts.{uses, targets, entry_labels, functions_named, layouts_named, local_name, passed_value, passed_function, entry_use, live_use}
 use Rattle.ir_lines.specs.Sections.{LayoutLine, Head, Definition, Naming, BlockLines, layouts_of, heads_of, values_of, blocks_of}

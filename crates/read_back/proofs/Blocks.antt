@@ -14,11 +14,11 @@ use Rattle.ir_ast.specs.declared.modules.Form.{Form as TextForm}
 use Rattle.ir_ast.specs.declared.modules.Form.TheVariants as text_forms
 use Rattle.ir_ast.specs.declared.ops.Op.{Op}
 use Rattle.ir_ast.specs.declared.ops.Op.TheVariants as ast
-use Rattle.ir_reader.specs.declared.forms.Counted.TheVariants as kinds
-use Rattle.ir_reader.specs.declared.forms.Counts.{Counts}
-use Rattle.ir_reader.specs.declared.forms.State.{State}
+use Rattle.ir_reader.specs.declared.states.Counted.TheVariants as kinds
+use Rattle.ir_reader.specs.declared.states.Counts.{Counts}
+use Rattle.ir_reader.specs.declared.states.State.{State}
 use Rattle.ir_reader.specs.Limits.{counted, counted_in, counts_fit}
-use Rattle.ir_reader.specs.declared.forms.Place.TheVariants as places
+use Rattle.ir_reader.specs.declared.states.Place.TheVariants as places
 use Rattle.ir_reader.specs.Places.{behind_label}
 use Rattle.ir_reader.specs.Text.{is_top}
 use Rattle.read_back.specs.Said.{block_says}

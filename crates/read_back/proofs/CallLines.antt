@@ -25,12 +25,12 @@ use Rattle.ir_printer.specs.Words.{type_text}
 use Rattle.ir_printer.specs.Operands.{parameter_text, argument_text}
 use Rattle.ir_printer.specs.Calls.{callee_name}
 use Rattle.ir_printer.specs.Lines.{result_front, operator_text, phi_entry_text}
-use Rattle.ir_reader.specs.declared.forms.Form.TheVariants as forms
-use Rattle.ir_reader.specs.Families.{statepoint_name, relocate_name, result_suffix, result_front as family_result_front, is_family_name}
+use Rattle.line_forms.specs.declared.forms.Form.TheVariants as forms
+use Rattle.line_tokens.specs.Families.{statepoint_name, relocate_name, result_suffix, result_front as family_result_front, is_family_name}
 use Rattle.ir_reader.specs.Limits.{given_fits, entry_value_fits}
-use Rattle.ir_reader.specs.Lists.{Given, given, comma, passed_at, is_task_start, entry_at, begins_entry}
-use Rattle.ir_reader.specs.Marks.{is_mark, begins}
-use Rattle.ir_reader.specs.Slots as parts
+use Rattle.line_parts.specs.Lists.{Given, given, comma, passed_at, is_task_start, entry_at, begins_entry}
+use Rattle.line_tokens.specs.Marks.{is_mark, begins}
+use Rattle.line_forms.specs.Slots as parts
 use Rattle.read_back.specs.Said.{word_of, value_says, passed_says, entry_says}
 use Rattle.read_back.proofs.Steps.{plain_bytes, numeral_digits}
 use Rattle.read_back.proofs.FormsIn.{gc_new_own, value_call_form, void_call_form}

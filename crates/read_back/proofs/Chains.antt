@@ -12,15 +12,15 @@ use Rattle.ir_printer.specs.Names.{Names}
 use Rattle.ir_printer.specs.Lines.{line_text, result_front, operator_text}
 use Rattle.ir_printer.specs.Texts.{block_text}
 use Rattle.ir_ast.specs.declared.modules.Form.{Form as TextForm}
-use Rattle.ir_reader.specs.declared.forms.Counted.{Counted}
-use Rattle.ir_reader.specs.declared.forms.Counted.TheVariants as kinds
-use Rattle.ir_reader.specs.declared.forms.State.{State}
+use Rattle.ir_reader.specs.declared.states.Counted.{Counted}
+use Rattle.ir_reader.specs.declared.states.Counted.TheVariants as kinds
+use Rattle.ir_reader.specs.declared.states.State.{State}
 use Rattle.ir_reader.specs.Limits.{counted, counted_in, counts_fit}
-use Rattle.ir_reader.specs.declared.forms.Place.TheVariants as places
-use Rattle.ir_reader.specs.Forms.{slots, form_in}
+use Rattle.ir_reader.specs.declared.states.Place.TheVariants as places
+use Rattle.line_forms.specs.Forms.{slots, form_in}
 use Rattle.ir_reader.specs.Places.{behind, behind_label}
-use Rattle.ir_reader.specs.Seen.{Said, label, of_form}
-use Rattle.ir_reader.specs.Slots.{parse}
+use Rattle.line_forms.specs.Seen.{Said, label, of_form}
+use Rattle.line_forms.specs.Slots.{parse}
 use Rattle.ir_reader.specs.Text.{said, outcome, is_top, next_state}
 use Rattle.ir_lines.specs.Statements.{Statement}
 use Rattle.read_back.specs.Said.{instruction_says, block_says}

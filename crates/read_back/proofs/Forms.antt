@@ -6,21 +6,22 @@ use Rattle.sp_text.proofs.TokenLemmas.{tokens-nil}
 use Rattle.sp_text.proofs.Spelled.{tokens-spelled, tokens-blank}
 use Rattle.ir_ast.specs.declared.ops.Pred.{Pred}
 use Rattle.ir_ast.specs.declared.ops.Pred.TheVariants as preds
-use Rattle.ir_reader.specs.declared.readings.TypeWord.{TypeWord}
-use Rattle.ir_reader.specs.declared.forms.Form.{Form}
-use Rattle.ir_reader.specs.declared.forms.Form.TheVariants as forms
-use Rattle.ir_reader.specs.declared.words.Binary.{Binary}
-use Rattle.ir_reader.specs.declared.words.Binary.TheVariants as ops
-use Rattle.ir_reader.specs.declared.words.Conversion.{Conversion}
-use Rattle.ir_reader.specs.declared.words.Conversion.TheVariants as convs
-use Rattle.ir_reader.specs.declared.words.Dropped.TheVariants as drops
-use Rattle.ir_reader.specs.declared.words.Flags.{Flags}
-use Rattle.ir_reader.specs.declared.words.Flags.TheVariants as flags
-use Rattle.ir_reader.specs.Marks.{is_word}
-use Rattle.ir_reader.specs.Drops.{past_dropped}
-use Rattle.ir_reader.specs.Parts.{Val, pred_word, is_value_type, is_scalar_type, is_case_value}
-use Rattle.ir_reader.specs.Forms.{slots, form_of, named_form, word_form, binary_word, binary_flags, conversion_word, conversion_flags}
-use Rattle.ir_reader.specs.Slots.{Item, name, width, ty, value, pred, scalar, layout, place, Slot, blank, m, w, dropped, a_local, parse}
+use Rattle.line_parts.specs.declared.readings.TypeWord.{TypeWord}
+use Rattle.line_forms.specs.declared.forms.Form.{Form}
+use Rattle.line_forms.specs.declared.forms.Form.TheVariants as forms
+use Rattle.line_tokens.specs.declared.words.Binary.{Binary}
+use Rattle.line_tokens.specs.declared.words.Binary.TheVariants as ops
+use Rattle.line_tokens.specs.declared.words.Conversion.{Conversion}
+use Rattle.line_tokens.specs.declared.words.Conversion.TheVariants as convs
+use Rattle.line_tokens.specs.declared.words.Dropped.TheVariants as drops
+use Rattle.line_tokens.specs.declared.words.Flags.{Flags}
+use Rattle.line_tokens.specs.declared.words.Flags.TheVariants as flags
+use Rattle.line_tokens.specs.Marks.{is_word}
+use Rattle.line_parts.specs.Drops.{past_dropped}
+use Rattle.line_parts.specs.Parts.{Val, is_value_type, is_scalar_type, is_case_value}
+use Rattle.line_tokens.specs.Words.{pred_word, binary_word, binary_flags, conversion_word, conversion_flags}
+use Rattle.line_forms.specs.Forms.{slots, form_of, named_form, word_form}
+use Rattle.line_forms.specs.Slots.{Item, name, width, ty, value, pred, scalar, layout, place, Slot, blank, m, w, dropped, a_local, parse}
 use Rattle.read_back.proofs.Steps.{Reads, IsClean, past_all-none, end, mark, word, local, layout_step, spaced, space, over_blank, drop_at, drop_end, first_of}
 use Rattle.read_back.proofs.Spellings.{SpellsType, SpellsValue, integer_says, pointer_type, integer_flag, decimal-digits}
 use Rattle.read_back.proofs.PartSteps.{type_step, managed_step, scalar_step, width_step, value_step, case_step, pred_step, no_place, place_step}

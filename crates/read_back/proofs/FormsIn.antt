@@ -12,14 +12,14 @@ use Rattle.ir_ast.specs.declared.modules.Form.{Form as TextForm}
 use Rattle.ir_ast.specs.declared.modules.Form.TheVariants as text_forms
 use Rattle.ir_ast.specs.Lists.{HasFront}
 use Rattle.ir_ast.specs.Faults.Reserved.{IsExternalName}
-use Rattle.ir_reader.specs.declared.readings.TypeWord.{TypeWord}
-use Rattle.ir_reader.specs.declared.forms.Form.{Form}
-use Rattle.ir_reader.specs.declared.forms.Form.TheVariants as forms
-use Rattle.ir_reader.specs.declared.words.Dropped.TheVariants as drops
-use Rattle.ir_reader.specs.declared.words.Flags.TheVariants as flags
-use Rattle.ir_reader.specs.Families.{statepoint_name, relocate_name, result_front, result_suffix, is_suffix, is_result_name, is_family_name}
-use Rattle.ir_reader.specs.Forms.{slots, form_of, form_in, named_form, group_form, word_form, called_form, declared_form, callee_of, declared_of, first_global}
-use Rattle.ir_reader.specs.Slots.{Item, parse}
+use Rattle.line_parts.specs.declared.readings.TypeWord.{TypeWord}
+use Rattle.line_forms.specs.declared.forms.Form.{Form}
+use Rattle.line_forms.specs.declared.forms.Form.TheVariants as forms
+use Rattle.line_tokens.specs.declared.words.Dropped.TheVariants as drops
+use Rattle.line_tokens.specs.declared.words.Flags.TheVariants as flags
+use Rattle.line_tokens.specs.Families.{statepoint_name, relocate_name, result_front, result_suffix, is_suffix, is_result_name, is_family_name}
+use Rattle.line_forms.specs.Forms.{slots, form_of, form_in, named_form, group_form, word_form, called_form, declared_form, callee_of, declared_of, first_global}
+use Rattle.line_forms.specs.Slots.{Item, parse}
 use Rattle.read_back.proofs.Steps.{IsClean, past_all-none}
 use Rattle.read_back.proofs.Spellings.{SpellsType, void_type}
 use Rattle.read_back.proofs.Forms.{ReadsAs, result_tokens}

@@ -13,10 +13,10 @@ use Rattle.ir_ast.specs.Types.{is_answer, is_first_class}
 use Rattle.ir_printer.specs.Lists.{joined}
 use Rattle.ir_printer.specs.Words.{type_text, strategy_text}
 use Rattle.ir_printer.specs.Texts.{argument_of, block_text, function_text}
-use Rattle.ir_reader.specs.Parts.{is_answer_type}
+use Rattle.line_parts.specs.Parts.{is_answer_type}
 use Rattle.ir_reader.specs.Limits.{type_fits, argument_fits}
-use Rattle.ir_reader.specs.Lists.{argument_at, comma}
-use Rattle.ir_reader.specs.Marks.{is_mark, begins}
+use Rattle.line_parts.specs.Lists.{argument_at, comma}
+use Rattle.line_tokens.specs.Marks.{is_mark, begins}
 use Rattle.read_back.specs.Said.{word_of, argument_says}
 use Rattle.read_back.proofs.Spellings.{SpellsType, integer_type, pointer_type, void_type}
 use Rattle.read_back.proofs.PartSteps.{strategy_word}

@@ -11,16 +11,16 @@ use Rattle.ir_printer.specs.Lists.{joined}
 use Rattle.ir_printer.specs.Words.{type_text}
 use Rattle.ir_printer.specs.Names.{Names}
 use Rattle.ir_printer.specs.Texts.{argument_of, function_text}
-use Rattle.ir_reader.specs.declared.forms.Form.TheVariants as forms
-use Rattle.ir_reader.specs.declared.forms.Counted.TheVariants as kinds
-use Rattle.ir_reader.specs.declared.forms.Place.TheVariants as places
+use Rattle.line_forms.specs.declared.forms.Form.TheVariants as forms
+use Rattle.ir_reader.specs.declared.states.Counted.TheVariants as kinds
+use Rattle.ir_reader.specs.declared.states.Place.TheVariants as places
 use Rattle.ir_ast.specs.declared.modules.Form.{Form as TextForm}
 use Rattle.ir_ast.specs.declared.modules.Form.TheVariants as text_forms
-use Rattle.ir_reader.specs.declared.forms.Counts.{Counts}
-use Rattle.ir_reader.specs.declared.forms.State.{State}
+use Rattle.ir_reader.specs.declared.states.Counts.{Counts}
+use Rattle.ir_reader.specs.declared.states.State.{State}
 use Rattle.ir_reader.specs.Limits.{item_fits, counted, counted_in, counts_fit}
-use Rattle.ir_reader.specs.Seen.{of_form}
-use Rattle.ir_reader.specs.Slots as parts
+use Rattle.line_forms.specs.Seen.{of_form}
+use Rattle.line_forms.specs.Slots as parts
 use Rattle.ir_reader.specs.Text.{said, outcome}
 use Rattle.read_back.specs.Said.{word_of, argument_says, function_says}
 use Rattle.read_back.proofs.PartSteps.{strategy_word}

@@ -1,15 +1,20 @@
 -- The declarations of the three families, as they are printed: they are read and dropped.
-use Rattle.std.proofs.Common.{◌≡◌, refl, ap, ◌∙◌, ℕ, ◌≤◌, true, List, [], ◌∷◌, ◌++◌, Some, arith, codes, decimal}
+use Rattle.std.proofs.Common.{◌≡◌, refl, ap, ◌∙◌, ℕ, ◌≤◌, true, List, [], ◌∷◌, ◌++◌, Option, Some, None, arith, codes, decimal}
+use Rattle.std.proofs.lemmas.Bool.{le-leb}
 use Rattle.std.specs.List.{list_all}
 use Rattle.std.specs.Char.{is_ascii_digit}
 use Rattle.sp_text.specs.Tokens.{Tok, tok, tokens, is_name, are_digits}
 use Rattle.sp_text.specs.declared.tokens.Kind.TheVariants as kinds
 use Rattle.ir_ast.specs.declared.modules.Form.TheVariants as text_forms
-use Rattle.ir_reader.specs.declared.forms.Form.TheVariants as forms
-use Rattle.ir_reader.specs.declared.forms.DroppedLine.TheVariants as drop_lines
-use Rattle.ir_reader.specs.declared.words.Dropped.TheVariants as drops
-use Rattle.ir_reader.specs.Families.{statepoint_name, relocate_name, result_suffix, result_front, is_family_name}
-use Rattle.ir_reader.specs.Forms.{slots, form_in, declared_form, declared_of, first_global}
+use Rattle.line_forms.specs.declared.forms.Form.TheVariants as forms
+use Rattle.line_forms.specs.declared.forms.DroppedLine.TheVariants as drop_lines
+use Rattle.line_tokens.specs.declared.words.Dropped.TheVariants as drops
+use Rattle.line_parts.specs.declared.readings.TypeWord.{TypeWord}
+use Rattle.line_parts.specs.declared.readings.TypeWord.TheVariants as types
+use Rattle.line_forms.specs.Slots.{family_answer}
+use Rattle.ir_reader.specs.Limits.{answer_fits}
+use Rattle.line_tokens.specs.Families.{statepoint_name, relocate_name, result_suffix, result_front, is_family_name}
+use Rattle.line_forms.specs.Forms.{slots, form_in, declared_form, declared_of, first_global}
 use Rattle.read_back.proofs.Steps.{Reads, past_all-none, end, word, spaced, space, over_blank, drop_at, drop_end}
 use Rattle.read_back.proofs.Spellings.{integer_type, integer_other, pointer_type, pointer_other, decimal-is, decimal-digits}
 use Rattle.read_back.proofs.ListForms.{word_none}
@@ -41,20 +46,35 @@ integer_name ds digits = rw (digits_named ds digits) refl
 
 -- ---- lines
 
--- the line is read, and says nothing
-abbrev pub IsDropped : List ℕ → Type 0
-IsDropped line = ReadsIn text_forms.Rewritten line (forms.Dropped drop_lines.Family) []
+-- the line is read and dropped, and what the function answers is within the limits
+pub record IsDropped (line : List ℕ) : Type 0 where
+  pub answer : Option TypeWord
+  pub reads : ReadsIn text_forms.Rewritten line (forms.Dropped drop_lines.Family) (family_answer answer ∷ [])
+  pub fits : answer_fits answer ≡ true
 
 pub relocate_declared : IsDropped (codes "declare ptr addrspace(1) @llvm.experimental.gc.relocate.p1(token, i32, i32)")
-relocate_declared = family_line pointer_type refl pointer_other (codes "llvm.experimental.gc.relocate.p1") refl relocate_family (codes "token, i32, i32)") refl (relocate_bracket [])
+relocate_declared = record {
+  answer = Some types.Managed;
+  reads = family_line pointer_type refl pointer_other (codes "llvm.experimental.gc.relocate.p1") refl relocate_family (codes "token, i32, i32)") refl (relocate_bracket []);
+  fits = refl;
+}
 
 pub pointer_declared : IsDropped (codes "declare ptr addrspace(1) @llvm.experimental.gc.result.p1(token)")
-pointer_declared = family_line pointer_type refl pointer_other (codes "llvm.experimental.gc.result.p1") refl pointer_family (codes "token)") refl (result_bracket [])
+pointer_declared = record {
+  answer = Some types.Managed;
+  reads = family_line pointer_type refl pointer_other (codes "llvm.experimental.gc.result.p1") refl pointer_family (codes "token)") refl (result_bracket []);
+  fits = refl;
+}
 
-pub integer_declared : (width : ℕ) → width ≤ 64 → IsDropped (codes "declare i" ++ (decimal width ++ (codes " @llvm.experimental.gc.result.i" ++ (decimal width ++ codes "(token)"))))
-integer_declared width most =
-    family_line (integer_type width most) refl (integer_other width most) (codes "llvm.experimental.gc.result.i" ++ decimal width) (integer_name (decimal width) (decimal-is width (omega arith)).digits)
-    (integer_family (decimal width) (decimal-digits width (omega arith))) (codes "token)") refl (result_bracket [])
+pub integer_declared : (width : ℕ) → (1 ≤ width) × (width ≤ 64) → IsDropped (codes "declare i" ++ (decimal width ++ (codes " @llvm.experimental.gc.result.i" ++ (decimal width ++ codes "(token)"))))
+integer_declared width narrow =
+    let most : width ≤ 64 = narrow.1 in
+    record {
+      answer = Some (types.Int width);
+      reads = family_line (integer_type width most) refl (integer_other width most) (codes "llvm.experimental.gc.result.i" ++ decimal width) (integer_name (decimal width) (decimal-is width (omega arith)).digits)
+          (integer_family (decimal width) (decimal-digits width (omega arith))) (codes "token)") refl (result_bracket []);
+      fits = rw (le-leb 1 width narrow.0, le-leb width 64 most) refl;
+    }
 
 -- the one of a statepoint answers a token
 statepoint_tokens : tokens (codes "declare token @llvm.experimental.gc.statepoint.p0(i64, i32, ptr, i32, i32, ...)")
@@ -70,9 +90,9 @@ statepoint_declares ts =
     rw (past_all-none drops.HeadAttachments (tok kinds.Word (codes "token") ∷ rest) (word_none (codes "token") rest)) (rw (past_all-none drops.Groups (tok kinds.Word (codes "token") ∷ rest) refl) refl)
 
 pub statepoint_declared : IsDropped (codes "declare token @llvm.experimental.gc.statepoint.p0(i64, i32, ptr, i32, i32, ...)")
-statepoint_declared = record { form_is = form_is; whole = all.whole; clean = all.clean }
+statepoint_declared = record { answer = None; reads = record { form_is = form_is; whole = all.whole; clean = all.clean }; fits = refl }
   where
-    all : Reads (slots (forms.Dropped drop_lines.Family)) (codes "declare token @llvm.experimental.gc.statepoint.p0(i64, i32, ptr, i32, i32, ...)") (Some (tok kinds.Word (codes "declare"))) []
+    all : Reads (slots (forms.Dropped drop_lines.Family)) (codes "declare token @llvm.experimental.gc.statepoint.p0(i64, i32, ptr, i32, i32, ...)") (Some (tok kinds.Word (codes "declare"))) (family_answer None ∷ [])
     all = word (codes "declare") refl refl refl refl (spaced (drop_at drops.HeadAttachments (word_none (codes "token")) (drop_at drops.Groups (λ more. refl) (over_blank (token_answer_step refl
         (space (family_step (codes "llvm.experimental.gc.statepoint.p0") refl statepoint_family refl (bracketing_step (codes "i64, i32, ptr, i32, i32, ...)") refl (statepoint_bracket []) (drop_end drops.Groups end)))))))))
 

@@ -6,20 +6,20 @@ use Rattle.std.proofs.lemmas.Slice.Eq.{bytes_eq-Decides}
 use Rattle.sp_text.specs.Tokens.{Tok, tok, tokens, is_name}
 use Rattle.sp_text.specs.declared.tokens.Kind.TheVariants as kinds
 use Rattle.ir_ast.specs.declared.modules.Form.TheVariants as text_forms
-use Rattle.ir_reader.specs.declared.readings.TypeWord.{TypeWord}
-use Rattle.ir_reader.specs.declared.readings.Literal.{Literal}
-use Rattle.ir_reader.specs.declared.forms.Form.TheVariants as forms
-use Rattle.ir_reader.specs.declared.forms.DroppedLine.TheVariants as drop_lines
-use Rattle.ir_reader.specs.declared.words.Dropped.TheVariants as drops
-use Rattle.ir_reader.specs.declared.words.Flags.TheVariants as flags
-use Rattle.ir_reader.specs.Drops.{after_bracket}
-use Rattle.ir_reader.specs.Families.{statepoint_name, relocate_name, result_front, result_suffix, is_suffix, is_family_name, is_result_of}
-use Rattle.ir_reader.specs.Forms.{slots, form_in, called_form, declared_form, callee_of, first_global}
-use Rattle.ir_reader.specs.Lists.{Given, comma}
-use Rattle.ir_reader.specs.Marks.{is_mark, is_word, begins}
-use Rattle.ir_reader.specs.Parts.{Val, is_value_type, is_answer_type}
-use Rattle.ir_reader.specs.Slots.{Item, name, ty, guarded, live, literal, dropped, a_live}
-use Rattle.ir_reader.specs.Statepoints.{Guarded, live_entry_at, suffix_of}
+use Rattle.line_parts.specs.declared.readings.TypeWord.{TypeWord}
+use Rattle.line_tokens.specs.declared.literals.Literal.{Literal}
+use Rattle.line_forms.specs.declared.forms.Form.TheVariants as forms
+use Rattle.line_forms.specs.declared.forms.DroppedLine.TheVariants as drop_lines
+use Rattle.line_tokens.specs.declared.words.Dropped.TheVariants as drops
+use Rattle.line_tokens.specs.declared.words.Flags.TheVariants as flags
+use Rattle.line_parts.specs.Drops.{after_bracket}
+use Rattle.line_tokens.specs.Families.{statepoint_name, relocate_name, result_front, result_suffix, is_suffix, is_family_name, is_result_of}
+use Rattle.line_forms.specs.Forms.{slots, form_in, called_form, declared_form, callee_of, first_global}
+use Rattle.line_parts.specs.Lists.{Given, comma}
+use Rattle.line_tokens.specs.Marks.{is_mark, is_word, begins}
+use Rattle.line_parts.specs.Parts.{Val, is_value_type, is_answer_type}
+use Rattle.line_forms.specs.Slots.{Item, name, ty, guarded, live, literal, dropped, a_live, family_answer}
+use Rattle.group_parts.specs.Statepoints.{Guarded, live_entry_at, suffix_of}
 use Rattle.ir_printer.specs.Lists.{joined}
 use Rattle.read_back.proofs.Steps.{Reads, IsClean, past_all-none, end, mark, word, local, spaced, space, over_blank, drop_at, drop_end}
 use Rattle.read_back.proofs.Spellings.{SpellsType, SpellsLiteral, pointer_type}
@@ -177,9 +177,9 @@ family_form t o named is rest =
 -- `declare T @f(..)`
 pub family_line : {spelled : List ℕ} {answer : TypeWord} (t : SpellsType spelled answer) → is_answer_type answer ≡ true → is_word (codes "token") (tok kinds.Word t.first) ≡ false
     → (o : List ℕ) → is_name o ≡ true → is_family_name o ≡ true → (text : List ℕ) → IsClean text → after_bracket 0 (tokens (text ++ [])) ≡ Some (tokens [])
-    → ReadsIn text_forms.Rewritten (codes "declare " ++ (spelled ++ (32 ∷ 64 ∷ (o ++ (40 ∷ (text ++ [])))))) (forms.Dropped drop_lines.Family) []
-family_line {spelled} t allow other o named is text clean e = record { form_is = family_form t o named is (text ++ []); whole = all.whole; clean = all.clean }
+    → ReadsIn text_forms.Rewritten (codes "declare " ++ (spelled ++ (32 ∷ 64 ∷ (o ++ (40 ∷ (text ++ [])))))) (forms.Dropped drop_lines.Family) (family_answer (Some answer) ∷ [])
+family_line {spelled} {answer} t allow other o named is text clean e = record { form_is = family_form t o named is (text ++ []); whole = all.whole; clean = all.clean }
   where
-    all : Reads (slots (forms.Dropped drop_lines.Family)) (codes "declare " ++ (spelled ++ (32 ∷ 64 ∷ (o ++ (40 ∷ (text ++ [])))))) (Some (tok kinds.Word (codes "declare"))) []
+    all : Reads (slots (forms.Dropped drop_lines.Family)) (codes "declare " ++ (spelled ++ (32 ∷ 64 ∷ (o ++ (40 ∷ (text ++ [])))))) (Some (tok kinds.Word (codes "declare"))) (family_answer (Some answer) ∷ [])
     all = word (codes "declare") refl refl refl refl (spaced (drop_at drops.HeadAttachments (word_none t.first) (drop_at drops.Groups t.group (over_blank (family_answer_step t allow other refl
         (space (family_step o named is refl (bracketing_step text clean e (drop_end drops.Groups end)))))))))

@@ -30,17 +30,17 @@ use Rattle.ir_printer.specs.Words.{type_text, integer_text}
 use Rattle.ir_printer.specs.Operands.{parameter_text, value_text}
 use Rattle.ir_printer.specs.Calls.{callee_name, statepoint_words, elementtype_words, end_words, result_words, relocate_words, bundles_text, result_suffix}
 use Rattle.ir_printer.specs.Lines.{result_front, operator_text}
-use Rattle.ir_reader.specs.declared.readings.TypeWord.TheVariants as types
-use Rattle.ir_reader.specs.declared.forms.Form.TheVariants as forms
-use Rattle.ir_reader.specs.Families.{is_suffix}
-use Rattle.ir_reader.specs.Gives.{after}
+use Rattle.line_parts.specs.declared.readings.TypeWord.TheVariants as types
+use Rattle.line_forms.specs.declared.forms.Form.TheVariants as forms
+use Rattle.line_tokens.specs.Families.{is_suffix}
+use Rattle.line_parts.specs.Gives.{after}
 use Rattle.ir_reader.specs.Limits.{item_fits, type_fits, value_fits, literal_fits}
-use Rattle.ir_reader.specs.Lists.{comma, is_argument_type, is_task_start}
-use Rattle.ir_reader.specs.Marks.{is_mark, begins}
-use Rattle.ir_reader.specs.Parts.{allowed_type_at, spelled_type_at, pointer_at}
-use Rattle.ir_reader.specs.Slots.{Item}
-use Rattle.ir_reader.specs.Slots as parts
-use Rattle.ir_reader.specs.Statepoints.{Guarded, is_plain, live_entry_at}
+use Rattle.line_parts.specs.Lists.{comma, is_argument_type, is_task_start}
+use Rattle.line_tokens.specs.Marks.{is_mark, begins}
+use Rattle.line_parts.specs.Parts.{allowed_type_at, spelled_type_at, pointer_at}
+use Rattle.line_forms.specs.Slots.{Item}
+use Rattle.line_forms.specs.Slots as parts
+use Rattle.group_parts.specs.Statepoints.{Guarded, is_plain, live_entry_at}
 use Rattle.read_back.specs.Said.{word_of, value_says, literal_of, parameter_says, made_says}
 use Rattle.read_back.proofs.Steps.{first_of}
 use Rattle.read_back.proofs.Spellings.{SpellsLiteral, literal_token, signed-spellable, integer_suffix, integer_type, pointer_type, decimal-is, decimal-digits}

@@ -8,21 +8,21 @@ use Rattle.sp_text.specs.Tokens.{Tok, tok, tokens, is_token, is_name}
 use Rattle.sp_text.specs.declared.tokens.Kind.{Kind}
 use Rattle.sp_text.specs.declared.tokens.Kind.TheVariants as kinds
 use Rattle.sp_text.proofs.Spelled.{stops, continues, tokens-spelled, tokens-blank}
-use Rattle.ir_reader.specs.declared.readings.TypeWord.{TypeWord}
-use Rattle.ir_reader.specs.declared.readings.TypeWord.TheVariants as types
-use Rattle.ir_reader.specs.declared.readings.Literal.{Literal}
-use Rattle.ir_reader.specs.declared.words.Dropped.TheVariants as drops
-use Rattle.ir_reader.specs.Drops.{past_all, after_bracket}
-use Rattle.ir_reader.specs.Families.{is_result_of, is_family_name}
+use Rattle.line_parts.specs.declared.readings.TypeWord.{TypeWord}
+use Rattle.line_parts.specs.declared.readings.TypeWord.TheVariants as types
+use Rattle.line_tokens.specs.declared.literals.Literal.{Literal}
+use Rattle.line_tokens.specs.declared.words.Dropped.TheVariants as drops
+use Rattle.line_parts.specs.Drops.{past_all, after_bracket}
+use Rattle.line_tokens.specs.Families.{is_result_of, is_family_name}
 use Rattle.ir_printer.specs.Lists.{joined}
-use Rattle.ir_reader.specs.Gives.{Found, after, one_at, with_rest}
-use Rattle.ir_reader.specs.Lists.{Given, given, comma, list_to, is_argument_type, is_task_start, passed_at, given_behind}
-use Rattle.ir_reader.specs.Marks.{is_mark, is_word, begins, stands}
-use Rattle.ir_reader.specs.Numbers.{decimal_from}
-use Rattle.ir_reader.specs.Parts.{Val, mark_at, value_at, is_value_type, is_answer_type, is_managed, allowed_type_at, spelled_type_at}
-use Rattle.ir_reader.specs.Parts as values
-use Rattle.ir_reader.specs.Slots.{Item, name, ty, guarded, live, literal, Slot, g, a_statepoint_type, a_family_answer, a_family, a_bracketing, a_token, a_guarded, a_live, a_result, a_number, part, parse}
-use Rattle.ir_reader.specs.Statepoints.{Signature, Guarded, first_types_at, last_types_at, statepoint_type_at, number_at, is_zero, zero_at, token_at, signature_at, is_type_of, element_at, target_at, closing_at, begins_argument, handed_at, id_at, count_at, guarded_at, live_entry_at, bundle_at, live_at, suffix_of, result_at, family_answer_at, bracketing_at}
+use Rattle.line_parts.specs.Gives.{Found, after, one_at, with_rest}
+use Rattle.line_parts.specs.Lists.{Given, given, comma, list_to, is_argument_type, is_task_start, passed_at, given_behind}
+use Rattle.line_tokens.specs.Marks.{is_mark, is_word, begins, stands}
+use Rattle.line_tokens.specs.Numbers.{decimal_from}
+use Rattle.line_parts.specs.Parts.{Val, mark_at, value_at, is_value_type, is_answer_type, is_managed, allowed_type_at, spelled_type_at}
+use Rattle.line_parts.specs.Parts as values
+use Rattle.line_forms.specs.Slots.{Item, name, ty, guarded, live, literal, family_answer, Slot, g, a_statepoint_type, a_family_answer, a_family, a_bracketing, a_token, a_guarded, a_live, a_result, a_number, part, parse}
+use Rattle.group_parts.specs.Statepoints.{Signature, Guarded, first_types_at, last_types_at, statepoint_type_at, number_at, is_zero, zero_at, token_at, signature_at, is_type_of, element_at, target_at, closing_at, begins_argument, handed_at, id_at, count_at, guarded_at, live_entry_at, bundle_at, live_at, suffix_of, result_at, family_answer_at, bracketing_at}
 use Rattle.read_back.proofs.Steps.{Reads, Stops, IsClean, clean-both, name-clean, one, step, step_to, past_all-none, first_of, stops-kind}
 use Rattle.read_back.proofs.Spellings.{SpellsType, SpellsValue, SpellsLiteral, allowed, pointer_type}
 use Rattle.read_back.proofs.Listed.{SpellsElement, others, comma_spelled, clean_others, ends_others, listed, list_read, list_clean}
@@ -450,21 +450,21 @@ result_step {text = text} {rest = rest} {word = word} t allow suffix n same of_t
 -- ---- declarations of the three families
 
 family_answer_part : {text : List ℕ} {word : TypeWord} (t : SpellsType text word) → is_answer_type word ≡ true → is_word (codes "token") (tok kinds.Word t.first) ≡ false
-    → (ts : List Tok) → part a_family_answer (tok kinds.Word t.first ∷ (t.more ++ ts)) ≡ Some ([], ts)
+    → (ts : List Tok) → part a_family_answer (tok kinds.Word t.first ∷ (t.more ++ ts)) ≡ Some (family_answer (Some word) ∷ [], ts)
 unfolding part after family_answer_at
 family_answer_part {text} {word} t allow other ts = rw other (rw (allowed text word t is_answer_type allow ts) refl)
 
 pub family_answer_step : {f : List Slot} {text rest : List ℕ} {word : TypeWord} {first : Option Tok} {items : List Item} (t : SpellsType text word) → is_answer_type word ≡ true → is_word (codes "token") (tok kinds.Word t.first) ≡ false
-    → Stops rest → Reads f rest first items → Reads (a_family_answer ∷ f) (text ++ rest) (Some (tok kinds.Word t.first)) items
-family_answer_step {text = text} {rest = rest} t allow other stop r =
-    step a_family_answer text (tok kinds.Word t.first) (t.more ++ tokens rest) [] t.clean (t.spelled rest stop) (family_answer_part t allow other (tokens rest)) r
+    → Stops rest → Reads f rest first items → Reads (a_family_answer ∷ f) (text ++ rest) (Some (tok kinds.Word t.first)) (family_answer (Some word) ∷ items)
+family_answer_step {text = text} {rest = rest} {word = word} t allow other stop r =
+    step a_family_answer text (tok kinds.Word t.first) (t.more ++ tokens rest) (family_answer (Some word) ∷ []) t.clean (t.spelled rest stop) (family_answer_part t allow other (tokens rest)) r
 
-token_answer_part : (ts : List Tok) → part a_family_answer (tok kinds.Word (codes "token") ∷ ts) ≡ Some ([], ts)
+token_answer_part : (ts : List Tok) → part a_family_answer (tok kinds.Word (codes "token") ∷ ts) ≡ Some (family_answer None ∷ [], ts)
 unfolding part after family_answer_at one_at
 token_answer_part ts = refl
 
-pub token_answer_step : {f : List Slot} {rest : List ℕ} {first : Option Tok} {items : List Item} → Stops rest → Reads f rest first items → Reads (a_family_answer ∷ f) (codes "token" ++ rest) (Some (tok kinds.Word (codes "token"))) items
-token_answer_step stop r = one a_family_answer kinds.Word (codes "token") [] refl refl stop token_answer_part r
+pub token_answer_step : {f : List Slot} {rest : List ℕ} {first : Option Tok} {items : List Item} → Stops rest → Reads f rest first items → Reads (a_family_answer ∷ f) (codes "token" ++ rest) (Some (tok kinds.Word (codes "token"))) (family_answer None ∷ items)
+token_answer_step stop r = one a_family_answer kinds.Word (codes "token") (family_answer None ∷ []) refl refl stop token_answer_part r
 
 family_part : (o : List ℕ) → is_family_name o ≡ true → (ts : List Tok) → part a_family (tok kinds.Global (64 ∷ o) ∷ ts) ≡ Some ([], ts)
 unfolding part after one_at

@@ -7,10 +7,10 @@ use Rattle.std.proofs.lemmas.Bool.{and_parts, not-true}
 use Rattle.sp_text.specs.Tokens.{Tok, tokens, is_name}
 use Rattle.sp_text.specs.Bytes.{is_blank}
 use Rattle.sp_text.proofs.Spelled.{label-spelled}
-use Rattle.ir_reader.specs.Gives.{after}
-use Rattle.ir_reader.specs.Forms.{slots, form_of, form_in}
-use Rattle.ir_reader.specs.Slots.{Item, parse}
-use Rattle.ir_reader.specs.Places.{behind, behind_label, is_dropped_form}
+use Rattle.line_parts.specs.Gives.{after}
+use Rattle.line_forms.specs.Forms.{slots, form_of, form_in, is_dropped_form}
+use Rattle.line_forms.specs.Slots.{Item, parse}
+use Rattle.ir_reader.specs.Places.{behind, behind_label}
 use Rattle.ir_reader.specs.Limits as limits
 use Rattle.ir_reader.specs.Limits.{said_fits, said_counts_as}
 use Rattle.read_back.proofs.Steps.{IsClean, in_line}
@@ -19,11 +19,11 @@ use Rattle.sp_text.specs.Lines.{numbered}
 use Rattle.sp_text.specs.Labels.{label_of, is_metadata, is_colon}
 use Rattle.ir_ast.specs.declared.modules.Form.{Form as TextForm}
 use Rattle.ir_ast.specs.declared.modules.Form.TheVariants as text_forms
-use Rattle.ir_reader.specs.declared.forms.Counted.TheVariants as kinds
-use Rattle.ir_reader.specs.declared.forms.Form.{Form}
-use Rattle.ir_reader.specs.declared.forms.Place.{Place}
-use Rattle.ir_reader.specs.declared.forms.State.{State}
-use Rattle.ir_reader.specs.Seen.{Said, label, of_form, line_at}
+use Rattle.ir_reader.specs.declared.states.Counted.TheVariants as kinds
+use Rattle.line_forms.specs.declared.forms.Form.{Form}
+use Rattle.ir_reader.specs.declared.states.Place.{Place}
+use Rattle.ir_reader.specs.declared.states.State.{State}
+use Rattle.line_forms.specs.Seen.{Said, label, of_form, line_at}
 use Rattle.ir_reader.specs.Text.{nothing, said, outcome, Fault, Numbered, with_first, readings, is_top, within, labelled, tokens_outcome}
 use Rattle.ir_reader.specs.Text as texts
 use Rattle.ir_lines.specs.Statements.{Statement, stated}
@@ -175,10 +175,10 @@ tokens_said s (t ∷ ts) form place items is fitting stands kept fits counts =
     rw is (rw stands (rw fitting (rw kept (within_said s place (of_form form items) fits counts))))
 
 tokens_dropped : (s : State) (ts : List Tok) (form : Form) (place : Place) (items : List Item) → form_in s.form ts ≡ Some form → parse (slots form) ts ≡ Some (items, [])
-    → behind s.place form ≡ Some place → is_dropped_form form ≡ true → tokens_outcome s ts ≡ nothing
+    → behind s.place form ≡ Some place → is_dropped_form form ≡ true → said_fits (of_form form items) ≡ true → tokens_outcome s ts ≡ nothing
 unfolding tokens_outcome line_at after
-tokens_dropped s [] form place items is fitting stands dropped = refl
-tokens_dropped s (t ∷ ts) form place items is fitting stands dropped = rw is (rw stands (rw fitting (rw dropped refl)))
+tokens_dropped s [] form place items is fitting stands dropped fits = refl
+tokens_dropped s (t ∷ ts) form place items is fitting stands dropped fits = rw is (rw stands (rw fitting (rw dropped (rw fits refl))))
 
 -- a line of a form, where it may stand and passes no limit
 pub formed_in : (s : State) (line : List ℕ) (form : Form) (place : Place) (items : List Item) → IsClean line → (is_top s.place && is_metadata line) ≡ false
@@ -192,10 +192,10 @@ formed_in s line form place items clean other is fitting stands kept fits counts
 -- a line of a form that is dropped, where it may stand
 pub dropped_in : (s : State) (line : List ℕ) (form : Form) (place : Place) (items : List Item) → IsClean line → (is_top s.place && is_metadata line) ≡ false
     → form_in s.form (tokens line) ≡ Some form → parse (slots form) (tokens line) ≡ Some (items, []) → behind s.place form ≡ Some place → is_dropped_form form ≡ true
-    → outcome s line ≡ nothing
+    → said_fits (of_form form items) ≡ true → outcome s line ≡ nothing
 unfolding outcome
-dropped_in s line form place items clean other is fitting stands dropped =
-    rw other (rw (label-none line clean) (tokens_dropped s (tokens line) form place items is fitting stands dropped))
+dropped_in s line form place items clean other is fitting stands dropped fits =
+    rw other (rw (label-none line clean) (tokens_dropped s (tokens line) form place items is fitting stands dropped fits))
 
 -- a label
 pub label_line : (s : State) (name : List ℕ) (place : Place) → is_name name ≡ true → is_top s.place ≡ false → behind_label s.place ≡ Some place

@@ -5,18 +5,18 @@ use Rattle.sp_text.specs.Tokens.{Tok, tok, tokens, is_name}
 use Rattle.sp_text.specs.declared.tokens.Kind.TheVariants as kinds
 use Rattle.sp_text.proofs.TokenLemmas.{tokens-nil}
 use Rattle.sp_text.proofs.Spelled.{stops, continues, tokens-spelled, tokens-blank}
-use Rattle.ir_reader.specs.declared.readings.TypeWord.{TypeWord}
-use Rattle.ir_reader.specs.declared.readings.TypeWord.TheVariants as types
-use Rattle.ir_reader.specs.declared.forms.Form.TheVariants as forms
-use Rattle.ir_reader.specs.declared.words.Dropped.TheVariants as drops
-use Rattle.ir_reader.specs.declared.words.Flags.TheVariants as flags
-use Rattle.ir_reader.specs.Gives.{after, one_at}
-use Rattle.ir_reader.specs.Marks.{is_mark, begins}
-use Rattle.ir_reader.specs.Drops.{past_dropped}
-use Rattle.ir_reader.specs.Parts.{Val, is_value_type, is_answer_type, allowed_type_at, spelled_type_at, pointer_at, value_at}
-use Rattle.ir_reader.specs.Lists.{Named, Given, given, function, listed_at, list_to, comma, argument_at, is_argument_type, is_task_start, head_at, given_behind, passed_at, called_at, entry_at, begins_entry}
-use Rattle.ir_reader.specs.Forms.{slots, form_of, named_form, word_form}
-use Rattle.ir_reader.specs.Slots.{Item, name, layout_name, ty, fields, entries, declared, defined, called, strategy, Slot, blank, m, w, some_fields, some_entries, a_declared, a_defined, a_called, part, parse}
+use Rattle.line_parts.specs.declared.readings.TypeWord.{TypeWord}
+use Rattle.line_parts.specs.declared.readings.TypeWord.TheVariants as types
+use Rattle.line_forms.specs.declared.forms.Form.TheVariants as forms
+use Rattle.line_tokens.specs.declared.words.Dropped.TheVariants as drops
+use Rattle.line_tokens.specs.declared.words.Flags.TheVariants as flags
+use Rattle.line_parts.specs.Gives.{after, one_at}
+use Rattle.line_tokens.specs.Marks.{is_mark, begins}
+use Rattle.line_parts.specs.Drops.{past_dropped}
+use Rattle.line_parts.specs.Parts.{Val, is_value_type, is_answer_type, allowed_type_at, spelled_type_at, pointer_at, value_at}
+use Rattle.line_parts.specs.Lists.{Named, Given, given, function, listed_at, list_to, comma, argument_at, is_argument_type, is_task_start, head_at, given_behind, passed_at, called_at, entry_at, begins_entry}
+use Rattle.line_forms.specs.Forms.{slots, form_of, named_form, word_form}
+use Rattle.line_forms.specs.Slots.{Item, name, layout_name, ty, fields, entries, declared, defined, called, strategy, Slot, blank, m, w, some_fields, some_entries, a_declared, a_defined, a_called, part, parse}
 use Rattle.ir_printer.specs.Lists.{joined}
 use Rattle.read_back.proofs.Steps.{Reads, Stops, IsClean, clean-both, name-clean, stops-kind, past_all-none, end, step_to, mark, word, layout_head, spaced, space, over_blank, drop_at, drop_end, first_of}
 use Rattle.read_back.proofs.Spellings.{SpellsType, SpellsValue, allowed}

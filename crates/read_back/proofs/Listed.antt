@@ -5,9 +5,9 @@ use Rattle.std.proofs.lemmas.List.Elements.{All-head, All-tail}
 use Rattle.sp_text.specs.Tokens.{Tok, tok, tokens}
 use Rattle.sp_text.specs.declared.tokens.Kind.TheVariants as kinds
 use Rattle.sp_text.proofs.Spelled.{tokens-spelled, tokens-blank}
-use Rattle.ir_reader.specs.Gives.{Found, after}
-use Rattle.ir_reader.specs.Marks.{is_mark, begins}
-use Rattle.ir_reader.specs.Lists.{at_most_at, listed_at, list_to, comma}
+use Rattle.line_parts.specs.Gives.{Found, after}
+use Rattle.line_tokens.specs.Marks.{is_mark, begins}
+use Rattle.line_parts.specs.Lists.{at_most_at, listed_at, list_to, comma}
 use Rattle.ir_printer.specs.Lists.{led, joined}
 use Rattle.read_back.proofs.Steps.{IsClean, clean-both}
 

@@ -26,25 +26,26 @@ use Rattle.ir_printer.specs.Declarations.{calls, new_words, result_of_words, fix
 use Rattle.ir_printer.specs.Lists.{joined, led}
 use Rattle.ir_printer.specs.Names.{layout_name}
 use Rattle.ir_printer.specs.Texts.{layout_text, function_text, functions_text, text_of}
-use Rattle.ir_reader.specs.declared.readings.TypeWord.{TypeWord}
-use Rattle.ir_reader.specs.declared.readings.TypeWord.TheVariants as types
-use Rattle.ir_reader.specs.declared.forms.Form.{Form}
-use Rattle.ir_reader.specs.declared.forms.Form.TheVariants as forms
-use Rattle.ir_reader.specs.declared.forms.DroppedLine.TheVariants as drop_lines
-use Rattle.ir_reader.specs.Families.{statepoint_name, relocate_name, result_suffix, result_front, is_family_name}
-use Rattle.ir_reader.specs.declared.forms.Counted.TheVariants as kinds
-use Rattle.ir_reader.specs.declared.forms.Place.TheVariants as places
+use Rattle.line_parts.specs.declared.readings.TypeWord.{TypeWord}
+use Rattle.line_parts.specs.declared.readings.TypeWord.TheVariants as types
+use Rattle.line_forms.specs.declared.forms.Form.{Form}
+use Rattle.line_forms.specs.declared.forms.Form.TheVariants as forms
+use Rattle.line_forms.specs.declared.forms.DroppedLine.TheVariants as drop_lines
+use Rattle.line_tokens.specs.Families.{statepoint_name, relocate_name, result_suffix, result_front, is_family_name}
+use Rattle.ir_reader.specs.declared.states.Counted.TheVariants as kinds
+use Rattle.ir_reader.specs.declared.states.Place.TheVariants as places
 use Rattle.ir_ast.specs.declared.modules.Form.{Form as TextForm}
 use Rattle.ir_ast.specs.declared.modules.Form.TheVariants as text_forms
-use Rattle.ir_reader.specs.declared.forms.Counts.{Counts}
-use Rattle.ir_reader.specs.declared.forms.State.{State}
+use Rattle.ir_reader.specs.declared.states.Counts.{Counts}
+use Rattle.ir_reader.specs.declared.states.State.{State}
 use Rattle.ir_reader.specs.Limits.{item_fits, type_fits, counted, counted_in, counts_fit}
-use Rattle.ir_reader.specs.Lists.{Named, comma, argument_at, is_task_start}
-use Rattle.ir_reader.specs.Marks.{is_mark, begins}
-use Rattle.ir_reader.specs.Parts.{is_value_type, is_answer_type}
-use Rattle.ir_reader.specs.Places.{behind, is_dropped_form}
-use Rattle.ir_reader.specs.Seen.{of_form}
-use Rattle.ir_reader.specs.Slots as parts
+use Rattle.line_parts.specs.Lists.{Named, comma, argument_at, is_task_start}
+use Rattle.line_tokens.specs.Marks.{is_mark, begins}
+use Rattle.line_parts.specs.Parts.{is_value_type, is_answer_type}
+use Rattle.ir_reader.specs.Places.{behind}
+use Rattle.line_forms.specs.Forms.{is_dropped_form}
+use Rattle.line_forms.specs.Seen.{of_form}
+use Rattle.line_forms.specs.Slots as parts
 use Rattle.ir_reader.specs.Text.{Numbered, readings, readings_in, next_state, opening}
 use Rattle.ir_lines.specs.Statements.{Line, Statement, stated}
 use Rattle.ir_lines.specs.Statements as statements
@@ -217,8 +218,9 @@ declared_in of t allow n is own tys all = declare_in of t n is own (joined (code
 -- one of the three families, in a text of the rewritten form
 dropped_top : (c : Counts) (text : List ℕ) → IsDropped text → is_metadata text ≡ false → Says (at_top text_forms.Rewritten c) (text ++ (10 ∷ [])) (at_top text_forms.Rewritten c) []
 dropped_top c text reads other =
-    says-nothing (at_top text_forms.Rewritten c) text (ends_none-clean text reads.clean)
-    (dropped_in (at_top text_forms.Rewritten c) text (forms.Dropped drop_lines.Family) places.Top [] reads.clean other reads.form_is reads.whole refl refl)
+    says-nothing (at_top text_forms.Rewritten c) text (ends_none-clean text reads.reads.clean)
+    (dropped_in (at_top text_forms.Rewritten c) text (forms.Dropped drop_lines.Family) places.Top (parts.family_answer reads.answer ∷ []) reads.reads.clean other reads.reads.form_is reads.reads.whole refl refl
+    (rw reads.fits refl))
 
 bit_type : SpellsType (codes "i1") (types.Int 1)
 bit_type = subst (λ (ds : List ℕ). SpellsType (105 ∷ ds) (types.Int 1)) (decimal_digit 1 (omega arith)) (integer_type 1 (omega arith))

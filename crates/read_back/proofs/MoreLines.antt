@@ -18,10 +18,10 @@ use Rattle.ir_printer.specs.Names.{Names, block_name}
 use Rattle.ir_printer.specs.Words.{type_text}
 use Rattle.ir_printer.specs.Operands.{value_text}
 use Rattle.ir_printer.specs.Lines.{result_front, operator_text, conversion_text, return_text}
-use Rattle.ir_reader.specs.declared.forms.Form.TheVariants as forms
-use Rattle.ir_reader.specs.declared.words.Conversion.{Conversion}
-use Rattle.ir_reader.specs.Forms.{conversion_word}
-use Rattle.ir_reader.specs.Slots as parts
+use Rattle.line_forms.specs.declared.forms.Form.TheVariants as forms
+use Rattle.line_tokens.specs.declared.words.Conversion.{Conversion}
+use Rattle.line_tokens.specs.Words.{conversion_word}
+use Rattle.line_forms.specs.Slots as parts
 use Rattle.ir_lines.specs.Statements as statements
 use Rattle.read_back.specs.Said.{word_of, value_says, operator_says, convert_says}
 use Rattle.read_back.proofs.Forms.{convert_line, select_line, branch_line, return_line}

@@ -9,7 +9,7 @@ use Rattle.ir_ast.specs.declared.types.Ty.{Ty}
 use Rattle.ir_ast.specs.declared.types.Ty.TheVariants as tys
 use Rattle.ir_ast.specs.declared.ops.Pred.{Pred}
 use Rattle.ir_ast.specs.declared.ops.Pred.TheVariants as preds
-use Rattle.ir_reader.specs.Parts.{pred_word}
+use Rattle.line_tokens.specs.Words.{pred_word, binary_word}
 use Rattle.ir_ast.specs.declared.ops.Operand.{Operand}
 use Rattle.ir_ast.specs.declared.ops.Op.{Op}
 use Rattle.ir_ast.specs.declared.ops.Op.TheVariants as ast
@@ -25,19 +25,18 @@ use Rattle.ir_printer.specs.Operands.{value_text}
 use Rattle.ir_printer.specs.Lines.{result_front, operator_text, arithmetic_text}
 use Rattle.ir_ast.specs.declared.modules.Form.{Form as TextForm}
 use Rattle.ir_ast.specs.declared.modules.Form.TheVariants as text_forms
-use Rattle.ir_reader.specs.Forms.{form_in}
-use Rattle.ir_reader.specs.declared.forms.Form.{Form}
-use Rattle.ir_reader.specs.declared.forms.Form.TheVariants as forms
-use Rattle.ir_reader.specs.declared.forms.Counted.{Counted}
-use Rattle.ir_reader.specs.declared.forms.Counted.TheVariants as kinds
-use Rattle.ir_reader.specs.declared.forms.Place.{Place}
-use Rattle.ir_reader.specs.declared.forms.Place.TheVariants as places
-use Rattle.ir_reader.specs.declared.words.Binary.{Binary}
-use Rattle.ir_reader.specs.Forms.{binary_word}
+use Rattle.line_forms.specs.Forms.{form_in, is_dropped_form}
+use Rattle.line_forms.specs.declared.forms.Form.{Form}
+use Rattle.line_forms.specs.declared.forms.Form.TheVariants as forms
+use Rattle.ir_reader.specs.declared.states.Counted.{Counted}
+use Rattle.ir_reader.specs.declared.states.Counted.TheVariants as kinds
+use Rattle.ir_reader.specs.declared.states.Place.{Place}
+use Rattle.ir_reader.specs.declared.states.Place.TheVariants as places
+use Rattle.line_tokens.specs.declared.words.Binary.{Binary}
 use Rattle.ir_reader.specs.Limits.{item_fits, counts_as}
-use Rattle.ir_reader.specs.Places.{behind_instruction, is_dropped_form}
-use Rattle.ir_reader.specs.Seen.{of_form}
-use Rattle.ir_reader.specs.Slots.{Item, name, width, ty, value, pred}
+use Rattle.ir_reader.specs.Places.{behind_instruction}
+use Rattle.line_forms.specs.Seen.{of_form}
+use Rattle.line_forms.specs.Slots.{Item, name, width, ty, value, pred}
 use Rattle.ir_lines.specs.Statements.{stated}
 use Rattle.read_back.specs.Said.{word_of, value_says, instruction_says, operator_says, binary_says}
 use Rattle.read_back.proofs.Forms.{ReadsAs, binary_line, compare_line, load_line, store_line, jump_line, unreachable_line, return_void_line}

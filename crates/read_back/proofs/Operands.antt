@@ -20,10 +20,10 @@ use Rattle.ir_ast.specs.Faults.TypeClash.{Fits}
 use Rattle.ir_printer.specs.Names.{Names, layout_name, function_name, block_name, value_name}
 use Rattle.ir_printer.specs.Words.{type_text}
 use Rattle.ir_printer.specs.Operands.{value_text}
-use Rattle.ir_reader.specs.Families.{is_family_name}
+use Rattle.line_tokens.specs.Families.{is_family_name}
 use Rattle.ir_reader.specs.Limits.{value_fits, literal_fits, type_fits}
-use Rattle.ir_reader.specs.Parts.{is_value_type}
-use Rattle.ir_reader.specs.Parts as values
+use Rattle.line_parts.specs.Parts.{is_value_type}
+use Rattle.line_parts.specs.Parts as values
 use Rattle.read_back.specs.Said.{word_of, value_says, integer_value, literal_of}
 use Rattle.read_back.proofs.Spellings.{SpellsType, SpellsValue, Spellable, signed-spellable, integer_type, pointer_type, integer_spelled, local_value, null_value}
 

@@ -5,12 +5,13 @@ use Rattle.sp_text.specs.declared.tokens.Kind.TheVariants as kinds
 use Rattle.sp_text.proofs.Spelled.{stops, continues, tokens-spelled, tokens-blank}
 use Rattle.ir_ast.specs.declared.ops.Pred.{Pred}
 use Rattle.ir_ast.specs.declared.ops.Pred.TheVariants as preds
-use Rattle.ir_reader.specs.declared.readings.TypeWord.{TypeWord}
-use Rattle.ir_reader.specs.declared.readings.TypeWord.TheVariants as types
-use Rattle.ir_reader.specs.Gives.{after, one_at}
-use Rattle.ir_reader.specs.Numbers.{positive_literal, literal_spelled}
-use Rattle.ir_reader.specs.Parts.{Val, is_value_type, is_answer_type, is_managed, is_scalar_type, is_case_value, case_value_at, pred_of, pred_word, place_at, strategy_at}
-use Rattle.ir_reader.specs.Slots.{Item, width, ty, value, pred, scalar, place, strategy, Slot, a_managed, a_width, a_type, an_answer, a_value, a_case, a_pred, a_scalar, a_place, a_strategy, part, parse}
+use Rattle.line_parts.specs.declared.readings.TypeWord.{TypeWord}
+use Rattle.line_parts.specs.declared.readings.TypeWord.TheVariants as types
+use Rattle.line_parts.specs.Gives.{after, one_at}
+use Rattle.line_tokens.specs.Numbers.{positive_literal, literal_spelled}
+use Rattle.line_parts.specs.Parts.{Val, is_value_type, is_answer_type, is_managed, is_scalar_type, is_case_value, case_value_at, place_at, strategy_at}
+use Rattle.line_tokens.specs.Words.{pred_of, pred_word}
+use Rattle.line_forms.specs.Slots.{Item, width, ty, value, pred, scalar, place, strategy, Slot, a_managed, a_width, a_type, an_answer, a_value, a_case, a_pred, a_scalar, a_place, a_strategy, part, parse}
 use Rattle.read_back.proofs.Steps.{Reads, Stops, step, one, first_of, stops-kind, IsClean, digits-clean}
 use Rattle.read_back.proofs.Spellings.{SpellsType, SpellsValue, allowed, integer_says, width_spelled, decimal_token, decimal-digits, decimal-is, literal_digits, positive}
 

@@ -33,16 +33,16 @@ use Rattle.ir_printer.specs.Calls.{callee_name}
 use Rattle.ir_printer.specs.Lines.{operator_text, arithmetic_text, conversion_text}
 use Rattle.ir_ast.specs.declared.modules.Form.{Form as TextForm}
 use Rattle.ir_ast.specs.declared.modules.Form.TheVariants as text_forms
-use Rattle.ir_reader.specs.Statepoints.{is_plain}
-use Rattle.ir_reader.specs.declared.forms.Counted.TheVariants as kinds
-use Rattle.ir_reader.specs.declared.readings.TypeWord.TheVariants as types
-use Rattle.ir_reader.specs.declared.words.Binary.{Binary}
-use Rattle.ir_reader.specs.declared.words.Binary.TheVariants as binaries
-use Rattle.ir_reader.specs.declared.words.Conversion.{Conversion}
-use Rattle.ir_reader.specs.declared.words.Conversion.TheVariants as conversions
-use Rattle.ir_reader.specs.Forms.{binary_word, conversion_word}
-use Rattle.ir_reader.specs.Lists.{is_task_start}
-use Rattle.ir_reader.specs.Parts.{is_scalar_type}
+use Rattle.group_parts.specs.Statepoints.{is_plain}
+use Rattle.ir_reader.specs.declared.states.Counted.TheVariants as kinds
+use Rattle.line_parts.specs.declared.readings.TypeWord.TheVariants as types
+use Rattle.line_tokens.specs.declared.words.Binary.{Binary}
+use Rattle.line_tokens.specs.declared.words.Binary.TheVariants as binaries
+use Rattle.line_tokens.specs.declared.words.Conversion.{Conversion}
+use Rattle.line_tokens.specs.declared.words.Conversion.TheVariants as conversions
+use Rattle.line_tokens.specs.Words.{binary_word, conversion_word}
+use Rattle.line_parts.specs.Lists.{is_task_start}
+use Rattle.line_parts.specs.Parts.{is_scalar_type}
 use Rattle.read_back.specs.Said.{width_in, result_of, parameter_says, operator_says, binary_says, convert_says}
 use Rattle.read_back.proofs.Fronts.{FunctionsOf, later_functions, front_fit, zip_take, front_functions}
 use Rattle.read_back.proofs.BackInsts.{IsPrintedIn, split_all}

@@ -17,19 +17,19 @@ use Rattle.sp_text.specs.Tokens.{Tok, tok, tokens, is_token, is_name, are_digits
 use Rattle.sp_text.specs.declared.tokens.Kind.{Kind}
 use Rattle.sp_text.specs.declared.tokens.Kind.TheVariants as kinds
 use Rattle.sp_text.proofs.Spelled.{stops, continues, tokens-spelled, tokens-blank}
-use Rattle.ir_reader.specs.declared.readings.TypeWord.{TypeWord}
-use Rattle.ir_reader.specs.declared.readings.TypeWord.TheVariants as types
-use Rattle.ir_reader.specs.declared.words.Flags.{Flags}
-use Rattle.ir_reader.specs.declared.words.Flags.TheVariants as flags
-use Rattle.ir_reader.specs.Numbers.{decimal_from, width_of, literal_spelled, positive_literal, negative_literal}
-use Rattle.ir_reader.specs.Gives.{after, one_at}
-use Rattle.ir_reader.specs.Marks.{is_word}
-use Rattle.ir_reader.specs.Drops.{past_group, past_one_of, flag_words, is_attribute_word, is_one_of, reserved}
-use Rattle.ir_reader.specs.Parts.{Val, value_of, is_value_type, spelled_type_at, allowed_type_at, pointer_at, addrspace_at, type_behind, other_type_at}
-use Rattle.ir_reader.specs.Parts as values
-use Rattle.ir_reader.specs.declared.readings.Literal.{Literal}
-use Rattle.ir_reader.specs.Forms.{first_global}
-use Rattle.ir_reader.specs.Statepoints.{suffix_of}
+use Rattle.line_parts.specs.declared.readings.TypeWord.{TypeWord}
+use Rattle.line_parts.specs.declared.readings.TypeWord.TheVariants as types
+use Rattle.line_tokens.specs.declared.words.Flags.{Flags}
+use Rattle.line_tokens.specs.declared.words.Flags.TheVariants as flags
+use Rattle.line_tokens.specs.Numbers.{decimal_from, width_of, literal_spelled, positive_literal, negative_literal}
+use Rattle.line_parts.specs.Gives.{after, one_at}
+use Rattle.line_tokens.specs.Marks.{is_word}
+use Rattle.line_parts.specs.Drops.{past_group, past_one_of, flag_words, is_attribute_word, is_one_of, reserved}
+use Rattle.line_parts.specs.Parts.{Val, value_of, is_value_type, spelled_type_at, allowed_type_at, pointer_at, addrspace_at, type_behind, other_type_at}
+use Rattle.line_parts.specs.Parts as values
+use Rattle.line_tokens.specs.declared.literals.Literal.{Literal}
+use Rattle.line_forms.specs.Forms.{first_global}
+use Rattle.group_parts.specs.Statepoints.{suffix_of}
 use Rattle.ir_printer.specs.Words.{integer_text}
 use Rattle.read_back.specs.Said.{literal_of, integer_value}
 use Rattle.read_back.proofs.Steps.{Stops, stops-kind, IsClean, digits-clean, name-clean}

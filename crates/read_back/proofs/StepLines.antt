@@ -13,10 +13,10 @@ use Rattle.ir_ast.specs.Faults.TypeClash.{Fits}
 use Rattle.ir_printer.specs.Names.{Names, layout_name}
 use Rattle.ir_printer.specs.Operands.{value_text}
 use Rattle.ir_printer.specs.Lines.{result_front, operator_text, element_text}
-use Rattle.ir_reader.specs.declared.forms.Form.TheVariants as forms
-use Rattle.ir_reader.specs.declared.readings.TypeWord.TheVariants as types
-use Rattle.ir_reader.specs.Parts.{is_scalar_type}
-use Rattle.ir_reader.specs.Slots as parts
+use Rattle.line_forms.specs.declared.forms.Form.TheVariants as forms
+use Rattle.line_parts.specs.declared.readings.TypeWord.TheVariants as types
+use Rattle.line_parts.specs.Parts.{is_scalar_type}
+use Rattle.line_forms.specs.Slots as parts
 use Rattle.read_back.specs.Said.{value_says}
 use Rattle.read_back.proofs.Spellings.{integer_type, pointer_type}
 use Rattle.read_back.proofs.Forms.{scalar_line, layout_line, field_line}

@@ -12,12 +12,12 @@ use Rattle.sp_text.specs.declared.tokens.Kind.{Kind}
 use Rattle.sp_text.specs.declared.tokens.Kind.TheVariants as kinds
 use Rattle.sp_text.proofs.Spelled.{stops, continues, tokens-spelled, tokens-blank}
 use Rattle.sp_text.proofs.TokenLemmas.{tokens-nil}
-use Rattle.ir_reader.specs.declared.words.Dropped.{Dropped}
-use Rattle.ir_reader.specs.declared.words.Dropped.TheVariants as drops
-use Rattle.ir_reader.specs.Gives.{after, one_at}
-use Rattle.ir_reader.specs.Marks.{is_word, is_mark}
-use Rattle.ir_reader.specs.Drops.{past_dropped, past_at_most, past_all}
-use Rattle.ir_reader.specs.Slots.{Item, name, layout, layout_name, Slot, blank, m, w, dropped, a_local, a_layout, a_layout_name, part, parse}
+use Rattle.line_tokens.specs.declared.words.Dropped.{Dropped}
+use Rattle.line_tokens.specs.declared.words.Dropped.TheVariants as drops
+use Rattle.line_parts.specs.Gives.{after, one_at}
+use Rattle.line_tokens.specs.Marks.{is_word, is_mark}
+use Rattle.line_parts.specs.Drops.{past_dropped, past_at_most, past_all}
+use Rattle.line_forms.specs.Slots.{Item, name, layout, layout_name, Slot, blank, m, w, dropped, a_local, a_layout, a_layout_name, part, parse}
 
 abbrev pub first_of : List Tok → Option Tok
 first_of [] = None

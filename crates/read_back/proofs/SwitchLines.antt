@@ -16,21 +16,22 @@ use Rattle.ir_printer.specs.Lists.{joined}
 use Rattle.ir_printer.specs.Names.{Names, block_name}
 use Rattle.ir_printer.specs.Operands.{value_text}
 use Rattle.ir_printer.specs.Lines.{line_text, case_text}
-use Rattle.ir_reader.specs.declared.forms.Form.{Form}
-use Rattle.ir_reader.specs.declared.forms.Form.TheVariants as forms
-use Rattle.ir_reader.specs.declared.forms.Counted.TheVariants as kinds
-use Rattle.ir_reader.specs.declared.forms.Place.{Place}
-use Rattle.ir_reader.specs.declared.forms.Place.TheVariants as places
+use Rattle.line_forms.specs.declared.forms.Form.{Form}
+use Rattle.line_forms.specs.declared.forms.Form.TheVariants as forms
+use Rattle.ir_reader.specs.declared.states.Counted.TheVariants as kinds
+use Rattle.ir_reader.specs.declared.states.Place.{Place}
+use Rattle.ir_reader.specs.declared.states.Place.TheVariants as places
 use Rattle.ir_ast.specs.declared.modules.Form.{Form as TextForm}
 use Rattle.ir_ast.specs.declared.modules.Form.TheVariants as text_forms
-use Rattle.ir_reader.specs.declared.forms.Counts.{Counts}
-use Rattle.ir_reader.specs.declared.forms.State.{State}
+use Rattle.ir_reader.specs.declared.states.Counts.{Counts}
+use Rattle.ir_reader.specs.declared.states.State.{State}
 use Rattle.ir_reader.specs.Limits.{item_fits, counted, counted_in, counts_fit}
-use Rattle.ir_reader.specs.Parts.{is_case_value}
-use Rattle.ir_reader.specs.Parts as values
-use Rattle.ir_reader.specs.Places.{behind, is_dropped_form}
-use Rattle.ir_reader.specs.Seen.{of_form}
-use Rattle.ir_reader.specs.Slots as parts
+use Rattle.line_parts.specs.Parts.{is_case_value}
+use Rattle.line_parts.specs.Parts as values
+use Rattle.ir_reader.specs.Places.{behind}
+use Rattle.line_forms.specs.Forms.{is_dropped_form}
+use Rattle.line_forms.specs.Seen.{of_form}
+use Rattle.line_forms.specs.Slots as parts
 use Rattle.ir_reader.specs.Text.{is_top, next_state}
 use Rattle.ir_lines.specs.Statements.{stated, switch_end}
 use Rattle.read_back.specs.Said.{value_says, case_says, literal_of}

@@ -6,9 +6,9 @@ use Rattle.std.specs.Option.{option_or}
 use Rattle.std.specs.List.{list_any}
 use Rattle.std.proofs.lemmas.List.Sums.{take_while-cons}
 use Rattle.ir_reader.specs.declared.raw.NumberedReading.{NumberedReading}
-use Rattle.ir_reader.specs.declared.readings.Passed.{Passed}
-use Rattle.ir_reader.specs.declared.readings.Passed.TheVariants.{Value, Function}
-use Rattle.ir_reader.specs.Seen.{seen_passed, seen_value}
+use Rattle.line_parts.specs.declared.readings.Passed.{Passed}
+use Rattle.line_parts.specs.declared.readings.Passed.TheVariants.{Value, Function}
+use Rattle.line_parts.specs.Seen.{seen_passed, seen_value}
 use Rattle.ir_lines.specs.Parts.{passed_value}
 use Rattle.ir_lines.specs.Statements.{Line, Statement, define, close}
 use Rattle.ir_lines.specs.Sections.{is_close, definitions_of}

@@ -1,7 +1,7 @@
 //! The first line of a definition that can't be run yet.
 ghost use Rattle.std.specs.Prelude.{◌≡◌, ◌||◌, [], ◌∷◌, map, filter_map};
 ghost use Rattle.std.specs.List.{list_any};
-ghost use Rattle.ir_reader.specs.Seen.{seen_argument, seen_entry, seen_passed, seen_value};
+ghost use Rattle.line_parts.specs.Seen.{seen_argument, seen_entry, seen_passed, seen_value};
 ghost use Rattle.ir_lines.specs.Parts.{entry_use, passed_value};
 ghost use Rattle.ir_lines.specs.Views.{said, seen_lines};
 ghost use Rattle.statepoint_tool.specs.NotYet.{first_not_yet, has_pointer, is_inside, is_maker, is_managed, is_null, is_pointer};

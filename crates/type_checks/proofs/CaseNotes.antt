@@ -12,11 +12,11 @@ use Rattle.std.proofs.lemmas.Bool.Decides.{eqb_tells}
 use Rattle.ir_lines.specs.declared.faults.Fault.{Fault}
 use Rattle.ir_lines.specs.Statements.{Line}
 use Rattle.ir_lines.specs.Sections.{is_case, cases_of}
-use Rattle.ir_reader.specs.declared.readings.Reading.{Reading}
-use Rattle.ir_reader.specs.declared.readings.Reading.TheVariants.{Case}
-use Rattle.ir_reader.specs.declared.readings.Value.{Value}
+use Rattle.line_forms.specs.declared.readings.Reading.{Reading}
+use Rattle.line_forms.specs.declared.readings.Reading.TheVariants.{Case}
+use Rattle.line_parts.specs.declared.readings.Value.{Value}
 use Rattle.ir_reader.specs.declared.raw.NumberedReading.{NumberedReading}
-use Rattle.ir_reader.specs.Seen.{seen_value}
+use Rattle.line_parts.specs.Seen.{seen_value}
 use Rattle.ir_lines.specs.Views.{said, seen_line}
 use denote.Bor.{Bor}
 use Rattle.ir_lines.specs.Notes.{Notes, Is}

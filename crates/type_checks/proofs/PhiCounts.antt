@@ -4,7 +4,7 @@ use Rattle.std.specs.Prelude.{nat_eq, map, IsTrue, ◌↔◌}
 use Rattle.std.specs.List.Sorted.{IsNonDecreasing}
 use Rattle.std.specs.Str.{bytes_eq}
 use Rattle.std.proofs.lemmas.Slice.Eq.{bytes_eq-Decides}
-use Rattle.ir_reader.specs.Parts.{Val}
+use Rattle.line_parts.specs.Parts.{Val}
 use Rattle.ir_lines.specs.Places.{number_in}
 use Rattle.type_checks.specs.Edges.{times, count_in, AreUncounted}
 use Rattle.type_checks.proofs.CountLemmas.{count_by-map, IsApart, same-or-apart}

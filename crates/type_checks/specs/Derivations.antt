@@ -1,9 +1,9 @@
 -- Derived values by number: the steps, and the phis and selects with what they use.
 use Rattle.std.specs.Prelude.{◌≡◌, ℕ, Bool, true, false, ◌&&◌, List, [], ◌∷◌, map, filter_map, length, Option, None, Some, slice_get, if◌then◌else◌}
 use Rattle.std.specs.List.{Contains, list_any}
-use Rattle.ir_reader.specs.declared.readings.TypeWord.{TypeWord}
-use Rattle.ir_reader.specs.Parts.{Val}
-use Rattle.ir_reader.specs.Lists.{Given, given, function}
+use Rattle.line_parts.specs.declared.readings.TypeWord.{TypeWord}
+use Rattle.line_parts.specs.Parts.{Val}
+use Rattle.line_parts.specs.Lists.{Given, given, function}
 use Rattle.ir_lines.specs.Statements.{Statement, store, call, ret}
 use Rattle.ir_lines.specs.Parts.{gives, is_step, is_merge, values_named, uses, local_name}
 use Rattle.ir_lines.specs.Places.{place_in}

@@ -2,8 +2,8 @@
 use Rattle.std.specs.Prelude.{◌≡◌, ◌≢◌, ℕ, ◌+◌, ◌<◌, ◌==◌, ◌⊎◌, Bool, true, not, List, [], map, length, count_by, flat_map, slice_get, slice_index_or, if◌then◌else◌}
 use Rattle.std.specs.List.{Contains, list_any}
 use Rattle.std.specs.Option.{option_map_or}
-use Rattle.ir_reader.specs.declared.readings.TypeWord.{TypeWord}
-use Rattle.ir_reader.specs.Parts.{Val}
+use Rattle.line_parts.specs.declared.readings.TypeWord.{TypeWord}
+use Rattle.line_parts.specs.Parts.{Val}
 use Rattle.ir_lines.specs.Statements.{Statement, Line, phi}
 use Rattle.ir_lines.specs.Parts.{targets, is_phi}
 use Rattle.ir_lines.specs.Places.{number_in}

@@ -1,13 +1,13 @@
 -- Statepoint groups beside the tables of their function: which group is open behind the lines before one.
 use Rattle.std.specs.Prelude.{ℕ, Bool, true, false, not, ◌&&◌, ◌||◌, List, length, slice_get, Option, Some, None, if◌then◌else◌}
 use Rattle.std.specs.List.{list_any}
-use Rattle.ir_reader.specs.declared.readings.TypeWord.{TypeWord}
-use Rattle.ir_reader.specs.declared.readings.TypeWord.TheVariants.{Managed}
-use Rattle.ir_reader.specs.declared.readings.Literal.{Literal}
-use Rattle.ir_reader.specs.Parts.{Val}
-use Rattle.ir_reader.specs.Parts as values
+use Rattle.line_parts.specs.declared.readings.TypeWord.{TypeWord}
+use Rattle.line_parts.specs.declared.readings.TypeWord.TheVariants.{Managed}
+use Rattle.line_tokens.specs.declared.literals.Literal.{Literal}
+use Rattle.line_parts.specs.Parts.{Val}
+use Rattle.line_parts.specs.Parts as values
 use Rattle.type_checks.specs.declared.groups.Open.{Open as OpenTable}
-use Rattle.ir_reader.specs.Seen.{seen_value}
+use Rattle.line_parts.specs.Seen.{seen_value}
 use Rattle.ir_lines.specs.Statements.{Statement, statepoint, gc_result, gc_relocate}
 use Rattle.ir_lines.specs.Parts.{uses, token_type}
 use Rattle.ir_lines.specs.Places.{place_in}

@@ -2,8 +2,8 @@
 use Rattle.std.specs.Prelude.{◌≡◌, ℕ, false, ◌⊎◌, List, map, find, codes, Option}
 use Rattle.std.specs.List.{Contains}
 use Rattle.std.specs.Str.{bytes_eq}
-use Rattle.ir_reader.specs.declared.readings.TypeWord.{TypeWord}
-use Rattle.ir_reader.specs.Lists.{Named}
+use Rattle.line_parts.specs.declared.readings.TypeWord.{TypeWord}
+use Rattle.line_parts.specs.Lists.{Named}
 use Rattle.ir_ast.specs.declared.modules.Form.{Form}
 use Rattle.ir_ast.specs.declared.modules.Form.TheVariants.{Source}
 use Rattle.ir_ast.specs.Lists.{HasFront}

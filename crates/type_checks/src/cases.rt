@@ -2,7 +2,7 @@
 
 ghost use Rattle.std.specs.Prelude.{◌≡◌, ◌||◌, ℕ, true, not, nat_eq, IfOk, OnOk, if◌then◌else◌};
 ghost use Rattle.std.specs.List.{list_any};
-ghost use Rattle.ir_reader.specs.Seen.{seen_value};
+ghost use Rattle.line_parts.specs.Seen.{seen_value};
 ghost use Rattle.type_checks.specs.FunctionFaults.{is_among, is_number, IsWrongAmong, CasesBehind, CasesOf, WrongCases};
 ghost use Rattle.ir_lines.specs.Notes.{Notes};
 ghost use Rattle.ir_lines.specs.Sections.{cases_of};

@@ -1,7 +1,7 @@
 //! The first fault of a text.
 
 ghost use Rattle.std.specs.Prelude.{◌≡◌, None, IfOk, OnOk, List, [], map};
-ghost use Rattle.ir_reader.specs.Seen.{seen_argument};
+ghost use Rattle.line_parts.specs.Seen.{seen_argument};
 ghost use Rattle.ir_lines.specs.PlainFaults.{HasPlainFault};
 ghost use Rattle.type_checks.specs.FunctionFaults.{FoundByForm, FoundWithin, FoundInFunction, InFunctions};
 ghost use Rattle.ir_lines.specs.Notes.{Notes};

@@ -2,7 +2,7 @@
 
 ghost use Rattle.std.specs.Prelude.{◌≡◌, ◌<◌, ℕ, ◌&&◌, [], ◌∷◌, ◌++◌, false, replicate, length, map, slice_get, slice_index_or, slice_set, Some, IfOk, OnOk};
 ghost use Rattle.std.specs.List.{Contains, cons_option, list_any};
-ghost use Rattle.ir_reader.specs.Seen.{seen_value, seen_passed};
+ghost use Rattle.line_parts.specs.Seen.{seen_value, seen_passed};
 ghost use Rattle.type_checks.specs.Derivations.{gives_first, count_given, one_if, all_if, number_named, numbers_used, steps_given, merged_given, AreSources, MarksDerived, is_true, has_mark, is_marked, given_marked, lets_out};
 ghost use Rattle.type_checks.specs.Follows.{AreInside, MarksFollowing, Visits, MarksOne, AddsUsers};
 ghost use Rattle.type_checks.specs.FunctionFaults.{EscapesOf, is_number};

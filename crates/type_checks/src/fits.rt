@@ -1,7 +1,7 @@
 //! What fits a type.
 
 ghost use Rattle.std.specs.Prelude.{◌≡◌, ◌-◌};
-ghost use Rattle.ir_reader.specs.Seen.{seen_value};
+ghost use Rattle.line_parts.specs.Seen.{seen_value};
 ghost use Rattle.type_checks.specs.LineFaults.{fits_in, type_fits};
 ghost use Rattle.ir_lines.specs.Types.{same_type, is_within, literal_fits, takes_null};
 

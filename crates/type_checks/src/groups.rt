@@ -1,7 +1,8 @@
 //! Statepoint groups (Garbage Collection Safepoints in LLVM, "Intrinsics").
 
 ghost use Rattle.std.specs.Prelude.{◌≡◌, ◌&&◌, ◌<◌, not, map, length, option_map, slice_get, OnOk, IfOk, List};
-ghost use Rattle.ir_reader.specs.Seen.{seen_value, seen_guarded};
+ghost use Rattle.line_parts.specs.Seen.{seen_value};
+ghost use Rattle.group_parts.specs.Seen.{seen_guarded};
 ghost use Rattle.ir_lines.specs.Faults.GroupShape.{is_count, is_entry};
 ghost use Rattle.type_checks.specs.FunctionFaults.{ShapesOf};
 ghost use Rattle.type_checks.specs.Groups.{is_token_type, names_token_in, any_token, is_any_part, misuses_token, misfits_live, statepoint_misses, misshapes_in, seen_open, is_of, kept_open, open_behind, result_misses, is_null, relocates, relocate_misses, part_misses, shape_misses};

@@ -3,7 +3,8 @@
 ghost use Rattle.std.specs.Prelude.{◌≡◌, ◌||◌, ◌&&◌, [], codes, not, map, is_none, option_map, OnOk};
 ghost use Rattle.std.specs.Option.{option_copied};
 ghost use Rattle.std.specs.Str.{bytes_eq};
-ghost use Rattle.ir_reader.specs.Seen.{seen_argument, seen_entry, seen_passed, seen_value, seen_guarded};
+ghost use Rattle.line_parts.specs.Seen.{seen_argument, seen_entry, seen_passed, seen_value};
+ghost use Rattle.group_parts.specs.Seen.{seen_guarded};
 ghost use Rattle.type_checks.specs.LineFaults.{Coded, LineFaultIn, tables_in, seen_use, is_missing, is_first, misses, misses_used, misses_entry, misses_label_of_phi, misses_label, misses_passed, misses_function, misses_name, misfits_of, count_fits, starts_at, task_starts, operands_fit, call_fits, statepoint_fits, rule_kept, clashes_in, targets_first};
 ghost use Rattle.type_checks.specs.FunctionFaults.{LinesIn};
 ghost use Rattle.ir_lines.specs.Modules.{passed_type};

@@ -6,7 +6,7 @@ ghost use Rattle.std.specs.List.Sorted.{IsNonDecreasing};
 ghost use Rattle.std.specs.Option.{option_copied};
 ghost use Rattle.ir_ast.specs.declared.ops.Operand.{Operand};
 ghost use Rattle.indexmap.specs.IndexMap.{get, Updates};
-ghost use Rattle.ir_reader.specs.Seen.{seen_entry, seen_value};
+ghost use Rattle.line_parts.specs.Seen.{seen_entry, seen_value};
 ghost use Rattle.type_checks.specs.Edges.{times, labels_of, AddsEdges, AreEdges, AreUncounted, Differ, EntriesAreWrong, IsWrongBeside, PhisBeside};
 ghost use Rattle.type_checks.specs.FunctionFaults.{PhisOf};
 ghost use Rattle.ir_lines.specs.Modules.{operand_in};

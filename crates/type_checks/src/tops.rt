@@ -6,7 +6,7 @@ ghost use Rattle.std.specs.Str.{bytes_eq};
 ghost use Rattle.std.specs.List.{Contains, list_all};
 ghost use Rattle.ir_ast.specs.Lists.{HasFront};
 ghost use Rattle.ir_ast.specs.Faults.Reserved.{externals, IsExternalName};
-ghost use Rattle.ir_reader.specs.Seen.{seen_argument};
+ghost use Rattle.line_parts.specs.Seen.{seen_argument};
 ghost use Rattle.ir_lines.specs.Sections.{types_of};
 ghost use Rattle.ir_lines.specs.Types.{same_type, same_types, is_cell};
 ghost use Rattle.ir_lines.specs.Externals.{external, externals_of, makers_of, own_externals, own_basics, own_helpers, basics, helpers, gc_new};

@@ -3,8 +3,8 @@ use Rattle.std.specs.Prelude.{◌≡◌, ◌≢◌, ℕ, ◌==◌, true, false, 
 use Rattle.std.specs.List.{Contains}
 use Rattle.std.specs.Option.{option_map_or}
 use Rattle.ir_ast.specs.declared.ops.Operand.{Operand}
-use Rattle.ir_reader.specs.declared.readings.TypeWord.{TypeWord}
-use Rattle.ir_reader.specs.Parts.{Val}
+use Rattle.line_parts.specs.declared.readings.TypeWord.{TypeWord}
+use Rattle.line_parts.specs.Parts.{Val}
 use Rattle.ir_lines.specs.Statements.{Line, phi}
 use Rattle.ir_lines.specs.Parts.{targets, is_phi}
 use Rattle.ir_lines.specs.Sections.{Definition, BlockLines, definitions_of, blocks_of}

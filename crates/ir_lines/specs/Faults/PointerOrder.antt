@@ -1,7 +1,7 @@
 -- Code 15. Pointers have no order.
 use Rattle.std.specs.Prelude.{ℕ, Bool, true, false, List}
-use Rattle.ir_reader.specs.declared.readings.TypeWord.{TypeWord}
-use Rattle.ir_reader.specs.declared.readings.TypeWord.TheVariants.{Managed}
+use Rattle.line_parts.specs.declared.readings.TypeWord.{TypeWord}
+use Rattle.line_parts.specs.declared.readings.TypeWord.TheVariants.{Managed}
 use Rattle.ir_ast.specs.declared.ops.Pred.{Pred}
 use Rattle.ir_ast.specs.declared.ops.Pred.TheVariants.{Eq, Ne}
 use Rattle.ir_lines.specs.Statements.{Line, Statement, compare}

@@ -2,15 +2,15 @@
 use Rattle.std.specs.Prelude.{◌≡◌, ◌≢◌, ◌⊎◌, ℕ, ◌%◌, ◌^◌, Bool, true, false, not, ◌&&◌, ◌||◌, nat_lt, nat_le, List, [], ◌∷◌, ◌++◌, map, filter_map, length, codes, Option, Some, None, if◌then◌else◌}
 use Rattle.std.specs.List.{list_any, Contains}
 use Rattle.std.specs.Str.{bytes_eq}
-use Rattle.ir_reader.specs.declared.readings.TypeWord.{TypeWord}
-use Rattle.ir_reader.specs.declared.readings.TypeWord.TheVariants.{Void, Int, Managed}
-use Rattle.ir_reader.specs.declared.readings.Literal.{Literal}
-use Rattle.ir_reader.specs.declared.words.Conversion.{Conversion}
-use Rattle.ir_reader.specs.declared.words.Conversion.TheVariants.{Trunc, Zext, Sext}
-use Rattle.ir_reader.specs.Parts.{Val}
-use Rattle.ir_reader.specs.Parts as values
-use Rattle.ir_reader.specs.Lists.{Given, given, function}
-use Rattle.ir_reader.specs.Statepoints.{Guarded}
+use Rattle.line_parts.specs.declared.readings.TypeWord.{TypeWord}
+use Rattle.line_parts.specs.declared.readings.TypeWord.TheVariants.{Void, Int, Managed}
+use Rattle.line_tokens.specs.declared.literals.Literal.{Literal}
+use Rattle.line_tokens.specs.declared.words.Conversion.{Conversion}
+use Rattle.line_tokens.specs.declared.words.Conversion.TheVariants.{Trunc, Zext, Sext}
+use Rattle.line_parts.specs.Parts.{Val}
+use Rattle.line_parts.specs.Parts as values
+use Rattle.line_parts.specs.Lists.{Given, given, function}
+use Rattle.group_parts.specs.Statepoints.{Guarded}
 use Rattle.ir_ast.specs.declared.modules.Form.{Form}
 use Rattle.ir_lines.specs.Statements.{Line, Statement, convert, select, layout_step, load, store, call, switch, switch_case, ret_void, ret, statepoint}
 use Rattle.ir_lines.specs.Parts.{uses}

@@ -1,6 +1,6 @@
 use Rattle.std.proofs.Common.{◌≡◌, ◌++◌, drop}
 use Rattle.std.specs.Prelude.{map, filter_map}
-use Rattle.ir_reader.specs.Seen.{seen_value, seen_passed}
+use Rattle.line_parts.specs.Seen.{seen_value, seen_passed}
 use Rattle.ir_lines.specs.Parts.{passed_value}
 use Rattle.ir_lines.proofs.parts.uses_of_call.Given as goal
 

@@ -1,6 +1,6 @@
 use Rattle.std.proofs.Common.{◌≡◌, ◌++◌, drop}
 use Rattle.std.specs.Prelude.{map}
-use Rattle.ir_reader.specs.Seen.{seen_value, seen_entry}
+use Rattle.line_parts.specs.Seen.{seen_value, seen_entry}
 use Rattle.ir_lines.specs.Parts.{entry_use}
 use Rattle.ir_lines.proofs.parts.uses_of_phi.Given as goal
 

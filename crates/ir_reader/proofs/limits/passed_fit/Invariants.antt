@@ -2,7 +2,7 @@ use Rattle.std.proofs.Common.{◌≡◌, drop}
 use Rattle.std.specs.Prelude.{map}
 use Rattle.std.specs.List.{list_all}
 use Rattle.ir_reader.specs.Limits.{given_fits}
-use Rattle.ir_reader.specs.Seen.{seen_passed}
+use Rattle.line_parts.specs.Seen.{seen_passed}
 use Rattle.ir_reader.proofs.limits.passed_fit.Given as goal
 
 abbrev pub invariant-loop-one : goal.invariant-loop-one

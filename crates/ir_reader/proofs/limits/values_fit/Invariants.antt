@@ -2,7 +2,7 @@ use Rattle.std.proofs.Common.{◌≡◌, drop}
 use Rattle.std.specs.Prelude.{map}
 use Rattle.std.specs.List.{list_all}
 use Rattle.ir_reader.specs.Limits.{value_fits}
-use Rattle.ir_reader.specs.Seen.{seen_value}
+use Rattle.line_parts.specs.Seen.{seen_value}
 use Rattle.ir_reader.proofs.limits.values_fit.Given as goal
 
 abbrev pub invariant-loop-value : goal.invariant-loop-value

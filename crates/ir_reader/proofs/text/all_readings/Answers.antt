@@ -1,7 +1,7 @@
-use Rattle.std.proofs.Common.{◌≡◌, ◌+◌, List, [], ◌∷◌, Ok, sym, ap, ◌∙◌, refl}
+use Rattle.std.proofs.Common.{◌≡◌, ◌∷◌, sym, ap, ◌∙◌, refl}
 use Rattle.std.specs.Prelude.{map}
 use Rattle.std.proofs.lemmas.Result.{err_from_is_err_and}
-use Rattle.sp_text.specs.Lines.{NumberedLine, lines_left, lines_of, seen_line}
+use Rattle.sp_text.specs.Lines.{lines_left, lines_of, seen_line}
 use Rattle.ir_reader.specs.Text.{readings, readings_in, opening}
 use Rattle.ir_reader.specs.Raws.{seen_numbered}
 use Rattle.ir_reader.proofs.LineByLine.{with_lines, with_none, goes_on, ends_at, is_whole, is_cut}

@@ -1,8 +1,8 @@
 use Rattle.std.proofs.Common.{◌∙◌, ◌<◌, None, arith, length}
 use Rattle.std.specs.Prelude.{map}
 use Rattle.std.proofs.lemmas.List.{length-map}
-use Rattle.ir_reader.specs.declared.readings.TypeWord.TheVariants.{Void}
-use Rattle.ir_reader.specs.Seen.{seen_argument}
+use Rattle.line_parts.specs.declared.readings.TypeWord.TheVariants.{Void}
+use Rattle.line_parts.specs.Seen.{seen_argument}
 use Rattle.module_build.proofs.ArgumentLists.{as-many, paired, paired-is, paired-more, paired-all}
 use Rattle.module_build.proofs.build.arguments_of.Goals as goal
 

@@ -1,6 +1,6 @@
 use Rattle.std.proofs.Common.{◌≡◌, ◌++◌, drop}
 use Rattle.std.specs.Prelude.{map}
-use Rattle.ir_reader.specs.Seen.{seen_argument}
+use Rattle.line_parts.specs.Seen.{seen_argument}
 use Rattle.module_build.proofs.ArgumentLists.{paired}
 use Rattle.module_build.proofs.build.arguments_of.Given as goal
 

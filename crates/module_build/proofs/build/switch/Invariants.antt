@@ -1,6 +1,6 @@
 use Rattle.std.proofs.Common.{◌≡◌, ◌∷◌, ◌++◌, drop}
-use Rattle.ir_reader.specs.Seen.{seen_value}
-use Rattle.ir_reader.specs.declared.readings.TypeWord.TheVariants.{Int}
+use Rattle.line_parts.specs.Seen.{seen_value}
+use Rattle.line_parts.specs.declared.readings.TypeWord.TheVariants.{Int}
 use Rattle.ir_lines.specs.Views.{seen_lines}
 use Rattle.ir_lines.specs.Modules.{operand_in, label_in, case_values, case_labels}
 use Rattle.module_build.proofs.build.switch.Given as goal

@@ -1,5 +1,5 @@
 use Rattle.std.proofs.Common.{◌∙◌, map, sym}
-use Rattle.ir_reader.specs.Seen.{seen_entry}
+use Rattle.line_parts.specs.Seen.{seen_entry}
 use Rattle.ir_lines.specs.Parts.{entry_use}
 use Rattle.statepoint_tool.specs.NotYet.{is_pointer}
 use Rattle.statepoint_tool.proofs.NotYetLaws.{any-map}

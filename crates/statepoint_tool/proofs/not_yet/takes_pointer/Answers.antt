@@ -1,5 +1,5 @@
 use Rattle.std.proofs.Common.{◌∙◌, sym}
-use Rattle.ir_reader.specs.Seen.{seen_argument}
+use Rattle.line_parts.specs.Seen.{seen_argument}
 use Rattle.statepoint_tool.specs.NotYet.{is_managed}
 use Rattle.statepoint_tool.proofs.NotYetLaws.{any-map}
 use Rattle.statepoint_tool.proofs.not_yet.takes_pointer.Goals as goal

@@ -1,6 +1,6 @@
 use Rattle.std.proofs.Common.{◌∙◌, Bool, not, ap, subst}
 use Rattle.std.specs.Prelude.{IsTrue, nat_eq}
-use Rattle.ir_reader.specs.Seen.{seen_value}
+use Rattle.line_parts.specs.Seen.{seen_value}
 use Rattle.ir_lines.specs.Notes.{Notes, Is}
 use Rattle.type_checks.specs.FunctionFaults.{is_among}
 use Rattle.ir_lines.specs.Faults.TypeClash.{number_said}

@@ -2,7 +2,7 @@ use Rattle.std.proofs.Common.{◌≡◌, ◌∙◌, ◌+◌, true, length, take,
 use Rattle.std.specs.Prelude.{nat_eq, if◌then◌else◌}
 use Rattle.std.specs.List.{list_any}
 use Rattle.std.proofs.lemmas.List.{length-map}
-use Rattle.ir_reader.specs.Seen.{seen_value}
+use Rattle.line_parts.specs.Seen.{seen_value}
 use Rattle.ir_lines.specs.Sections.{is_case, cases_of}
 use Rattle.ir_lines.specs.Views.{said, seen_line, seen_lines}
 use Rattle.type_checks.specs.FunctionFaults.{CaseAt, is_number}

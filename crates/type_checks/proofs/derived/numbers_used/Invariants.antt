@@ -1,6 +1,6 @@
 use Rattle.std.proofs.Common.{◌≡◌, ◌++◌, drop}
 use Rattle.std.specs.Prelude.{map}
-use Rattle.ir_reader.specs.Seen.{seen_value}
+use Rattle.line_parts.specs.Seen.{seen_value}
 use Rattle.type_checks.specs.Derivations.{numbers_used}
 use Rattle.type_checks.proofs.derived.numbers_used.Given as goal
 

@@ -1,7 +1,7 @@
 use Rattle.std.proofs.Common.{◌≡◌, drop}
 use Rattle.std.specs.Prelude.{map}
 use Rattle.std.specs.List.{list_any}
-use Rattle.ir_reader.specs.Seen.{seen_passed}
+use Rattle.line_parts.specs.Seen.{seen_passed}
 use Rattle.type_checks.specs.Derivations.{given_marked}
 use Rattle.type_checks.proofs.derived.passes_marked.Given as goal
 

@@ -1,6 +1,6 @@
 use Rattle.std.proofs.Common.{◌≡◌, drop}
 use Rattle.std.specs.Prelude.{map}
-use Rattle.ir_reader.specs.Seen.{seen_value}
+use Rattle.line_parts.specs.Seen.{seen_value}
 use Rattle.type_checks.specs.Groups.{misfits_live}
 use Rattle.type_checks.proofs.groups.misfits_live.Given as goal
 

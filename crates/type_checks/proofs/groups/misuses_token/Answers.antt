@@ -1,7 +1,7 @@
 use Rattle.std.proofs.Common.{◌∙◌, List, ap, sym}
 use Rattle.std.specs.Prelude.{map}
-use Rattle.ir_reader.specs.declared.readings.TypeWord.{TypeWord}
-use Rattle.ir_reader.specs.declared.readings.Value.{Value}
+use Rattle.line_parts.specs.declared.readings.TypeWord.{TypeWord}
+use Rattle.line_parts.specs.declared.readings.Value.{Value}
 use Rattle.ir_lines.specs.Views.{said}
 use Rattle.type_checks.specs.Groups.{any_token}
 use Rattle.type_checks.specs.LineFaults.{seen_use}

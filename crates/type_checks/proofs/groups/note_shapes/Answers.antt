@@ -1,7 +1,7 @@
 use Rattle.std.proofs.Common.{◌≡◌, ◌∙◌, ◌+◌, ◌++◌, ℕ, List, [], ◌∷◌, length, take, drop, arith, sym, ap, subst}
 use Rattle.std.specs.Prelude.{option_map, Option}
 use Rattle.std.proofs.lemmas.List.{length-map}
-use Rattle.ir_reader.specs.Seen.{seen_argument}
+use Rattle.line_parts.specs.Seen.{seen_argument}
 use Rattle.ir_lines.specs.Parts.{gives}
 use Rattle.ir_lines.specs.Scope.{scope_of}
 use Rattle.ir_lines.specs.Sections.{values_of}

@@ -1,8 +1,8 @@
 use Rattle.std.proofs.Common.{◌≡◌, ◌∙◌, ℕ, ◌+◌, ◌<◌, Bool, ◌||◌, List, ◌∷◌, length, get_or, ap, sym, drop, add-one}
 use Rattle.std.specs.Prelude.{map, is_none}
 use Rattle.std.proofs.Math.Seq.{drop-cons}
-use Rattle.ir_reader.specs.declared.readings.Entry.{Entry}
-use Rattle.ir_reader.specs.Seen.{seen_entry}
+use Rattle.line_parts.specs.declared.readings.Entry.{Entry}
+use Rattle.line_parts.specs.Seen.{seen_entry}
 use Rattle.ir_lines.specs.Places.{place_in}
 use Rattle.type_checks.specs.LineFaults.{misses_entry}
 use Rattle.type_checks.proofs.lines.misses_entry.Goals as goal

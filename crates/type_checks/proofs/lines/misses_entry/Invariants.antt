@@ -1,6 +1,6 @@
 use Rattle.std.proofs.Common.{◌≡◌, drop}
 use Rattle.std.specs.Prelude.{map}
-use Rattle.ir_reader.specs.Seen.{seen_entry}
+use Rattle.line_parts.specs.Seen.{seen_entry}
 use Rattle.type_checks.specs.LineFaults.{misses_entry}
 use Rattle.type_checks.proofs.lines.misses_entry.Given as goal
 

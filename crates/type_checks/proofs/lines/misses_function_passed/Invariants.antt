@@ -1,6 +1,6 @@
 use Rattle.std.proofs.Common.{◌≡◌, drop}
 use Rattle.std.specs.Prelude.{map}
-use Rattle.ir_reader.specs.Seen.{seen_passed}
+use Rattle.line_parts.specs.Seen.{seen_passed}
 use Rattle.type_checks.specs.LineFaults.{misses_passed}
 use Rattle.type_checks.proofs.lines.misses_function_passed.Given as goal
 

@@ -1,6 +1,6 @@
 use Rattle.std.proofs.Common.{◌≡◌, drop}
 use Rattle.std.specs.Prelude.{map}
-use Rattle.ir_reader.specs.Seen.{seen_argument, seen_passed}
+use Rattle.line_parts.specs.Seen.{seen_argument, seen_passed}
 use Rattle.ir_lines.specs.Modules.{passed_type}
 use Rattle.ir_lines.specs.Sections.{types_of}
 use Rattle.ir_lines.specs.Types.{same_types}

@@ -1,7 +1,7 @@
 use Rattle.std.proofs.Common.{◌∙◌, ℕ, List, ap}
 use Rattle.std.specs.Prelude.{map, not}
 use Rattle.std.specs.Str.{bytes_eq}
-use Rattle.ir_reader.specs.Seen.{seen_entry}
+use Rattle.line_parts.specs.Seen.{seen_entry}
 use Rattle.type_checks.specs.Edges.{times}
 use Rattle.type_checks.proofs.PhiCounts.{uncounted-iff, entry-counts}
 use Rattle.type_checks.proofs.phis.are_uncounted.Goals as goal

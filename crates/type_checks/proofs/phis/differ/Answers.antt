@@ -5,10 +5,10 @@ use Rattle.std.proofs.lemmas.List.{length-map}
 use Rattle.std.proofs.Math.Seq.{take-length}
 use Rattle.std.proofs.lemmas.Option.{slice_get-get_or, slice_get-map}
 use Rattle.ir_ast.specs.declared.ops.Operand.{Operand}
-use Rattle.ir_reader.specs.declared.readings.Entry.{Entry}
-use Rattle.ir_reader.specs.declared.readings.TypeWord.{TypeWord}
-use Rattle.ir_reader.specs.Parts.{Val}
-use Rattle.ir_reader.specs.Seen.{seen_entry, seen_value}
+use Rattle.line_parts.specs.declared.readings.Entry.{Entry}
+use Rattle.line_parts.specs.declared.readings.TypeWord.{TypeWord}
+use Rattle.line_parts.specs.Parts.{Val}
+use Rattle.line_parts.specs.Seen.{seen_entry, seen_value}
 use Rattle.ir_lines.specs.Places.{number_in}
 use Rattle.ir_lines.specs.Modules.{operand_in}
 use Rattle.type_checks.specs.Edges.{Differ}

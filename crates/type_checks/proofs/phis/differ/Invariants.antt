@@ -1,6 +1,6 @@
 use Rattle.std.proofs.Common.{take}
 use Rattle.std.specs.Prelude.{map}
-use Rattle.ir_reader.specs.Seen.{seen_entry}
+use Rattle.line_parts.specs.Seen.{seen_entry}
 use Rattle.type_checks.proofs.PhiValues.{IsFilled}
 use Rattle.type_checks.proofs.phis.differ.Given as goal
 

@@ -1,8 +1,8 @@
 use Rattle.std.proofs.Common.{◌≡◌, ◌∙◌, ℕ, ◌+◌, ◌<◌, List, [], ◌∷◌, ◌++◌, length, get_or, drop, ap, sym, refl}
 use Rattle.std.specs.Prelude.{map}
 use Rattle.std.proofs.lemmas.Option.{slice_get-get_or, get_or_from_slice_get}
-use Rattle.ir_reader.specs.declared.readings.Entry.{Entry}
-use Rattle.ir_reader.specs.Seen.{seen_entry}
+use Rattle.line_parts.specs.declared.readings.Entry.{Entry}
+use Rattle.line_parts.specs.Seen.{seen_entry}
 use Rattle.ir_lines.specs.Places.{number_in}
 use Rattle.ir_lines.proofs.Steps.{made-more}
 use Rattle.type_checks.proofs.phis.entry_blocks.Goals as goal

@@ -1,6 +1,6 @@
 use Rattle.std.proofs.Common.{◌≡◌, ◌++◌, drop}
 use Rattle.std.specs.Prelude.{map}
-use Rattle.ir_reader.specs.Seen.{seen_entry}
+use Rattle.line_parts.specs.Seen.{seen_entry}
 use Rattle.ir_lines.specs.Places.{number_in}
 use Rattle.type_checks.proofs.phis.entry_blocks.Given as goal
 

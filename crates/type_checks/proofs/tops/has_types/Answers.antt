@@ -1,7 +1,7 @@
 use Rattle.std.proofs.Common.{◌∙◌, sym}
 use Rattle.std.specs.Prelude.{map}
 use Rattle.std.proofs.lemmas.List.{length-map}
-use Rattle.ir_reader.specs.Seen.{seen_argument}
+use Rattle.line_parts.specs.Seen.{seen_argument}
 use Rattle.ir_lines.specs.Sections.{types_of}
 use Rattle.type_checks.proofs.TypeLists.{same_types-lengths}
 use Rattle.type_checks.proofs.tops.has_types.Goals as goal

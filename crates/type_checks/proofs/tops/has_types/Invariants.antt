@@ -1,6 +1,6 @@
 use Rattle.std.proofs.Common.{◌≡◌, drop}
 use Rattle.std.specs.Prelude.{map, length}
-use Rattle.ir_reader.specs.Seen.{seen_argument}
+use Rattle.line_parts.specs.Seen.{seen_argument}
 use Rattle.ir_lines.specs.Sections.{types_of}
 use Rattle.ir_lines.specs.Types.{same_types}
 use Rattle.type_checks.proofs.tops.has_types.Given as goal

@@ -1,5 +1,5 @@
 use Rattle.std.specs.Prelude.{map}
-use Rattle.ir_reader.specs.Seen.{seen_argument}
+use Rattle.line_parts.specs.Seen.{seen_argument}
 use Rattle.ir_lines.specs.Sections.{types_of}
 use Rattle.type_checks.proofs.ExternalLemmas.{maker-is, maker-differs}
 use Rattle.type_checks.proofs.tops.is_made.Goals as goal

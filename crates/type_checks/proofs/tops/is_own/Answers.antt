@@ -1,6 +1,6 @@
 use Rattle.std.specs.Prelude.{map}
 use Rattle.std.specs.List.{Contains}
-use Rattle.ir_reader.specs.Seen.{seen_argument}
+use Rattle.line_parts.specs.Seen.{seen_argument}
 use Rattle.ir_lines.specs.Sections.{types_of}
 use Rattle.ir_lines.specs.Externals.{external, own_basics, own_helpers}
 use Rattle.type_checks.proofs.ExternalLemmas.{not-in-first, is-false}

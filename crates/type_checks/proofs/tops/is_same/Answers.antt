@@ -1,7 +1,7 @@
 use Rattle.std.proofs.Common.{sym}
 use Rattle.std.specs.Prelude.{map}
 use Rattle.std.proofs.lemmas.Slice.Eq.{bytes_eq-Decides}
-use Rattle.ir_reader.specs.Seen.{seen_argument}
+use Rattle.line_parts.specs.Seen.{seen_argument}
 use Rattle.ir_lines.specs.Sections.{types_of}
 use Rattle.type_checks.proofs.ExternalLemmas.{external-is, same_type-is}
 use Rattle.type_checks.proofs.tops.is_same.Goals as goal

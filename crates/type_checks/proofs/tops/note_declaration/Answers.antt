@@ -2,7 +2,7 @@ use Rattle.std.specs.Prelude.{◌≡◌, ◌⊎◌, map, not, codes}
 use Rattle.std.specs.List.{Contains}
 use Rattle.ir_ast.specs.declared.modules.Form.TheVariants.{Source}
 use Rattle.ir_ast.specs.Lists.{HasFront}
-use Rattle.ir_reader.specs.Seen.{seen_argument}
+use Rattle.line_parts.specs.Seen.{seen_argument}
 use Rattle.ir_lines.specs.Sections.{types_of}
 use Rattle.ir_lines.specs.Externals.{external, externals_of, helpers}
 use Rattle.ir_lines.proofs.NoteLemmas.{not-iff, three-noted}

@@ -1,5 +1,5 @@
 use Rattle.std.proofs.Common.{◌≡◌, sym, subst}
-use Rattle.ir_reader.specs.declared.readings.Reading.{Reading}
+use Rattle.line_forms.specs.declared.readings.Reading.{Reading}
 use Rattle.ir_lines.specs.Notes.{Notes}
 use Rattle.type_checks.specs.TopFaults.{OuterFault}
 use Rattle.ir_lines.specs.Views.{said}

@@ -1,10 +1,10 @@
 use Rattle.std.proofs.Common.{◌≡◌, ◌∙◌, ◌<◌, ◌≤◌, ◌+◌, ap, sym, subst, [], ◌∷◌, ◌++◌, List, ℕ, length, get_or, take, arith, Vec, Global}
 use Rattle.std.specs.Prelude.{map, None}
-use Rattle.ir_reader.specs.declared.readings.Argument.{Argument}
-use Rattle.ir_reader.specs.declared.readings.TypeWord.TheVariants.{Void}
-use Rattle.ir_reader.specs.Lists.{Named}
+use Rattle.line_parts.specs.declared.readings.Argument.{Argument}
+use Rattle.line_parts.specs.declared.readings.TypeWord.TheVariants.{Void}
+use Rattle.line_parts.specs.Lists.{Named}
 use Rattle.std.proofs.lemmas.List.{length-map, take_all}
-use Rattle.ir_reader.specs.Seen.{seen_argument}
+use Rattle.line_parts.specs.Seen.{seen_argument}
 use Rattle.ir_lines.specs.Sections.{Naming, arguments_named}
 use Rattle.ir_lines.specs.Again.{FoundAfter, IsBadName, named_values}
 use Rattle.ir_lines.specs.Notes.{Notes}

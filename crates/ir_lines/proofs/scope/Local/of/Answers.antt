@@ -1,6 +1,6 @@
 use Rattle.std.proofs.Common.{◌≡◌, ◌∙◌, ap, subst, refl, ℕ, List, [], ◌++◌}
 use Rattle.std.specs.Prelude.{map}
-use Rattle.ir_reader.specs.Seen.{seen_argument}
+use Rattle.line_parts.specs.Seen.{seen_argument}
 use Rattle.ir_lines.specs.Again.{FoundAfter, IsBadName, named_values, named_blocks, results_of}
 use Rattle.ir_lines.specs.Notes.{Notes}
 use Rattle.ir_lines.specs.Sections.{Naming, BlockLines, arguments_named}

@@ -1,6 +1,6 @@
 use Rattle.std.proofs.Common.{◌≡◌, ℕ, ◌≤◌, [], ◌++◌, take, drop}
 use Rattle.std.specs.Prelude.{map}
-use Rattle.ir_reader.specs.Seen.{seen_argument}
+use Rattle.line_parts.specs.Seen.{seen_argument}
 use Rattle.ir_lines.specs.Sections.{arguments_named, count_numbered}
 use Rattle.ir_lines.proofs.sections.HeadNames.of.Given as goal
 

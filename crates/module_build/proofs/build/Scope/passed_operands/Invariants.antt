@@ -1,6 +1,6 @@
 use Rattle.std.proofs.Common.{◌≡◌, ◌++◌, drop}
 use Rattle.std.specs.Prelude.{map}
-use Rattle.ir_reader.specs.Seen.{seen_passed}
+use Rattle.line_parts.specs.Seen.{seen_passed}
 use Rattle.ir_lines.specs.Modules.{passed_operand}
 use Rattle.module_build.specs.Known.{known_in}
 use Rattle.module_build.proofs.build.Scope.passed_operands.Given as goal

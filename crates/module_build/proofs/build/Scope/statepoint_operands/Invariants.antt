@@ -1,6 +1,6 @@
 use Rattle.std.proofs.Common.{◌≡◌, ◌++◌, drop}
 use Rattle.std.specs.Prelude.{map}
-use Rattle.ir_reader.specs.Seen.{seen_passed, seen_value}
+use Rattle.line_parts.specs.Seen.{seen_passed, seen_value}
 use Rattle.ir_lines.specs.Parts.{live_use}
 use Rattle.ir_lines.specs.Modules.{passed_operand, used_operand}
 use Rattle.module_build.specs.Known.{known_in}

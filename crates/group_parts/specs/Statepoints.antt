@@ -1,0 +1,172 @@
+-- The parts of a statepoint group's lines: what a statepoint calls and passes, its live entries, its result.
+use Rattle.std.specs.Prelude.{ℕ, Bool, true, false, ◌&&◌, ◌||◌, not, List, [], ◌∷◌, Option, Some, None, drop, is_some, option_map, codes, if◌then◌else◌}
+use Rattle.std.specs.List.{list_any}
+use Rattle.std.specs.Str.{bytes_eq}
+use Rattle.sp_text.specs.Tokens.{Tok, tok}
+use Rattle.sp_text.specs.declared.tokens.Kind.TheVariants as kinds
+use Rattle.line_parts.specs.declared.readings.TypeWord.{TypeWord}
+use Rattle.line_parts.specs.declared.readings.TypeWord.TheVariants as types
+use Rattle.line_tokens.specs.declared.literals.Literal.{Literal}
+use Rattle.line_tokens.specs.declared.words.Dropped.TheVariants as drops
+use Rattle.line_parts.specs.Gives.{Found, after, one_at}
+use Rattle.line_tokens.specs.Marks.{is_mark, is_word, stands, begins}
+use Rattle.line_tokens.specs.Numbers.{literal_of}
+use Rattle.line_parts.specs.Drops.{after_bracket, past_all, past}
+use Rattle.line_parts.specs.Parts.{Val, word_at, mark_at, local_at, global_at, value_at, allowed_type_at, is_value_type, is_answer_type, is_managed}
+use Rattle.line_parts.specs.Lists.{Given, comma, list_to, listed_at, is_argument_type, is_task_start, passed_at}
+use Rattle.line_tokens.specs.Families.{is_family_name, is_result_of}
+
+-- ---- marks and numbers
+
+-- `(i64, i32, ptr`
+unfoldable pub first_types_at : List Tok → Found (Unit {0})
+first_types_at ts = after (mark_at (codes "(") ts) (λ _ ts. after (word_at (codes "i64") ts) (λ _ ts. after (mark_at (codes ",") ts) (λ _ ts.
+    after (word_at (codes "i32") ts) (λ _ ts. after (mark_at (codes ",") ts) (λ _ ts. word_at (codes "ptr") ts)))))
+
+-- `, i32, i32, ...)`
+unfoldable pub last_types_at : List Tok → Found (Unit {0})
+last_types_at ts = after (mark_at (codes ",") ts) (λ _ ts. after (word_at (codes "i32") ts) (λ _ ts. after (mark_at (codes ",") ts) (λ _ ts.
+    after (word_at (codes "i32") ts) (λ _ ts. after (mark_at (codes ",") ts) (λ _ ts. after (word_at (codes "...") ts) (λ _ ts. mark_at (codes ")") ts))))))
+
+-- `token (i64, i32, ptr, i32, i32, ...)`, the type of a statepoint
+unfoldable pub statepoint_type_at : List Tok → Found (Unit {0})
+statepoint_type_at ts = after (word_at (codes "token") ts) (λ _ ts. after (first_types_at ts) (λ _ ts. last_types_at ts))
+
+-- a type, then a number
+unfoldable pub number_at : List ℕ → List Tok → Found Literal
+number_at of_type ts = after (word_at of_type ts) (λ _ ts. one_at literal_of (past_all drops.Groups ts))
+
+-- the number 0
+abbrev pub is_zero : Tok → Bool
+is_zero (tok kinds.Number bytes) = bytes_eq bytes (codes "0")
+is_zero _ = false
+
+-- `i32 0`
+unfoldable pub zero_at : List Tok → Found (Unit {0})
+zero_at ts = after (word_at (codes "i32") ts) (λ _ ts. one_at (stands is_zero) (past_all drops.Groups ts))
+
+-- `token %t`
+unfoldable pub token_at : List Tok → Found (List ℕ)
+token_at ts = after (word_at (codes "token") ts) (λ _ ts. local_at (past_all drops.Groups ts))
+
+-- ---- what a statepoint calls
+
+-- a function type `R (A, ..)`
+pub record Signature : Type 0 where
+  pub answer : TypeWord
+  pub parameters : List TypeWord
+
+unfoldable pub signature_at : List Tok → Found Signature
+signature_at ts = after (allowed_type_at is_answer_type ts) (λ answer ts. after (mark_at (codes "(") ts) (λ _ ts.
+    after (list_to (allowed_type_at (is_argument_type true)) (codes ")") ts) (λ parameters ts. after (mark_at (codes ")") ts) (λ _ ts.
+    Some (record { answer = answer; parameters = parameters }, ts)))))
+
+abbrev pub is_plain : TypeWord → Bool
+is_plain types.Plain = true
+is_plain _ = false
+
+-- `ptr` stands in the type of `task_start` alone
+abbrev pub is_type_of : List ℕ → Signature → Bool
+is_type_of name s = is_task_start name || not (list_any is_plain s.parameters)
+
+-- `elementtype(R (A, ..))`
+unfoldable pub element_at : List Tok → Found Signature
+element_at ts = after (word_at (codes "elementtype") ts) (λ _ ts. after (mark_at (codes "(") ts) (λ _ ts.
+    after (signature_at ts) (λ s ts. after (mark_at (codes ")") ts) (λ _ ts. Some (s, ts)))))
+
+abbrev pub named_target : Signature → List ℕ → List Tok → Found (Signature × List ℕ)
+named_target s name ts = if is_type_of name s then Some ((s, name), ts) else None
+
+-- `ptr elementtype(R (A, ..)) @f`
+unfoldable pub target_at : List Tok → Found (Signature × List ℕ)
+target_at ts = after (word_at (codes "ptr") ts) (λ _ ts. after (element_at (past_all drops.BesideElementType ts)) (λ s ts.
+    after (global_at (past_all drops.BesideElementType ts)) (λ name ts. named_target s name ts)))
+
+-- ---- what a statepoint passes
+
+-- `, i32 0, i32 0)`, the end
+unfoldable pub closing_at : List Tok → Found (Unit {0})
+closing_at ts = after (mark_at (codes ",") ts) (λ _ ts. after (zero_at ts) (λ _ ts. after (mark_at (codes ",") ts) (λ _ ts.
+    after (zero_at ts) (λ _ ts. mark_at (codes ")") ts))))
+
+-- an argument follows, and not the end
+abbrev pub begins_argument : List Tok → Bool
+begins_argument ts = comma ts && not (is_some (closing_at ts))
+
+-- the arguments, a comma before each
+unfoldable pub handed_at : Bool → List Tok → Found (List Given)
+handed_at plain ts = if begins_argument ts then listed_at (passed_at plain) begins_argument (past (is_mark (codes ",")) ts) else Some ([], ts)
+
+-- a statepoint's call: its id, the function's type and name, the number of arguments that it tells, the arguments
+pub record Guarded : Type 0 where
+  pub id : Literal
+  pub signature : Signature
+  pub callee : List ℕ
+  pub count : Literal
+  pub passed : List Given
+
+-- `i64 ID, i32 0, `
+unfoldable pub id_at : List Tok → Found Literal
+id_at ts = after (number_at (codes "i64") ts) (λ id ts. after (mark_at (codes ",") ts) (λ _ ts. after (zero_at ts) (λ _ ts.
+    after (mark_at (codes ",") ts) (λ _ ts. Some (id, ts)))))
+
+-- `, i32 C, i32 0`
+unfoldable pub count_at : List Tok → Found Literal
+count_at ts = after (mark_at (codes ",") ts) (λ _ ts. after (number_at (codes "i32") ts) (λ count ts. after (mark_at (codes ",") ts) (λ _ ts.
+    after (zero_at ts) (λ _ ts. Some (count, ts)))))
+
+-- `i64 ID, i32 0, ptr elementtype(R (A, ..)) @f, i32 C, i32 0, T V, .., i32 0, i32 0)`
+unfoldable pub guarded_at : List Tok → Found Guarded
+guarded_at ts = after (id_at ts) (λ id ts. after (target_at ts) (λ target ts. after (count_at ts) (λ count ts.
+    after (handed_at (is_task_start target.1) ts) (λ passed ts. after (closing_at ts) (λ _ ts.
+    Some (record { id = id; signature = target.0; callee = target.1; count = count; passed = passed }, ts))))))
+
+-- ---- live entries
+
+-- `P V`
+unfoldable pub live_entry_at : List Tok → Found Val
+live_entry_at ts = after (allowed_type_at is_managed ts) (λ _ ts. value_at ts)
+
+abbrev pub is_live_tag : Tok → Bool
+is_live_tag (tok kinds.Quoted bytes) = bytes_eq bytes (codes "\"gc-live\"")
+is_live_tag _ = false
+
+-- `[ "gc-live"(P V, ..) ]`
+unfoldable pub bundle_at : List Tok → Found (List Val)
+bundle_at ts = after (mark_at (codes "[") ts) (λ _ ts. after (one_at (stands is_live_tag) ts) (λ _ ts. after (mark_at (codes "(") ts) (λ _ ts.
+    after (list_to live_entry_at (codes ")") ts) (λ live ts. after (mark_at (codes ")") ts) (λ _ ts. after (mark_at (codes "]") ts) (λ _ ts.
+    Some (live, ts)))))))
+
+-- the live entries: none, where no bundle stands there
+unfoldable pub live_at : List Tok → Found (List Val)
+live_at ts = if begins (is_mark (codes "[")) ts then bundle_at ts else Some ([], ts)
+
+-- ---- results
+
+-- the end of a result's name: how the type is spelled, of which these are the tokens
+abbrev pub suffix_of : TypeWord → List Tok → List ℕ
+suffix_of types.Managed ts = codes "p1"
+suffix_of ty (tok kind bytes ∷ ts) = bytes
+suffix_of ty _ = []
+
+abbrev pub named_result : TypeWord → List ℕ → List ℕ → List Tok → Found TypeWord
+named_result ty suffix name ts = if is_result_of suffix name then Some (ty, ts) else None
+
+-- `T @llvm.experimental.gc.result.S`, S the spelling of T
+unfoldable pub result_at : List Tok → Found TypeWord
+result_at ts = after (allowed_type_at is_value_type ts) (λ ty rest. after (global_at rest) (λ name end. named_result ty (suffix_of ty ts) name end))
+
+-- ---- declarations of the three families
+
+abbrev pub declares_family : Tok → Bool
+declares_family (tok kinds.Global bytes) = is_family_name (drop 1 bytes)
+declares_family _ = false
+
+-- `token`, or what a function answers else
+unfoldable pub family_answer_at : List Tok → Found (Option TypeWord)
+family_answer_at ts = if begins (is_word (codes "token")) ts then after (word_at (codes "token") ts) (λ _ rest. Some (None, rest))
+    else after (allowed_type_at is_answer_type ts) (λ answer rest. Some (Some answer, rest))
+
+-- any tokens in parentheses, which are balanced
+unfoldable pub bracketing_at : List Tok → Found (Unit {0})
+bracketing_at ts = after (mark_at (codes "(") ts) (λ _ rest. option_map (λ end. (tt, end)) (after_bracket 0 rest))

@@ -1,9 +1,0 @@
--- A part that isn't read stops what it is a part of.
-use Rattle.std.proofs.Common.{◌≡◌, None}
-use Rattle.ir_reader.specs.declared.faults.Stop.{Stop}
-use Rattle.ir_reader.specs.declared.faults.Stop.TheVariants as stops
-use Rattle.ir_reader.specs.Gives.{Found, Stops}
-
-pub stops_whole : {A B : Type 0} (e : Stop) (part : Found A) (whole : Found B) → (part ≡ None → whole ≡ None) → Stops e part → Stops e whole
-stops_whole stops.NoReading part whole along h = along h
-stops_whole stops.Memory part whole along h = tt

@@ -1,9 +1,0 @@
-use Rattle.std.proofs.Common.{◌≡◌, length}
-use Rattle.ir_reader.specs.Drops.{past_all}
-use Rattle.ir_reader.proofs.cursor.Cursor.skip.Given as goal
-
-abbrev pub invariant-loop-rest : goal.invariant-loop-rest
-invariant-loop-rest l = past_all l.what l.self ≡ past_all l.what l.initial.self
-
-abbrev pub decreases-loop-rest : goal.decreases-loop-rest
-decreases-loop-rest l = length l.self

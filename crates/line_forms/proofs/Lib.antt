@@ -1,0 +1,2 @@
+pub mod FamilyLines
+pub mod Openings

@@ -1,0 +1,81 @@
+-- A reading as its form and what it says at the slots of that form.
+use Rattle.std.specs.Prelude.{◌≡◌, ℕ, List, [], ◌∷◌, map, Option, Some, None, Result, Ok, Err, if◌then◌else◌}
+use Rattle.line_forms.specs.declared.forms.DroppedLine.{DroppedLine}
+use Rattle.line_forms.specs.declared.forms.DroppedLine.TheVariants as drop_lines
+use Rattle.line_forms.specs.declared.forms.Form.{Form}
+use Rattle.line_forms.specs.declared.forms.Form.TheVariants as forms
+use Rattle.line_forms.specs.declared.readings.Reading.{Reading}
+use Rattle.line_forms.specs.declared.readings.Reading.TheVariants as readings
+use Rattle.std.specs.Option.{option_copied}
+use Rattle.sp_text.specs.Tokens.{Tok}
+use Rattle.line_parts.specs.declared.readings.TypeWord.{TypeWord}
+use Rattle.line_parts.specs.declared.faults.Stop.{Stop}
+use Rattle.line_parts.specs.declared.faults.Stop.TheVariants as stops
+use Rattle.line_parts.specs.Gives.{Found, after, is_nil}
+use Rattle.line_parts.specs.Seen.{seen_value, seen_argument, seen_passed, seen_entry}
+use Rattle.group_parts.specs.Seen.{seen_guarded}
+use Rattle.line_forms.specs.Forms.{slots}
+use Rattle.line_forms.specs.Slots.{Item, parse, name, layout_name, width, ty, value, pred, scalar, layout, place, fields, entries, declared, defined, called, strategy, guarded, live, literal, family_answer}
+
+-- a line that is made of tokens: its form, and what it says at the form's slots
+pub record Line : Type 0 where
+  pub form : Form
+  pub items : List Item
+
+-- what a reading is: a label, or a line of tokens
+pub data Said : Type 0 where
+  label : List ℕ → Said
+  line : Line → Said
+
+abbrev pub of_form : Form → List Item → Said
+of_form f is = line (record { form = f; items = is })
+
+abbrev pub seen : Reading → Said
+seen (readings.Layout n fs) = of_form forms.Layout (layout_name n.now ∷ fields fs.items ∷ [])
+seen (readings.Declare answer n ps) = of_form forms.Declare (ty answer ∷ declared n.now (map seen_argument ps.items) ∷ [])
+seen (readings.Define answer n args s) = of_form forms.Define (ty answer ∷ defined n.now (map seen_argument args.items) ∷ strategy (option_copied s) ∷ [])
+seen readings.Close = of_form forms.Close []
+seen (readings.Label n) = label n.now
+seen (readings.Binary x op n l r) = of_form (forms.Binary op) (name x.now ∷ width n ∷ value (seen_value l) ∷ value (seen_value r) ∷ [])
+seen (readings.Compare x p t l r) = of_form forms.Compare (name x.now ∷ pred p ∷ ty t ∷ value (seen_value l) ∷ value (seen_value r) ∷ [])
+seen (readings.Convert x op n v to) = of_form (forms.Convert op) (name x.now ∷ width n ∷ value (seen_value v) ∷ width to ∷ [])
+seen (readings.Select x c lt l rt r) = of_form forms.Select (name x.now ∷ value (seen_value c) ∷ ty lt ∷ value (seen_value l) ∷ ty rt ∷ value (seen_value r) ∷ [])
+seen (readings.Phi x t es) = of_form forms.Phi (name x.now ∷ ty t ∷ entries (map seen_entry es.items) ∷ [])
+seen (readings.ScalarElement x e a n i) = of_form forms.ScalarElement (name x.now ∷ scalar e ∷ value (seen_value a) ∷ width n ∷ value (seen_value i) ∷ [])
+seen (readings.LayoutElement x l a n i p) = of_form forms.LayoutElement (name x.now ∷ layout l.now ∷ value (seen_value a) ∷ width n ∷ value (seen_value i) ∷ place p ∷ [])
+seen (readings.Load x t a) = of_form forms.Load (name x.now ∷ ty t ∷ value (seen_value a) ∷ [])
+seen (readings.Store t v a) = of_form forms.Store (ty t ∷ value (seen_value v) ∷ value (seen_value a) ∷ [])
+seen (readings.ValueCall x t f ps) = of_form forms.ValueCall (name x.now ∷ ty t ∷ called f.now (map seen_passed ps.items) ∷ [])
+seen (readings.VoidCall f ps) = of_form forms.VoidCall (called f.now (map seen_passed ps.items) ∷ [])
+seen (readings.Jump l) = of_form forms.Jump (name l.now ∷ [])
+seen (readings.Branch c l r) = of_form forms.Branch (value (seen_value c) ∷ name l.now ∷ name r.now ∷ [])
+seen (readings.Switch n v d) = of_form forms.Switch (width n ∷ value (seen_value v) ∷ name d.now ∷ [])
+seen (readings.Case n v l) = of_form forms.Case (width n ∷ value (seen_value v) ∷ name l.now ∷ [])
+seen readings.SwitchEnd = of_form forms.SwitchEnd []
+seen readings.ReturnVoid = of_form forms.ReturnVoid []
+seen (readings.Return t v) = of_form forms.Return (ty t ∷ value (seen_value v) ∷ [])
+seen readings.Unreachable = of_form forms.Unreachable []
+seen (readings.Cast x op t v u) = of_form (forms.Cast op) (name x.now ∷ ty t ∷ value (seen_value v) ∷ ty u ∷ [])
+seen (readings.Statepoint x c vs) = of_form forms.Statepoint (name x.now ∷ guarded (seen_guarded c) ∷ live (map seen_value vs.items) ∷ [])
+seen (readings.GcResult x t token) = of_form forms.GcResult (name x.now ∷ ty t ∷ name token.now ∷ [])
+seen (readings.GcRelocate x token b d) = of_form forms.GcRelocate (name x.now ∷ name token.now ∷ literal b ∷ literal d ∷ [])
+
+-- a front of this form
+unfoldable pub line_at : Form → List Tok → Found Said
+line_at form ts = after (parse (slots form) ts) (λ items rest. Some (of_form form items, rest))
+
+-- what a whole line says: nothing stands behind it
+abbrev pub ended : Found Said → Option Said
+ended None = None
+ended (Some (what, rest)) = if is_nil rest then Some what else None
+
+-- what a dropped line says: what a function of a statepoint group answers
+abbrev pub dropped_says : DroppedLine → Option TypeWord → List Item
+dropped_says drop_lines.Family answer = family_answer answer ∷ []
+dropped_says _ answer = []
+
+-- what a function returned for a whole line, seen by view
+abbrev pub Reads : {X : Type 0} → (X → Said) → Result X Stop → Option Said → Type 0
+Reads view (Ok x) found = found ≡ Some (view x)
+Reads view (Err stops.NoReading) found = found ≡ None
+Reads view (Err stops.Memory) found = Unit {0}

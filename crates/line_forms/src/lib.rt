@@ -1,0 +1,19 @@
+//! The forms of lines: the table of slots, the reader of each form, and which form a line can have.
+#![tactic(auto)]
+
+mod accesses;
+mod computing;
+mod control;
+mod forms;
+mod groups;
+mod heads;
+mod laws;
+mod lines;
+mod opening;
+mod readings;
+
+pub use forms::{DroppedLine, Form};
+pub use laws::{one_form, one_reading, own_form};
+pub use lines::{whole_dropped, whole_kept};
+pub use opening::form_in;
+pub use readings::Reading;

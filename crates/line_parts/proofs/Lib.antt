@@ -1,0 +1,4 @@
+pub mod Dropping
+pub mod Listing
+pub mod Stopping
+pub mod TokenCount

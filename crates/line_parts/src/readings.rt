@@ -1,0 +1,71 @@
+use line_tokens::Literal;
+use smallvec::SmallVec;
+
+/// A type as a line spells it.
+#[derive(Clone, Copy, Debug, PartialEq, Eq, Default)]
+pub enum TypeWord {
+    #[default]
+    Void,
+    /// `iN`. A width above 64 counts as 65.
+    Int(u32),
+    /// `ptr addrspace(1)`.
+    Managed,
+    /// `ptr`, where a line may say so.
+    Plain,
+}
+
+/// A value that an instruction uses. Names stand without their mark.
+#[derive(Clone, Copy, Debug, Default)]
+pub enum Value<'a> {
+    Local(&'a [u8]),
+    Number(Literal),
+    Truth(bool),
+    #[default]
+    Null,
+}
+
+/// An argument of a definition, with its name where the line gives one.
+#[derive(Clone, Copy, Debug, Default)]
+pub struct Argument<'a> {
+    pub ty: TypeWord,
+    pub name: Option<&'a [u8]>,
+}
+
+/// What a call passes.
+#[derive(Clone, Copy, Debug)]
+pub enum Passed<'a> {
+    Value(TypeWord, Value<'a>),
+    /// `ptr @NAME`, which only `task_start` takes.
+    Function(&'a [u8]),
+}
+
+impl Default for Passed<'_> {
+    fn default() -> Self {
+        Passed::Value(TypeWord::Void, Value::Null)
+    }
+}
+
+/// An entry of a phi: the value where control comes from the label.
+#[derive(Clone, Copy, Debug)]
+pub struct Entry<'a> {
+    pub value: Value<'a>,
+    pub label: &'a [u8],
+}
+
+impl Default for Entry<'_> {
+    fn default() -> Self {
+        Entry {
+            value: Value::Null,
+            label: &[],
+        }
+    }
+}
+
+/// The fields of a layout.
+pub type Fields = SmallVec<TypeWord, 4>;
+/// The arguments of a head.
+pub type Arguments<'a> = SmallVec<Argument<'a>, 2>;
+/// What a call passes, in order.
+pub type AllPassed<'a> = SmallVec<Passed<'a>, 2>;
+/// The entries of a phi.
+pub type Entries<'a> = SmallVec<Entry<'a>, 2>;

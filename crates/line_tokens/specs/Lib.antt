@@ -1,0 +1,4 @@
+pub mod Families
+pub mod Marks
+pub mod Numbers
+pub mod Words
