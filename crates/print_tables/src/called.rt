@@ -68,6 +68,13 @@ impl<'a> Called<'a> {
         Called { funcs, table }
     }
 
+    /// The functions.
+    pub fn funcs(&self) -> &'a [Func]
+        ensures { map content_of result.now ≡ self.now }
+    {
+        self.funcs
+    }
+
     /// Whether a line of the functions calls the external. One look at the table answers for each
     /// external of a module with at most 4,096 layouts.
     pub fn calls(&self, external: External) -> bool
