@@ -1,5 +1,5 @@
 -- Externals that a module calls, and the list of their declarations.
-use Rattle.std.proofs.Common.{◌≡◌, ℕ, Bool, true, false, ◌||◌, ◌==◌, List, [], ◌∷◌, ◌++◌, length, map, unwrap_or, slice_get, refl, sym, ap, ◌∙◌, append-nil, append_assoc, zero-add, add-zero, suc-add, ◌+◌, ◌<◌, zero, suc, nat_lt, arith}
+use Rattle.std.proofs.Common.{◌≡◌, ℕ, Bool, true, false, ◌||◌, ◌==◌, List, [], ◌∷◌, ◌++◌, length, map, unwrap_or, slice_get, refl, ap, ◌∙◌, append-nil, ◌+◌, ◌<◌, suc, nat_lt, arith}
 use Rattle.std.specs.List.{list_any, flat_map, range_with_len}
 use Rattle.std.proofs.lemmas.Grind.{flat_map-append}
 use Rattle.std.proofs.lemmas.List.Folds.{flat_map-map}
@@ -9,14 +9,12 @@ use Rattle.std.proofs.Math.Dec.{eqb-suc-zero}
 use Rattle.std.proofs.lemmas.Bool.{true≢false, lt-ltb}
 use Rattle.ir_ast.specs.Layouts.{ObjectLayout}
 use Rattle.ir_ast.specs.Funcs.{Function}
-use Rattle.ir_printer.specs.declared.declarations.External.{External}
-use Rattle.ir_printer.specs.declared.declarations.External.TheVariants.{New, ResultOf, ResultPointer}
-use Rattle.ir_printer.specs.Lists.{led, joined}
-use Rattle.ir_printer.specs.Declarations.{calls, declaration_if_called, fixed_externals, integer_widths, declarations_text, has_top}
-
-pub list_any-map : {A B : Type 0} (test : B → Bool) (view : A → B) (xs : List A) → list_any test (map view xs) ≡ list_any (λ x. test (view x)) xs
-list_any-map test view [] = refl
-list_any-map test view (x ∷ xs) = ap (λ rest. test (view x) || rest) (list_any-map test view xs)
+use Rattle.print_tables.specs.declared.externals.External.{External}
+use Rattle.print_tables.specs.declared.externals.External.TheVariants.{New, ResultOf, ResultPointer}
+use Rattle.piece_writer.specs.Lists.{led, joined}
+use Rattle.print_tables.proofs.AnyLemmas.{list_any-map}
+use Rattle.print_tables.specs.Externals.{calls}
+use Rattle.ir_printer.specs.Declarations.{declaration_if_called, fixed_externals, integer_widths, declarations_text, has_top}
 
 list_any-append : {A : Type 0} (test : A → Bool) (xs ys : List A) → list_any test (xs ++ ys) ≡ (list_any test xs || list_any test ys)
 list_any-append test [] ys = refl
@@ -39,17 +37,6 @@ joined-map text (x ∷ xs) = ap (λ rest. text x ++ rest) (led-map text xs)
 pub number-text : (text : ℕ → List ℕ) (from count place number : ℕ) → place < count → from + place ≡ number → unwrap_or (slice_get (map text (range_with_len from count)) place) [] ≡ text number
 number-text text from count place number within is =
     unwrap_or-slice_get (map text (range_with_len from count)) place [] ∙ get_or-map-range_with_len text from count place number [] within is
-
--- texts of numbers in a row, cut in two
-pub numbers-split : (text : ℕ → List ℕ) (from count more : ℕ) → joined [] (map text (range_with_len from (count + more))) ≡ joined [] (map text (range_with_len from count)) ++ joined [] (map text (range_with_len (from + count) more))
-numbers-split text from count more =
-    rw (joined-map, joined-map, joined-map) (split from count)
-  where
-    split : (from count : ℕ) → flat_map text (range_with_len from (count + more)) ≡ flat_map text (range_with_len from count) ++ flat_map text (range_with_len (from + count) more)
-    split from zero = rw (zero-add more, add-zero from)
-    split from (suc count) =
-        let one : from + 1 + count ≡ from + suc count = omega arith in
-        rw (suc-add count more) (ap (λ rest. text from ++ rest) (rw one at (split (from + 1) count)) ∙ sym (append_assoc (text from) _ _))
 
 flat_map-parts : (text : External → List ℕ) (places widths : List ℕ) (fixed : List External) → flat_map text (map New places ++ (fixed ++ (map ResultOf widths ++ ResultPointer ∷ []))) ≡
     joined [] (map (λ place. text (New place)) places) ++ (joined [] (map text fixed) ++ (joined [] (map (λ width. text (ResultOf width)) widths) ++ text ResultPointer))

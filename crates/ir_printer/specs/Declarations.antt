@@ -1,55 +1,13 @@
--- The externals that a module calls, and their declarations in the order in which they are printed.
-use Rattle.std.specs.Prelude.{ℕ, Bool, true, false, ◌==◌, nat_lt, List, [], ◌∷◌, ◌++◌, map, length, if◌then◌else◌, ◌||◌, codes, decimal}
+-- The declarations of the externals that a module calls, in the order in which they are printed.
+use Rattle.std.specs.Prelude.{ℕ, Bool, nat_lt, List, [], ◌∷◌, ◌++◌, map, length, if◌then◌else◌, ◌||◌, codes, decimal}
 use Rattle.std.specs.List.{flat_map, list_any, range_with_len}
-use Rattle.ir_ast.specs.declared.types.Ty.{Ty}
-use Rattle.ir_ast.specs.declared.types.Ty.TheVariants.{Int, Ptr}
-use Rattle.ir_ast.specs.declared.ops.Callee.{Callee}
-use Rattle.ir_ast.specs.declared.ops.Callee.TheVariants as callee
-use Rattle.ir_ast.specs.declared.ops.Op.{Op}
-use Rattle.ir_ast.specs.declared.ops.Op.TheVariants.{Call, Statepoint, GcResult, GcRelocate}
 use Rattle.ir_ast.specs.Layouts.{ObjectLayout}
 use Rattle.ir_ast.specs.Funcs.{Function}
-use Rattle.ir_printer.specs.declared.declarations.External.{External}
-use Rattle.ir_printer.specs.declared.declarations.External.TheVariants.{New, Print, Read, TaskStart, Poll, Check, Same, StatepointFamily, RelocateFamily, ResultOf, ResultPointer}
+use Rattle.print_tables.specs.declared.externals.External.{External}
+use Rattle.print_tables.specs.declared.externals.External.TheVariants.{New, Print, Read, TaskStart, Poll, Check, Same, StatepointFamily, RelocateFamily, ResultOf, ResultPointer}
 use Rattle.ir_printer.specs.Names.{layout_name}
-
--- the callee is this external
-abbrev pub is_callee : External → Callee → Bool
-is_callee (New layout) (callee.New other) = layout == other
-is_callee Print callee.Print = true
-is_callee Read callee.Read = true
-is_callee TaskStart callee.TaskStart = true
-is_callee Poll callee.Poll = true
-is_callee Check callee.Check = true
-is_callee Same callee.Same = true
-is_callee _ _ = false
-
--- a `gc.result` of this type
-abbrev pub is_result : External → Ty → Bool
-is_result (ResultOf width) (Int other) = width == other
-is_result ResultPointer Ptr = true
-is_result _ _ = false
-
-abbrev pub is_statepoints : External → Bool
-is_statepoints StatepointFamily = true
-is_statepoints _ = false
-
-abbrev pub is_relocates : External → Bool
-is_relocates RelocateFamily = true
-is_relocates _ = false
-
--- a line with this operator and this type calls the external
-abbrev pub is_call_of : External → Op → Ty → Bool
-is_call_of external (Call callee types) ty = is_callee external callee
-is_call_of external (Statepoint id callee types) ty = is_statepoints external || is_callee external callee
-is_call_of external GcResult ty = is_result external ty
-is_call_of external GcRelocate ty = is_relocates external
-is_call_of external _ ty = false
-
--- some line of some function calls the external
-unfoldable pub calls : List Function → External → Bool
-calls funcs external =
-    list_any (λ func. list_any (λ block. list_any (λ inst. is_call_of external inst.op inst.ty) block.insts) func.blocks) funcs
+pub use Rattle.print_tables.specs.Externals.{is_callee, is_result, is_statepoints, is_relocates, is_call_of}
+unfoldable pub use Rattle.print_tables.specs.Externals.{calls}
 
 unfoldable pub new_words : List ℕ
 new_words = codes "declare ptr addrspace(1) @gc_new."

@@ -5,13 +5,14 @@ ghost use Rattle.ir_ast.specs.declared.types.Ty.TheVariants.{Ptr};
 ghost use Rattle.ir_printer.specs.Operands.{parameter_text, typed_text, argument_text};
 ghost use Rattle.ir_printer.specs.Calls.{callee_name, deopt_text, live_text, bundles_text, call_text, statepoint_words, elementtype_words, end_words, target_text, counted_text, statepoint_text, result_suffix, result_words, result_text, relocate_words, relocate_text};
 
-use crate::names::Scope;
 use crate::operands::{Argument, ParameterWord, Typed, Value, operand_of};
-use crate::pieces::{Bytes, Piece};
-use crate::rows::{Each, Joined, Led, PairPrinter, Pairs, Printer, after};
-use crate::words::{Decimal, Integer, TypeWord};
+use crate::words::{Integer, TypeWord};
 use ir_ast::{Callee, Inst, Operand, Ty};
-use tool_io::{Failed, Sink};
+use piece_writer::{
+    Bytes, Decimal, Each, Joined, Led, PairPrinter, Pairs, Piece, PieceSink, Printer,
+};
+use print_tables::{Scope, after};
+use tool_io::Failed;
 
 // The name of a callee, without the `@`.
 #[derive(Drop)]
@@ -23,7 +24,7 @@ struct CalleeName<'a> {
 impl Piece for CalleeName<'_> {
     ghost text = { λ piece. callee_name piece.scope.now piece.callee };
 
-    fn put_into<O: Sink>(&self, out: &mut O) -> Result<(), Failed> {
+    fn put_into<W: PieceSink>(&self, out: &mut W) -> Result<(), Failed> {
         match self.callee {
             Callee::Fun(func) => out.put(self.scope.function(func)),
             Callee::New(layout) => {
@@ -46,7 +47,12 @@ struct Arguments<'a>(&'a Scope<'a>);
 impl PairPrinter<Ty, Operand> for Arguments<'_> {
     ghost pair_text = { λ printer ty operand. argument_text printer.0.now ty operand };
 
-    fn put_pair<O: Sink>(&self, ty: &Ty, operand: &Operand, out: &mut O) -> Result<(), Failed> {
+    fn put_pair<W: PieceSink>(
+        &self,
+        ty: &Ty,
+        operand: &Operand,
+        out: &mut W,
+    ) -> Result<(), Failed> {
         Argument {
             scope: self.0,
             ty: *ty,
@@ -63,7 +69,7 @@ struct LiveEntries<'a>(&'a Scope<'a>);
 impl Printer<Operand> for LiveEntries<'_> {
     ghost element_text = { λ printer entry. typed_text printer.0.now Ptr entry };
 
-    fn put_element<O: Sink>(&self, entry: &Operand, out: &mut O) -> Result<(), Failed> {
+    fn put_element<W: PieceSink>(&self, entry: &Operand, out: &mut W) -> Result<(), Failed> {
         Typed {
             scope: self.0,
             ty: Ty::Ptr,
@@ -80,7 +86,7 @@ struct DeoptEntries<'a>(&'a Scope<'a>);
 impl Printer<(Ty, Operand)> for DeoptEntries<'_> {
     ghost element_text = { λ printer entry. typed_text printer.0.now entry.0 entry.1 };
 
-    fn put_element<O: Sink>(&self, entry: &(Ty, Operand), out: &mut O) -> Result<(), Failed> {
+    fn put_element<W: PieceSink>(&self, entry: &(Ty, Operand), out: &mut W) -> Result<(), Failed> {
         Typed {
             scope: self.0,
             ty: entry.0,
@@ -97,7 +103,7 @@ struct Parameters;
 impl Printer<Ty> for Parameters {
     ghost element_text = { λ printer ty. parameter_text ty };
 
-    fn put_element<O: Sink>(&self, ty: &Ty, out: &mut O) -> Result<(), Failed> {
+    fn put_element<W: PieceSink>(&self, ty: &Ty, out: &mut W) -> Result<(), Failed> {
         ParameterWord(*ty).put_into(out)
     }
 }
@@ -111,7 +117,7 @@ struct Deopt<'a> {
 impl Piece for Deopt<'_> {
     ghost text = { λ piece. deopt_text piece.scope.now piece.bundle.now };
 
-    fn put_into<O: Sink>(&self, out: &mut O) -> Result<(), Failed> {
+    fn put_into<W: PieceSink>(&self, out: &mut W) -> Result<(), Failed> {
         let entries = Joined {
             separator: b", ",
             row: Each {
@@ -132,7 +138,7 @@ struct Live<'a> {
 impl Piece for Live<'_> {
     ghost text = { λ piece. live_text piece.scope.now piece.entries.now };
 
-    fn put_into<O: Sink>(&self, out: &mut O) -> Result<(), Failed> {
+    fn put_into<W: PieceSink>(&self, out: &mut W) -> Result<(), Failed> {
         let entries = Joined {
             separator: b", ",
             row: Each {
@@ -155,7 +161,7 @@ struct Bundles<'a> {
 impl Piece for Bundles<'_> {
     ghost text = { λ piece. bundles_text piece.scope.now piece.bundle.now piece.entries.now };
 
-    fn put_into<O: Sink>(&self, out: &mut O) -> Result<(), Failed> {
+    fn put_into<W: PieceSink>(&self, out: &mut W) -> Result<(), Failed> {
         let deopt = Deopt {
             scope: self.scope,
             bundle: self.bundle,
@@ -190,7 +196,7 @@ pub(crate) struct Call<'a> {
 impl Piece for Call<'_> {
     ghost text = { λ piece. call_text piece.scope.now piece.callee piece.types.now piece.inst.now };
 
-    fn put_into<O: Sink>(&self, out: &mut O) -> Result<(), Failed> {
+    fn put_into<W: PieceSink>(&self, out: &mut W) -> Result<(), Failed> {
         let name = CalleeName {
             scope: self.scope,
             callee: self.callee,
@@ -255,7 +261,7 @@ struct Target<'a> {
 impl Piece for Target<'_> {
     ghost text = { λ piece. target_text piece.scope.now piece.callee piece.types.now piece.answer };
 
-    fn put_into<O: Sink>(&self, out: &mut O) -> Result<(), Failed> {
+    fn put_into<W: PieceSink>(&self, out: &mut W) -> Result<(), Failed> {
         let parameters = Joined {
             separator: b", ",
             row: Each {
@@ -289,7 +295,7 @@ struct Counted<'a> {
 impl Piece for Counted<'_> {
     ghost text = { λ piece. counted_text piece.scope.now piece.types.now piece.operands.now };
 
-    fn put_into<O: Sink>(&self, out: &mut O) -> Result<(), Failed> {
+    fn put_into<W: PieceSink>(&self, out: &mut W) -> Result<(), Failed> {
         let arguments = Led {
             separator: b", ",
             row: Pairs {
@@ -321,7 +327,7 @@ pub(crate) struct Statepoint<'a> {
 impl Piece for Statepoint<'_> {
     ghost text = { λ piece. statepoint_text piece.scope.now piece.id piece.callee piece.types.now piece.inst.now };
 
-    fn put_into<O: Sink>(&self, out: &mut O) -> Result<(), Failed> {
+    fn put_into<W: PieceSink>(&self, out: &mut W) -> Result<(), Failed> {
         let operands = self.inst.operands();
         let target = Target {
             scope: self.scope,
@@ -359,7 +365,7 @@ struct ResultSuffix(Ty);
 impl Piece for ResultSuffix {
     ghost text = { λ piece. result_suffix piece.0 };
 
-    fn put_into<O: Sink>(&self, out: &mut O) -> Result<(), Failed> {
+    fn put_into<W: PieceSink>(&self, out: &mut W) -> Result<(), Failed> {
         match self.0 {
             Ty::Ptr => out.put(b"p1"),
             ty => TypeWord(ty).put_into(out),
@@ -384,7 +390,7 @@ pub(crate) struct ResultCall<'a> {
 impl Piece for ResultCall<'_> {
     ghost text = { λ piece. result_text piece.scope.now piece.inst.now };
 
-    fn put_into<O: Sink>(&self, out: &mut O) -> Result<(), Failed> {
+    fn put_into<W: PieceSink>(&self, out: &mut W) -> Result<(), Failed> {
         let ty = *self.inst.ty();
         let token = Value {
             scope: self.scope,
@@ -421,7 +427,7 @@ pub(crate) struct Relocate<'a> {
 impl Piece for Relocate<'_> {
     ghost text = { λ piece. relocate_text piece.scope.now piece.inst.now };
 
-    fn put_into<O: Sink>(&self, out: &mut O) -> Result<(), Failed> {
+    fn put_into<W: PieceSink>(&self, out: &mut W) -> Result<(), Failed> {
         let token = Value {
             scope: self.scope,
             ty: *self.inst.ty(),

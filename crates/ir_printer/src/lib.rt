@@ -1,17 +1,12 @@
 //! The printed text of a module.
 #![tactic(auto)]
 
-mod called;
 mod calls;
 mod declarations;
 mod lines;
-mod names;
 mod operands;
-mod pieces;
-mod rows;
 mod texts;
-mod waypoints;
 mod words;
 
-pub use declarations::External;
+pub use print_tables::External;
 pub use texts::print;

@@ -7,14 +7,13 @@ ghost use Rattle.ir_printer.specs.Operands.{value_text, typed_text, label_text, 
 ghost use Rattle.ir_printer.specs.Lines.{arithmetic_text, comparison_text, conversion_text, select_text, phi_text, phi_entry_text, element_text, place_text, step_text, load_text, store_text, jump_text, branch_text, switch_text, case_text, return_text, operator_text, result_front, line_text};
 
 use crate::calls::{Call, Relocate, ResultCall, Statepoint};
-use crate::names::Scope;
 use crate::operands::{Label, Typed, Value, label_of, operand_of};
-use crate::pieces::{Bytes, Piece};
-use crate::rows::{Joined, PairPrinter, Pairs, Printer};
-use crate::words::{Decimal, TypeWord, predicate_bytes};
+use crate::words::{TypeWord, predicate_bytes};
 use ir_ast::{Elem, Inst, Name, Op, Operand, Ty};
+use piece_writer::{Bytes, Decimal, Joined, PairPrinter, Pairs, Piece, PieceSink, Printer};
+use print_tables::Scope;
 use sp_ids::BlockId;
-use tool_io::{Failed, Sink};
+use tool_io::Failed;
 
 #[derive(Drop)]
 struct Arithmetic<'a> {
@@ -26,7 +25,7 @@ struct Arithmetic<'a> {
 impl Piece for Arithmetic<'_> {
     ghost text = { λ piece. arithmetic_text piece.scope.now piece.word.now piece.inst.now };
 
-    fn put_into<O: Sink>(&self, out: &mut O) -> Result<(), Failed> {
+    fn put_into<W: PieceSink>(&self, out: &mut W) -> Result<(), Failed> {
         let ty = *self.inst.ty();
         let left = Typed {
             scope: self.scope,
@@ -53,7 +52,7 @@ struct Conversion<'a> {
 impl Piece for Conversion<'_> {
     ghost text = { λ piece. conversion_text piece.scope.now piece.word.now piece.width piece.inst.now };
 
-    fn put_into<O: Sink>(&self, out: &mut O) -> Result<(), Failed> {
+    fn put_into<W: PieceSink>(&self, out: &mut W) -> Result<(), Failed> {
         let from = Typed {
             scope: self.scope,
             ty: *self.inst.ty(),
@@ -73,7 +72,7 @@ struct Select<'a> {
 impl Piece for Select<'_> {
     ghost text = { λ piece. select_text piece.scope.now piece.inst.now };
 
-    fn put_into<O: Sink>(&self, out: &mut O) -> Result<(), Failed> {
+    fn put_into<W: PieceSink>(&self, out: &mut W) -> Result<(), Failed> {
         let scope = self.scope;
         let ty = *self.inst.ty();
         let condition = Typed {
@@ -113,11 +112,11 @@ struct PhiEntries<'a> {
 impl PairPrinter<Operand, BlockId> for PhiEntries<'_> {
     ghost pair_text = { λ printer operand label. phi_entry_text printer.scope.now printer.ty operand label };
 
-    fn put_pair<O: Sink>(
+    fn put_pair<W: PieceSink>(
         &self,
         operand: &Operand,
         label: &BlockId,
-        out: &mut O,
+        out: &mut W,
     ) -> Result<(), Failed> {
         let value = Value {
             scope: self.scope,
@@ -141,7 +140,7 @@ struct Phi<'a> {
 impl Piece for Phi<'_> {
     ghost text = { λ piece. phi_text piece.scope.now piece.inst.now };
 
-    fn put_into<O: Sink>(&self, out: &mut O) -> Result<(), Failed> {
+    fn put_into<W: PieceSink>(&self, out: &mut W) -> Result<(), Failed> {
         let ty = *self.inst.ty();
         let entries = Joined {
             separator: b", ",
@@ -168,7 +167,7 @@ struct Element<'a> {
 impl Piece for Element<'_> {
     ghost text = { λ piece. element_text piece.scope.now piece.elem };
 
-    fn put_into<O: Sink>(&self, out: &mut O) -> Result<(), Failed> {
+    fn put_into<W: PieceSink>(&self, out: &mut W) -> Result<(), Failed> {
         match self.elem {
             Elem::Int(width) => TypeWord(Ty::Int(width)).put_into(out),
             Elem::Ptr => TypeWord(Ty::Ptr).put_into(out),
@@ -184,7 +183,7 @@ struct Place(Option<u32>);
 impl Piece for Place {
     ghost text = { λ piece. place_text piece.0 };
 
-    fn put_into<O: Sink>(&self, out: &mut O) -> Result<(), Failed> {
+    fn put_into<W: PieceSink>(&self, out: &mut W) -> Result<(), Failed> {
         match self.0 {
             None => Ok(()),
             Some(place) => (Bytes(b", i32 "), Decimal(place as u64)).put_into(out),
@@ -204,7 +203,7 @@ struct Step<'a> {
 impl Piece for Step<'_> {
     ghost text = { λ piece. step_text piece.scope.now piece.elem piece.index_width piece.place piece.inst.now };
 
-    fn put_into<O: Sink>(&self, out: &mut O) -> Result<(), Failed> {
+    fn put_into<W: PieceSink>(&self, out: &mut W) -> Result<(), Failed> {
         let scope = self.scope;
         let element = Element {
             scope,
@@ -242,7 +241,7 @@ struct Load<'a> {
 impl Piece for Load<'_> {
     ghost text = { λ piece. load_text piece.scope.now piece.inst.now };
 
-    fn put_into<O: Sink>(&self, out: &mut O) -> Result<(), Failed> {
+    fn put_into<W: PieceSink>(&self, out: &mut W) -> Result<(), Failed> {
         let pointer = Typed {
             scope: self.scope,
             ty: Ty::Ptr,
@@ -267,7 +266,7 @@ struct Store<'a> {
 impl Piece for Store<'_> {
     ghost text = { λ piece. store_text piece.scope.now piece.inst.now };
 
-    fn put_into<O: Sink>(&self, out: &mut O) -> Result<(), Failed> {
+    fn put_into<W: PieceSink>(&self, out: &mut W) -> Result<(), Failed> {
         let value = Typed {
             scope: self.scope,
             ty: *self.inst.ty(),
@@ -291,7 +290,7 @@ struct Branch<'a> {
 impl Piece for Branch<'_> {
     ghost text = { λ piece. branch_text piece.scope.now piece.inst.now };
 
-    fn put_into<O: Sink>(&self, out: &mut O) -> Result<(), Failed> {
+    fn put_into<W: PieceSink>(&self, out: &mut W) -> Result<(), Failed> {
         let scope = self.scope;
         let condition = Typed {
             scope,
@@ -328,11 +327,11 @@ struct Cases<'a> {
 impl PairPrinter<Operand, BlockId> for Cases<'_> {
     ghost pair_text = { λ printer operand label. case_text printer.scope.now printer.ty operand label };
 
-    fn put_pair<O: Sink>(
+    fn put_pair<W: PieceSink>(
         &self,
         operand: &Operand,
         label: &BlockId,
-        out: &mut O,
+        out: &mut W,
     ) -> Result<(), Failed> {
         let value = Typed {
             scope: self.scope,
@@ -363,7 +362,7 @@ struct Switch<'a> {
 impl Piece for Switch<'_> {
     ghost text = { λ piece. switch_text piece.scope.now piece.inst.now };
 
-    fn put_into<O: Sink>(&self, out: &mut O) -> Result<(), Failed> {
+    fn put_into<W: PieceSink>(&self, out: &mut W) -> Result<(), Failed> {
         let scope = self.scope;
         let ty = *self.inst.ty();
         let value = Typed {
@@ -425,7 +424,7 @@ struct Answer<'a> {
 impl Piece for Answer<'_> {
     ghost text = { λ piece. codes "ret " ++ typed_text piece.scope.now piece.ty (operand_at piece.inst.now 0) };
 
-    fn put_into<O: Sink>(&self, out: &mut O) -> Result<(), Failed> {
+    fn put_into<W: PieceSink>(&self, out: &mut W) -> Result<(), Failed> {
         let answer = Typed {
             scope: self.scope,
             ty: self.ty,
@@ -445,7 +444,7 @@ struct Return<'a> {
 impl Piece for Return<'_> {
     ghost text = { λ piece. return_text piece.scope.now piece.ty piece.inst.now };
 
-    fn put_into<O: Sink>(&self, out: &mut O) -> Result<(), Failed> {
+    fn put_into<W: PieceSink>(&self, out: &mut W) -> Result<(), Failed> {
         let (scope, inst) = (self.scope, self.inst);
         match self.ty {
             Ty::Void => out.put(b"ret void"),
@@ -461,7 +460,7 @@ struct Front<'a>(&'a Option<Name>);
 impl Piece for Front<'_> {
     ghost text = { λ piece. result_front piece.0.now };
 
-    fn put_into<O: Sink>(&self, out: &mut O) -> Result<(), Failed> {
+    fn put_into<W: PieceSink>(&self, out: &mut W) -> Result<(), Failed> {
         match self.0 {
             None => Ok(()),
             Some(name) => (Bytes(b"%"), Bytes(name.bytes()), Bytes(b" = ")).put_into(out),
@@ -503,7 +502,7 @@ impl<'a> Operation<'a> {
 impl Piece for Operation<'_> {
     ghost text = { λ piece. operator_text piece.scope.now piece.op.now piece.inst.now };
 
-    fn put_into<O: Sink>(&self, out: &mut O) -> Result<(), Failed> {
+    fn put_into<W: PieceSink>(&self, out: &mut W) -> Result<(), Failed> {
         let (scope, inst) = (self.scope, self.inst);
         match self.op {
             Op::Add => self.arithmetic(b"add").put_into(out),
@@ -581,7 +580,7 @@ pub(crate) struct Lines<'a>(pub &'a Scope<'a>);
 impl Printer<Inst> for Lines<'_> {
     ghost element_text = { λ printer inst. line_text printer.0.now inst };
 
-    fn put_element<O: Sink>(&self, inst: &Inst, out: &mut O) -> Result<(), Failed> {
+    fn put_element<W: PieceSink>(&self, inst: &Inst, out: &mut W) -> Result<(), Failed> {
         let operation = Operation {
             scope: self.0,
             op: inst.op(),

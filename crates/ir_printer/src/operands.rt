@@ -3,12 +3,12 @@ ghost use Rattle.std.specs.Prelude.{◌≡◌, ◌++◌, ℕ, List, codes};
 ghost use Rattle.ir_printer.specs.Words.{type_text};
 ghost use Rattle.ir_printer.specs.Operands.{literal_text, value_text, typed_text, parameter_text, argument_text, label_text, operand_at, label_at};
 
-use crate::names::Scope;
-use crate::pieces::{Bytes, Piece};
-use crate::words::{Decimal, Integer, TypeWord};
+use crate::words::{Integer, TypeWord};
 use ir_ast::{Inst, Operand, Ty};
+use piece_writer::{Bytes, Decimal, Piece, PieceSink};
+use print_tables::Scope;
 use sp_ids::BlockId;
-use tool_io::{Failed, Sink};
+use tool_io::Failed;
 
 // An integer literal of a type.
 #[derive(Clone, Copy)]
@@ -17,7 +17,7 @@ struct Literal(Ty, u64);
 impl Piece for Literal {
     ghost text = { λ piece. literal_text piece.0 piece.1 };
 
-    fn put_into<O: Sink>(&self, out: &mut O) -> Result<(), Failed> {
+    fn put_into<W: PieceSink>(&self, out: &mut W) -> Result<(), Failed> {
         match self.0 {
             Ty::Int(width) => Integer(width, self.1).put_into(out),
             _ => Decimal(self.1).put_into(out),
@@ -36,7 +36,7 @@ pub(crate) struct Value<'a> {
 impl Piece for Value<'_> {
     ghost text = { λ piece. value_text piece.scope.now piece.ty piece.operand };
 
-    fn put_into<O: Sink>(&self, out: &mut O) -> Result<(), Failed> {
+    fn put_into<W: PieceSink>(&self, out: &mut W) -> Result<(), Failed> {
         match self.operand {
             Operand::Value(value) => (Bytes(b"%"), Bytes(self.scope.value(value))).put_into(out),
             Operand::Int(number) => Literal(self.ty, number).put_into(out),
@@ -57,7 +57,7 @@ pub(crate) struct Typed<'a> {
 impl Piece for Typed<'_> {
     ghost text = { λ piece. typed_text piece.scope.now piece.ty piece.operand };
 
-    fn put_into<O: Sink>(&self, out: &mut O) -> Result<(), Failed> {
+    fn put_into<W: PieceSink>(&self, out: &mut W) -> Result<(), Failed> {
         let value = Value {
             scope: self.scope,
             ty: self.ty,
@@ -74,7 +74,7 @@ pub(crate) struct ParameterWord(pub Ty);
 impl Piece for ParameterWord {
     ghost text = { λ piece. parameter_text piece.0 };
 
-    fn put_into<O: Sink>(&self, out: &mut O) -> Result<(), Failed> {
+    fn put_into<W: PieceSink>(&self, out: &mut W) -> Result<(), Failed> {
         match self.0 {
             Ty::Void => out.put(b"ptr"),
             ty => TypeWord(ty).put_into(out),
@@ -93,7 +93,7 @@ pub(crate) struct Argument<'a> {
 impl Piece for Argument<'_> {
     ghost text = { λ piece. argument_text piece.scope.now piece.ty piece.operand };
 
-    fn put_into<O: Sink>(&self, out: &mut O) -> Result<(), Failed> {
+    fn put_into<W: PieceSink>(&self, out: &mut W) -> Result<(), Failed> {
         let value = Value {
             scope: self.scope,
             ty: self.ty,
@@ -113,7 +113,7 @@ pub(crate) struct Label<'a> {
 impl Piece for Label<'_> {
     ghost text = { λ piece. label_text piece.scope.now piece.block };
 
-    fn put_into<O: Sink>(&self, out: &mut O) -> Result<(), Failed> {
+    fn put_into<W: PieceSink>(&self, out: &mut W) -> Result<(), Failed> {
         (Bytes(b"%"), Bytes(self.scope.block(self.block))).put_into(out)
     }
 }

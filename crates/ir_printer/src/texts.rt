@@ -1,5 +1,5 @@
 //! Layouts, blocks, functions and the module.
-ghost use Rattle.std.specs.Prelude.{◌≡◌, ◌≤◌, ◌++◌, ℕ, List, [], ◌^◌, ◌<◌, codes, length, map, OnOk, OnErr};
+ghost use Rattle.std.specs.Prelude.{◌≡◌, ◌≤◌, ◌++◌, [], ◌^◌, ◌<◌, codes, length, map, OnOk, OnErr};
 ghost use Rattle.tool_io.specs.Counts.{Rose};
 ghost use Rattle.tool_io.specs.Sink.{append_known, AppendsFront};
 ghost use Rattle.ir_ast.specs.Funcs.{content_of};
@@ -9,14 +9,12 @@ ghost use Rattle.ir_printer.specs.Lists.{joined};
 ghost use Rattle.ir_printer.specs.Declarations.{declarations_text};
 ghost use Rattle.ir_printer.specs.Texts.{layout_text, argument_of, block_text, function_text, functions_text, text_of};
 
-use crate::declarations::{put_declarations, stands_above};
+use crate::declarations::{Declarations, stands_above};
 use crate::lines::Lines;
-use crate::names::Scope;
-use crate::pieces::{Bytes, Piece};
-use crate::rows::{Each, Joined, Led, Printer};
-use crate::waypoints::waypoints_of;
 use crate::words::{TypeWord, strategy};
 use ir_ast::{Arg, Block, Cell, Func, Layout, Module};
+use piece_writer::{Bytes, Each, Joined, Led, Piece, PieceSink, Printer, put_text};
+use print_tables::{Called, Scope};
 use tool_io::{Failed, Sink};
 
 // Puts the type of a field.
@@ -26,7 +24,7 @@ struct Fields;
 impl Printer<Cell> for Fields {
     ghost element_text = { λ printer cell. word_of cell };
 
-    fn put_element<O: Sink>(&self, cell: &Cell, out: &mut O) -> Result<(), Failed> {
+    fn put_element<W: PieceSink>(&self, cell: &Cell, out: &mut W) -> Result<(), Failed> {
         out.put(cell.word())
     }
 }
@@ -38,7 +36,7 @@ struct LayoutLines;
 impl Printer<Layout> for LayoutLines {
     ghost element_text = { λ printer layout. layout_text layout };
 
-    fn put_element<O: Sink>(&self, layout: &Layout, out: &mut O) -> Result<(), Failed> {
+    fn put_element<W: PieceSink>(&self, layout: &Layout, out: &mut W) -> Result<(), Failed> {
         let fields = Joined {
             separator: b", ",
             row: Each {
@@ -64,7 +62,7 @@ struct Heads;
 impl Printer<Arg> for Heads {
     ghost element_text = { λ printer arg. argument_of arg };
 
-    fn put_element<O: Sink>(&self, arg: &Arg, out: &mut O) -> Result<(), Failed> {
+    fn put_element<W: PieceSink>(&self, arg: &Arg, out: &mut W) -> Result<(), Failed> {
         (TypeWord(arg.ty), Bytes(b" %"), Bytes(arg.name.bytes())).put_into(out)
     }
 }
@@ -76,7 +74,7 @@ struct Blocks<'a>(&'a Scope<'a>);
 impl Printer<Block> for Blocks<'_> {
     ghost element_text = { λ printer block. block_text printer.0.now block };
 
-    fn put_element<O: Sink>(&self, block: &Block, out: &mut O) -> Result<(), Failed> {
+    fn put_element<W: PieceSink>(&self, block: &Block, out: &mut W) -> Result<(), Failed> {
         let lines = Joined {
             separator: b"",
             row: Each {
@@ -98,14 +96,8 @@ struct Functions<'a> {
 impl Printer<Func> for Functions<'_> {
     ghost element_text = { λ printer func. function_text printer.layouts.now (map content_of printer.funcs.now) func.content };
 
-    fn put_element<O: Sink>(&self, func: &Func, out: &mut O) -> Result<(), Failed> {
-        let waypoints = waypoints_of(func.blocks());
-        let scope = Scope {
-            layouts: self.layouts,
-            funcs: self.funcs,
-            func,
-            waypoints: waypoints.as_slice(),
-        };
+    fn put_element<W: PieceSink>(&self, func: &Func, out: &mut W) -> Result<(), Failed> {
+        let scope = Scope::of(self.layouts, self.funcs, func);
         let args = Joined {
             separator: b", ",
             row: Each {
@@ -133,40 +125,57 @@ impl Printer<Func> for Functions<'_> {
     }
 }
 
-// Puts the functions, with an empty line before each that isn't the first line of the text.
-fn put_functions<O: Sink>(layouts: &[Layout], funcs: &[Func], out: &mut O) -> Result<(), Failed>
-    ensures ok { OnOk result (O.written out.new ≡ append_known (O.written out.old) (functions_text layouts.now (map content_of funcs.now))) }
-    ensures err { OnErr result (AppendsFront (O.written out.old) (O.written out.new) (functions_text layouts.now (map content_of funcs.now))) }
-    ensures failed { OnErr result (Rose (O.faults out.old) (O.faults out.new)) }
-    ensures count { O.faults out.old ≤ O.faults out.new }
-{
-    let row = Each {
-        printer: Functions { layouts, funcs },
-        elements: funcs,
-    };
-    let separator = b"\n";
-    if stands_above(layouts, funcs) {
-        Led { separator, row }.put_into(out)
-    } else {
-        Joined { separator, row }.put_into(out)
+// The functions, with an empty line before each that isn't the first line of the text.
+#[derive(Drop)]
+struct AllFunctions<'a> {
+    layouts: &'a [Layout],
+    called: &'a Called<'a>,
+}
+
+impl Piece for AllFunctions<'_> {
+    ghost text = { λ piece. functions_text piece.layouts.now piece.called.now };
+
+    fn put_into<W: PieceSink>(&self, out: &mut W) -> Result<(), Failed> {
+        let layouts = self.layouts;
+        let funcs = self.called.funcs();
+        let row = Each {
+            printer: Functions { layouts, funcs },
+            elements: funcs,
+        };
+        let separator = b"\n";
+        if stands_above(layouts, self.called) {
+            Led { separator, row }.put_into(out)
+        } else {
+            Joined { separator, row }.put_into(out)
+        }
     }
 }
 
-// The layouts.
-fn put_layouts<O: Sink>(layouts: &[Layout], out: &mut O) -> Result<(), Failed>
-    ensures ok { OnOk result (O.written out.new ≡ append_known (O.written out.old) (joined [] (map layout_text layouts.now))) }
-    ensures err { OnErr result (AppendsFront (O.written out.old) (O.written out.new) (joined [] (map layout_text layouts.now))) }
-    ensures failed { OnErr result (Rose (O.faults out.old) (O.faults out.new)) }
-    ensures count { O.faults out.old ≤ O.faults out.new }
-{
-    Joined {
-        separator: b"",
-        row: Each {
-            printer: LayoutLines,
-            elements: layouts,
-        },
+// The text of a module.
+#[derive(Drop)]
+struct Whole<'a> {
+    layouts: &'a [Layout],
+    called: &'a Called<'a>,
+    ghost few: { length layouts.now < 2 ^ 32 },
+}
+
+impl Piece for Whole<'_> {
+    ghost text = { λ piece. joined [] (map layout_text piece.layouts.now) ++ (declarations_text piece.layouts.now piece.called.now ++ functions_text piece.layouts.now piece.called.now) };
+
+    fn put_into<W: PieceSink>(&self, out: &mut W) -> Result<(), Failed> {
+        let layouts = self.layouts;
+        let called = self.called;
+        let lines = Joined {
+            separator: b"",
+            row: Each {
+                printer: LayoutLines,
+                elements: layouts,
+            },
+        };
+        let declarations = Declarations { layouts, called };
+        let functions = AllFunctions { layouts, called };
+        (lines, declarations, functions).put_into(out)
     }
-    .put_into(out)
 }
 
 /// Puts the printed text of a formed module: its layouts, the declarations of the externals that it
@@ -179,17 +188,10 @@ pub fn print<O: Sink>(program: &Module, out: &mut O) -> Result<(), Failed>
     ensures failed { OnErr result (Rose (O.faults out.old) (O.faults out.new)) }
     ensures count { O.faults out.old ≤ O.faults out.new }
 {
-    put_all(program.layouts(), program.funcs(), out)
-}
-
-fn put_all<O: Sink>(layouts: &[Layout], funcs: &[Func], out: &mut O) -> Result<(), Failed>
-    requires { length layouts.now < 2 ^ 32 }
-    ensures ok { OnOk result (O.written out.new ≡ append_known (O.written out.old) (joined [] (map layout_text layouts.now) ++ (declarations_text layouts.now (map content_of funcs.now) ++ functions_text layouts.now (map content_of funcs.now)))) }
-    ensures err { OnErr result (AppendsFront (O.written out.old) (O.written out.new) (joined [] (map layout_text layouts.now) ++ (declarations_text layouts.now (map content_of funcs.now) ++ functions_text layouts.now (map content_of funcs.now)))) }
-    ensures failed { OnErr result (Rose (O.faults out.old) (O.faults out.new)) }
-    ensures count { O.faults out.old ≤ O.faults out.new }
-{
-    put_layouts(layouts, out)?;
-    put_declarations(layouts, funcs, out)?;
-    put_functions(layouts, funcs, out)
+    let called = Called::of(program.funcs());
+    let whole = Whole {
+        layouts: program.layouts(),
+        called: &called,
+    };
+    put_text(&whole, out)
 }

@@ -1,15 +1,13 @@
 //! Types, predicates and integers.
 ghost use Rattle.std.specs.Prelude.{◌≡◌, ◌≤◌, ◌++◌, ℕ, List, OnOk, OnErr};
 ghost use Rattle.std.specs.Prelude.{decimal};
-ghost use Rattle.tool_io.specs.Counts.{Rose};
-ghost use Rattle.tool_io.specs.Sink.{append_known, AppendsFront};
 ghost use Rattle.ir_printer.specs.Words.{type_text, predicate_word, integer_text, strategy_text};
 
-use crate::pieces::{Bytes, Piece};
 use ir_ast::{Pred, Ty};
 use itoa::Buffer;
+use piece_writer::{Bytes, Decimal, Piece, PieceSink};
 use sp_ids::{sign, wrap};
-use tool_io::{Failed, Sink};
+use tool_io::Failed;
 
 /// A type, spelled out.
 #[derive(Clone, Copy)]
@@ -18,26 +16,13 @@ pub(crate) struct TypeWord(pub Ty);
 impl Piece for TypeWord {
     ghost text = { λ piece. type_text piece.0 };
 
-    fn put_into<O: Sink>(&self, out: &mut O) -> Result<(), Failed> {
+    fn put_into<W: PieceSink>(&self, out: &mut W) -> Result<(), Failed> {
         match self.0 {
             Ty::Void => out.put(b"void"),
             Ty::Int(width) => (Bytes(b"i"), Decimal(width as u64)).put_into(out),
             Ty::Ptr => out.put(b"ptr addrspace(1)"),
             Ty::Token => out.put(b"token"),
         }
-    }
-}
-
-/// A number in decimal.
-#[derive(Clone, Copy)]
-pub(crate) struct Decimal(pub u64);
-
-impl Piece for Decimal {
-    ghost text = { λ piece. decimal piece.0 };
-
-    fn put_into<O: Sink>(&self, out: &mut O) -> Result<(), Failed> {
-        let mut buffer = Buffer::new();
-        out.put(buffer.format(self.0).as_bytes())
     }
 }
 
@@ -48,7 +33,7 @@ pub(crate) struct Integer(pub u32, pub u64);
 impl Piece for Integer {
     ghost text = { λ piece. integer_text piece.0 piece.1 };
 
-    fn put_into<O: Sink>(&self, out: &mut O) -> Result<(), Failed> {
+    fn put_into<W: PieceSink>(&self, out: &mut W) -> Result<(), Failed> {
         let mut buffer = Buffer::new();
         out.put(integer_bytes(self.0, self.1, &mut buffer))
     }

@@ -25,10 +25,10 @@ use Rattle.ir_ast.specs.Faultless.{FunctionHasNoFault}
 use Rattle.ir_ast.specs.Faults.PointerOrder as module_order
 use Rattle.ir_printer.specs.Names.{Names}
 use Rattle.ir_printer.specs.Declarations.{calls, externals, fixed_externals, integer_widths}
-use Rattle.ir_printer.specs.declared.declarations.External.{External}
-use Rattle.ir_printer.specs.declared.declarations.External.TheVariants as externs
-use Rattle.line_parts.specs.declared.readings.TypeWord.{TypeWord}
+use Rattle.print_tables.specs.declared.externals.External.TheVariants as externs
 use Rattle.line_parts.specs.declared.readings.TypeWord.TheVariants as types
+use Rattle.print_tables.specs.declared.externals.External.{External}
+use Rattle.line_parts.specs.declared.readings.TypeWord.{TypeWord}
 use Rattle.ir_lines.specs.Statements.{Line, Statement, layout, declare, define, close, label, switch_end}
 use Rattle.ir_lines.specs.Sections.{Definition, definitions_of, types_of}
 use Rattle.ir_lines.specs.Externals.{external, gc_new, makers_of, externals_of, own_externals, helpers}

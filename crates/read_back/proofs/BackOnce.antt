@@ -13,8 +13,8 @@ use Rattle.ir_ast.specs.Lists.{Distinct}
 use Rattle.ir_ast.specs.Faults.Reserved.{IsExternalName}
 use Rattle.ir_printer.specs.Names.{Names, layout_name}
 use Rattle.ir_printer.specs.Declarations.{calls, externals, fixed_externals, integer_widths}
-use Rattle.ir_printer.specs.declared.declarations.External.{External}
-use Rattle.ir_printer.specs.declared.declarations.External.TheVariants as externs
+use Rattle.print_tables.specs.declared.externals.External.{External}
+use Rattle.print_tables.specs.declared.externals.External.TheVariants as externs
 use Rattle.ir_lines.specs.Statements.{Line, Statement, declare, define, close}
 use Rattle.ir_lines.specs.Sections.{Head, head_said, heads_of}
 use Rattle.ir_lines.specs.InBody.{Repeats}

@@ -12,8 +12,8 @@ use Rattle.ir_ast.specs.Funcs.{Function}
 use Rattle.ir_ast.specs.Modules.{ModuleContent}
 use Rattle.ir_printer.specs.Names.{Names}
 use Rattle.ir_printer.specs.Declarations.{calls, externals}
-use Rattle.ir_printer.specs.declared.declarations.External.{External}
-use Rattle.ir_printer.specs.declared.declarations.External.TheVariants as externs
+use Rattle.print_tables.specs.declared.externals.External.{External}
+use Rattle.print_tables.specs.declared.externals.External.TheVariants as externs
 use Rattle.ir_lines.specs.Statements.{Line, Statement, layout, declare, define, close}
 use Rattle.ir_lines.specs.Sections.{LayoutLine, Definition, layout_said, layouts_of, is_close, definition_said, definitions_of}
 use Rattle.ir_lines.specs.Modules.{cell_of, layout_of}

@@ -36,16 +36,16 @@ use Rattle.ir_printer.specs.Names.{Names, value_name, block_name, function_name,
 use Rattle.ir_printer.specs.Calls.{callee_name}
 use Rattle.ir_printer.specs.Operands.{operand_at, label_at}
 use Rattle.ir_printer.specs.Declarations.{is_callee, is_statepoints, is_call_of, calls, externals, fixed_externals, integer_widths}
-use Rattle.ir_printer.specs.declared.declarations.External.{External}
-use Rattle.ir_printer.specs.declared.declarations.External.TheVariants as externs
-use Rattle.line_parts.specs.Parts.{Val}
+use Rattle.print_tables.specs.declared.externals.External.TheVariants as externs
 use Rattle.line_parts.specs.Parts as values
+use Rattle.line_tokens.specs.declared.words.Binary.TheVariants as binaries
+use Rattle.line_tokens.specs.declared.words.Conversion.TheVariants as conversions
+use Rattle.print_tables.specs.declared.externals.External.{External}
+use Rattle.line_parts.specs.Parts.{Val}
 use Rattle.line_parts.specs.declared.readings.TypeWord.{TypeWord}
 use Rattle.line_parts.specs.Lists.{Given}
 use Rattle.line_tokens.specs.declared.words.Binary.{Binary}
-use Rattle.line_tokens.specs.declared.words.Binary.TheVariants as binaries
 use Rattle.line_tokens.specs.declared.words.Conversion.{Conversion}
-use Rattle.line_tokens.specs.declared.words.Conversion.TheVariants as conversions
 use Rattle.ir_lines.specs.Statements.{Line, Statement, switch, switch_end}
 use Rattle.ir_lines.specs.Parts.{uses, targets, entry_labels, functions_named, layouts_named, local_name, passed_value, passed_function, entry_use, live_use}
 use Rattle.ir_lines.specs.Sections.{LayoutLine, Head, Definition, Naming, BlockLines, layouts_of, heads_of, values_of, blocks_of}

@@ -19,8 +19,8 @@ use Rattle.ir_ast.specs.Funcs.{Function, instructions_of}
 use Rattle.ir_ast.specs.Modules.{ModuleContent}
 use Rattle.ir_cfg.specs.Limits.{IsWithinLimits, LayoutsHaveNames}
 use Rattle.ir_cfg.specs.SourceModules.{IsSourceModule}
-use Rattle.ir_printer.specs.declared.declarations.External.{External}
-use Rattle.ir_printer.specs.declared.declarations.External.TheVariants as externs
+use Rattle.print_tables.specs.declared.externals.External.{External}
+use Rattle.print_tables.specs.declared.externals.External.TheVariants as externs
 use Rattle.ir_printer.specs.Declarations as printed_declarations
 use Rattle.ir_printer.specs.Declarations.{calls, new_words, result_of_words, fixed_declaration, declaration_text, externals, declarations_text, has_top}
 use Rattle.ir_printer.specs.Lists.{joined, led}

@@ -14,8 +14,8 @@ use Rattle.ir_ast.specs.Modules.{ModuleContent}
 use Rattle.ir_ast.specs.Lines.{is_rewritten}
 use Rattle.ir_ast.specs.Callees.{is_helper}
 use Rattle.ir_cfg.specs.SourceModules.{IsSourceModule}
-use Rattle.ir_printer.specs.declared.declarations.External.{External}
-use Rattle.ir_printer.specs.declared.declarations.External.TheVariants as externs
+use Rattle.print_tables.specs.declared.externals.External.{External}
+use Rattle.print_tables.specs.declared.externals.External.TheVariants as externs
 use Rattle.ir_printer.specs.Declarations.{is_callee, is_call_of, calls}
 use Rattle.read_back.proofs.BackInsts.{IsPrinted}
 use Rattle.read_back.proofs.BackModules.{names_in, printed}

@@ -21,8 +21,8 @@ use Rattle.ir_ast.specs.Blocks.{BasicBlock}
 use Rattle.ir_ast.specs.Layouts.{ObjectLayout}
 use Rattle.ir_ast.specs.Funcs.{Function}
 use Rattle.ir_ast.specs.Modules.{ModuleContent}
-use Rattle.ir_printer.specs.declared.declarations.External.{External}
-use Rattle.ir_printer.specs.declared.declarations.External.TheVariants as externs
+use Rattle.print_tables.specs.declared.externals.External.{External}
+use Rattle.print_tables.specs.declared.externals.External.TheVariants as externs
 use Rattle.ir_printer.specs.Names.{Names, layout_name, function_name, block_name, value_name}
 use Rattle.ir_printer.specs.Operands.{operand_at, label_at}
 use Rattle.ir_printer.specs.Calls.{callee_name}

@@ -4,7 +4,7 @@ ghost use Rattle.tool_io.specs.Counts.{Rose};
 
 use crate::{Files, TakeFault};
 use std::alloc::Global;
-use std::fs::File;
+use std::fs::{File, OpenFile};
 use std::io::Read;
 use std::marker::Model;
 use std::rt;
@@ -37,7 +37,8 @@ impl<R: rt::Files> DiskFiles<R> {
         ensures { IfOk result (λ bytes. vec_len bytes ≤ limit) }
     {
         let mut file = File::open(&self.rt, name).map_err(|_| TakeFault::Failed)?;
-        read_within(alloc, &mut file, limit)
+        let known = file.metadata().map_or(0, |metadata| metadata.len());
+        read_within(alloc, &mut file, known.min(limit), limit)
     }
 }
 
@@ -61,17 +62,23 @@ impl<R: rt::Files> Files for DiskFiles<R> {
 }
 
 // How many bytes are read at once.
-const TURN: u64 = 4_096;
+const TURN: u64 = 65_536;
 
-// All bytes that the reader has left, of which there may be at most `limit`. Each turn takes a byte
-// or is the last, and no byte past the first one above the limit is read.
-fn read_within<F: Read>(alloc: Global, file: &mut F, limit: u64) -> Result<Vec<u8>, TakeFault>
+// All bytes that the reader has left, of which there may be at most `limit`. Memory for `room` of
+// them is taken first. Each turn takes a byte or is the last, and no byte past the first one above
+// the limit is read.
+fn read_within<F: Read>(
+    alloc: Global,
+    file: &mut F,
+    room: u64,
+    limit: u64,
+) -> Result<Vec<u8>, TakeFault>
     ensures bound { IfOk result (λ bytes. vec_len bytes ≤ limit) }
     ensures whole { IfOk result (λ bytes. IfSome (F.remaining file.old) (λ told. bytes.items ≡ told)) }
     ensures too_long { IsErrOf result TakeFault.TooLong → IfSome (F.remaining file.old) (λ told. limit < length told) }
     ensures ends { IsErrOf result TakeFault.TooLong → GivesCount (F.remaining file.old) (F.remaining file.new) (limit + 1) }
 {
-    let mut bytes = Vec::new(alloc);
+    let mut bytes = Vec::with_capacity(alloc, room as usize)?;
     let mut buffer = [0; TURN as usize];
     'turns: while bytes.len() as u64 <= limit {
         let left = limit - bytes.len() as u64;

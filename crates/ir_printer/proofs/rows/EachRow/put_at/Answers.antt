@@ -1,9 +1,0 @@
-use Rattle.std.proofs.Common.{sym}
-use Rattle.tool_io.proofs.AppendLaws.{append_known-nil}
-use Rattle.ir_printer.proofs.RowLemmas.{text-none}
-use Rattle.ir_printer.proofs.rows.EachRow.put_at.Goals as goal
-
-pub returns-in-None-clause-ok : goal.returns-in-None-clause-ok
-returns-in-None-clause-ok g c =
-    rw (text-none (g.P.Printer.element_text c.args.self.now.printer) c.args.self.now.elements.now c.args.place c.in-None.ensures.lookup.3)
-    (sym (append_known-nil _))

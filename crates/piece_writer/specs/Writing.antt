@@ -1,0 +1,59 @@
+-- What a writer of pieces has put into its sink, and what it still holds.
+use Rattle.std.specs.Prelude.{◌≡◌, ℕ, ◌≤◌, Bool, true, false, List, [], ◌++◌, Option}
+use Rattle.std.specs.Borrow.{MutBor}
+use Rattle.tool_io.specs.Counts.{Rose}
+use Rattle.tool_io.specs.Sink.{append_known, AppendsFront}
+use Rattle.piece_writer.specs.declared.writer.PieceWriter.{PieceWriter}
+
+-- the bytes and the count of faults of the sink, the bytes that wait for a put, and whether a put failed
+pub record Writing : Type 0 where
+  pub written : Option (List ℕ)
+  pub faults : ℕ
+  pub held : List ℕ
+  pub failed : Bool
+
+-- that of a writer, by what its sink has written and counted
+abbrev pub writing : {S : Type 0} → (S → Option (List ℕ)) → (S → ℕ) → PieceWriter S → Writing
+writing written faults writer =
+    record { written = written writer.out.now; faults = faults writer.out.now; held = writer.held.items; failed = writer.failed }
+
+-- the writer puts into this sink
+abbrev pub IsInto : {S : Type 0} → MutBor S → PieceWriter S → Type 0
+IsInto sink writer = writer.out.ghost_name ≡ sink.ghost_name
+
+-- that of a writer that is done: it holds nothing
+abbrev pub ended : Option (List ℕ) → ℕ → Bool → Writing
+ended written faults failed = record { written = written; faults = faults; held = []; failed = failed }
+
+-- the sink is as it was
+pub record IsSameSink (old new : Writing) : Type 0 where
+  pub written : new.written ≡ old.written
+  pub faults : new.faults ≡ old.faults
+
+-- The text so far, what the sink got and what is held, grew by all of these bytes. Nothing more is put
+-- after a failure.
+pub record Grew (old new : Writing) (bytes : List ℕ) : Type 0 where
+  pub put : List ℕ
+  pub split : old.held ++ bytes ≡ put ++ new.held
+  pub added : new.written ≡ append_known old.written put
+  pub count : old.faults ≤ new.faults
+  pub same : new.failed ≡ old.failed
+  pub silent : old.failed ≡ true → IsSameSink old new
+
+-- The sink failed at the latest within these bytes: it got a front of what was held and of them, and its
+-- count rose. Nothing more is put after a failure.
+pub record Fell (old new : Writing) (bytes : List ℕ) : Type 0 where
+  pub front : AppendsFront old.written new.written (old.held ++ bytes)
+  pub count : old.faults ≤ new.faults
+  pub failed : new.failed ≡ true
+  pub rose : old.failed ≡ false → Rose old.faults new.faults
+  pub silent : old.failed ≡ true → IsSameSink old new
+
+-- the same of two writers into one sink
+abbrev pub Takes : {S : Type 0} → (S → Option (List ℕ)) → (S → ℕ) → PieceWriter S → PieceWriter S → List ℕ → Type 0
+Takes written faults old new bytes =
+    (new.out.ghost_name ≡ old.out.ghost_name) × Grew (writing written faults old) (writing written faults new) bytes
+
+abbrev pub Fails : {S : Type 0} → (S → Option (List ℕ)) → (S → ℕ) → PieceWriter S → PieceWriter S → List ℕ → Type 0
+Fails written faults old new bytes =
+    (new.out.ghost_name ≡ old.out.ghost_name) × Fell (writing written faults old) (writing written faults new) bytes

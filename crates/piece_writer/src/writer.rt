@@ -1,0 +1,109 @@
+//! A writer that gathers pieces.
+ghost use Rattle.std.specs.Prelude.{◌≡◌, [], true, false, OnOk, OnErr};
+ghost use Rattle.std.proofs.Common.{◌∙◌, refl};
+ghost use Rattle.piece_writer.specs.Writing.{writing, ended, IsInto, Grew, Fell, Takes, Fails};
+ghost use Rattle.piece_writer.specs.WritingLaws.{Grew-nothing, Grew-both, Fell-first, Fell-second};
+
+use crate::PieceSink;
+use arrayvec::ArrayVec;
+use tool_io::{Failed, Sink};
+
+/// How many bytes a writer holds at most.
+const MOST_HELD: usize = 8_192;
+
+/// A writer that gathers the pieces of a text in a buffer of fixed size, and puts them into a sink
+/// together. A piece that is longer than the buffer is put whole. After a failed put nothing more is
+/// put. `finish` ends the text.
+#[derive(Drop)]
+pub struct PieceWriter<'a, S> {
+    out: &'a mut S,
+    held: ArrayVec<u8, MOST_HELD>,
+    failed: bool,
+}
+
+impl<'a, S: Sink> PieceWriter<'a, S> {
+    /// A writer into this sink, which holds nothing.
+    pub fn new(out: &'a mut S) -> PieceWriter<'a, S>
+        ensures into { IsInto out.entry result }
+        ensures fresh { writing S.written S.faults result ≡ ended (S.written out.old) (S.faults out.old) false }
+    {
+        PieceWriter {
+            out,
+            held: ArrayVec::new(),
+            failed: false,
+        }
+    }
+
+    // Puts the bytes that are held.
+    fn put_held(&mut self) -> Result<(), Failed>
+        requires { self.old.failed ≡ false }
+        ensures ok { OnOk result (Takes S.written S.faults self.old self.new []) }
+        ensures empty { OnOk result (self.new.held.items ≡ []) }
+        ensures err { OnErr result (Fails S.written S.faults self.old self.new []) }
+    {
+        self.failed = true;
+        self.out.put(&self.held)?;
+        self.held.clear();
+        self.failed = false;
+        Ok(())
+    }
+
+    // Puts the bytes that are held, and then holds these or puts them.
+    fn put_past(&mut self, bytes: &[u8]) -> Result<(), Failed>
+        requires { self.old.failed ≡ false }
+        ensures ok { OnOk result (Takes S.written S.faults self.old self.new bytes.now) }
+        ensures err { OnErr result (Fails S.written S.faults self.old self.new bytes.now) }
+    {
+        self.put_held()?;
+        if self.held.try_extend_from_slice(bytes).is_ok() {
+            return Ok(());
+        }
+        self.put_now(bytes)
+    }
+
+    // Puts these bytes, where none is held.
+    fn put_now(&mut self, bytes: &[u8]) -> Result<(), Failed>
+        requires sound { self.old.failed ≡ false }
+        requires empty { self.old.held.items ≡ [] }
+        ensures ok { OnOk result (Takes S.written S.faults self.old self.new bytes.now) }
+        ensures err { OnErr result (Fails S.written S.faults self.old self.new bytes.now) }
+    {
+        self.failed = true;
+        self.out.put(bytes)?;
+        self.failed = false;
+        Ok(())
+    }
+
+    /// Puts what is held, unless a put failed before.
+    pub fn finish(self) -> Result<(), Failed>
+        ensures ok { OnOk result (Grew (writing S.written S.faults self.entry) (ended (S.written self.exit.0.now) (S.faults self.exit.0.now) false) []) }
+        ensures err { OnErr result (Fell (writing S.written S.faults self.entry) (ended (S.written self.exit.0.now) (S.faults self.exit.0.now) true) []) }
+    {
+        let PieceWriter { out, held, failed } = self;
+        if failed { Err(Failed) } else { out.put(&held) }
+    }
+}
+
+impl<S: Sink> PieceSink for PieceWriter<'_, S> {
+    ghost took = { Takes S.written S.faults };
+
+    ghost failed_within = { Fails S.written S.faults };
+
+    ghost took_nothing = { λ now. (refl, Grew-nothing (writing S.written S.faults now)) };
+
+    ghost took_both = { λ old mid new first second one two. (two.0 ∙ one.0, Grew-both _ _ _ first second one.1 two.1) };
+
+    ghost failed_in_first = { λ old new first second failed. (failed.0, Fell-first _ _ first second failed.1) };
+
+    ghost failed_in_second = { λ old mid new first second one failed. (failed.0 ∙ one.0, Fell-second _ _ _ first second one.1 failed.1) };
+
+    fn put(&mut self, bytes: &[u8]) -> Result<(), Failed> {
+        if self.failed {
+            return Err(Failed);
+        }
+        if self.held.try_extend_from_slice(bytes).is_ok() {
+            return Ok(());
+        }
+        self.put_past(bytes)
+    }
+}

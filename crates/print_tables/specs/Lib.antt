@@ -1,0 +1,4 @@
+pub mod Names
+pub mod Waypoints
+pub mod Externals
+pub mod Called

@@ -1,0 +1,148 @@
+//! What the lines of a function name.
+ghost use Rattle.std.specs.Prelude.{◌≡◌, map, drop};
+ghost use Rattle.std.specs.List.{All};
+ghost use Rattle.ir_ast.specs.Funcs.{content_of, instructions_of};
+ghost use Rattle.print_tables.specs.Names.{layout_name, function_name, block_name, value_name, result_name as name_of_result};
+ghost use Rattle.print_tables.specs.Waypoints.{instructions_from, IsWaypoint};
+
+use crate::waypoints::{MOST, Waypoint, waypoint_before, waypoints_of};
+use arrayvec::ArrayVec;
+use ir_ast::{Block, Func, Layout};
+use sp_ids::{BlockId, FuncId, ValueId};
+use std::marker::Model;
+
+/// A function, and the layouts and functions of its module. Contracts see `Names`.
+#[derive(Drop)]
+pub struct Scope<'a> {
+    layouts: &'a [Layout],
+    funcs: &'a [Func],
+    func: &'a Func,
+    waypoints: ArrayVec<Waypoint, MOST>,
+}
+
+impl<'a> Model for Scope<'a> {
+    ghost use Rattle.std.specs.Prelude.{map};
+    ghost use Rattle.std.specs.List.{All};
+    ghost use Rattle.ir_ast.specs.Funcs.{content_of};
+    ghost use Rattle.print_tables.specs.Names.{Names};
+    ghost use Rattle.print_tables.specs.Waypoints.{IsWaypoint};
+
+    ghost Value = { Names };
+
+    ghost view = { λ scope. record {
+      layouts = scope.layouts.now;
+      funcs = map content_of scope.funcs.now;
+      func = scope.func.now.content;
+    } };
+
+    ghost invariant = { λ scope. All (IsWaypoint scope.func.now.content.blocks) scope.waypoints.items };
+}
+
+impl<'a> Scope<'a> {
+    /// Walks over the function once.
+    pub fn of(layouts: &'a [Layout], funcs: &'a [Func], func: &'a Func) -> Scope<'a>
+        ensures { result ≡ record { layouts = layouts.now; funcs = map content_of funcs.now; func = func.now.content } }
+    {
+        Scope {
+            layouts,
+            funcs,
+            func,
+            waypoints: waypoints_of(func.blocks()),
+        }
+    }
+
+    /// The name of the layout with this place, or nothing where there is none.
+    pub fn layout(&self, layout: u32) -> &[u8]
+        ensures { result.now ≡ layout_name self.now.layouts layout }
+    {
+        name_of_layout(self.layouts, layout)
+    }
+
+    /// The name of a function of the module, or nothing where there is none.
+    pub fn function(&self, func: FuncId) -> &[u8]
+        ensures { result.now ≡ function_name self.now.funcs func.0 }
+    {
+        match self.funcs.get(func.0 as usize) {
+            Some(func) => func.name().bytes(),
+            None => &[],
+        }
+    }
+
+    /// The name of a block of the function, or nothing where there is none.
+    pub fn block(&self, block: BlockId) -> &[u8]
+        ensures { result.now ≡ block_name self.now.func block.0 }
+    {
+        match self.func.blocks().get(block.0 as usize) {
+            Some(block) => block.name().bytes(),
+            None => &[],
+        }
+    }
+
+    /// The name of a value of the function, or nothing where there is none.
+    pub fn value(&self, value: ValueId) -> &[u8]
+        ensures { result.now ≡ value_name self.now.func value.0 }
+    {
+        name_of_value(self.func, &self.waypoints, value)
+    }
+}
+
+/// The name of the layout with this place, or nothing where there is none.
+pub fn name_of_layout(layouts: &[Layout], layout: u32) -> &[u8]
+    ensures { result.now ≡ layout_name layouts.now layout }
+{
+    match layouts.get(layout as usize) {
+        Some(layout) => layout.name().bytes(),
+        None => &[],
+    }
+}
+
+/// The elements after the first `count`.
+pub fn after<T>(elements: &[T], count: usize) -> &[T]
+    ensures { result.now ≡ drop count elements.now }
+{
+    if count <= elements.len() {
+        &elements[count..]
+    } else {
+        &[]
+    }
+}
+
+fn name_of_value<'a>(func: &'a Func, waypoints: &[Waypoint], value: ValueId) -> &'a [u8]
+    requires { All (IsWaypoint func.now.content.blocks) waypoints.now }
+    ensures { result.now ≡ value_name func.now.content value.0 }
+{
+    let args = func.args();
+    match args.get(value.0 as usize) {
+        Some(arg) => arg.name.bytes(),
+        None => result_name(func.blocks(), waypoints, value.0 as usize - args.len()),
+    }
+}
+
+// The name of the result with this number among the results of these blocks, in text order.
+fn result_name<'a>(blocks: &'a [Block], waypoints: &[Waypoint], number: usize) -> &'a [u8]
+    requires { All (IsWaypoint blocks.now) waypoints.now }
+    ensures { result.now ≡ name_of_result (instructions_of blocks.now) number }
+{
+    let start = waypoint_before(waypoints, number);
+    name_from(blocks, start, number - start.results)
+}
+
+// The same among the results from a place on.
+fn name_from(blocks: &[Block], start: Waypoint, number: usize) -> &[u8]
+    ensures { result.now ≡ name_of_result (instructions_from (drop start.block blocks.now) start.inst) number }
+{
+    let mut left = number;
+    let mut first = start.inst;
+    for block in after(blocks, start.block) {
+        for inst in after(block.insts(), first) {
+            if let Some(name) = inst.result() {
+                if left == 0 {
+                    return name.bytes();
+                }
+                left -= 1;
+            }
+        }
+        first = 0;
+    }
+    &[]
+}
