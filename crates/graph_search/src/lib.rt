@@ -1,13 +1,8 @@
-// A library with one function.
+//! Which nodes of a graph paths lead to.
 #![tactic(auto)]
 
-ghost use Rattle.std.specs.Prelude.{◌≡◌};
-ghost use Rattle.graph_search.specs.Echo.{echo_of};
+mod edges;
+mod search;
 
-// The `ensures` clause is the contract: what `echo` returns is `echo_of` of its argument, a definition
-// in `specs/Echo.antt`, which a caller's clause can cite too.
-pub fn echo(x: usize) -> usize
-    ensures { result ≡ echo_of x }
-{
-    x
-}
+pub use edges::{Edges, Without};
+pub use search::reached_from;

@@ -1,5 +1,6 @@
 -- What stands at a place of a list.
-use Rattle.std.proofs.Common.{◌≡◌, ◌≢◌, ◌∙◌, ◌⊎◌, inl, inr, ℕ, zero, suc, ◌+◌, ◌<◌, List, [], ◌∷◌, ◌++◌, map, length, get_or, set, take, drop, replicate, refl, ap, sym, arith, Some, slice_get}
+use Rattle.std.proofs.Common.{Option, None, ◌≡◌, ◌≢◌, ◌∙◌, ◌⊎◌, inl, inr, ℕ, zero, suc, ◌+◌, ◌<◌, List, [], ◌∷◌, ◌++◌, map, length, get_or, set, take, drop, replicate, refl, ap, sym, arith, Some, slice_get}
+use Rattle.std.specs.List.{filter_map, cons_option}
 use Rattle.std.proofs.lemmas.List.{drop_more, take-append-drop}
 use Rattle.std.proofs.lemmas.Option.{slice_get_within, get_or_from_slice_get, none-some, same_Some}
 
@@ -53,6 +54,11 @@ split_at xs k x at = sym (take-append-drop k xs) ∙ ap (λ ys. take k xs ++ ys)
 
 -- ---- a list of copies, of images, and after a write
 
+pub get_replicate : {A : Type 0} (n k : ℕ) (x : A) → k < n → slice_get (replicate n x) k ≡ Some x
+get_replicate zero k x below = absurd (omega arith)
+get_replicate (suc n) zero x below = refl
+get_replicate (suc n) (suc k) x below = get_replicate n k x (omega arith)
+
 pub get_filled : {A : Type 0} (count : ℕ) (y : A) (k : ℕ) (x : A) → slice_get (replicate count y) k ≡ Some x → x ≡ y
 get_filled zero y k x is = absurd (none-some x is)
 get_filled (suc count) y zero x is = cc
@@ -79,6 +85,14 @@ get_written [] k x y is = absurd (none-some x is)
 get_written (z ∷ xs) zero x y is = refl
 get_written (z ∷ xs) (suc k) x y is = get_written xs k x y is
 
+-- what stands anywhere stays when the same is written
+pub get_kept : {A : Type 0} (xs : List A) (j k : ℕ) (x : A) → slice_get xs k ≡ Some x → slice_get (set xs j x) k ≡ Some x
+get_kept [] j k x is = is
+get_kept (y ∷ xs) zero zero x is = refl
+get_kept (y ∷ xs) zero (suc k) x is = is
+get_kept (y ∷ xs) (suc j) zero x is = is
+get_kept (y ∷ xs) (suc j) (suc k) x is = get_kept xs j k x is
+
 pub get_set : {A : Type 0} (xs : List A) (j k : ℕ) (y x : A) → slice_get (set xs j y) k ≡ Some x
     → ((k ≢ j) × (slice_get xs k ≡ Some x)) ⊎ ((k ≡ j) × (x ≡ y))
 get_set [] j k y x is = absurd (none-some x is)
@@ -90,3 +104,46 @@ get_set (z ∷ xs) (suc j) (suc k) y x is =
       | inl old ↦ inl (λ same. old.0 (omega (arith, same)), old.1)
       | inr new ↦ inr (ap suc new.0, new.1)
     ]
+
+-- ---- a list of the images that there are
+
+-- an item from which a `filter_map` has its element
+pub record FromItem {A B : Type 0} (h : A → Option B) (xs : List A) (y : B) : Type 0 where
+  pub place : ℕ
+  pub item : A
+  pub stands : slice_get xs place ≡ Some item
+  pub gives : h item ≡ Some y
+
+item_later : {A B : Type 0} (h : A → Option B) (x : A) (xs : List A) (y : B) → FromItem h xs y → FromItem h (x ∷ xs) y
+item_later h x xs y from = record { place = suc from.place; item = from.item; stands = from.stands; gives = from.gives }
+
+item_cases : {A B : Type 0} (h : A → Option B) (x : A) (xs : List A) (y : B) (given : Option B) → h x ≡ given
+    → ((k : ℕ) → slice_get (filter_map h xs) k ≡ Some y → FromItem h xs y)
+    → (k : ℕ) → slice_get (cons_option given (filter_map h xs)) k ≡ Some y → FromItem h (x ∷ xs) y
+item_cases h x xs y None gives rest k is = item_later h x xs y (rest k is)
+item_cases h x xs y (Some z) gives rest zero is = record { place = 0; item = x; stands = refl; gives = gives ∙ is }
+item_cases h x xs y (Some z) gives rest (suc k) is = item_later h x xs y (rest k is)
+
+pub filter_map_back : {A B : Type 0} (h : A → Option B) (xs : List A) (y : B) (k : ℕ) → slice_get (filter_map h xs) k ≡ Some y
+    → FromItem h xs y
+filter_map_back h [] y k is = absurd (none-some y is)
+filter_map_back h (x ∷ xs) y k is = item_cases h x xs y (h x) refl (λ j at. filter_map_back h xs y j at) k is
+
+given_here : {A B : Type 0} (h : A → Option B) (x : A) (xs : List A) (y : B) (given : Option B) → given ≡ Some y
+    → (k : ℕ) × (slice_get (cons_option given (filter_map h xs)) k ≡ Some y)
+given_here h x xs y None is = absurd (none-some y is)
+given_here h x xs y (Some z) is = (0, is)
+
+given_later : {A B : Type 0} (h : A → Option B) (xs : List A) (y : B) (given : Option B) (k : ℕ) → slice_get (filter_map h xs) k ≡ Some y
+    → (k : ℕ) × (slice_get (cons_option given (filter_map h xs)) k ≡ Some y)
+given_later h xs y None k is = (k, is)
+given_later h xs y (Some z) k is = (suc k, is)
+
+-- an item gives an element of a `filter_map`
+pub filter_map_forth : {A B : Type 0} (h : A → Option B) (xs : List A) (place : ℕ) (x : A) (y : B) → slice_get xs place ≡ Some x
+    → h x ≡ Some y → (k : ℕ) × (slice_get (filter_map h xs) k ≡ Some y)
+filter_map_forth h [] place x y at gives = absurd (none-some x at)
+filter_map_forth h (first ∷ xs) zero x y at gives = given_here h first xs y (h first) (ap h (same_Some first x at) ∙ gives)
+filter_map_forth h (first ∷ xs) (suc place) x y at gives =
+    let rest = filter_map_forth h xs place x y at gives in
+    given_later h xs y (h first) rest.0 rest.1
