@@ -1,5 +1,5 @@
 -- What a line says, by its parts.
-use Rattle.std.specs.Prelude.{ℕ, List, [], ◌∷◌, map, Option, Some, None, slice_get, Bool, true, false}
+use Rattle.std.specs.Prelude.{ℕ, List, [], map, Option, Some, None, slice_get, false}
 use Rattle.ir_reader.specs.declared.forms.Form.{Form}
 use Rattle.ir_reader.specs.declared.forms.Form.TheVariants as forms
 use Rattle.ir_reader.specs.declared.words.Binary.{Binary}
