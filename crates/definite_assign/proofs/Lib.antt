@@ -1,8 +1,7 @@
 pub mod ListLemmas
 pub mod EdgeLemmas
 pub mod PathLemmas
-pub mod VisitLemmas
-pub mod WalkLemmas
+pub mod SearchLemmas
 pub mod SpanLemmas
 pub mod TextLemmas
 pub mod HomeLemmas

@@ -9,11 +9,11 @@ use Rattle.std.proofs.lemmas.List.Filters.{length-filter_more}
 use Rattle.std.proofs.lemmas.List.Sums.{length-filter, sum_by-take-le}
 use Rattle.std.proofs.lemmas.Bool.{cases_order}
 use Rattle.std.proofs.lemmas.Option.{slice_get_within, get_or_from_slice_get, slice_get_read}
+use Rattle.list_laws.proofs.Places.{get_front}
 use Rattle.ir_ast.specs.Insts.{Instruction}
 use Rattle.ir_ast.specs.Blocks.{BasicBlock}
 use Rattle.ir_ast.specs.Funcs.{Function, instructions_of}
 use Rattle.ir_cfg.specs.DefiniteUses.{Stands, Defines, text_place}
-use Rattle.ir_cfg.proofs.PlaceLemmas.{get_front}
 
 get_after : {A : Type 0} (xs ys : List A) (k j : ℕ) (y : A) → slice_get ys k ≡ Some y → j ≡ length xs + k → slice_get (xs ++ ys) j ≡ Some y
 get_after [] ys k j y is at = let same : j ≡ k = omega arith in rw same is

@@ -4,7 +4,6 @@ use Rattle.ir_ast.specs.declared.types.Ty.TheVariants.{Void, Int}
 use Rattle.ir_ast.specs.declared.ops.Op.TheVariants.{Add, Ret}
 use Rattle.ir_ast.specs.declared.ops.Operand.TheVariants.{Value, Int as Number}
 use Rattle.ir_ast.specs.Insts.{Instruction}
-use Rattle.ir_ast.specs.Blocks.{BasicBlock}
 use Rattle.ir_ast.specs.Funcs.{Function}
 
 -- `%1 = add i64 %V, 1`

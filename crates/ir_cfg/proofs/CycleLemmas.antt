@@ -4,7 +4,7 @@ use Rattle.std.specs.List.{Contains}
 use Rattle.ir_cfg.specs.Graphs.{Graph, Edge}
 use Rattle.ir_cfg.specs.Paths.{Reached, Way, one, more}
 use Rattle.ir_cfg.specs.PollPoints.{PollsAtEnd, CyclesPoll}
-use Rattle.ir_cfg.proofs.SearchLemmas.{reached_by}
+use Rattle.ir_cfg.proofs.PathLemmas.{reached_by}
 
 -- a block on the way polls, or the way goes forward
 abbrev PollsOrGoesOn : Graph → List ℕ → ℕ → ℕ → Type 0

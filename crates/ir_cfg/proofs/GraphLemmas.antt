@@ -1,7 +1,9 @@
 -- The edges of blocks.
-use Rattle.std.proofs.Common.{◌≡◌, nat_le, ℕ, ◌<◌, ◌-◌, Bool, true, false, if◌then◌else◌, List, [], ◌∷◌, ◌++◌, length, map, refl, ap, sym, subst, arith, Some, slice_get, ◌∙◌}
+use Rattle.std.proofs.Common.{◌≡◌, nat_le, ℕ, ◌<◌, ◌-◌, Bool, true, false, if◌then◌else◌, List, [], ◌∷◌, length, map, ap, sym, subst, arith, Some, slice_get, ◌∙◌}
 use Rattle.std.specs.List.{All, flat_map}
 use Rattle.std.proofs.lemmas.List.Elements.{All-nil, All-cons, All-head, All-tail, All-append}
+use Rattle.list_laws.proofs.Places.{get_middle}
+use Rattle.list_laws.proofs.Contents.{all_front, all_back}
 use Rattle.sp_ids.specs.declared.ids.BlockId.{BlockId}
 use Rattle.ir_ast.specs.Funcs.{Function, instructions_of}
 use Rattle.ir_ast.specs.Ops.{is_terminator}
@@ -18,28 +20,16 @@ use Rattle.ir_ast.specs.Blocks.{BasicBlock, EndsAtTerminator}
 use Rattle.ir_ast.specs.Edges.{targets}
 use Rattle.ir_ast.proofs.BlockLemmas.{targets-last}
 
-last_at : (before : List Instruction) (last : Instruction) → slice_get (before ++ last ∷ []) (length before) ≡ Some last
-last_at [] last = refl
-last_at (inst ∷ before) last = last_at before last
-
 pub labels_of_last : (block : BasicBlock) (inst : Instruction) → EndsAtTerminator block.insts
     → slice_get block.insts (length block.insts - 1) ≡ Some inst → inst.labels ≡ targets block
 labels_of_last block inst ended found =
     let place : length block.insts - 1 ≡ length ended.before = omega (arith, length-append ended.before (ended.last ∷ []), ap length ended.whole) in
-    let last = last_at ended.before ended.last in
+    let last = get_middle ended.before ended.last [] in
     let whole = ended.whole in
     let labels = targets-last block ended in
     let same : slice_get block.insts (length ended.before) ≡ Some inst = rw (← place) found in
     let at : slice_get block.insts (length ended.before) ≡ Some ended.last = rw whole last in
     cc
-
-pub front_of : {A : Type 0} (P : A → Type 0) (xs ys : List A) → All P (xs ++ ys) → All P xs
-front_of P [] ys all = All-nil P
-front_of P (x ∷ xs) ys all = All-cons P x xs (All-head P x (xs ++ ys) all) (front_of P xs ys (All-tail P x (xs ++ ys) all))
-
-pub back_of : {A : Type 0} (P : A → Type 0) (xs ys : List A) → All P (xs ++ ys) → All P ys
-back_of P [] ys all = all
-back_of P (x ∷ xs) ys all = back_of P xs ys (All-tail P x (xs ++ ys) all)
 
 -- the labels of one instruction, where it ends a block
 abbrev own_targets : Instruction → List BlockId
@@ -63,8 +53,8 @@ rows_inside : (func : Function) (blocks : List BasicBlock) → All (NamesOfFunct
 rows_inside func [] known = All-nil _
 rows_inside func (block ∷ blocks) known =
     All-cons (λ (row : List BlockId). All (λ (label : BlockId). label.0 < length func.blocks) row) (targets block) (map targets blocks)
-    (targets_inside func block.insts (front_of (NamesOfFunction func) block.insts (instructions_of blocks) known))
-    (rows_inside func blocks (back_of (NamesOfFunction func) block.insts (instructions_of blocks) known))
+    (targets_inside func block.insts (all_front (NamesOfFunction func) block.insts (instructions_of blocks) known))
+    (rows_inside func blocks (all_back (NamesOfFunction func) block.insts (instructions_of blocks) known))
 
 -- the edges of a formed function lead to its blocks
 pub leads_inside : (func : Function) → LocalNamesAreKnown func → LeadsInside (graph_of func)

@@ -8,7 +8,7 @@ use Rattle.sp_ids.specs.declared.ids.BlockId.{BlockId}
 use Rattle.ir_ast.specs.Blocks.{BasicBlock}
 use Rattle.ir_ast.specs.Funcs.{Function}
 use Rattle.ir_ast.specs.Edges.{targets, count_of, edges}
-use Rattle.ir_cfg.specs.Marks.{Marked}
+use Rattle.graph_search.specs.Paths.{Marked}
 use Rattle.ir_cfg.specs.Unreached.{kept_of, kept_by, new_numbers, label_kept, has_mark}
 use Rattle.ir_cfg.proofs.KeepsPlaces.{before_same, marks_before, number_of_marked}
 use Rattle.ir_cfg.proofs.KeepsPaths.{marked_block}
@@ -17,7 +17,7 @@ abbrev one_if : Bool → ℕ
 one_if test = cond test 1 0
 
 -- counts of labels, a label at a time
-count_cons : (n : ℕ) (label : BlockId) (labels : List BlockId)
+pub count_cons : (n : ℕ) (label : BlockId) (labels : List BlockId)
     → count_of n (label ∷ labels) ≡ cond (eqb label.0 n) 1 0 + count_of n labels
 count_cons n label labels = sum_by-cons (λ (l : BlockId). cond (eqb l.0 n) 1 0) label labels
 

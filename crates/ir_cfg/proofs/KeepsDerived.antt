@@ -5,6 +5,8 @@ use Rattle.std.specs.List.{All, filter, filter_map}
 use Rattle.std.proofs.lemmas.List.{take-map}
 use Rattle.std.proofs.lemmas.List.Elements.{All-map, All-append, All-filter}
 use Rattle.std.proofs.lemmas.Option.{none-some}
+use Rattle.list_laws.proofs.Places.{filter_map_back, filter_map_forth, map_back}
+use Rattle.list_laws.proofs.Contents.{all_at, all_from_at, contains_get, get_contained}
 use Rattle.sp_ids.specs.declared.ids.BlockId.{BlockId}
 use Rattle.ir_ast.specs.declared.ops.Op.{Op}
 use Rattle.ir_ast.specs.declared.ops.Op.TheVariants.{Phi, Store, Call, Ret}
@@ -15,9 +17,9 @@ use Rattle.ir_ast.specs.Values.{Definition, argument, outcome, definitions_of, G
 use Rattle.ir_ast.specs.Operands.{value_in, values_used, operands_of}
 use Rattle.ir_ast.specs.Derived.{Derived, by_step, by_merge, is_step, is_merge}
 use Rattle.ir_ast.specs.Faults.DerivedEscapes.{leaving, values_leaving, KeepsDerived, DerivedStay}
-use Rattle.ir_cfg.specs.Marks.{Marked}
+use Rattle.graph_search.specs.Paths.{Marked}
 use Rattle.ir_cfg.specs.Unreached.{Kept, kept_of, kept_by, value_marks, operand_kept, inst_kept, function_kept}
-use Rattle.ir_cfg.proofs.KeepsPlaces.{all_at, all_from_at, before_same, contains_at, contains_by, filter_map_back, filter_map_forth, kept_back, map_back, marks_before, number_of_marked}
+use Rattle.ir_cfg.proofs.KeepsPlaces.{before_same, kept_back, marks_before, number_of_marked}
 use Rattle.ir_cfg.proofs.KeepsLines.{IsKept, all_insts, all_lines, inst_left, inst_new, line_at, operands_left, two_steps}
 use Rattle.ir_cfg.proofs.KeepsValues.{definition_kept, left_definitions, named, new_definitions}
 use Rattle.ir_cfg.proofs.KeepsUses.{Lasts, used_new, values_of_new}
@@ -108,7 +110,7 @@ derived_back marks func whole lasts _ (by_merge value operand inst gives merge u
     let o = gives_back marks func value inst whole gives in
     let before = derived_back marks func whole lasts operand derived in
     let left = inst_left kept o.line in
-    let at = contains_at (values_used inst) operand used in
+    let at = get_contained (values_used inst) operand used in
     let there : slice_get (map (λ (v : ℕ). get_or kept.values v 0) (values_used left)) at.0 ≡ Some operand =
     ap (λ (vs : List ℕ). slice_get vs at.0) (sym (ap values_used (o.is ∙ two_steps kept o.line) ∙ used_new kept left)) ∙ at.1 in
     let m = map_back (λ (v : ℕ). get_or kept.values v 0) (values_used left) at.0 operand there in
@@ -123,7 +125,7 @@ derived_back marks func whole lasts _ (by_merge value operand inst gives merge u
       marked = o.marked;
       same = o.same;
       derived = by_merge o.old m.before o.line o.gives (ap (λ (i : Instruction). is_merge i.op) (sym o.is) ∙ merge)
-          (contains_by (values_used o.line) forth.0 m.before forth.1) (subst (Derived func) same before.derived);
+          (contains_get (values_used o.line) forth.0 m.before forth.1) (subst (Derived func) same before.derived);
     }
 
 leaving_left : (kept : Kept) (op : Op) (labels : List BlockId) (operands : List Operand)

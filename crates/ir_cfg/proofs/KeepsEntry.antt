@@ -3,6 +3,8 @@ use Rattle.std.proofs.Common.{◌≡◌, ℕ, suc, Bool, true, false, if◌then�
 use Rattle.std.specs.List.{flat_map}
 use Rattle.std.proofs.lemmas.Option.{none-some}
 use Rattle.std.proofs.lemmas.Bool.{cases_lt, false≢true}
+use Rattle.list_laws.proofs.Places.{map_back}
+use Rattle.list_laws.proofs.Contents.{all_at, all_from_at}
 use Rattle.sp_ids.specs.declared.ids.BlockId.{BlockId}
 use Rattle.ir_ast.specs.declared.ops.Op.{Op}
 use Rattle.ir_ast.specs.declared.ops.Op.TheVariants.{Phi}
@@ -16,7 +18,7 @@ use Rattle.ir_ast.specs.Faults.EntryHasPred.{LeavesEntry, EntryHasNoPred}
 use Rattle.ir_cfg.specs.Graphs.{graph_of}
 use Rattle.ir_cfg.specs.Marks.{MarksReached}
 use Rattle.ir_cfg.specs.Unreached.{kept_by, label_kept, function_kept}
-use Rattle.ir_cfg.proofs.KeepsPlaces.{all_at, all_from_at, before_first, get_cases, map_back, marks_before, number_of_marked}
+use Rattle.ir_cfg.proofs.KeepsPlaces.{before_first, get_cases, marks_before, number_of_marked}
 use Rattle.ir_cfg.proofs.KeepsLines.{IsKept, all_lines, inst_at, inst_left, inst_new, line_at, two_steps}
 use Rattle.ir_cfg.proofs.KeepsPaths.{entry_marked}
 use Rattle.ir_cfg.proofs.KeepsUses.{Lasts, plain_labels}

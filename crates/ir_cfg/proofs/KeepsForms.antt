@@ -4,6 +4,7 @@ use Rattle.std.specs.List.{All, list_all, flat_map}
 use Rattle.std.proofs.lemmas.List.{length-map, take-map, drop-map}
 use Rattle.std.proofs.lemmas.List.Elements.{All-nil, All-cons, All-head, All-tail, All-append}
 use Rattle.std.proofs.lemmas.Bool.{and_parts, and_from, cases_Bool, false≢true}
+use Rattle.list_laws.proofs.Contents.{all_back, all_front}
 use Rattle.ir_ast.specs.declared.types.Ty.{Ty}
 use Rattle.ir_ast.specs.declared.ops.Callee.{Callee}
 use Rattle.ir_ast.specs.declared.ops.Callee.TheVariants.{TaskStart}
@@ -20,7 +21,6 @@ use Rattle.ir_ast.specs.Types.{is_first_class}
 use Rattle.ir_ast.specs.Lines.{Has, is_argument, Arguments, is_bundle, IsCall, IsStatepoint, StartsWithToken, IsRelocated, LineOf, IsLine}
 use Rattle.ir_ast.specs.Operands.{is_value, is_literal}
 use Rattle.ir_cfg.specs.Unreached.{Kept, kept_of, kept_by, operand_kept, label_kept, has_mark, inst_kept, function_kept}
-use Rattle.ir_cfg.proofs.GraphLemmas.{front_of, back_of}
 use Rattle.ir_cfg.proofs.KeepsLines.{all_lines, inst_left, inst_new, line_at}
 use Rattle.ir_cfg.proofs.KeepsUses.{phi_labels, phi_operands, plain_labels, plain_operands}
 
@@ -235,7 +235,7 @@ same_widths kept inst =
 pub all_flat : {A B : Type 0} (P : B → Type 0) (f : A → List B) (xs : List A) → All P (flat_map f xs) → All (λ x. All P (f x)) xs
 all_flat P f [] all = All-nil (λ x. All P (f x))
 all_flat P f (x ∷ xs) all =
-    All-cons (λ x. All P (f x)) x xs (front_of P (f x) (flat_map f xs) all) (all_flat P f xs (back_of P (f x) (flat_map f xs) all))
+    All-cons (λ x. All P (f x)) x xs (all_front P (f x) (flat_map f xs) all) (all_flat P f xs (all_back P (f x) (flat_map f xs) all))
 
 pub flat_all : {A B : Type 0} (P : B → Type 0) (f : A → List B) (xs : List A) → All (λ x. All P (f x)) xs → All P (flat_map f xs)
 flat_all P f [] all = All-nil P
@@ -245,9 +245,9 @@ flat_all P f (x ∷ xs) all =
 pub widths_kept : (marks : List Bool) (func : Function) → All IsWidth (widths_of func) → All IsWidth (widths_of (function_kept marks func))
 widths_kept marks func all =
     let front = type_widths func.answer ++ flat_map (λ (arg : Arg). type_widths arg.ty) func.args in
-    let old = all_flat IsWidth line_widths (instructions_of func.blocks) (back_of IsWidth front (flat_map line_widths (instructions_of func.blocks)) all) in
+    let old = all_flat IsWidth line_widths (instructions_of func.blocks) (all_back IsWidth front (flat_map line_widths (instructions_of func.blocks)) all) in
     All-append IsWidth front (flat_map line_widths (instructions_of (function_kept marks func).blocks))
-    (front_of IsWidth front (flat_map line_widths (instructions_of func.blocks)) all)
+    (all_front IsWidth front (flat_map line_widths (instructions_of func.blocks)) all)
     (flat_all IsWidth line_widths (instructions_of (function_kept marks func).blocks)
     (all_lines (λ inst. All IsWidth (line_widths inst)) marks func (λ inst kept.
     subst (All IsWidth) (sym (same_widths (kept_by marks func) inst))

@@ -4,6 +4,8 @@ use Rattle.std.specs.List.{All}
 use Rattle.std.proofs.lemmas.List.{map-append}
 use Rattle.std.proofs.lemmas.List.Elements.{All-nil, All-append}
 use Rattle.std.proofs.lemmas.Option.{none-some, same_Some}
+use Rattle.list_laws.proofs.Places.{get_map, map_back}
+use Rattle.list_laws.proofs.Contents.{all_at, all_back, all_from_at, all_front}
 use Rattle.sp_ids.specs.declared.ids.BlockId.{BlockId}
 use Rattle.ir_ast.specs.declared.ops.Op.{Op}
 use Rattle.ir_ast.specs.declared.ops.Op.TheVariants.{Phi}
@@ -12,10 +14,9 @@ use Rattle.ir_ast.specs.Insts.{Instruction}
 use Rattle.ir_ast.specs.Blocks.{BasicBlock}
 use Rattle.ir_ast.specs.Funcs.{Function, instructions_of}
 use Rattle.ir_cfg.specs.DefiniteUses.{Stands}
-use Rattle.ir_cfg.specs.Marks.{Marked}
+use Rattle.graph_search.specs.Paths.{Marked}
 use Rattle.ir_cfg.specs.Unreached.{Kept, kept_of, kept_by, operand_kept, label_kept, has_mark, operands_kept, labels_kept, inst_kept, block_kept, function_kept}
-use Rattle.ir_cfg.proofs.GraphLemmas.{front_of, back_of}
-use Rattle.ir_cfg.proofs.KeepsPlaces.{all_at, all_from_at, filter_kept, get_map, kept_back, kept_get, map_back, marks_before}
+use Rattle.ir_cfg.proofs.KeepsPlaces.{filter_kept, kept_back, kept_get, marks_before}
 
 -- the operands and labels that a line keeps, with their old numbers
 abbrev pub operands_left : Kept → Op → List BlockId → List Operand → List Operand
@@ -142,9 +143,9 @@ inst_at P (first ∷ blocks) zero place block inst in_blocks in_block all =
     let same : first ≡ block = same_Some first block in_blocks in
     let there : slice_get first.insts place ≡ Some inst =
     subst (λ (b : BasicBlock). slice_get b.insts place ≡ Some inst) (sym same) in_block in
-    all_at P first.insts place inst (front_of P first.insts (instructions_of blocks) all) there
+    all_at P first.insts place inst (all_front P first.insts (instructions_of blocks) all) there
 inst_at P (first ∷ blocks) (suc number) place block inst in_blocks in_block all =
-    inst_at P blocks number place block inst in_blocks in_block (back_of P first.insts (instructions_of blocks) all)
+    inst_at P blocks number place block inst in_blocks in_block (all_back P first.insts (instructions_of blocks) all)
 
 pub line_at : (P : Instruction → Type 0) (func : Function) (number place : ℕ) (inst : Instruction) → Stands func number place inst
     → All P (instructions_of func.blocks) → P inst

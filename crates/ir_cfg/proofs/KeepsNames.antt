@@ -4,6 +4,8 @@ use Rattle.std.specs.List.{All, filter, filter_map}
 use Rattle.std.proofs.lemmas.List.{length-append, length-map, length-replicate}
 use Rattle.std.proofs.lemmas.List.Elements.{All-map, All-append, filter-append}
 use Rattle.std.proofs.lemmas.Option.{slice_get_within}
+use Rattle.list_laws.proofs.Places.{filter_map_back, filter_map_forth, get_front, get_map, get_past, get_some, map_back}
+use Rattle.list_laws.proofs.Contents.{all_at, all_back, all_from_at, all_front}
 use Rattle.sp_ids.specs.declared.ids.BlockId.{BlockId}
 use Rattle.ir_ast.specs.declared.types.Ty.{Ty}
 use Rattle.ir_ast.specs.declared.ops.Op.{Op}
@@ -19,12 +21,11 @@ use Rattle.ir_ast.specs.Values.{argument, outcome, definitions_of, definition_na
 use Rattle.ir_ast.specs.Operands.{values_used, operands_of}
 use Rattle.ir_ast.specs.Faults.UnknownName.{NamesOfFunction, NamesOfModule, LocalNamesAreKnown, GlobalNamesAreKnown}
 use Rattle.ir_cfg.specs.Graphs.{graph_of}
-use Rattle.ir_cfg.specs.Marks.{Marked, MarksReached}
+use Rattle.graph_search.specs.Paths.{Marked}
+use Rattle.ir_cfg.specs.Marks.{MarksReached}
 use Rattle.ir_cfg.specs.Unreached.{Kept, kept_of, kept_by, result_count, result_marks, value_marks, operand_kept, label_kept, has_mark, inst_kept, block_kept, function_kept}
-use Rattle.ir_cfg.proofs.PlaceLemmas.{get_front}
-use Rattle.ir_cfg.proofs.GraphLemmas.{front_of, back_of}
 use Rattle.ir_cfg.proofs.KeptLemmas.{of_map}
-use Rattle.ir_cfg.proofs.KeepsPlaces.{all_at, all_from_at, at_within, filter_map_back, filter_map_forth, get_cases, get_map, get_past, kept_all, kept_back, kept_distinct, kept_get, kept_map, map_back, map_through, marks_before, number_of_marked}
+use Rattle.ir_cfg.proofs.KeepsPlaces.{get_cases, kept_all, kept_back, kept_distinct, kept_get, kept_map, map_through, marks_before, number_of_marked}
 use Rattle.ir_cfg.proofs.KeepsLines.{IsKept, all_lines, block_forth, inst_left, inst_new, line_at, operands_left, two_steps}
 use Rattle.ir_cfg.proofs.KeepsValues.{definition_kept, named, new_definitions, new_names}
 use Rattle.ir_cfg.proofs.KeepsPaths.{marked_block, marks_whole}
@@ -96,7 +97,7 @@ value_exists : (marks : List Bool) (func : Function) (value : ℕ) → length ma
 value_exists marks func value whole marked =
     let within = slice_get_within (value_marks marks func) value true marked in
     let all = values_whole marks func in
-    let given = at_within (definitions_of func) value (omega arith) in
+    let given = get_some (definitions_of func) value (omega arith) in
     let kept = kept_get (value_marks marks func) (definitions_of func) value given.0 marked given.1 in
     let new = get_map (definition_kept (kept_by marks func)) (kept_of (value_marks marks func) (definitions_of func)) (marks_before (value_marks marks func) value) given.0 kept in
     let inside = slice_get_within (map (definition_kept (kept_by marks func)) (kept_of (value_marks marks func) (definitions_of func))) (marks_before (value_marks marks func) value) (definition_kept (kept_by marks func) given.0) new in
@@ -196,7 +197,7 @@ global_new content kept inst known = record {
   layouts = known.layouts;
   functions =
       let P : ℕ → Type 0 = λ named. named < length content.funcs in
-      All-append P _ _ (front_of P _ _ known.functions) (functions_kept P _ (λ one two. refl) kept inst (back_of P _ _ known.functions));
+      All-append P _ _ (all_front P _ _ known.functions) (functions_kept P _ (λ one two. refl) kept inst (all_back P _ _ known.functions));
 }
 
 pub global_kept : (content : ModuleContent) (marks : List Bool) (func : Function) → GlobalNamesAreKnown content func

@@ -3,6 +3,7 @@ use Rattle.std.proofs.Common.{◌≡◌, ℕ, zero, suc, Bool, true, if◌then�
 use Rattle.std.specs.List.{flat_map}
 use Rattle.std.proofs.lemmas.List.{map-append, length-map}
 use Rattle.std.proofs.lemmas.Option.{none-some, same_Some, slice_get_within, get_or_from_slice_get}
+use Rattle.list_laws.proofs.Places.{get_map, get_pushed, get_some, map_back}
 use Rattle.sp_ids.specs.declared.ids.BlockId.{BlockId}
 use Rattle.ir_ast.specs.declared.ops.Op.{Op}
 use Rattle.ir_ast.specs.declared.ops.Op.TheVariants.{Phi}
@@ -13,11 +14,11 @@ use Rattle.ir_ast.specs.Ops.{is_terminator}
 use Rattle.ir_ast.specs.Edges.{targets}
 use Rattle.ir_cfg.specs.Graphs.{Graph, Edge, block_at, graph_of, succs_of}
 use Rattle.ir_cfg.specs.Paths.{Path, Reached, at_entry, along}
-use Rattle.ir_cfg.specs.Marks.{Marked, MarksReached}
+use Rattle.graph_search.specs.Paths.{Marked}
+use Rattle.ir_cfg.specs.Marks.{MarksReached}
 use Rattle.ir_cfg.specs.Unreached.{Kept, kept_by, label_kept, labels_kept, inst_kept, block_kept, function_kept}
-use Rattle.ir_cfg.proofs.PlaceLemmas.{get_pushed}
-use Rattle.ir_cfg.proofs.SearchLemmas.{reached_by}
-use Rattle.ir_cfg.proofs.KeepsPlaces.{at_within, before_le, before_same, get_map, map_back, marks_before, number_of_marked}
+use Rattle.ir_cfg.proofs.PathLemmas.{reached_by}
+use Rattle.ir_cfg.proofs.KeepsPlaces.{before_le, before_same, marks_before, number_of_marked}
 use Rattle.ir_cfg.proofs.KeepsLines.{block_forth}
 
 own_kept : (kept : Kept) (op : Op) (labels : List BlockId)
@@ -54,7 +55,7 @@ pub marked_block : (marks : List Bool) (func : Function) (number : ℕ) → Mark
 marked_block marks func number reached marked =
     let whole = marks_whole marks func reached in
     let within = slice_get_within marks number true marked in
-    at_within func.blocks number (omega arith)
+    get_some func.blocks number (omega arith)
 
 pub entry_marked : (marks : List Bool) (func : Function) → MarksReached (graph_of func) marks → Marked marks 0
 entry_marked marks func reached = reached.complete 0 (0 ∷ [], at_entry)

@@ -5,6 +5,7 @@ use Rattle.std.proofs.lemmas.List.Folds.{list_all-map}
 use Rattle.std.proofs.lemmas.List.Sums.{count_by-le-length}
 use Rattle.std.proofs.lemmas.Option.{same_Some, slice_get_within, slice_get_past}
 use Rattle.std.proofs.lemmas.Bool.{cases_lt}
+use Rattle.list_laws.proofs.Places.{get_middle, get_some, map_back}
 use Rattle.sp_ids.specs.declared.ids.BlockId.{BlockId}
 use Rattle.ir_ast.specs.declared.ops.Op.TheVariants.{Phi}
 use Rattle.ir_ast.specs.declared.ops.Operand.{Operand}
@@ -18,9 +19,10 @@ use Rattle.ir_ast.specs.Faults.EntryHasPred.{EntryHasNoPred}
 use Rattle.ir_cfg.specs.Graphs.{Graph, Edge, block_at, graph_of}
 use Rattle.ir_cfg.specs.Paths.{Path, Reached, at_entry, along}
 use Rattle.ir_cfg.specs.DefiniteUses.{Stands}
-use Rattle.ir_cfg.specs.Marks.{Marked, MarksReached}
+use Rattle.graph_search.specs.Paths.{Marked}
+use Rattle.ir_cfg.specs.Marks.{MarksReached}
 use Rattle.ir_cfg.specs.Unreached.{Kept, kept_of, kept_by, operand_kept, label_kept, has_mark, inst_kept, block_kept, function_kept}
-use Rattle.ir_cfg.proofs.KeepsPlaces.{all_marks, at_middle, at_within, before_same, kept_back, map_back, marks_before, number_of_marked, split_at, split_back}
+use Rattle.ir_cfg.proofs.KeepsPlaces.{all_marks, before_same, kept_back, marks_before, number_of_marked, split_at, split_back}
 use Rattle.ir_cfg.proofs.KeepsLines.{IsKept, block_back, block_forth, inst_left, inst_new, two_steps}
 use Rattle.ir_cfg.proofs.KeepsPaths.{marked_block, succs_at, target_marked, targets_kept}
 use Rattle.ir_cfg.proofs.KeepsUses.{entry_back, mark_found, phi_labels, phi_operands}
@@ -44,13 +46,13 @@ phi_has_label marks func number place inst reached alone right marked stands phi
     let is = right number stands.block split.0 split.1 inst stands.in_function split.2 phi in
     elim (reached_from (graph_of func) path.0 number path.1) [
       | inl entry ↦
-          let first = at_within inst.labels 0 some in
+          let first = get_some inst.labels 0 some in
           let many = count_some first.0.0 inst.labels 0 first.0 first.1 refl in
           let led : 0 < edges func first.0.0 0 = subst (λ (n : ℕ). 0 < edges func first.0.0 n) entry
           (subst (λ (n : ℕ). 0 < n) (is.counted first.0.0) many) in
           elim (cases_lt first.0.0 (length func.blocks)) [
             | inl within ↦
-                let block = at_within func.blocks first.0.0 within in
+                let block = get_some func.blocks first.0.0 within in
                 let found = count_found 0 (targets block.0) (subst (λ (n : ℕ). 0 < n) (edges_at func first.0.0 0 block.0 block.1) led) in
                 absurd (entry_alone func first.0.0 block.0 found.0 found.1 alone block.1 found.2 found.3)
             | inr past ↦ let none = edges_past func first.0.0 0 past in absurd (omega arith)
@@ -101,7 +103,7 @@ counted_kept marks func number before item reached marked phi right from =
     ap (λ (i : Instruction). i.labels) (two_steps kept item) ∙ ap (map (label_kept kept)) (phi_labels kept item.op item.labels phi) in
     elim (cases_lt from (length after.blocks)) [
       | inl within ↦
-          let block = at_within after.blocks from within in
+          let block = get_some after.blocks from within in
           let b = block_back marks func from block.0 block.1 in
           ap (count_of from) labels
           ∙ ap (λ (n : ℕ). count_of n (map (label_kept kept) (kept_of own item.labels))) (sym b.same)
@@ -157,16 +159,16 @@ agree_kept marks func number before item phi line right j k same =
     let as_many : length new.labels ≡ length new.operands = line.0.label_count in
     elim (cases_lt j (length new.labels)) [
       | inl within ↦
-          let label = at_within new.labels j within in
+          let label = get_some new.labels j within in
           let other : slice_get new.labels k ≡ Some label.0 = sym same ∙ label.1 in
           let within_k = slice_get_within new.labels k label.0 other in
-          let one = at_within new.operands j (omega arith) in
-          let two = at_within new.operands k (omega arith) in
+          let one = get_some new.operands j (omega arith) in
+          let two = get_some new.operands k (omega arith) in
           one.1 ∙ ap (λ (o : Operand). Some o) (agree_at marks func number before item phi right j k label.0 one.0 two.0 label.1 other one.1 two.1) ∙ sym two.1
       | inr past ↦
           elim (cases_lt k (length new.labels)) [
             | inl within ↦
-                let label = at_within new.labels k within in
+                let label = get_some new.labels k within in
                 let within_j = slice_get_within new.labels j label.0 (same ∙ label.1) in
                 absurd (omega arith)
             | inr past_k ↦ slice_get_past new.operands j (omega arith) ∙ sym (slice_get_past new.operands k (omega arith))
@@ -198,7 +200,7 @@ phis_kept marks func reached right lines = λ number block before after phi in_f
     let split = split_back (inst_kept kept) b.old.insts before phi after (sym (ap (λ (x : BasicBlock). x.insts) b.is) ∙ whole) in
     let was : is_phi split.item.op ≡ true = ap (λ (i : Instruction). is_phi i.op) split.items ∙ is in
     let at : slice_get b.old.insts (length split.front) ≡ Some split.item =
-    ap (λ (xs : List Instruction). slice_get xs (length split.front)) split.whole ∙ at_middle split.front split.item split.back in
+    ap (λ (xs : List Instruction). slice_get xs (length split.front)) split.whole ∙ get_middle split.front split.item split.back in
     let stands : Stands func b.place (length split.front) split.item = record { block = b.old; in_function = b.stands; in_block = at } in
     let line = lines split.item (record { number = b.place; place = length split.front; marked = b.marked; stands = stands }) in
     let new = phi_right marks func b.place split.front split.item reached b.marked was line

@@ -1,54 +1,16 @@
 -- What stands where in a list of which the marked elements are kept.
-use Rattle.std.proofs.Common.{◌≡◌, ℕ, zero, suc, ◌<◌, ◌≤◌, ◌+◌, Bool, true, false, cond, List, [], ◌∷◌, ◌++◌, length, get_or, take, map, replicate, refl, ap, sym, arith, Option, Some, None, slice_get, inl, inr, ◌⊎◌, ◌∙◌, subst}
-use Rattle.std.specs.List.{All, Contains, filter, filter_map, cons_option, count_by, range_with_len}
+use Rattle.std.proofs.Common.{◌≡◌, ℕ, zero, suc, ◌<◌, ◌≤◌, ◌+◌, Bool, true, false, cond, List, [], ◌∷◌, ◌++◌, length, get_or, take, map, replicate, refl, ap, sym, arith, Some, slice_get, inl, inr, ◌⊎◌, ◌∙◌}
+use Rattle.std.specs.List.{All, filter, count_by, range_with_len}
 use Rattle.std.proofs.lemmas.List.{get_or-map, length-append}
 use Rattle.std.proofs.lemmas.List.Sums.{sum_by-cons}
 use Rattle.std.proofs.lemmas.List.FromFn.{get_or-range_with_len, length-range_with_len}
-use Rattle.std.proofs.lemmas.Option.{slice_get_within, slice_get-get_or, get_or_from_slice_get, none-some, same_Some}
+use Rattle.std.proofs.lemmas.Option.{slice_get_within, none-some, same_Some}
 use Rattle.std.proofs.lemmas.Bool.{cases_lt, false≢true}
+use Rattle.list_laws.proofs.Places.{get_map, get_some}
+use Rattle.list_laws.proofs.Contents.{all_at, all_from_at}
 use Rattle.ir_ast.specs.Lists.{Distinct}
-use Rattle.ir_cfg.specs.Marks.{Marked}
+use Rattle.graph_search.specs.Paths.{Marked}
 use Rattle.ir_cfg.specs.Unreached.{kept_of, new_numbers}
-
--- an element by its place, and what holds of it
-pub at_within : {A : Type 0} (xs : List A) (k : ℕ) → k < length xs → (x : A) × (slice_get xs k ≡ Some x)
-at_within [] k within = absurd (omega arith)
-at_within (y ∷ ys) zero within = (y, refl)
-at_within (y ∷ ys) (suc k) within = at_within ys k (omega arith)
-
-pub all_from_at : {A : Type 0} (P : A → Type 0) (xs : List A) → ((k : ℕ) (x : A) → slice_get xs k ≡ Some x → P x) → All P xs
-all_from_at P xs each = λ k d below. each k (get_or xs k d) (slice_get-get_or xs k d below)
-
-pub all_at : {A : Type 0} (P : A → Type 0) (xs : List A) (k : ℕ) (x : A) → All P xs → slice_get xs k ≡ Some x → P x
-all_at P xs k x all is = subst P (get_or_from_slice_get xs k x x is) (all k x (slice_get_within xs k x is))
-
-pub contains_at : {A : Type 0} (xs : List A) (x : A) → Contains xs x → (k : ℕ) × (slice_get xs k ≡ Some x)
-contains_at {A} xs x c = (c.0, slice_get-get_or xs c.0 x c.1 ∙ ap (λ (y : A). Some y) c.2)
-
-pub contains_by : {A : Type 0} (xs : List A) (k : ℕ) (x : A) → slice_get xs k ≡ Some x → Contains xs x
-contains_by xs k x is = (k, slice_get_within xs k x is, get_or_from_slice_get xs k x x is)
-
-pub get_map : {A B : Type 0} (f : A → B) (xs : List A) (k : ℕ) (x : A) → slice_get xs k ≡ Some x → slice_get (map f xs) k ≡ Some (f x)
-get_map f [] k x is = absurd (none-some x is)
-get_map {A} {B} f (y ∷ ys) zero x is = ap (λ (z : A). Some (f z)) (same_Some y x is)
-get_map f (y ∷ ys) (suc k) x is = get_map f ys k x is
-
--- what a place of a mapped list comes from
-pub record Mapped {A B : Type 0} (f : A → B) (xs : List A) (k : ℕ) (y : B) : Type 0 where
-  pub before : A
-  pub stands : slice_get xs k ≡ Some before
-  pub is : y ≡ f before
-
-pub map_back : {A B : Type 0} (f : A → B) (xs : List A) (k : ℕ) (y : B) → slice_get (map f xs) k ≡ Some y → Mapped f xs k y
-map_back f [] k y is = absurd (none-some y is)
-map_back f (x ∷ xs) zero y is = record { before = x; stands = refl; is = sym (same_Some (f x) y is) }
-map_back f (x ∷ xs) (suc k) y is =
-    let m = map_back f xs k y is in
-    record { before = m.before; stands = m.stands; is = m.is }
-
-pub get_past : {A : Type 0} (xs ys : List A) (k : ℕ) → slice_get (xs ++ ys) (length xs + k) ≡ slice_get ys k
-get_past [] ys k = let e : 0 + k ≡ k = omega arith in rw e refl
-get_past (x ∷ xs) ys k = let e : suc (length xs) + k ≡ suc (length xs + k) = omega arith in rw e (get_past xs ys k)
 
 pub take_past : {A : Type 0} (xs ys : List A) (k : ℕ) → take (length xs + k) (xs ++ ys) ≡ xs ++ take k ys
 take_past [] ys k = let e : 0 + k ≡ k = omega arith in rw e refl
@@ -167,7 +129,7 @@ kept_all P marks xs all = all_from_at P (kept_of marks xs) (λ k x is.
 
 pub kept_distinct : {A : Type 0} (marks : List Bool) (xs : List A) → Distinct xs → Distinct (kept_of marks xs)
 kept_distinct marks xs distinct = λ j k less within same.
-    let x = at_within (kept_of marks xs) k within in
+    let x = get_some (kept_of marks xs) k within in
     let first = kept_back marks xs j x.0 (same ∙ x.1) in
     let second = kept_back marks xs k x.0 x.1 in
     elim (cases_lt first.place second.place) [
@@ -206,11 +168,6 @@ pub before_past_falses : (n k : ℕ) (marks : List Bool) → marks_before (repli
 before_past_falses zero k marks = let e : 0 + k ≡ k = omega arith in rw e refl
 before_past_falses (suc n) k marks = let e : suc n + k ≡ suc (n + k) = omega arith in rw e (before_past_falses n k marks)
 
-pub get_replicate : {A : Type 0} (n k : ℕ) (x : A) → k < n → slice_get (replicate n x) k ≡ Some x
-get_replicate zero k x below = absurd (omega arith)
-get_replicate (suc n) zero x below = refl
-get_replicate (suc n) (suc k) x below = get_replicate n k x (omega arith)
-
 filter_one : {A : Type 0} (x : A) (test : Bool) (rest : List A) (marks : List Bool) (xs : List A) → rest ≡ kept_of marks xs
     → cond test (x ∷ rest) rest ≡ kept_of (test ∷ marks) (x ∷ xs)
 filter_one x true rest marks xs same = ap (λ zs. x ∷ zs) same
@@ -223,10 +180,6 @@ filter_kept test (x ∷ xs) = filter_one x (test x) (filter test xs) (map test x
 
 pub all_marks : {A : Type 0} (f : A → Bool) (xs : List A) (k : ℕ) (x : A) → slice_get xs k ≡ Some x → Marked (map f xs) k → f x ≡ true
 all_marks f xs k x is marked = same_Some (f x) true (sym (get_map f xs k x is) ∙ marked)
-
-pub at_middle : {A : Type 0} (front : List A) (x : A) (back : List A) → slice_get (front ++ x ∷ back) (length front) ≡ Some x
-at_middle [] x back = refl
-at_middle (y ∷ front) x back = at_middle front x back
 
 -- a split of a mapped list comes from one of the list
 pub record Split {A B : Type 0} (f : A → B) (xs : List A) (ys : List B) (y : B) : Type 0 where
@@ -279,44 +232,3 @@ pub get_cases : {A : Type 0} (xs ys : List A) (k : ℕ) (y : A) → slice_get (x
 get_cases [] ys k y is = inr (k, is)
 get_cases (x ∷ xs) ys zero y is = inl is
 get_cases (x ∷ xs) ys (suc k) y is = get_cases xs ys k y is
-
--- an item from which a `filter_map` has its element
-pub record FromItem {A B : Type 0} (h : A → Option B) (xs : List A) (y : B) : Type 0 where
-  pub place : ℕ
-  pub item : A
-  pub stands : slice_get xs place ≡ Some item
-  pub gives : h item ≡ Some y
-
-item_later : {A B : Type 0} (h : A → Option B) (x : A) (xs : List A) (y : B) → FromItem h xs y → FromItem h (x ∷ xs) y
-item_later h x xs y from = record { place = suc from.place; item = from.item; stands = from.stands; gives = from.gives }
-
-item_cases : {A B : Type 0} (h : A → Option B) (x : A) (xs : List A) (y : B) (given : Option B) → h x ≡ given
-    → ((k : ℕ) → slice_get (filter_map h xs) k ≡ Some y → FromItem h xs y)
-    → (k : ℕ) → slice_get (cons_option given (filter_map h xs)) k ≡ Some y → FromItem h (x ∷ xs) y
-item_cases h x xs y None gives rest k is = item_later h x xs y (rest k is)
-item_cases h x xs y (Some z) gives rest zero is = record { place = 0; item = x; stands = refl; gives = gives ∙ is }
-item_cases h x xs y (Some z) gives rest (suc k) is = item_later h x xs y (rest k is)
-
-pub filter_map_back : {A B : Type 0} (h : A → Option B) (xs : List A) (y : B) (k : ℕ) → slice_get (filter_map h xs) k ≡ Some y
-    → FromItem h xs y
-filter_map_back h [] y k is = absurd (none-some y is)
-filter_map_back h (x ∷ xs) y k is = item_cases h x xs y (h x) refl (λ j at. filter_map_back h xs y j at) k is
-
-filter_case : {A B : Type 0} (h : A → Option B) (x : A) (xs : List A) (y : B) (given : Option B) → given ≡ Some y
-    → (k : ℕ) × (slice_get (cons_option given (filter_map h xs)) k ≡ Some y)
-filter_case h x xs y None is = absurd (none-some y is)
-filter_case h x xs y (Some z) is = (0, is)
-
-filter_later : {A B : Type 0} (h : A → Option B) (xs : List A) (y : B) (given : Option B) (k : ℕ) → slice_get (filter_map h xs) k ≡ Some y
-    → (k : ℕ) × (slice_get (cons_option given (filter_map h xs)) k ≡ Some y)
-filter_later h xs y None k is = (k, is)
-filter_later h xs y (Some z) k is = (suc k, is)
-
--- an item gives an element of a `filter_map`
-pub filter_map_forth : {A B : Type 0} (h : A → Option B) (xs : List A) (place : ℕ) (x : A) (y : B) → slice_get xs place ≡ Some x
-    → h x ≡ Some y → (k : ℕ) × (slice_get (filter_map h xs) k ≡ Some y)
-filter_map_forth h [] place x y at gives = absurd (none-some x at)
-filter_map_forth h (first ∷ xs) zero x y at gives = filter_case h first xs y (h first) (ap h (same_Some first x at) ∙ gives)
-filter_map_forth h (first ∷ xs) (suc place) x y at gives =
-    let rest = filter_map_forth h xs place x y at gives in
-    filter_later h xs y (h first) rest.0 rest.1

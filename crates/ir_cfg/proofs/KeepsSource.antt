@@ -4,6 +4,7 @@ use Rattle.std.specs.List.{All, AllZip, flat_map}
 use Rattle.std.proofs.lemmas.List.{length-append}
 use Rattle.std.proofs.lemmas.List.Elements.{All-weaker, length_all_zip}
 use Rattle.std.proofs.lemmas.Option.{none-some, same_Some, slice_get-map, slice_get_within}
+use Rattle.list_laws.proofs.Contents.{all_at, all_from_at}
 use Rattle.ir_ast.specs.declared.modules.Form.{Form}
 use Rattle.ir_ast.specs.declared.modules.Form.TheVariants.{Source}
 use Rattle.ir_ast.specs.declared.types.Ty.TheVariants.{Int}
@@ -30,7 +31,7 @@ use Rattle.ir_cfg.specs.Marks.{MarksReached}
 use Rattle.ir_cfg.specs.SourceModules.{IsSourceFunction, IsSourceModule}
 use Rattle.ir_cfg.specs.Unreached.{kept_by, operand_kept, block_kept, function_kept, DropsUnreached, ModuleDropsUnreached}
 use Rattle.ir_cfg.proofs.KeptLemmas.{few_instructions}
-use Rattle.ir_cfg.proofs.KeepsPlaces.{all_at, all_from_at, marks_before}
+use Rattle.ir_cfg.proofs.KeepsPlaces.{marks_before}
 use Rattle.ir_cfg.proofs.KeepsLines.{IsKept, all_lines, block_forth, inst_left, inst_new, line_at, two_steps}
 use Rattle.ir_cfg.proofs.KeepsValues.{new_types}
 use Rattle.ir_cfg.proofs.KeepsPaths.{entry_marked, marked_block, marks_whole}

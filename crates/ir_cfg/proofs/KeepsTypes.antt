@@ -4,6 +4,7 @@ use Rattle.std.specs.List.{All, AllZip, list_all}
 use Rattle.std.proofs.lemmas.List.{length-map, drop-map}
 use Rattle.std.proofs.lemmas.List.Elements.{All-nil}
 use Rattle.std.proofs.lemmas.Bool.{cases_Bool, false≢true}
+use Rattle.list_laws.proofs.Places.{filter_map_forth, get_front, get_map}
 use Rattle.ir_ast.specs.declared.types.Ty.{Ty}
 use Rattle.ir_ast.specs.declared.ops.Callee.{Callee}
 use Rattle.ir_ast.specs.declared.ops.Callee.TheVariants.{Fun as Defined, TaskStart, Check}
@@ -20,10 +21,9 @@ use Rattle.ir_ast.specs.Operands.{is_literal, value_in, operands_of}
 use Rattle.ir_ast.specs.Scope.{Scope}
 use Rattle.ir_ast.specs.Faults.PhiEdges.{is_phi}
 use Rattle.ir_ast.specs.Faults.TypeClash.{Fits, asked, HasField, StartsTask, ChecksKind, TakesOperands, IsCallOf, RuleOf, IsTyped, FunctionIsTyped}
-use Rattle.ir_cfg.specs.Marks.{Marked}
+use Rattle.graph_search.specs.Paths.{Marked}
 use Rattle.ir_cfg.specs.Unreached.{Kept, kept_of, kept_by, value_marks, operand_kept, has_mark, function_kept}
-use Rattle.ir_cfg.proofs.PlaceLemmas.{get_front}
-use Rattle.ir_cfg.proofs.KeepsPlaces.{filter_map_forth, get_map, kept_get, number_of_marked}
+use Rattle.ir_cfg.proofs.KeepsPlaces.{kept_get, number_of_marked}
 use Rattle.ir_cfg.proofs.KeepsLines.{IsKept, all_lines, inst_left, inst_new, line_at, two_steps}
 use Rattle.ir_cfg.proofs.KeepsUses.{Lasts, phi_operands}
 use Rattle.ir_cfg.proofs.KeepsForms.{left_plain}

@@ -4,6 +4,8 @@ use Rattle.std.specs.List.{filter_map, flat_map}
 use Rattle.std.proofs.lemmas.List.{map-append, length-map, get_or_past, nil_from_length}
 use Rattle.std.proofs.lemmas.Option.{none-some, same_Some, slice_get-get_or}
 use Rattle.std.proofs.lemmas.Bool.{cases_lt, cases_Bool, false≢true, true≢false}
+use Rattle.list_laws.proofs.Places.{filter_map_back, get_front, get_middle, get_past, map_back}
+use Rattle.list_laws.proofs.Contents.{contains_get, get_contained}
 use Rattle.sp_ids.specs.declared.ids.BlockId.{BlockId}
 use Rattle.ir_ast.specs.declared.types.Ty.{Ty}
 use Rattle.ir_ast.specs.declared.ops.Op.{Op}
@@ -20,11 +22,11 @@ use Rattle.ir_ast.specs.Faults.PhiEdges.{is_phi}
 use Rattle.ir_cfg.specs.Graphs.{graph_of}
 use Rattle.ir_cfg.specs.Paths.{Path}
 use Rattle.ir_cfg.specs.DefiniteUses.{Stands, Meets, IsDefinite, UsesAreDefinite, by_line, by_entry, in_arguments, in_earlier, in_last}
-use Rattle.ir_cfg.specs.Marks.{Marked, MarksReached}
+use Rattle.graph_search.specs.Paths.{Marked}
+use Rattle.ir_cfg.specs.Marks.{MarksReached}
 use Rattle.ir_cfg.specs.SourceModules.{IsSourceFunction}
 use Rattle.ir_cfg.specs.Unreached.{Kept, kept_of, kept_by, new_numbers, value_marks, operand_kept, label_kept, has_mark, inst_kept, function_kept}
-use Rattle.ir_cfg.proofs.PlaceLemmas.{get_front}
-use Rattle.ir_cfg.proofs.KeepsPlaces.{all_marks, at_middle, before_le, before_same, contains_at, contains_by, filter_map_back, get_past, kept_back, map_back, map_through, marks_before, number_of_marked}
+use Rattle.ir_cfg.proofs.KeepsPlaces.{all_marks, before_le, before_same, kept_back, map_through, marks_before, number_of_marked}
 use Rattle.ir_cfg.proofs.KeepsLines.{IsKept, block_back, inst_left, inst_new, labels_left, line_at, operands_left, stands_back, two_steps}
 use Rattle.ir_cfg.proofs.KeepsValues.{argument_marked, defines_kept, value_marked}
 use Rattle.ir_cfg.proofs.KeepsPaths.{marked_block, on_path, path_to, target_marked}
@@ -139,12 +141,12 @@ meets_marked : (marks : List Bool) (func : Function) (value last : ℕ) (path : 
 meets_marked marks func value last path place reached walked (in_arguments below) = argument_marked marks func value below
 meets_marked marks func value last path place reached walked (in_earlier front back block next at whole defines) =
     let stands : slice_get path (length front) ≡ Some block =
-    ap (λ (p : List ℕ). slice_get p (length front)) whole ∙ at_middle front block (next ∷ back) in
+    ap (λ (p : List ℕ). slice_get p (length front)) whole ∙ get_middle front block (next ∷ back) in
     value_marked marks func value block at
     (reached.complete block (on_path (graph_of func) path last walked (length front) block stands)) defines
 meets_marked marks func value last path place reached walked (in_last front block at whole defines before) =
     let stands : slice_get path (length front) ≡ Some block =
-    ap (λ (p : List ℕ). slice_get p (length front)) whole ∙ at_middle front block [] in
+    ap (λ (p : List ℕ). slice_get p (length front)) whole ∙ get_middle front block [] in
     value_marked marks func value block at
     (reached.complete block (on_path (graph_of func) path last walked (length front) block stands)) defines
 
@@ -163,14 +165,14 @@ meets_kept marks func value last path place reached walked (in_arguments below) 
     in_arguments (omega arith)
 meets_kept marks func value last path place reached walked (in_earlier front back block next at whole defines) =
     let stands : slice_get path (length front) ≡ Some block =
-    ap (λ (p : List ℕ). slice_get p (length front)) whole ∙ at_middle front block (next ∷ back) in
+    ap (λ (p : List ℕ). slice_get p (length front)) whole ∙ get_middle front block (next ∷ back) in
     let marked = reached.complete block (on_path (graph_of func) path last walked (length front) block stands) in
     in_earlier (map (marks_before marks) front) (map (marks_before marks) back) (marks_before marks block) (marks_before marks next) at
     (ap (map (marks_before marks)) whole ∙ map-append (marks_before marks) front (block ∷ next ∷ back))
     (defines_kept marks func value block at marked defines)
 meets_kept marks func value last path place reached walked (in_last front block at whole defines before) =
     let stands : slice_get path (length front) ≡ Some block =
-    ap (λ (p : List ℕ). slice_get p (length front)) whole ∙ at_middle front block [] in
+    ap (λ (p : List ℕ). slice_get p (length front)) whole ∙ get_middle front block [] in
     let marked = reached.complete block (on_path (graph_of func) path last walked (length front) block stands) in
     in_last (map (marks_before marks) front) (marks_before marks block) at
     (ap (map (marks_before marks)) whole ∙ map-append (marks_before marks) front (block ∷ []))
@@ -242,7 +244,7 @@ uses_kept marks func reached definite _ _ _ _ (by_line number place value inst s
     let s = stands_back marks func number place inst stands in
     let is : inst ≡ inst_new kept (inst_left kept s.old) = s.is ∙ two_steps kept s.old in
     let was_plain : is_phi s.old.op ≡ false = sym (ap (λ (i : Instruction). is_phi i.op) s.is) ∙ plain in
-    let at = contains_at (values_used inst) value used in
+    let at = get_contained (values_used inst) value used in
     let there : slice_get (map (λ (v : ℕ). get_or kept.values v 0) (values_used (inst_left kept s.old))) at.0 ≡ Some value =
     ap (λ (vs : List ℕ). slice_get vs at.0) (sym (ap values_used is ∙ used_new kept (inst_left kept s.old))) ∙ at.1 in
     let m = map_back (λ (v : ℕ). get_or kept.values v 0) (values_used (inst_left kept s.old)) at.0 value there in
@@ -251,7 +253,7 @@ uses_kept marks func reached definite _ _ _ _ (by_line number place value inst s
     (sym (plain_operands kept s.old.op s.old.labels s.old.operands was_plain)) ∙ m.stands in
     carried marks func m.before s.block place value number place reached s.marked
     (definite _ m.before s.block place
-    (by_line s.block place m.before s.old s.stands was_plain (contains_by (values_used s.old) at.0 m.before was_used)))
+    (by_line s.block place m.before s.old s.stands was_plain (contains_get (values_used s.old) at.0 m.before was_used)))
     m.is s.same_block refl
 uses_kept marks func reached definite _ _ _ _ (by_entry number place entry value phi operand label from stands is at_label at_operand in_operand in_function) =
     let kept = kept_by marks func in
@@ -308,7 +310,7 @@ plain_values marks func number place inst reached definite marked stands plain =
     ap (λ (os : List Operand). slice_get (filter_map value_in (os ++ map (λ entry. entry.1) inst.bundle)) k)
     (sym (plain_operands kept inst.op inst.labels inst.operands plain)) ∙ used in
     definite_marked marks func value number place reached marked
-    (definite _ value number place (by_line number place value inst stands plain (contains_by (values_used inst) k value was_used)))
+    (definite _ value number place (by_line number place value inst stands plain (contains_get (values_used inst) k value was_used)))
 
 phi_labels_marked : (marks : List Bool) (func : Function) (inst : Instruction) → is_phi inst.op ≡ true
     → (k : ℕ) (label : BlockId) → slice_get (inst_left (kept_by marks func) inst).labels k ≡ Some label → Marked marks label.0

@@ -5,16 +5,16 @@ use Rattle.std.proofs.lemmas.List.{length-append, length-map, length-replicate, 
 use Rattle.std.proofs.lemmas.List.Elements.{filter-append}
 use Rattle.std.proofs.lemmas.List.Sums.{length-filter, count_by_more_yes, sum_by-take-le}
 use Rattle.std.proofs.lemmas.Option.{none-some, same_Some, slice_get_within, get_or_from_slice_get}
+use Rattle.list_laws.proofs.Places.{get_front, get_past, get_replicate}
 use Rattle.ir_ast.specs.Insts.{Instruction}
 use Rattle.ir_ast.specs.Blocks.{BasicBlock}
 use Rattle.ir_ast.specs.Funcs.{Function, instructions_of}
 use Rattle.ir_ast.specs.Values.{Definition, argument, outcome, definitions_of, definition_name, definition_type, value_types}
 use Rattle.ir_ast.specs.Faults.GroupShape.{number_at}
 use Rattle.ir_cfg.specs.DefiniteUses.{Stands, Defines, text_place}
-use Rattle.ir_cfg.specs.Marks.{Marked}
+use Rattle.graph_search.specs.Paths.{Marked}
 use Rattle.ir_cfg.specs.Unreached.{Kept, kept_of, kept_by, inst_kept, block_kept, result_count, result_marks, value_marks, function_kept}
-use Rattle.ir_cfg.proofs.PlaceLemmas.{get_front}
-use Rattle.ir_cfg.proofs.KeepsPlaces.{before_past_falses, before_past_trues, before_trues, get_past, get_replicate, kept_map, kept_none, kept_some, map_through, marks_before, take_past}
+use Rattle.ir_cfg.proofs.KeepsPlaces.{before_past_falses, before_past_trues, before_trues, kept_map, kept_none, kept_some, map_through, marks_before, take_past}
 use Rattle.ir_cfg.proofs.KeepsLines.{instructions_mapped, stands_kept}
 
 abbrev pub named : Instruction → Bool

@@ -2,8 +2,7 @@ pub mod RowLemmas
 pub mod GraphLemmas
 pub mod CountLemmas
 pub mod TurnLemmas
-pub mod PlaceLemmas
-pub mod SearchLemmas
+pub mod PathLemmas
 pub mod CycleLemmas
 pub mod KeptLemmas
 pub mod KeepsPlaces

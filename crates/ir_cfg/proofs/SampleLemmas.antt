@@ -1,13 +1,14 @@
 -- The function of the tests, alone in a module, is one of a source module.
-use Rattle.std.proofs.Common.{◌≡◌, ℕ, zero, suc, ◌<◌, ◌≤◌, Bool, true, false, List, [], ◌∷◌, ◌++◌, length, map, refl, ap, sym, arith, rules, codes, Option, Some, None, slice_get, inl, inr, ◌⊎◌, ◌∙◌, subst}
-use Rattle.std.specs.List.{All, Contains}
+use Rattle.std.proofs.Common.{◌≡◌, ℕ, zero, suc, ◌<◌, ◌≤◌, Bool, true, false, List, [], ◌∷◌, length, map, refl, ap, sym, arith, codes, Option, Some, None, slice_get, inl, inr, ◌∙◌, subst}
+use Rattle.std.specs.List.{All}
 use Rattle.std.proofs.lemmas.List.Elements.{All-nil, All-cons}
 use Rattle.std.proofs.lemmas.Option.{none-some}
-use Rattle.std.proofs.lemmas.Bool.{false≢true, true≢false}
+use Rattle.std.proofs.lemmas.Bool.{true≢false}
+use Rattle.list_laws.proofs.Places.{get_middle}
+use Rattle.list_laws.proofs.Contents.{get_contained}
 use Rattle.sp_ids.specs.declared.ids.BlockId.{BlockId}
 use Rattle.ir_ast.specs.declared.modules.Form.TheVariants.{Source}
 use Rattle.ir_ast.specs.declared.types.Ty.{Ty}
-use Rattle.ir_ast.specs.declared.types.Ty.TheVariants.{Int}
 use Rattle.ir_ast.specs.declared.funcs.Arg.{Arg}
 use Rattle.ir_ast.specs.declared.ops.Operand.{Operand}
 use Rattle.ir_ast.specs.Types.{is_first_class}
@@ -32,11 +33,10 @@ use Rattle.ir_ast.specs.Faults.TypeClash.{IsTyped, FunctionIsTyped, Fits}
 use Rattle.ir_ast.specs.Faults.PointerOrder.{orders_pointers}
 use Rattle.ir_ast.specs.Faults.Reserved.{externals, IsExternalName, IsInsertedName, IsSource}
 use Rattle.ir_ast.specs.Faults.DerivedEscapes.{KeepsDerived}
-use Rattle.ir_cfg.specs.DefiniteUses.{Stands, Uses, by_line, by_entry, IsDefinite, UsesAreDefinite}
+use Rattle.ir_cfg.specs.DefiniteUses.{Uses, by_line, by_entry}
 use Rattle.ir_cfg.specs.Limits.{IsName}
 use Rattle.ir_cfg.specs.SourceModules.{IsSourceFunction, IsSourceModule}
 use Rattle.ir_cfg.specs.Samples.{jump_to, jumping, waiting}
-use Rattle.ir_cfg.proofs.KeepsPlaces.{contains_at, at_middle}
 use Rattle.ir_cfg.proofs.KeepsLines.{line_at, inst_at}
 
 -- each of the three lines is the same
@@ -60,7 +60,7 @@ no_phi op_is_phi plain phi = true≢false (sym phi ∙ plain)
 no_phis : PhisAreRight waiting
 no_phis = λ number block before after phi in_function whole is.
     let at : slice_get block.insts (length before) ≡ Some phi =
-    ap (λ (insts : List Instruction). slice_get insts (length before)) whole ∙ at_middle before phi after in
+    ap (λ (insts : List Instruction). slice_get insts (length before)) whole ∙ get_middle before phi after in
     let plain = inst_at (λ (inst : Instruction). is_phi inst.op ≡ false) waiting.blocks number (length before) block phi in_function at
     (each_line (λ (inst : Instruction). is_phi inst.op ≡ false) refl) in
     absurd (no_phi (is_phi phi.op) plain is)
@@ -96,7 +96,7 @@ sample = record { layouts = []; funcs = waiting ∷ []; form = Source }
 nothing_used : (line value block place : ℕ) → Uses waiting line value block place → ⊥
 nothing_used _ _ _ _ (by_line number place value inst stands plain used) =
     let none = line_at (λ (i : Instruction). values_used i ≡ []) waiting number place inst stands (each_line (λ (i : Instruction). values_used i ≡ []) refl) in
-    let at = contains_at (values_used inst) value used in
+    let at = get_contained (values_used inst) value used in
     none-some value (ap (λ (vs : List ℕ). slice_get vs at.0) (sym none) ∙ at.1)
 nothing_used _ _ _ _ (by_entry number place entry value phi operand label from stands is at_label at_operand in_operand in_function) =
     no_phi (is_phi phi.op) (line_at (λ (i : Instruction). is_phi i.op ≡ false) waiting number place phi stands (each_line (λ (i : Instruction). is_phi i.op ≡ false) refl)) is
@@ -139,7 +139,7 @@ no_external (suc (suc (suc (suc (suc zero))))) is = let e : first_byte (codes "g
 no_external (suc (suc (suc (suc (suc (suc k)))))) is = none-some (codes "main") is
 
 not_external : IsExternalName (codes "main") → ⊥
-not_external (inl is) = let at = contains_at externals (codes "main") is in no_external at.0 at.1
+not_external (inl is) = let at = get_contained externals (codes "main") is in no_external at.0 at.1
 not_external (inr (inl front)) = let e : first_byte (codes "main") ≡ first_byte (codes "gc_new.") = ap first_byte front.1 in omega arith
 not_external (inr (inr front)) = let e : first_byte (codes "main") ≡ first_byte (codes "llvm.") = ap first_byte front.1 in omega arith
 

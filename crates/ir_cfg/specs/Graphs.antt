@@ -27,6 +27,10 @@ abbrev pub preds_of : Graph → ℕ → List BlockId
 preds_of graph block =
     flat_map (λ from. replicate (count_of block (succs_of graph from)) (block_at from)) (range_with_len 0 (length graph))
 
+-- the edges by number
+abbrev pub numbers_of : Graph → List (List ℕ)
+numbers_of graph = map (map (λ label. label.0)) graph
+
 -- an edge of one block leads to another: the one with this number among its edges
 pub record Edge (graph : Graph) (from to : ℕ) : Type 0 where
   pub number : ℕ

@@ -1,6 +1,5 @@
 -- A small function, at which the tests try the calls.
 use Rattle.std.specs.Prelude.{ℕ, List, [], ◌∷◌, None, codes}
-use Rattle.sp_ids.specs.declared.ids.BlockId.{BlockId}
 use Rattle.ir_ast.specs.declared.types.Ty.TheVariants.{Void, Int}
 use Rattle.ir_ast.specs.declared.ops.Op.TheVariants.{Br}
 use Rattle.ir_ast.specs.Insts.{Instruction}

@@ -1,7 +1,7 @@
 ghost use Rattle.std.specs.Prelude.{◌≡◌, ◌<◌, ◌↔◌, length, IfOk, IsTrue, nat_le};
 ghost use Rattle.std.specs.List.{list_any};
 ghost use Rattle.ir_ast.specs.Formed.{IsFormed};
-ghost use Rattle.ir_cfg.specs.Graphs.{graph_of, succs_of, preds_of, Retreats};
+ghost use Rattle.ir_cfg.specs.Graphs.{graph_of, succs_of, preds_of, numbers_of, Retreats};
 ghost use Rattle.ir_cfg.specs.Paths.{Reached};
 ghost use Rattle.ir_cfg.specs.PollPoints.{CyclesPoll};
 
@@ -9,6 +9,7 @@ use crate::graphs::edges;
 use crate::reach::marks;
 use crate::rows::Rows;
 use crate::turned::turned;
+use graph_search::Edges;
 use ir_ast::Func;
 use sp_ids::{BlockId, Memory};
 use std::alloc::Global;
@@ -84,6 +85,23 @@ impl Cfg {
         ensures cycles_poll { CyclesPoll self.now }
     {
         any_up_to(self.succs(block), block)
+    }
+}
+
+/// The blocks by number, for a search along edges.
+impl Edges for Cfg {
+    ghost rows = { λ cfg. numbers_of cfg };
+
+    fn node_count(&self) -> usize {
+        self.succs.node_count()
+    }
+
+    fn degree(&self, node: usize) -> usize {
+        self.succs.degree(node)
+    }
+
+    fn target(&self, node: usize, number: usize) -> usize {
+        self.succs.target(node, number)
     }
 }
 

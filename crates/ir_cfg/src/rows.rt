@@ -1,7 +1,8 @@
 ghost use Rattle.std.specs.Prelude.{◌≡◌, ◌<◌, ◌≤◌, [], ◌∷◌, ◌++◌, length, slice_index, slice_range, IfOk};
-ghost use Rattle.ir_cfg.specs.Graphs.{succs_of, labels_of};
+ghost use Rattle.ir_cfg.specs.Graphs.{succs_of, labels_of, numbers_of};
 ghost use Rattle.ir_cfg.specs.Rows.{rows_from, AreStops};
 
+use graph_search::Edges;
 use sp_ids::{BlockId, Memory};
 use std::alloc::Global;
 use std::marker::Model;
@@ -75,6 +76,23 @@ impl Rows {
         ensures { result.now ≡ succs_of self.now place }
     {
         row_of(self.stops.as_slice(), self.items.as_slice(), place)
+    }
+}
+
+/// The blocks by number.
+impl Edges for Rows {
+    ghost rows = { λ rows. numbers_of rows };
+
+    fn node_count(&self) -> usize {
+        self.len()
+    }
+
+    fn degree(&self, node: usize) -> usize {
+        self.row(node).len()
+    }
+
+    fn target(&self, node: usize, number: usize) -> usize {
+        self.row(node)[number].0 as usize
     }
 }
 

@@ -1,7 +1,8 @@
 -- Names that are added one after another, and what is found of them.
-use Rattle.std.proofs.Common.{◌≡◌, ◌∙◌, ℕ, ◌⊎◌, inl, inr, Bool, true, false, List, [], ◌∷◌, ◌++◌, refl, ap, sym, subst, append_assoc}
+use Rattle.std.proofs.Common.{◌≡◌, ◌∙◌, ℕ, ◌⊎◌, inl, inr, Bool, false, List, [], ◌∷◌, ◌++◌, refl, ap, sym, subst, append_assoc}
 use Rattle.std.specs.Prelude.{map, Option, is_none, not, IsTrue, ◌↔◌}
 use Rattle.std.specs.List.{Contains}
+use Rattle.std.proofs.lemmas.Bool.{not-true}
 use Rattle.std.proofs.lemmas.List.{append-nil, map-append}
 use Rattle.ir_lines.specs.declared.faults.Fault.{Fault}
 use Rattle.ir_ast.specs.declared.modules.Form.{Form}
@@ -13,8 +14,8 @@ use Rattle.ir_lines.specs.InBody.{Repeats}
 use Rattle.ir_lines.specs.Again.{FoundAfter, IsAgain, IsBadName, NamesFound}
 use Rattle.ir_lines.proofs.NoteLemmas.{Either, notes-then, notes-same}
 use Rattle.ir_lines.proofs.PlaceLemmas.{place-contains, contains-place}
-use Rattle.ir_lines.proofs.Members.{contains-none, contains-here, contains-cases}
 use Rattle.std.proofs.lemmas.List.Elements.{Contains-append_right}
+use Rattle.list_laws.proofs.Contents.{contains_cons, contains_first, contains_none}
 
 abbrev pub Given : Type 0
 Given = ℕ × List ℕ
@@ -137,10 +138,6 @@ one-found F names at one line code e f = record {
 
 -- ---- notes
 
-not-true : (b : Bool) → not b ≡ true → b ≡ false
-not-true false e = refl
-not-true true e = let bad : false ≡ true = e in cc
-
 pub notes-added : (F : Finds) (names : List (List ℕ)) (a b : List Given) (old between new : Option Fault)
     → Notes old between (FoundAfter F names a) → Notes between new (FoundAfter F (names ++ names_of a) b)
     → Notes old new (FoundAfter F names (a ++ b))
@@ -213,7 +210,7 @@ repeats-again given line code e r =
 
 contains-at : (before : List Given) (one : Given) (after given : List Given) → given ≡ before ++ one ∷ after → Contains given one
 contains-at before one after given e =
-    subst (λ (xs : List Given). Contains xs one) (sym e) (Contains-append_right before (one ∷ after) one (contains-here one after))
+    subst (λ (xs : List Given). Contains xs one) (sym e) (Contains-append_right before (one ∷ after) one (contains_first one after))
 
 pub names-found : (form : Form) (given : List Given) (line code : ℕ) → FoundAfter (IsBadName form) [] given line code → NamesFound form given line code
 names-found form given line code f = of f.before f.name f.after f.whole f.faulty
@@ -237,8 +234,8 @@ split-more y ys x (inr d) more =
     let s = more d in record { before = y ∷ s.before; after = s.after; whole = ap (λ zs. y ∷ zs) s.whole }
 
 pub split-at : {X : Type 0} (xs : List X) (x : X) → Contains xs x → IsSplit xs x
-split-at [] x c = absurd (contains-none x c)
-split-at (y ∷ ys) x c = split-more y ys x (contains-cases y ys x c) (split-at ys x)
+split-at [] x c = absurd (contains_none x c)
+split-at (y ∷ ys) x c = split-more y ys x (contains_cons y x ys c) (split-at ys x)
 
 pub found-names : (form : Form) (given : List Given) (line code : ℕ) → NamesFound form given line code → FoundAfter (IsBadName form) [] given line code
 found-names form given line code (inl (e, r)) =

@@ -1,8 +1,8 @@
 -- The front of a list, up to the first element that passes a test.
-use Rattle.std.proofs.Common.{◌≡◌, ◌∙◌, ℕ, ◌+◌, ◌<◌, ◌≤◌, Bool, true, false, cond, List, [], ◌∷◌, ◌++◌, length, get_or, take, drop, zero, suc, refl, ap, sym, arith, append_assoc}
+use Rattle.std.proofs.Common.{◌≡◌, ◌∙◌, ℕ, ◌+◌, ◌<◌, ◌≤◌, Bool, true, false, cond, List, [], ◌∷◌, ◌++◌, length, get_or, take, refl, ap, sym, arith, append_assoc}
 use Rattle.std.specs.Prelude.{map, position, nat_lt, not, take_while, Some, None}
 use Rattle.std.specs.List.{prefix_len, position_or_len}
-use Rattle.std.proofs.lemmas.List.{take-map, take_all, take_more, drop_more}
+use Rattle.std.proofs.lemmas.List.{take-map, take_all, take_more}
 use Rattle.std.proofs.lemmas.Bool.Decides.{nat_tests}
 
 prefix-map : {A B : Type 0} (q : A → Bool) (p : B → Bool) (v : A → B) → ((a : A) → p (v a) ≡ not (q a)) → (xs : List A)
@@ -44,16 +44,8 @@ front-none q p v same xs e = by (nat_lt (position_or_len q xs) (length xs)) refl
 pub taken : {X : Type 0} (xs : List X) (i : ℕ) (x : X) → i < length xs → x ≡ get_or xs i x → take (i + 1) xs ≡ take i xs ++ x ∷ []
 taken xs i x below is = take_more xs i x below ∙ ap (λ y. take i xs ++ y ∷ []) (sym is)
 
-pub dropped : {X : Type 0} (xs : List X) (i : ℕ) (x : X) → i < length xs → x ≡ get_or xs i x → drop i xs ≡ x ∷ drop (i + 1) xs
-dropped xs i x below is = drop_more xs i x below ∙ ap (λ y. y ∷ drop (i + 1) xs) (sym is)
-
 -- what is made so far and what the rest makes
 pub rest-moved : {B : Type 0} (items more here rest left whole : List B) → more ≡ items ++ here → left ≡ here ++ rest
     → items ++ left ≡ whole → more ++ rest ≡ whole
 rest-moved items more here rest left whole is next e =
     ap (λ xs. xs ++ rest) is ∙ append_assoc items here rest ∙ ap (λ xs. items ++ xs) (sym next) ∙ e
-
-pub get-map : {X Y : Type 0} (f : X → Y) (xs : List X) (i : ℕ) (d : X) (e : Y) → i < length xs → get_or (map f xs) i e ≡ f (get_or xs i d)
-get-map f [] i d e below = absurd (let b : i < 0 = below in omega arith)
-get-map f (x ∷ xs) zero d e below = refl
-get-map f (x ∷ xs) (suc i) d e below = get-map f xs i d e (let b : suc i < length (x ∷ xs) = below in omega arith)

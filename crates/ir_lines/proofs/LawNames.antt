@@ -1,18 +1,18 @@
 -- Names and the places that they stand for.
-use Rattle.std.proofs.Common.{◌≡◌, ◌∙◌, ◌⊎◌, inl, inr, ℕ, zero, suc, ◌-◌, ◌^◌, ◌<◌, Bool, true, false, cond, List, [], ◌∷◌, ◌++◌, map, length, take, drop, refl, ap, sym, subst, arith}
-use Rattle.std.specs.Prelude.{Some, None, is_none, position, find, filter, slice_get, option_map, nat_lt, min, ⊤}
+use Rattle.std.proofs.Common.{◌≡◌, ◌∙◌, ◌⊎◌, inl, inr, ℕ, zero, suc, ◌-◌, ◌^◌, ◌<◌, Bool, true, false, cond, List, [], ◌∷◌, ◌++◌, map, length, take, drop, refl, ap, sym, subst, arith, add-one}
+use Rattle.std.specs.Prelude.{Some, is_none, position, find, filter, slice_get, option_map, nat_lt, min, ⊤}
 use Rattle.std.specs.List.{Contains, position_or_len}
 use Rattle.std.specs.Str.{bytes_eq}
 use Rattle.std.proofs.lemmas.Bool.Decides.{nat_tests}
-use Rattle.std.proofs.lemmas.Option.{slice_get-map, slice_get_within, slice_get-get_or, get_or_from_slice_get, same_Some}
+use Rattle.std.proofs.lemmas.Option.{slice_get-map, slice_get_within, same_Some}
 use Rattle.std.proofs.lemmas.List.{length-map}
 use Rattle.ir_ast.specs.Lists.{Distinct}
 use Rattle.ir_lines.specs.Places.{place_in, number_of, number_in}
 use Rattle.ir_lines.specs.InBody.{Repeats}
-use Rattle.std.proofs.lemmas.Slice.Eq.{bytes_eq-Decides}
-
-bytes_same : (a b : List ℕ) → bytes_eq a b ≡ true → a ≡ b
-bytes_same a b e = (bytes_eq-Decides a b).0 e
+use Rattle.list_laws.proofs.Places
+use Rattle.ir_lines.proofs.Positions.{bytes_eq-same}
+pub use Rattle.list_laws.proofs.Places.{get_some, get_taken}
+pub use Rattle.list_laws.proofs.Contents.{contains_get, get_contained, contains_first, contains_later, contains_cons, contains_middle, contains_map}
 
 pub position-cons : {X : Type 0} (p : X → Bool) (x : X) (xs : List X)
     → position p (x ∷ xs) ≡ cond (p x) (Some 0) (option_map suc (position p xs))
@@ -46,7 +46,7 @@ stands {X} f (x ∷ xs) name e = by (bytes_eq name (f x)) refl (stands f xs name
           ∙ ap (λ (b : Bool). cond b (Some 0) (option_map suc (place_in (map f xs) name))) is;
       there = refl;
       found = ap (λ (b : Bool). cond b (Some x) (find (λ y. bytes_eq name (f y)) xs)) is;
-      same = sym (bytes_same name (f x) is);
+      same = sym (bytes_eq-same name (f x) is);
     }
     by false is ih =
         let skip : find (λ y. bytes_eq name (f y)) (x ∷ xs) ≡ find (λ y. bytes_eq name (f y)) xs =
@@ -72,49 +72,9 @@ number-is f xs name s few =
     let below = stands_below f xs name s in
     ap number_of s.placed ∙ (let e : min s.place (2 ^ 32 - 1) ≡ s.place = omega arith in e)
 
--- ---- membership
-
-pub contains_get : {A : Type 0} (xs : List A) (k : ℕ) (x : A) → slice_get xs k ≡ Some x → Contains xs x
-contains_get xs k x e = (k, slice_get_within xs k x e, get_or_from_slice_get xs k x x e)
-
-pub get_contained : {A : Type 0} (xs : List A) (x : A) → Contains xs x → (k : ℕ) × (slice_get xs k ≡ Some x)
-get_contained xs x c = (c.0, slice_get-get_or xs c.0 x c.1 ∙ ap Some c.2)
-
-pub get_some : {A : Type 0} (xs : List A) (k : ℕ) → k < length xs → (x : A) × (slice_get xs k ≡ Some x)
-get_some [] k within = absurd (omega arith)
-get_some (x ∷ xs) zero within = (x, refl)
-get_some (x ∷ xs) (suc k) within = get_some xs k (omega arith)
-
-pub contains_first : {A : Type 0} (x : A) (xs : List A) → Contains (x ∷ xs) x
-contains_first x xs = contains_get (x ∷ xs) 0 x refl
-
-pub contains_later : {A : Type 0} (x y : A) (xs : List A) → Contains xs y → Contains (x ∷ xs) y
-contains_later x y xs c = let g = get_contained xs y c in contains_get (x ∷ xs) (suc g.0) y g.1
-
-pub contains_cons : {A : Type 0} (x y : A) (xs : List A) → Contains (x ∷ xs) y → (x ≡ y) ⊎ Contains xs y
-contains_cons {A} x y xs c = by (get_contained (x ∷ xs) y c).0 (get_contained (x ∷ xs) y c).1
-  where
-    by : (k : ℕ) → slice_get (x ∷ xs) k ≡ Some y → (x ≡ y) ⊎ Contains xs y
-    by zero e = inl (same_Some x y e)
-    by (suc k) e = inr (contains_get xs k y e)
-
-pub contains_middle : {A : Type 0} (before : List A) (x : A) (after : List A) → Contains (before ++ x ∷ after) x
-contains_middle [] x after = contains_first x after
-contains_middle (y ∷ before) x after = contains_later y x (before ++ x ∷ after) (contains_middle before x after)
-
-pub contains_map : {A B : Type 0} (f : A → B) (xs : List A) (x : A) → Contains xs x → Contains (map f xs) (f x)
-contains_map f xs x c = let g = get_contained xs x c in contains_get (map f xs) g.0 (f x) (slice_get-map f xs g.0 ∙ ap (option_map f) g.1)
-
+-- the place of `list_laws`, with what stands behind it
 pub split_at : {A : Type 0} (xs : List A) (k : ℕ) (x : A) → slice_get xs k ≡ Some x → xs ≡ take k xs ++ x ∷ drop (suc k) xs
-split_at [] k x e = absurd (let bad : None ≡ Some x = e in cc)
-split_at (y ∷ ys) zero x e = ap (λ z. z ∷ ys) (same_Some y x e)
-split_at (y ∷ ys) (suc k) x e = ap (λ zs. y ∷ zs) (split_at ys k x e)
-
-pub get_taken : {A : Type 0} (xs : List A) (j k : ℕ) → j < k → slice_get (take k xs) j ≡ slice_get xs j
-get_taken xs j zero below = absurd (omega arith)
-get_taken [] j (suc k) below = refl
-get_taken (x ∷ xs) zero (suc k) below = refl
-get_taken (x ∷ xs) (suc j) (suc k) below = get_taken xs j k (omega arith)
+split_at xs k x at = Places.split_at xs k x at ∙ ap (λ n. take k xs ++ x ∷ drop n xs) (add-one k)
 
 -- ---- names that stand once
 

@@ -4,7 +4,6 @@ pub mod Samples
 pub mod NoteLemmas
 pub mod LawNames
 pub mod Steps
-pub mod Members
 pub mod AgainLemmas
 pub mod PlaceLemmas
 pub mod FrontLemmas

@@ -1,7 +1,6 @@
 -- Words below 2^64 against wider powers.
-use Rattle.std.proofs.Common.{◌≡◌, ℕ, ◌-◌, ◌%◌, ◌^◌, ◌<◌, ◌≤◌, arith}
+use Rattle.std.proofs.Common.{ℕ, ◌-◌, ◌^◌, ◌<◌, ◌≤◌, arith}
 use Rattle.std.proofs.Math.Pow.{pow_mono}
-use Rattle.std.proofs.lemmas.Nat.{pow_pos}
 
 pub narrow_below : (width number : ℕ) → 64 ≤ width → number < 2 ^ 64 → number < 2 ^ width
 narrow_below width number wide small = let p : 2 ^ 64 ≤ 2 ^ width = pow_mono wide in omega arith

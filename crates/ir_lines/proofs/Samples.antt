@@ -1,8 +1,6 @@
 -- The definitions at two small texts.
 use Rattle.std.specs.Prelude.{◌≡◌, ℕ, true, false, List, [], ◌∷◌, codes, Some, None, refl}
 use Rattle.sp_ids.specs.declared.ids.BlockId.{BlockId}
-use Rattle.sp_ids.specs.declared.ids.FuncId.{FuncId}
-use Rattle.sp_ids.specs.declared.ids.ValueId.{ValueId}
 use Rattle.ir_ast.specs.declared.types.Ty.TheVariants as tys
 use Rattle.ir_ast.specs.declared.modules.Form.TheVariants.{Source}
 use Rattle.ir_ast.specs.declared.ops.Op.TheVariants as ops
@@ -10,13 +8,12 @@ use Rattle.ir_ast.specs.declared.ops.Operand.{Operand}
 use Rattle.ir_ast.specs.declared.ops.Operand.TheVariants as operands
 use Rattle.ir_ast.specs.declared.ops.Callee.TheVariants as callees
 use Rattle.line_parts.specs.declared.readings.TypeWord.TheVariants as types
-use Rattle.line_tokens.specs.declared.literals.Literal.{Literal}
-use Rattle.line_tokens.specs.declared.words.Binary.TheVariants.{Add}
 use Rattle.line_parts.specs.Parts as values
+use Rattle.line_tokens.specs.declared.words.Binary.TheVariants.{Add}
 use Rattle.line_parts.specs.Parts.{Val}
 use Rattle.line_parts.specs.Lists.{given}
 use Rattle.ir_lines.specs.Statements.{Statement, Line, define, declare, close, label, binary, phi, call, jump, switch, switch_case, switch_end, ret}
-use Rattle.ir_lines.specs.Sections.{Definition, definitions_of}
+use Rattle.ir_lines.specs.Sections.{definitions_of}
 use Rattle.ir_lines.specs.Scope.{Scope, scope_of}
 use Rattle.ir_lines.specs.Modules.{instruction, module_of}
 use Rattle.ir_lines.specs.Faults.UnknownName.{names_unknown}

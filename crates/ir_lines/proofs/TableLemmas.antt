@@ -7,6 +7,7 @@ use Rattle.line_parts.specs.declared.readings.TypeWord.{TypeWord}
 use Rattle.line_parts.specs.Lists.{Named}
 use Rattle.ir_ast.specs.declared.modules.Form.{Form}
 use Rattle.ir_lines.specs.declared.faults.Fault.{Fault}
+use Rattle.std.proofs.lemmas.Grind.{flat_map-append}
 use Rattle.ir_lines.specs.declared.scope.Top.{Top}
 use Rattle.ir_lines.specs.declared.scope.Local.{Local}
 use Rattle.ir_lines.specs.Statements.{Line, Statement, define}
@@ -16,11 +17,6 @@ use Rattle.ir_lines.specs.Tables.{seen_head, IsTop, AddsLayouts, AddsHeads, Adds
 use Rattle.ir_lines.specs.Again.{FoundAfter, IsAgain, IsBadName, TopAgain, FoundByNames, named_layouts, named_heads, named_values, named_blocks}
 use Rattle.ir_lines.proofs.NoteLemmas.{Either, notes-then, notes-same, notes-nothing}
 use Rattle.ir_lines.proofs.AgainLemmas.{names_of, found-none, found-left, found-right, found-either, notes-added, again-repeats, repeats-again, names-found, found-names}
-
-pub flat_map-append : {X Y : Type 0} (f : X → List Y) (xs ys : List X) → flat_map f (xs ++ ys) ≡ flat_map f xs ++ flat_map f ys
-flat_map-append f [] ys = refl
-flat_map-append f (x ∷ xs) ys =
-    ap (λ zs. f x ++ zs) (flat_map-append f xs ys) ∙ sym (append_assoc (f x) (flat_map f xs) (flat_map f ys))
 
 pub flat_map-push : {X Y : Type 0} (f : X → List Y) (xs : List X) (x : X) → flat_map f (xs ++ x ∷ []) ≡ flat_map f xs ++ f x
 flat_map-push f xs x = flat_map-append f xs (x ∷ []) ∙ ap (λ zs. flat_map f xs ++ zs) (append-nil (f x))

@@ -1,9 +1,7 @@
 -- The module that lines stand for, and beside it the line of each instruction.
-use Rattle.std.specs.Prelude.{ℕ, ◌-◌, ◌%◌, ◌^◌, min, Bool, true, false, List, [], ◌∷◌, ◌++◌, map, flat_map, filter_map, drop, Option, Some, None, option_map, codes, if◌then◌else◌}
+use Rattle.std.specs.Prelude.{ℕ, ◌-◌, ◌%◌, ◌^◌, min, List, [], ◌∷◌, ◌++◌, map, flat_map, filter_map, drop, Option, Some, None, option_map, codes, if◌then◌else◌}
 use Rattle.std.specs.Str.{bytes_eq}
 use Rattle.sp_ids.specs.declared.ids.BlockId.{BlockId}
-use Rattle.sp_ids.specs.declared.ids.FuncId.{FuncId}
-use Rattle.sp_ids.specs.declared.ids.ValueId.{ValueId}
 use Rattle.ir_ast.specs.declared.types.Ty.{Ty}
 use Rattle.ir_ast.specs.declared.types.Ty.TheVariants as tys
 use Rattle.ir_ast.specs.declared.cells.Cell.{Cell}

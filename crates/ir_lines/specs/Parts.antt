@@ -1,12 +1,12 @@
 -- What a line of a function gives, uses and names.
 use Rattle.std.specs.Prelude.{ℕ, Bool, true, false, List, [], ◌∷◌, ◌++◌, map, Option, Some, None, filter_map}
+use Rattle.line_parts.specs.Parts as values
 use Rattle.line_parts.specs.declared.readings.TypeWord.{TypeWord}
-use Rattle.line_parts.specs.declared.readings.TypeWord.TheVariants.{Void, Int, Managed, Plain}
+use Rattle.line_parts.specs.declared.readings.TypeWord.TheVariants.{Void, Int, Managed}
 use Rattle.line_tokens.specs.declared.literals.Literal.{Literal}
 use Rattle.line_parts.specs.Parts.{Val}
-use Rattle.line_parts.specs.Parts as values
 use Rattle.line_parts.specs.Lists.{Given, given, function}
-use Rattle.ir_lines.specs.Statements.{Statement, label, binary, compare, convert, select, phi, scalar_step, layout_step, load, store, call, jump, branch, switch, switch_case, ret_void, ret, unreachable, cast, statepoint, gc_result, gc_relocate}
+use Rattle.ir_lines.specs.Statements.{Statement, binary, compare, convert, select, phi, scalar_step, layout_step, load, store, call, jump, branch, switch, switch_case, ret, cast, statepoint, gc_result, gc_relocate}
 
 -- the type of a statepoint's result, a token; no other value has the type word `void`
 abbrev pub token_type : TypeWord

@@ -1,7 +1,7 @@
 -- What a line says, by its parts.
-use Rattle.std.specs.Prelude.{ℕ, List, [], ◌∷◌, map, Option, Some, None, slice_get, Bool, true, false}
-use Rattle.line_forms.specs.declared.forms.Form.{Form}
 use Rattle.line_forms.specs.declared.forms.Form.TheVariants as forms
+use Rattle.std.specs.Prelude.{ℕ, List, [], map, Option, Some, None, slice_get, false}
+use Rattle.line_forms.specs.declared.forms.Form.{Form}
 use Rattle.line_tokens.specs.declared.words.Binary.{Binary}
 use Rattle.line_tokens.specs.declared.words.Conversion.{Conversion}
 use Rattle.line_tokens.specs.declared.words.Cast.{Cast}

@@ -2,14 +2,14 @@
 use Rattle.std.proofs.Common.{◌≡◌, ◌∙◌, ℕ, List, [], ◌∷◌, ◌++◌, ◌+◌, ◌<◌, ◌≤◌, add-one, length, get_or, drop, refl, ap, sym}
 use Rattle.std.specs.Prelude.{map, unwrap_or, decimal}
 use Rattle.std.proofs.Math.Seq.{drop-cons}
-use Rattle.std.proofs.lemmas.List.{length-map, append-nil, drop_all}
+use Rattle.std.proofs.lemmas.List.{length-map, append-nil, drop_all, drop_more}
 use Rattle.ir_ast.specs.declared.types.Ty.{Ty}
 use Rattle.ir_ast.specs.declared.funcs.Arg.{Arg}
 use Rattle.line_parts.specs.Lists.{Named}
 use Rattle.ir_lines.specs.Sections.{Naming, arguments_named, count_numbered}
 use Rattle.ir_lines.specs.Modules.{type_of, argument_of}
 use Rattle.module_build.proofs.CaseLemmas.{moved}
-use Rattle.ir_lines.proofs.Steps.{cut}
+use Rattle.list_laws.proofs.Places.{drop_item}
 use Rattle.module_build.proofs.Sizes.{few-arguments}
 
 abbrev pub paired : List Named → List (List ℕ) → List Arg
@@ -28,9 +28,6 @@ pub paired-is : (line : ℕ) (arguments : List Named) (names : List (List ℕ))
     → names ≡ map (λ (one : Naming). one.name) (arguments_named line [] arguments) → paired arguments names ≡ map argument_of (arguments_named line [] arguments)
 paired-is line arguments names e = ap (λ (ns : List (List ℕ)). paired arguments ns) e ∙ paired-named line [] arguments
 
-cut-at : {A : Type 0} (xs : List A) (i : ℕ) (d : A) → i < length xs → drop i xs ≡ get_or xs i d ∷ drop (i + 1) xs
-cut-at xs i d below = drop-cons xs i d below ∙ ap (λ n. get_or xs i d ∷ drop n xs) (sym (add-one i))
-
 abbrev argument_with : List ℕ → Ty → Arg
 argument_with name ty = record { name = name; ty = ty }
 
@@ -42,8 +39,8 @@ paired-more f g xs ys i d y name ty old new whole in' also is n t added so_far =
     let rest = paired (map f (drop (i + 1) xs)) (map g (drop (i + 1) ys)) in
     let one = get_or xs i d in
     moved old new (argument_with name ty) (paired (map f (drop i xs)) (map g (drop i ys))) rest whole added
-    (ap (λ zs. paired (map f zs) (map g (drop i ys))) (cut-at xs i d in')
-    ∙ ap (λ zs. paired (map f (one ∷ drop (i + 1) xs)) (map g zs)) (cut ys i y also is)
+    (ap (λ zs. paired (map f zs) (map g (drop i ys))) (drop_more xs i d in')
+    ∙ ap (λ zs. paired (map f (one ∷ drop (i + 1) xs)) (map g zs)) (drop_item ys i y also is)
     ∙ ap (λ (x : List ℕ). argument_with x (type_of (f one).ty) ∷ rest) (sym n)
     ∙ ap (λ (x : Ty). argument_with name x ∷ rest) (sym t)) so_far
 

@@ -24,10 +24,6 @@ pub case_labels-more : (names : List (List ℕ)) (line : NumberedReading) (rest 
 case_labels-more names line rest own value label e =
     ap (λ (r : Reading). case_labels names (record { number = line.line; says = said r } ∷ rest)) e
 
-pub cut : (xs : List NumberedReading) (i : ℕ) (x : NumberedReading) → i < length xs → x ≡ get_or xs i x → drop i xs ≡ x ∷ drop (i + 1) xs
-cut xs i x below is =
-    drop-cons xs i x below ∙ ap (λ y. y ∷ drop (suc i) xs) (sym is) ∙ ap (λ n. x ∷ drop n xs) (sym (add-one i))
-
 pub moved : {B : Type 0} (items more : List B) (one : B) (left rest whole : List B)
     → more ≡ items ++ one ∷ [] → left ≡ one ∷ rest → items ++ left ≡ whole → more ++ rest ≡ whole
 moved items more one left rest whole is next e =

@@ -23,7 +23,8 @@ use Rattle.ir_lines.specs.Notes.{Notes, Is}
 use Rattle.ir_lines.specs.Faults.TypeClash.{case_number, case_numbers, number_said}
 use Rattle.type_checks.specs.FunctionFaults.{is_among, is_number, CaseAt, CaseIsWrong, IsWrongAmong}
 use Rattle.ir_lines.proofs.NoteLemmas.{notes-same}
-use Rattle.type_checks.proofs.Founds.{cut-at, IsWholeAt, whole-at}
+use Rattle.list_laws.proofs.Places.{drop_at}
+use Rattle.type_checks.proofs.Founds.{IsWholeAt, whole-at}
 
 -- ---- the lines of cases
 
@@ -41,7 +42,7 @@ taken-more lines i l at =
 pub cases-at : (lines : List Line) (i : ℕ) (l : Line) → slice_get lines i ≡ Some l → is_case l.says ≡ true → AreCases lines i
     → cases_of lines ≡ take i lines ++ l ∷ cases_of (drop (i + 1) lines)
 cases-at lines i l at e run =
-    run ∙ ap (λ ls. take i lines ++ cases_of ls) (cut-at lines i l at)
+    run ∙ ap (λ ls. take i lines ++ cases_of ls) (drop_at lines i l at)
     ∙ ap (λ b. take i lines ++ cond b (l ∷ cases_of (drop (i + 1) lines)) []) e
 
 pub cases-more : (lines : List Line) (i : ℕ) (l : Line) → slice_get lines i ≡ Some l → is_case l.says ≡ true → AreCases lines i
@@ -78,7 +79,7 @@ pub cases-stop : (lines : List Line) (i : ℕ) (l : Line) → slice_get lines i 
     → i ≡ length (cases_of lines)
 cases-stop lines i l at e run =
     let all : cases_of lines ≡ take i lines
-    = run ∙ ap (λ ls. take i lines ++ cases_of ls) (cut-at lines i l at)
+    = run ∙ ap (λ ls. take i lines ++ cases_of ls) (drop_at lines i l at)
     ∙ ap (λ b. take i lines ++ cond b (l ∷ cases_of (drop (i + 1) lines)) []) e ∙ append-nil (take i lines) in
     sym (ap length all ∙ long-enough lines i l at)
 

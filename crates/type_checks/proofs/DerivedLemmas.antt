@@ -5,7 +5,9 @@ use Rattle.std.specs.List.{Contains, cons_option, list_any}
 use Rattle.std.specs.Str.{bytes_eq}
 use Rattle.std.proofs.lemmas.List.{length-set, length-map, map-append, append-nil, take-append-drop}
 use Rattle.std.proofs.lemmas.List.Elements.{Contains-push, Contains-push_cases, Contains-append_left, Contains-append_right, Contains-append_cases}
-use Rattle.std.proofs.lemmas.Option.{slice_get_within, same_Some}
+use Rattle.std.proofs.lemmas.Bool.{and_parts}
+use Rattle.std.proofs.lemmas.Grind.{flat_map-append}
+use Rattle.std.proofs.lemmas.Option.{slice_get_within, none-some, same_Some}
 use Rattle.std.proofs.lemmas.Slice.Eq.{bytes_eq-Decides}
 use Rattle.line_parts.specs.declared.readings.TypeWord.{TypeWord}
 use Rattle.line_parts.specs.Parts.{Val}
@@ -19,15 +21,18 @@ use Rattle.ir_lines.specs.Places.{place_in}
 use Rattle.ir_lines.specs.Sections.{Definition, Naming, arguments_named, result_named}
 use Rattle.type_checks.specs.FunctionFaults.{is_number, Escapes, EscapeAt}
 use Rattle.ir_lines.specs.Faults.DerivedEscapes.{StandsFor, Derived, by_step, by_merge}
-use Rattle.type_checks.specs.Follows.{UsedBy, Follows, is_first, by_use, AreInside, MarksFollowing, AddsUsers}
+use Rattle.graph_search.specs.Edges.{Edge, AreInside}
+use Rattle.graph_search.specs.Paths.{ReachedFrom, at_start, along, MarksReached}
+use Rattle.type_checks.specs.Follows.{AddsUsers}
 use Rattle.type_checks.specs.Derivations.{names_given, gives_first, count_given, one_if, all_if, numbers_used, steps_given, merged_given, IsStepAt, IsMergeAt, AreSources, MarksDerived, is_true, has_mark, is_marked, given_marked, lets_out}
 use Rattle.type_checks.proofs.CaseNotes.{eq-same, eq-itself, taken-more}
-use Rattle.type_checks.proofs.Founds.{IsWholeAt, whole-at, split-at, cases_below}
+use Rattle.list_laws.proofs.Places.{cases_below, get_front, get_middle, get_pushed, split_at}
+use Rattle.type_checks.proofs.Founds.{IsWholeAt, whole-at}
 use Rattle.ir_lines.proofs.LawNames.{position-cons}
-use Rattle.ir_lines.proofs.Members.{contains-none, contains-here, contains-there, contains-one, contains-cases}
+use Rattle.list_laws.proofs.Contents.{contains_cons, contains_first, contains_later, contains_none, contains_one}
 use Rattle.ir_lines.proofs.NoteLemmas.{notes-same}
 use Rattle.ir_lines.proofs.PlaceLemmas.{bytes_eq-self}
-use Rattle.ir_lines.proofs.TableLemmas.{flat_map-append, length-arguments}
+use Rattle.ir_lines.proofs.TableLemmas.{length-arguments}
 
 -- ---- adding users
 
@@ -35,51 +40,48 @@ pub adds_none : (user : ℕ) (rows : List (List ℕ)) → AddsUsers [] user rows
 adds_none user rows = record {
   whole = refl;
   kept = λ value one used. used;
-  added = λ value there. absurd (contains-none value there);
+  added = λ value there. absurd (contains_none value there);
   source = λ value one used. inl used;
 }
 
 abbrev pushed : List (List ℕ) → ℕ → ℕ → List (List ℕ)
 pushed rows value user = set rows value (get_or rows value [] ++ user ∷ [])
 
-pushed-kept : (rows : List (List ℕ)) (value user v one : ℕ) → UsedBy rows v one → UsedBy (pushed rows value user) v one
+pushed-kept : (rows : List (List ℕ)) (value user v one : ℕ) → Edge rows v one → Edge (pushed rows value user) v one
 pushed-kept [] value user v one used = used
 pushed-kept (r ∷ rs) zero user zero one used =
-    let same : r ≡ used.row = same_Some r used.row used.at in
-    record { row = r ++ user ∷ []; at = refl; inside = Contains-append_left r (user ∷ []) one (subst (λ (xs : List ℕ). Contains xs one) (sym same) used.inside) }
-pushed-kept (r ∷ rs) zero user (suc v) one used = record { row = used.row; at = used.at; inside = used.inside }
-pushed-kept (r ∷ rs) (suc value) user zero one used = record { row = used.row; at = used.at; inside = used.inside }
+    record { number = used.number; leads = get_front r (user ∷ []) used.number one used.leads }
+pushed-kept (r ∷ rs) zero user (suc v) one used = record { number = used.number; leads = used.leads }
+pushed-kept (r ∷ rs) (suc value) user zero one used = record { number = used.number; leads = used.leads }
 pushed-kept (r ∷ rs) (suc value) user (suc v) one used =
-    let more = pushed-kept rs value user v one (record { row = used.row; at = used.at; inside = used.inside }) in
-    record { row = more.row; at = more.at; inside = more.inside }
+    let more = pushed-kept rs value user v one (record { number = used.number; leads = used.leads }) in
+    record { number = more.number; leads = more.leads }
 
-pushed-added : (rows : List (List ℕ)) (value user : ℕ) → value < length rows → UsedBy (pushed rows value user) value user
+pushed-added : (rows : List (List ℕ)) (value user : ℕ) → value < length rows → Edge (pushed rows value user) value user
 pushed-added [] value user below = absurd (let b : value < 0 = below in omega arith)
-pushed-added (r ∷ rs) zero user below = record { row = r ++ user ∷ []; at = refl; inside = Contains-push r user }
+pushed-added (r ∷ rs) zero user below = record { number = length r; leads = get_middle r user [] }
 pushed-added (r ∷ rs) (suc value) user below =
     let more = pushed-added rs value user (let b : suc value < length (r ∷ rs) = below in omega arith) in
-    record { row = more.row; at = more.at; inside = more.inside }
+    record { number = more.number; leads = more.leads }
 
-later-source : (r : List ℕ) (rs : List (List ℕ)) (value user v one : ℕ) → UsedBy rs v one ⊎ ((v ≡ value) × (one ≡ user))
-    → UsedBy (r ∷ rs) (suc v) one ⊎ ((suc v ≡ suc value) × (one ≡ user))
-later-source r rs value user v one (inl used) = inl (record { row = used.row; at = used.at; inside = used.inside })
+later-source : (r : List ℕ) (rs : List (List ℕ)) (value user v one : ℕ) → Edge rs v one ⊎ ((v ≡ value) × (one ≡ user))
+    → Edge (r ∷ rs) (suc v) one ⊎ ((suc v ≡ suc value) × (one ≡ user))
+later-source r rs value user v one (inl used) = inl (record { number = used.number; leads = used.leads })
 later-source r rs value user v one (inr e) = inr (ap suc e.0, e.1)
 
-first-source : (r : List ℕ) (rs : List (List ℕ)) (user one : ℕ) → Contains r one ⊎ (user ≡ one)
-    → UsedBy (r ∷ rs) 0 one ⊎ ((zero ≡ zero) × (one ≡ user))
-first-source r rs user one (inl there) = inl (record { row = r; at = refl; inside = there })
-first-source r rs user one (inr e) = inr (refl, sym e)
+first-source : (r : List ℕ) (rs : List (List ℕ)) (user one number : ℕ) → (slice_get r number ≡ Some one) ⊎ (one ≡ user)
+    → Edge (r ∷ rs) 0 one ⊎ ((zero ≡ zero) × (one ≡ user))
+first-source r rs user one number (inl there) = inl (record { number = number; leads = there })
+first-source r rs user one number (inr e) = inr (refl, e)
 
-pushed-source : (rows : List (List ℕ)) (value user v one : ℕ) → UsedBy (pushed rows value user) v one
-    → UsedBy rows v one ⊎ ((v ≡ value) × (one ≡ user))
+pushed-source : (rows : List (List ℕ)) (value user v one : ℕ) → Edge (pushed rows value user) v one
+    → Edge rows v one ⊎ ((v ≡ value) × (one ≡ user))
 pushed-source [] value user v one used = inl used
-pushed-source (r ∷ rs) zero user zero one used =
-    let same : r ++ user ∷ [] ≡ used.row = same_Some (r ++ user ∷ []) used.row used.at in
-    first-source r rs user one (Contains-push_cases r user one (subst (λ (xs : List ℕ). Contains xs one) (sym same) used.inside))
-pushed-source (r ∷ rs) zero user (suc v) one used = inl (record { row = used.row; at = used.at; inside = used.inside })
-pushed-source (r ∷ rs) (suc value) user zero one used = inl (record { row = used.row; at = used.at; inside = used.inside })
+pushed-source (r ∷ rs) zero user zero one used = first-source r rs user one used.number (get_pushed r user used.number one used.leads)
+pushed-source (r ∷ rs) zero user (suc v) one used = inl (record { number = used.number; leads = used.leads })
+pushed-source (r ∷ rs) (suc value) user zero one used = inl (record { number = used.number; leads = used.leads })
 pushed-source (r ∷ rs) (suc value) user (suc v) one used =
-    later-source r rs value user v one (pushed-source rs value user v one (record { row = used.row; at = used.at; inside = used.inside }))
+    later-source r rs value user v one (pushed-source rs value user v one (record { number = used.number; leads = used.leads }))
 
 pub adds_more : (values : List ℕ) (value user : ℕ) (old rows new : List (List ℕ)) → AddsUsers values user old rows → value < length rows
     → new ≡ set rows value (get_or rows value [] ++ user ∷ []) → AddsUsers (values ++ value ∷ []) user old new
@@ -90,15 +92,15 @@ adds_more values value user old rows new adds below is = subst (λ (n : List (Li
   source = λ v one used. source v one (pushed-source rows value user v one used);
 })
   where
-    added : (v : ℕ) → Contains values v ⊎ (value ≡ v) → UsedBy (pushed rows value user) v user
+    added : (v : ℕ) → Contains values v ⊎ (value ≡ v) → Edge (pushed rows value user) v user
     added v (inl there) = pushed-kept rows value user v user (adds.added v there)
-    added v (inr e) = subst (λ (w : ℕ). UsedBy (pushed rows value user) w user) e (pushed-added rows value user below)
+    added v (inr e) = subst (λ (w : ℕ). Edge (pushed rows value user) w user) e (pushed-added rows value user below)
 
-    earlier : (v one : ℕ) → UsedBy old v one ⊎ (Contains values v × (one ≡ user)) → UsedBy old v one ⊎ (Contains (values ++ value ∷ []) v × (one ≡ user))
+    earlier : (v one : ℕ) → Edge old v one ⊎ (Contains values v × (one ≡ user)) → Edge old v one ⊎ (Contains (values ++ value ∷ []) v × (one ≡ user))
     earlier v one (inl used) = inl used
     earlier v one (inr t) = inr (Contains-append_left values (value ∷ []) v t.0, t.1)
 
-    source : (v one : ℕ) → UsedBy rows v one ⊎ ((v ≡ value) × (one ≡ user)) → UsedBy old v one ⊎ (Contains (values ++ value ∷ []) v × (one ≡ user))
+    source : (v one : ℕ) → Edge rows v one ⊎ ((v ≡ value) × (one ≡ user)) → Edge old v one ⊎ (Contains (values ++ value ∷ []) v × (one ≡ user))
     source v one (inl used) = earlier v one (adds.source v one used)
     source v one (inr t) = inr (subst (λ (w : ℕ). Contains (values ++ value ∷ []) w) (sym t.0) (Contains-push values value), t.1)
 
@@ -122,13 +124,13 @@ place-front [] name rest none =
 place-front (f ∷ fs) name rest none =
     position-cons (bytes_eq name) f (fs ++ name ∷ rest)
     ∙ ap (λ b. cond b (Some 0) (option_map suc (place_in (fs ++ name ∷ rest) name))) (other (bytes_eq name f) refl)
-    ∙ ap (option_map suc) (place-front fs name rest (λ c. none (contains-there f fs name c)))
+    ∙ ap (option_map suc) (place-front fs name rest (λ c. none (contains_later f name fs c)))
   where
     other : (b : Bool) → bytes_eq name f ≡ b → bytes_eq name f ≡ false
     other false is = is
     other true is =
         let same : name ≡ f = (bytes_eq-Decides name f).0 is in
-        absurd (none (subst (λ (n : List ℕ). Contains (f ∷ fs) n) (sym same) (contains-here f fs)))
+        absurd (none (subst (λ (n : List ℕ). Contains (f ∷ fs) n) (sym same) (contains_first f fs)))
 
 less : (o : Option ℕ) (n : ℕ) → option_map suc o ≡ Some (suc n) → o ≡ Some n
 less None n e = absurd (let bad : None ≡ Some (suc n) = e in cc)
@@ -136,8 +138,8 @@ less (Some m) n e = let same : suc m ≡ suc n = same_Some (suc m) (suc n) e in 
 
 pub place-first : (front : List (List ℕ)) (name : List ℕ) (rest : List (List ℕ)) → place_in (front ++ name ∷ rest) name ≡ Some (length front)
     → ¬ Contains front name
-place-first [] name rest e c = contains-none name c
-place-first (f ∷ fs) name rest e c = by (bytes_eq name f) refl (contains-cases f fs name c) (place-first fs name rest)
+place-first [] name rest e c = contains_none name c
+place-first (f ∷ fs) name rest e c = by (bytes_eq name f) refl (contains_cons f name fs c) (place-first fs name rest)
   where
     moved : (b : Bool) → bytes_eq name f ≡ b → cond b (Some 0) (option_map suc (place_in (fs ++ name ∷ rest) name)) ≡ Some (suc (length fs))
     moved b is = ap (λ b. cond b (Some 0) (option_map suc (place_in (fs ++ name ∷ rest) name))) (sym is)
@@ -232,8 +234,8 @@ number-below func k =
 
 given-name : (line : ℕ) (g : Option (List ℕ × TypeWord)) (name : List ℕ) → Contains (map name_of (result_named line g)) name
     → (ty : TypeWord) × (g ≡ Some (name, ty))
-given-name line None name c = absurd (contains-none name c)
-given-name line (Some (n, ty)) name c = (ty, ap (λ m. Some (m, ty)) (contains-one n name c))
+given-name line None name c = absurd (contains_none name c)
+given-name line (Some (n, ty)) name c = (ty, ap (λ m. Some (m, ty)) (contains_one n name c))
 
 pub stands-place : (func : Definition) (name : List ℕ) (what : Statement) (s : StandsFor func name what)
     → place_in (names_given func) name ≡ Some (length (front func s.before))
@@ -261,15 +263,15 @@ first-stands func k l at e = by (gives l.says) refl e
     by None is t = absurd (let bad : false ≡ true = t in cc)
     by (Some (name, ty)) is t =
         let place : place_in (names_given func) name ≡ Some (number_at func k) = number-same (place_in (names_given func) name) (number_at func k) t in
-        let split = names-split func (take k func.body) l (drop (k + 1) func.body) name ty (split-at func.body k l at) is in
+        let split = names-split func (take k func.body) l (drop (k + 1) func.body) name ty (split_at func.body k l at) is in
         record {
           name = name;
           stands = record {
             before = take k func.body;
             number = l.number;
             after = drop (k + 1) func.body;
-            body = split-at func.body k l at;
-            gives_it = subst (λ (g : Option (List ℕ × TypeWord)). Contains (map name_of (result_named l.number g)) name) (sym is) (contains-here name []);
+            body = split_at func.body k l at;
+            gives_it = subst (λ (g : Option (List ℕ × TypeWord)). Contains (map name_of (result_named l.number g)) name) (sym is) (contains_first name []);
             first = place-first (front func (take k func.body)) name (map name_of (flat_map gives_names (drop (k + 1) func.body)))
                 (ap (λ ns. place_in ns name) (sym split) ∙ place);
           };
@@ -320,23 +322,21 @@ pub record SourcesUpTo (func : Definition) (i : ℕ) (steps : List ℕ) (users :
   pub whole : length users ≡ length (names_given func)
   pub step_found : (value : ℕ) → Contains steps value → UpTo (StepHere func value) func.body i
   pub step_kept : (value : ℕ) → UpTo (StepHere func value) func.body i → Contains steps value
-  pub use_found : (value user : ℕ) → UsedBy users value user → UpTo (MergeHere func value user) func.body i
-  pub use_kept : (value user : ℕ) → UpTo (MergeHere func value user) func.body i → UsedBy users value user
+  pub use_found : (value user : ℕ) → Edge users value user → UpTo (MergeHere func value user) func.body i
+  pub use_kept : (value user : ℕ) → UpTo (MergeHere func value user) func.body i → Edge users value user
 
-none-used : (n v u : ℕ) → ¬ UsedBy (replicate n []) v u
-none-used zero v u used = let bad : None ≡ Some used.row = used.at in cc
-none-used (suc n) zero u used =
-    let same : [] ≡ used.row = same_Some [] used.row used.at in
-    contains-none u (subst (λ (xs : List ℕ). Contains xs u) (sym same) used.inside)
-none-used (suc n) (suc v) u used = none-used n v u (record { row = used.row; at = used.at; inside = used.inside })
+none-used : (n v u : ℕ) → ¬ Edge (replicate n []) v u
+none-used zero v u used = none-some u used.leads
+none-used (suc n) zero u used = none-some u used.leads
+none-used (suc n) (suc v) u used = none-used n v u (record { number = used.number; leads = used.leads })
 
 pub sources-start : (func : Definition) (steps : List ℕ) (users : List (List ℕ)) (n : ℕ) → steps ≡ [] → users ≡ replicate n []
     → length users ≡ length (names_given func) → SourcesUpTo func 0 steps users
 sources-start func steps users n e f whole = record {
   whole = whole;
-  step_found = λ value there. absurd (contains-none value (subst (λ (xs : List ℕ). Contains xs value) e there));
+  step_found = λ value there. absurd (contains_none value (subst (λ (xs : List ℕ). Contains xs value) e there));
   step_kept = λ value u. absurd (up-none (StepHere func value) func.body u);
-  use_found = λ value user used. absurd (none-used n value user (subst (λ (rows : List (List ℕ)). UsedBy rows value user) f used));
+  use_found = λ value user used. absurd (none-used n value user (subst (λ (rows : List (List ℕ)). Edge rows value user) f used));
   use_kept = λ value user u. absurd (up-none (MergeHere func value user) func.body u);
 }
 
@@ -363,28 +363,24 @@ sources-more func i l steps more users rows at s e adds = record {
     kept value (inl u) = Contains-append_left steps (steps_given (names_given func) (number_at func i) l.says) value (s.step_kept value u)
     kept value (inr there) = Contains-append_right steps (steps_given (names_given func) (number_at func i) l.says) value there
 
-    use_found : (value user : ℕ) → UsedBy users value user ⊎ (Contains (merged_given (names_given func) (number_at func i) l.says) value × (user ≡ number_at func i))
+    use_found : (value user : ℕ) → Edge users value user ⊎ (Contains (merged_given (names_given func) (number_at func i) l.says) value × (user ≡ number_at func i))
         → UpTo (MergeHere func value user) func.body (i + 1)
     use_found value user (inl used) = up-more (MergeHere func value user) func.body i (s.use_found value user used)
     use_found value user (inr t) = up-here (MergeHere func value user) func.body i l at t
 
-    use_kept : (value user : ℕ) → UpTo (MergeHere func value user) func.body i ⊎ MergeHere func value user i l → UsedBy rows value user
+    use_kept : (value user : ℕ) → UpTo (MergeHere func value user) func.body i ⊎ MergeHere func value user i l → Edge rows value user
     use_kept value user (inl u) = adds.kept value user (s.use_kept value user u)
-    use_kept value user (inr t) = subst (λ (n : ℕ). UsedBy rows value n) (sym t.1) (adds.added value t.0)
+    use_kept value user (inr t) = subst (λ (n : ℕ). Edge rows value n) (sym t.1) (adds.added value t.0)
 
 -- ---- all lines
 
-and-true : (a b : Bool) → (a && b) ≡ true → (a ≡ true) × (b ≡ true)
-and-true true b e = (refl, e)
-and-true false b e = absurd (let bad : false ≡ true = e in cc)
-
 one-is : (b : Bool) (n v : ℕ) → Contains (one_if b n) v → (b ≡ true) × (n ≡ v)
-one-is true n v c = (refl, contains-one n v c)
-one-is false n v c = absurd (contains-none v c)
+one-is true n v c = (refl, contains_one n v c)
+one-is false n v c = absurd (contains_none v c)
 
 all-is : (b : Bool) (ns : List ℕ) (v : ℕ) → Contains (all_if b ns) v → (b ≡ true) × Contains ns v
 all-is true ns v c = (refl, c)
-all-is false ns v c = absurd (contains-none v c)
+all-is false ns v c = absurd (contains_none v c)
 
 -- the names of the values whose numbers are used
 record IsUsed (names : List (List ℕ)) (used : List (Val × TypeWord)) (value : ℕ) : Type 0 where
@@ -394,7 +390,7 @@ record IsUsed (names : List (List ℕ)) (used : List (Val × TypeWord)) (value :
 
 used-later : (names : List (List ℕ)) (u : Val × TypeWord) (us : List (Val × TypeWord)) (value : ℕ) → IsUsed names us value → IsUsed names (u ∷ us) value
 used-later names (values.local name, ty) us value i =
-    record { operand = i.operand; inside = contains-there name (filter_map (λ one. local_name one.0) us) i.operand i.inside; place = i.place }
+    record { operand = i.operand; inside = contains_later name i.operand (filter_map (λ one. local_name one.0) us) i.inside; place = i.place }
 used-later names (values.number literal, ty) us value i = record { operand = i.operand; inside = i.inside; place = i.place }
 used-later names (values.truth said, ty) us value i = record { operand = i.operand; inside = i.inside; place = i.place }
 used-later names (values.null, ty) us value i = record { operand = i.operand; inside = i.inside; place = i.place }
@@ -403,14 +399,14 @@ used-here : (names : List (List ℕ)) (name : List ℕ) (ty : TypeWord) (us : Li
     → Contains (cons_option o (numbers_used names us)) value → (Contains (numbers_used names us) value → IsUsed names us value)
     → IsUsed names ((values.local name, ty) ∷ us) value
 used-here names name ty us value None at c ih = used-later names (values.local name, ty) us value (ih c)
-used-here names name ty us value (Some n) at c ih = by (contains-cases n (numbers_used names us) value c)
+used-here names name ty us value (Some n) at c ih = by (contains_cons n value (numbers_used names us) c)
   where
     by : (n ≡ value) ⊎ Contains (numbers_used names us) value → IsUsed names ((values.local name, ty) ∷ us) value
-    by (inl e) = record { operand = name; inside = contains-here name (filter_map (λ one. local_name one.0) us); place = at ∙ ap (λ k. Some k) e }
+    by (inl e) = record { operand = name; inside = contains_first name (filter_map (λ one. local_name one.0) us); place = at ∙ ap (λ k. Some k) e }
     by (inr d) = used-later names (values.local name, ty) us value (ih d)
 
 used-is : (names : List (List ℕ)) (us : List (Val × TypeWord)) (value : ℕ) → Contains (numbers_used names us) value → IsUsed names us value
-used-is names [] value c = absurd (contains-none value c)
+used-is names [] value c = absurd (contains_none value c)
 used-is names ((values.local name, ty) ∷ us) value c = used-here names name ty us value (place_in names name) refl c (used-is names us value)
 used-is names ((values.number literal, ty) ∷ us) value c = used-later names (values.number literal, ty) us value (used-is names us value c)
 used-is names ((values.truth said, ty) ∷ us) value c = used-later names (values.truth said, ty) us value (used-is names us value c)
@@ -424,18 +420,18 @@ used-below names here us value c =
 
 cons-there : (o : Option ℕ) (ns : List ℕ) (v : ℕ) → Contains ns v → Contains (cons_option o ns) v
 cons-there None ns v c = c
-cons-there (Some n) ns v c = contains-there n ns v c
+cons-there (Some n) ns v c = contains_later n v ns c
 
 is-used : (names : List (List ℕ)) (us : List (Val × TypeWord)) (operand : List ℕ) (value : ℕ) → Contains (filter_map (λ one. local_name one.0) us) operand
     → place_in names operand ≡ Some value → Contains (numbers_used names us) value
-is-used names [] operand value c at = absurd (contains-none operand c)
+is-used names [] operand value c at = absurd (contains_none operand c)
 is-used names ((values.local name, ty) ∷ us) operand value c at =
-    by (contains-cases name (filter_map (λ one. local_name one.0) us) operand c) (λ d. is-used names us operand value d at)
+    by (contains_cons name operand (filter_map (λ one. local_name one.0) us) c) (λ d. is-used names us operand value d at)
   where
     by : (name ≡ operand) ⊎ Contains (filter_map (λ one. local_name one.0) us) operand
         → (Contains (filter_map (λ one. local_name one.0) us) operand → Contains (numbers_used names us) value) → Contains (cons_option (place_in names name) (numbers_used names us)) value
     by (inl e) ih = subst (λ (o : Option ℕ). Contains (cons_option o (numbers_used names us)) value)
-        (sym (ap (place_in names) e ∙ at)) (contains-here value (numbers_used names us))
+        (sym (ap (place_in names) e ∙ at)) (contains_first value (numbers_used names us))
     by (inr d) ih = cons-there (place_in names name) (numbers_used names us) value (ih d)
 is-used names ((values.number literal, ty) ∷ us) operand value c at = is-used names us operand value c at
 is-used names ((values.truth said, ty) ∷ us) operand value c at = is-used names us operand value c at
@@ -444,14 +440,14 @@ is-used names ((values.null, ty) ∷ us) operand value c at = is-used names us o
 step-of : (func : Definition) (value : ℕ) → UpTo (StepHere func value) func.body (length func.body) → IsStepAt func value
 step-of func value u =
     let is = one-is (gives_first (names_given func) (number_at func u.k) (gives u.here.says) && is_step u.here.says) (number_at func u.k) value u.holds in
-    let both = and-true (gives_first (names_given func) (number_at func u.k) (gives u.here.says)) (is_step u.here.says) is.0 in
+    let both = and_parts (gives_first (names_given func) (number_at func u.k) (gives u.here.says)) (is_step u.here.says) is.0 in
     let g = first-stands func u.k u.here u.at both.0 in
     record { name = g.name; what = u.here.says; stands = g.stands; place = g.place ∙ ap (λ k. Some k) is.1; step = both.1 }
 
 merge-of : (func : Definition) (value user : ℕ) → UpTo (MergeHere func value user) func.body (length func.body) → IsMergeAt func value user
 merge-of func value user u =
     let is = all-is (gives_first (names_given func) (number_at func u.k) (gives u.here.says) && is_merge u.here.says) (numbers_used (names_given func) (uses u.here.says)) value u.holds.0 in
-    let both = and-true (gives_first (names_given func) (number_at func u.k) (gives u.here.says)) (is_merge u.here.says) is.0 in
+    let both = and_parts (gives_first (names_given func) (number_at func u.k) (gives u.here.says)) (is_merge u.here.says) is.0 in
     let g = first-stands func u.k u.here u.at both.0 in
     let used = used-is (names_given func) (uses u.here.says) value is.1 in
     record {
@@ -501,7 +497,7 @@ of-step func value s =
       at = l.at;
       holds = subst (λ (w : Statement). Contains (steps_given (names_given func) (number_at func l.k) w) value) (sym l.says)
           (subst (λ (b : Bool). Contains (one_if b (number_at func l.k)) value) (sym test)
-          (subst (λ (v : ℕ). Contains (number_at func l.k ∷ []) v) same (contains-here (number_at func l.k) [])));
+          (subst (λ (v : ℕ). Contains (number_at func l.k ∷ []) v) same (contains_first (number_at func l.k) [])));
     }
 
 of-merge : (func : Definition) (value user : ℕ) → IsMergeAt func value user → UpTo (MergeHere func value user) func.body (length func.body)
@@ -539,24 +535,24 @@ sources-all func i steps users e s = by (subst (λ (n : ℕ). SourcesUpTo func n
 
 -- ---- marks
 
-pub sources-inside : (func : Definition) (steps : List ℕ) (users : List (List ℕ)) → AreSources func steps users → AreInside steps users
+pub sources-inside : (func : Definition) (steps : List ℕ) (users : List (List ℕ)) → AreSources func steps users → AreInside users steps
 sources-inside func steps users s = record {
-  firsts = λ value there.
+  starts_inside = λ value there.
       let is = s.step_found value there in
       let within = slice_get_within (names_given func) value is.name (place-name (names_given func) is.name value is.place) in
       omega (arith, s.whole, within);
-  all = λ value user used.
+  edges_inside = λ value user used.
       let is = s.use_found value user used in
       let within = slice_get_within (names_given func) user is.name (place-name (names_given func) is.name user is.place) in
       omega (arith, s.whole, within);
 }
 
-follows-derived : (func : Definition) (steps : List ℕ) (users : List (List ℕ)) → AreSources func steps users → (value : ℕ) → Follows steps users value
+follows-derived : (func : Definition) (steps : List ℕ) (users : List (List ℕ)) → AreSources func steps users → (value : ℕ) → ReachedFrom users steps value
     → (name : List ℕ) → place_in (names_given func) name ≡ Some value → Derived func name
-follows-derived func steps users s value (is_first _ there) name at =
+follows-derived func steps users s value (at_start _ there) name at =
     let is = s.step_found value there in
     subst (Derived func) (same-name (names_given func) is.name name value is.place at) (by_step is.name is.what is.stands is.step)
-follows-derived func steps users s value (by_use operand _ used before) name at =
+follows-derived func steps users s value (along operand _ before used) name at =
     let is = s.use_found operand value used in
     let derived = follows-derived func steps users s operand before is.operand is.operand_place in
     subst (Derived func) (same-name (names_given func) is.name name value is.place at)
@@ -565,7 +561,7 @@ follows-derived func steps users s value (by_use operand _ used before) name at 
 record IsFollowing (func : Definition) (steps : List ℕ) (users : List (List ℕ)) (name : List ℕ) : Type 0 where
   pub value : ℕ
   pub place : place_in (names_given func) name ≡ Some value
-  pub follows : Follows steps users value
+  pub follows : ReachedFrom users steps value
 
 derived-follows : (func : Definition) (steps : List ℕ) (users : List (List ℕ)) → AreSources func steps users → (name : List ℕ) → Derived func name
     → IsFollowing func steps users name
@@ -575,7 +571,7 @@ derived-follows func steps users s name (by_step _ what stands step) =
     record {
       value = value;
       place = place;
-      follows = is_first value (s.step_kept value (record { name = name; what = what; stands = stands; place = place; step = step }));
+      follows = at_start value (s.step_kept value (record { name = name; what = what; stands = stands; place = place; step = step }));
     }
 derived-follows func steps users s name (by_merge _ operand what stands merge used derived) =
     let before = derived-follows func steps users s operand derived in
@@ -584,7 +580,7 @@ derived-follows func steps users s name (by_merge _ operand what stands merge us
     record {
       value = value;
       place = place;
-      follows = by_use before.value value
+      follows = along before.value value before.follows
           (s.use_kept before.value value (record {
             name = name;
             operand = operand;
@@ -594,11 +590,11 @@ derived-follows func steps users s name (by_merge _ operand what stands merge us
             merge = merge;
             used = used;
             operand_place = before.place;
-          })) before.follows;
+          }));
     }
 
 pub marks-derived : (func : Definition) (steps : List ℕ) (users : List (List ℕ)) (marks : List Bool) → AreSources func steps users
-    → MarksFollowing steps users marks → MarksDerived func marks
+    → MarksReached users steps marks → MarksDerived func marks
 marks-derived func steps users marks s m = record {
   sound = λ name value at marked. follows-derived func steps users s value (m.sound value marked) name at;
   complete = λ name derived.
@@ -633,7 +629,7 @@ record IsEscape (func : Definition) (vs : List Val) : Type 0 where
   pub derived : Derived func name
 
 escape-later : (func : Definition) (v : Val) (vs : List Val) → IsEscape func vs → IsEscape func (v ∷ vs)
-escape-later func (values.local name) vs e = record { name = e.name; leaves = contains-there name (filter_map local_name vs) e.name e.leaves; derived = e.derived }
+escape-later func (values.local name) vs e = record { name = e.name; leaves = contains_later name e.name (filter_map local_name vs) e.leaves; derived = e.derived }
 escape-later func (values.number literal) vs e = record { name = e.name; leaves = e.leaves; derived = e.derived }
 escape-later func (values.truth said) vs e = record { name = e.name; leaves = e.leaves; derived = e.derived }
 escape-later func values.null vs e = record { name = e.name; leaves = e.leaves; derived = e.derived }
@@ -645,7 +641,7 @@ escape-here func marks m (values.local name) vs e = by (place_in (names_given fu
     by : (o : Option ℕ) → place_in (names_given func) name ≡ o → has_mark marks o ≡ true → IsEscape func (values.local name ∷ vs)
     by None at t = absurd (let bad : false ≡ true = t in cc)
     by (Some value) at t =
-        record { name = name; leaves = contains-here name (filter_map local_name vs); derived = m.sound name value at (true-mark (slice_get marks value) t) }
+        record { name = name; leaves = contains_first name (filter_map local_name vs); derived = m.sound name value at (true-mark (slice_get marks value) t) }
 escape-here func marks m (values.number literal) vs e = absurd (let bad : false ≡ true = e in cc)
 escape-here func marks m (values.truth said) vs e = absurd (let bad : false ≡ true = e in cc)
 escape-here func marks m values.null vs e = absurd (let bad : false ≡ true = e in cc)
@@ -671,9 +667,9 @@ or-right false = refl
 
 escape-any : (func : Definition) (marks : List Bool) → MarksDerived func marks → (vs : List Val) (name : List ℕ) → Contains (filter_map local_name vs) name
     → Derived func name → list_any (is_marked (names_given func) marks) vs ≡ true
-escape-any func marks m [] name c d = absurd (contains-none name c)
+escape-any func marks m [] name c d = absurd (contains_none name c)
 escape-any func marks m (values.local n ∷ vs) name c d =
-    by (contains-cases n (filter_map local_name vs) name c) (λ t. escape-any func marks m vs name t d)
+    by (contains_cons n name (filter_map local_name vs) c) (λ t. escape-any func marks m vs name t d)
   where
     by : (n ≡ name) ⊎ Contains (filter_map local_name vs) name
         → (Contains (filter_map local_name vs) name → list_any (is_marked (names_given func) marks) vs ≡ true) → list_any (is_marked (names_given func) marks) (values.local n ∷ vs) ≡ true

@@ -9,6 +9,7 @@ use Rattle.std.proofs.lemmas.List.Concat.{flat_map-append}
 use Rattle.std.proofs.lemmas.Option.{slice_get_past, slice_get_within, get_or_from_slice_get}
 use Rattle.std.proofs.lemmas.List.Sums.{sum_by_push}
 use Rattle.std.proofs.lemmas.Bool.Decides.{eqb_tells}
+use Rattle.list_laws.proofs.Places.{cases_below}
 use Rattle.ir_lines.specs.Statements.{Line}
 use Rattle.ir_lines.specs.Parts.{targets}
 use Rattle.ir_lines.specs.Sections.{BlockLines}
@@ -121,14 +122,11 @@ same-block blocks from labels old new a to below = elim (eqb_tells from from) [
   | inr t ↦ absurd (t.1 refl)
 ]
 
-below-or-at : (k i : ℕ) → k < i + 1 → (k < i) ⊎ (k ≡ i)
-below-or-at k i b = grind arith
-
 pub edges-more : (blocks : List (List ℕ)) (list : List BlockLines) (i : ℕ) (block : BlockLines) (old new : List (List ℕ)) → slice_get list i ≡ Some block
     → EdgesUpTo blocks list i old → AddsEdges blocks i (labels_of block.lines) old new → EdgesUpTo blocks list (i + 1) new
 edges-more blocks list i block old new at e a = record {
   same = a.same ∙ e.same;
-  done = λ to one below lt. done to one below (subst (λ (n : ℕ). to < n) (sym e.same) below) (below-or-at one i lt);
+  done = λ to one below lt. done to one below (subst (λ (n : ℕ). to < n) (sym e.same) below) (cases_below one i lt);
   left = λ to one below le.
       other-block blocks i (labels_of block.lines) old new a to one (subst (λ (n : ℕ). to < n) (sym e.same) below) (λ same. omega arith)
       ∙ e.left to one below (omega arith);

@@ -9,9 +9,10 @@ use Rattle.std.proofs.lemmas.List.{append_cancel_left}
 use Rattle.std.proofs.lemmas.List.Elements.{Contains-append_right, Contains-append_cases}
 use Rattle.line_parts.specs.declared.readings.TypeWord.{TypeWord}
 use Rattle.line_parts.specs.declared.readings.TypeWord.TheVariants.{Void, Int, Managed, Plain}
+use Rattle.std.proofs.lemmas.Bool.{and_parts}
 use Rattle.ir_lines.specs.Types.{same_type, same_types}
 use Rattle.ir_lines.specs.Externals.{External, external, gc_new, makers_of}
-use Rattle.ir_lines.proofs.Members.{contains-map, contains-image}
+use Rattle.list_laws.proofs.Contents.{contains_image, contains_map}
 
 or-right : {X : Type 0} (xs ys : List X) (x : X) → ¬ Contains xs x → Contains xs x ⊎ Contains ys x → Contains ys x
 or-right xs ys x absent (inl c) = absurd (absent c)
@@ -23,10 +24,6 @@ not-in-first xs ys x r absent is =
 
 pub is-false : (P : Type 0) (r : Bool) → (IsTrue r ↔ P) → r ≡ false → ¬ P
 is-false P r is f p = let bad : true ≡ false = sym (is.1 p) ∙ f in cc
-
-and-true : (a b : Bool) → (a && b) ≡ true → (a ≡ true) × (b ≡ true)
-and-true true b e = (refl, e)
-and-true false b e = let bad : false ≡ true = e in cc
 
 pub same_type-is : (a b : TypeWord) → same_type a b ≡ true → a ≡ b
 same_type-is Void Void e = refl
@@ -49,7 +46,7 @@ same_types-are [] [] e = refl
 same_types-are [] (y ∷ ys) e = let bad : false ≡ true = e in cc
 same_types-are (x ∷ xs) [] e = let bad : false ≡ true = e in cc
 same_types-are (x ∷ xs) (y ∷ ys) e =
-    let both = and-true (same_type x y) (same_types xs ys) e in
+    let both = and_parts (same_type x y) (same_types xs ys) e in
     ap (λ z. z ∷ xs) (same_type-is x y both.0) ∙ ap (λ zs. y ∷ zs) (same_types-are xs ys both.1)
 
 pub same_types-self : (xs : List TypeWord) → same_types xs xs ≡ true
@@ -83,16 +80,16 @@ pub maker-is : (layouts : List (List ℕ)) (name : List ℕ) (answer : TypeWord)
     → true ≡ (same_type answer Managed && same_types types (Int 64 ∷ [])) → (IsTrue r ↔ Contains (map gc_new layouts) name)
     → (IsTrue r ↔ Contains (makers_of layouts) (external name answer types))
 maker-is layouts name answer types r agrees is =
-    let both = and-true (same_type answer Managed) (same_types types (Int 64 ∷ [])) (sym agrees) in
+    let both = and_parts (same_type answer Managed) (same_types types (Int 64 ∷ [])) (sym agrees) in
     let answered : answer ≡ Managed = same_type-is answer Managed both.0 in
     let taken : types ≡ Int 64 ∷ [] = same_types-are types (Int 64 ∷ []) both.1 in (
-      (λ t. let i = contains-image gc_new layouts name (is.0 t) in
+      (λ t. let i = contains_image gc_new layouts name (is.0 t) in
           subst (λ (one : External). Contains (makers_of layouts) one)
           (ap (λ (n : List ℕ). external n Managed (Int 64 ∷ [])) i.is ∙ ap (λ (a : TypeWord). external name a (Int 64 ∷ [])) (sym answered)
           ∙ ap (λ (ts : List TypeWord). external name answer ts) (sym taken))
-          (contains-map (λ (layout : List ℕ). external (gc_new layout) Managed (Int 64 ∷ [])) layouts i.of i.inside)),
-      (λ k. let i = contains-image (λ (layout : List ℕ). external (gc_new layout) Managed (Int 64 ∷ [])) layouts (external name answer types) k in
-          is.1 (subst (λ (n : List ℕ). Contains (map gc_new layouts) n) (ap (λ (one : External). one.name) i.is) (contains-map gc_new layouts i.of i.inside))),
+          (contains_map (λ (layout : List ℕ). external (gc_new layout) Managed (Int 64 ∷ [])) layouts i.of i.inside)),
+      (λ k. let i = contains_image (λ (layout : List ℕ). external (gc_new layout) Managed (Int 64 ∷ [])) layouts (external name answer types) k in
+          is.1 (subst (λ (n : List ℕ). Contains (map gc_new layouts) n) (ap (λ (one : External). one.name) i.is) (contains_map gc_new layouts i.of i.inside))),
     )
 
 pub maker-differs : (layouts : List (List ℕ)) (name : List ℕ) (answer : TypeWord) (types : List TypeWord)
@@ -100,7 +97,7 @@ pub maker-differs : (layouts : List (List ℕ)) (name : List ℕ) (answer : Type
     → (IsTrue false ↔ Contains (makers_of layouts) (external name answer types))
 maker-differs layouts name answer types differs = (
   (λ t. absurd (let bad : false ≡ true = t in cc)),
-  (λ k. let i = contains-image (λ (layout : List ℕ). external (gc_new layout) Managed (Int 64 ∷ [])) layouts (external name answer types) k in
+  (λ k. let i = contains_image (λ (layout : List ℕ). external (gc_new layout) Managed (Int 64 ∷ [])) layouts (external name answer types) k in
       differs ∙ ap (λ (one : External). same_type one.answer Managed && same_types one.parameters (Int 64 ∷ [])) (sym i.is)),
 )
 
@@ -108,8 +105,8 @@ maker-differs layouts name answer types differs = (
 pub made-layout : (layouts : List (List ℕ)) (name layout : List ℕ) (r : Bool) → name ≡ gc_new layout → (IsTrue r ↔ Contains layouts layout)
     → (IsTrue r ↔ Contains (map gc_new layouts) name)
 made-layout layouts name layout r e is = (
-  (λ t. subst (λ (n : List ℕ). Contains (map gc_new layouts) n) (sym e) (contains-map gc_new layouts layout (is.0 t))),
-  (λ k. let i = contains-image gc_new layouts name k in
+  (λ t. subst (λ (n : List ℕ). Contains (map gc_new layouts) n) (sym e) (contains_map gc_new layouts layout (is.0 t))),
+  (λ k. let i = contains_image gc_new layouts name k in
       is.1 (subst (λ (n : List ℕ). Contains layouts n) (append_cancel_left (codes "gc_new.") i.of layout (i.is ∙ e)) i.inside)),
 )
 
@@ -117,5 +114,5 @@ pub made-nothing : (layouts : List (List ℕ)) (name : List ℕ) → ((rest : Li
     → (IsTrue false ↔ Contains (map gc_new layouts) name)
 made-nothing layouts name other = (
   (λ t. absurd (let bad : false ≡ true = t in cc)),
-  (λ k. let i = contains-image gc_new layouts name k in absurd (other i.of (sym i.is))),
+  (λ k. let i = contains_image gc_new layouts name k in absurd (other i.of (sym i.is))),
 )

@@ -1,9 +1,10 @@
 -- What is found at the elements of a list, one after another.
 use Rattle.std.proofs.Common.{◌≡◌, ◌∙◌, ℕ, ◌+◌, ◌<◌, ◌⊎◌, inl, inr, List, [], ◌∷◌, ◌++◌, length, get_or, take, drop, refl, ap, sym, subst, arith, suc, add-one, length-append}
 use Rattle.std.specs.Prelude.{Option, Some, map, slice_get, slice_range, option_map}
-use Rattle.std.proofs.Math.Seq.{drop-cons, take-append_seam, take-length}
-use Rattle.std.proofs.lemmas.List.{take-append-drop, length-drop}
-use Rattle.std.proofs.lemmas.Option.{slice_get_within, slice_get-get_or, get_or_from_slice_get, slice_get-map}
+use Rattle.std.proofs.Math.Seq.{take-append_seam, take-length}
+use Rattle.std.proofs.lemmas.List.{length-drop}
+use Rattle.std.proofs.lemmas.Option.{slice_get-get_or, slice_get-map}
+use Rattle.list_laws.proofs.Places.{cases_below, get_middle, split_at}
 use Rattle.ir_lines.specs.declared.faults.Fault.{Fault}
 use Rattle.ir_lines.specs.Notes.{Notes}
 use Rattle.type_checks.specs.Founds.{Found}
@@ -39,9 +40,6 @@ turn-by P xs i x at line code k here is faulty (inr e) =
     = subst (λ (n : ℕ). P (take n xs) here (drop (n + 1) xs) line code) e faulty in
     inr (subst (λ (y : _). P (take i xs) y (drop (i + 1) xs) line code) same moved)
 
-pub cases_below : (k i : ℕ) → k < i + 1 → (k < i) ⊎ (k ≡ i)
-cases_below k i b = grind arith
-
 -- one more element
 pub notes-turn : {X : Type 0} (P : List X → X → List X → ℕ → ℕ → Type 0) (xs : List X) (i : ℕ) (x : X) (old between new : Option Fault)
     → slice_get xs i ≡ Some x → Notes old between (FoundUpTo P xs i) → Notes between new (P (take i xs) x (drop (i + 1) xs))
@@ -53,25 +51,8 @@ notes-turn P xs i x old between new at m n =
 
 -- ---- at all elements
 
--- an element and what stands behind it
-pub cut-at : {X : Type 0} (xs : List X) (k : ℕ) (x : X) → slice_get xs k ≡ Some x → drop k xs ≡ x ∷ drop (k + 1) xs
-cut-at xs k x at =
-    drop-cons xs k x (slice_get_within xs k x at)
-    ∙ ap (λ y. y ∷ drop (suc k) xs) (get_or_from_slice_get xs k x x at)
-    ∙ ap (λ n. x ∷ drop n xs) (sym (add-one k))
-
-pub cut-item : {X : Type 0} (xs : List X) (k : ℕ) (x : X) → k < length xs → x ≡ get_or xs k x → drop k xs ≡ x ∷ drop (k + 1) xs
-cut-item xs k x below is = cut-at xs k x (slice_get-get_or xs k x below ∙ ap Some (sym is))
-
 pub rest-range : {X : Type 0} (xs : List X) (i : ℕ) → slice_range xs i (length xs) ≡ drop i xs
 rest-range xs i = ap (λ n. take n (drop i xs)) (sym (length-drop i xs)) ∙ take-length (drop i xs)
-
-pub split-at : {X : Type 0} (xs : List X) (k : ℕ) (x : X) → slice_get xs k ≡ Some x → xs ≡ take k xs ++ x ∷ drop (k + 1) xs
-split-at xs k x at = sym (take-append-drop k xs) ∙ ap (λ ys. take k xs ++ ys) (cut-at xs k x at)
-
-get-whole : {X : Type 0} (before : List X) (here : X) (after : List X) → slice_get (before ++ here ∷ after) (length before) ≡ Some here
-get-whole [] here after = refl
-get-whole (y ∷ ys) here after = get-whole ys here after
 
 drop-whole : {X : Type 0} (before : List X) (here : X) (after : List X) → drop (suc (length before)) (before ++ here ∷ after) ≡ after
 drop-whole [] here after = refl
@@ -89,7 +70,7 @@ pub record IsWholeAt {X : Type 0} (xs before : List X) (here : X) (after : List 
 pub whole-at : {X : Type 0} (xs before : List X) (here : X) (after : List X) → xs ≡ before ++ here ∷ after → IsWholeAt xs before here after
 whole-at xs before here after e = subst (λ (ys : List _). IsWholeAt ys before here after) (sym e) (record {
   below = length-whole before here after;
-  at = get-whole before here after;
+  at = get_middle before here after;
   front = take-append_seam before (here ∷ after);
   back = ap (λ n. drop n (before ++ here ∷ after)) (add-one (length before)) ∙ drop-whole before here after;
 })
@@ -100,7 +81,7 @@ found-all P xs line code f = record {
   before = take f.k xs;
   here = f.here;
   after = drop (f.k + 1) xs;
-  whole = split-at xs f.k f.here f.at;
+  whole = split_at xs f.k f.here f.at;
   faulty = f.faulty;
 }
 

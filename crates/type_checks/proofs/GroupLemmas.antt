@@ -6,12 +6,13 @@ use Rattle.std.specs.Str.{bytes_eq}
 use Rattle.std.proofs.lemmas.List.Folds.{list_all-append}
 use Rattle.std.proofs.lemmas.Option.{same_Some}
 use Rattle.std.proofs.lemmas.Slice.Eq.{bytes_eq-Decides}
+use Rattle.line_parts.specs.Parts as values
 use Rattle.line_parts.specs.declared.readings.TypeWord.{TypeWord}
 use Rattle.line_parts.specs.declared.readings.TypeWord.TheVariants.{Managed}
 use Rattle.line_tokens.specs.declared.literals.Literal.{Literal}
 use Rattle.line_parts.specs.Parts.{Val}
-use Rattle.line_parts.specs.Parts as values
 use Rattle.group_parts.specs.Statepoints.{Guarded}
+use Rattle.std.proofs.lemmas.Bool.{and_parts}
 use Rattle.ir_lines.specs.declared.faults.Fault.{Fault}
 use Rattle.ir_lines.specs.Notes.{Notes, Is}
 use Rattle.ir_lines.specs.Statements.{Line, Statement, statepoint, gc_result, gc_relocate, no_call}
@@ -129,10 +130,6 @@ abbrev is_empty : List Line → Bool
 is_empty [] = true
 is_empty (l ∷ ls) = false
 
-and-true : (a b : Bool) → (a && b) ≡ true → (a ≡ true) × (b ≡ true)
-and-true true b e = (refl, e)
-and-true false b e = absurd (let bad : false ≡ true = e in cc)
-
 no-part : (token : List ℕ) (what : Statement) → is_opener what ≡ true → is_part token what ≡ false
 no-part token (gc_result result ty other) o = absurd (let bad : false ≡ true = o in cc)
 no-part token (gc_relocate result other base derived) o = absurd (let bad : false ≡ true = o in cc)
@@ -140,9 +137,9 @@ no-part token _ o = refl
 
 apart-from : (token : List ℕ) (front : List Line) (x : Line) (back : List Line) → is_opener x.says ≡ true → are_parts token (front ++ x ∷ back) ≡ true → ⊥
 apart-from token [] x back o all =
-    let bad : false ≡ true = sym (no-part token x.says o) ∙ (and-true (is_part token x.says) (are_parts token back) all).0 in cc
+    let bad : false ≡ true = sym (no-part token x.says o) ∙ (and_parts (is_part token x.says) (are_parts token back) all).0 in cc
 apart-from token (l ∷ front) x back o all =
-    apart-from token front x back o (and-true (is_part token l.says) (are_parts token (front ++ x ∷ back)) all).1
+    apart-from token front x back o (and_parts (is_part token l.says) (are_parts token (front ++ x ∷ back)) all).1
 
 record AreSame (front : List Line) (x : Line) (back other_front : List Line) (y : Line) (other_back : List Line) : Type 0 where
   pub earlier : front ≡ other_front
@@ -323,8 +320,8 @@ ended func before l never other token g = by (last-of before l g.earlier (opener
     by (inl s) = let bad : false ≡ true = sym never ∙ ap (λ m. is_opener m.says) s.here in cc
     by (inr s) =
         let all : are_parts token (s.middle ++ l ∷ []) ≡ true = ap (are_parts token) (sym s.end) ∙ g.own in
-        let both = and-true (are_parts token s.middle) (are_parts token (l ∷ [])) (sym (list_all-append (λ m. is_part token m.says) s.middle (l ∷ [])) ∙ all) in
-        let bad : false ≡ true = sym (other token) ∙ (and-true (is_part token l.says) true both.1).0 in cc
+        let both = and_parts (are_parts token s.middle) (are_parts token (l ∷ [])) (sym (list_all-append (λ m. is_part token m.says) s.middle (l ∷ [])) ∙ all) in
+        let bad : false ≡ true = sym (other token) ∙ (and_parts (is_part token l.says) true both.1).0 in cc
 
 -- the group of which a part is the last line
 record IsPartOf (func : Definition) (before : List Line) (token : List ℕ) (l : Line) : Type 0 where
@@ -340,7 +337,7 @@ part-of func before l token never g = by (last-of before l g.earlier (opener g.n
     by (inl s) = absurd (let bad : false ≡ true = sym never ∙ ap (λ m. is_opener m.says) s.here in cc)
     by (inr s) =
         let all : are_parts token (s.middle ++ l ∷ []) ≡ true = ap (are_parts token) (sym s.end) ∙ g.own in
-        let both = and-true (are_parts token s.middle) (are_parts token (l ∷ [])) (sym (list_all-append (λ m. is_part token m.says) s.middle (l ∷ [])) ∙ all) in
+        let both = and_parts (are_parts token s.middle) (are_parts token (l ∷ [])) (sym (list_all-append (λ m. is_part token m.says) s.middle (l ∷ [])) ∙ all) in
         record {
           group = record {
             earlier = g.earlier;
@@ -352,7 +349,7 @@ part-of func before l token never g = by (last-of before l g.earlier (opener g.n
             first = g.first;
             own = both.0;
           };
-          own = (and-true (is_part token l.says) true both.1).0;
+          own = (and_parts (is_part token l.says) true both.1).0;
         }
 
 empty-more : (ls : List Line) (l : Line) → is_empty (ls ++ l ∷ []) ≡ false

@@ -7,7 +7,7 @@ use Rattle.line_parts.specs.declared.readings.TypeWord.{TypeWord}
 use Rattle.line_parts.specs.Lists.{Named}
 use Rattle.ir_lines.specs.Statements.{Statement, Line, declare, define}
 use Rattle.ir_lines.specs.Sections.{Head, Definition, head_said, heads_of, definition_said, definitions_of, types_of, is_close}
-use Rattle.type_checks.proofs.Contained.{contained-none, contained-one, contained-head, contained-more, contained-cases, contained-joined, IsJoined}
+use Rattle.list_laws.proofs.Contents.{IsJoined, contains_cons, contains_first, contains_joined, contains_later, contains_none, contains_one}
 
 -- ---- definitions
 
@@ -21,18 +21,18 @@ pub record IsDefined (lines : List Line) (func : Definition) : Type 0 where
 defined-here : (l : Line) (what : Statement) (after : List Line) (func : Definition) → l.says ≡ what
     → Contains (definition_said l.number what after) func → (l.number ≡ func.line) × (what ≡ define func.answer func.name func.arguments func.strategy)
 defined-here l (define answer name arguments strategy) after func e within =
-    let same = contained-one (record { line = l.number; answer = answer; name = name; arguments = arguments; strategy = strategy; body = take_while (λ m. not (is_close m.says)) after }) func within in (
+    let same = contains_one (record { line = l.number; answer = answer; name = name; arguments = arguments; strategy = strategy; body = take_while (λ m. not (is_close m.says)) after }) func within in (
       ap (λ (f : Definition). f.line) same,
       ap (λ (f : Definition). define f.answer f.name f.arguments f.strategy) same,
     )
-defined-here l _ after func e within = absurd (contained-none func within)
+defined-here l _ after func e within = absurd (contains_none func within)
 
 pub line-defined : (lines : List Line) (func : Definition) → Contains (definitions_of lines) func → IsDefined lines func
-line-defined [] func within = absurd (contained-none func within)
+line-defined [] func within = absurd (contains_none func within)
 line-defined (l ∷ ls) func within = elim (Contains-append_cases (definition_said l.number l.says ls) (definitions_of ls) func within) [
-  | inl w ↦ (let h = defined-here l l.says ls func refl w in record { head = l; within = contained-head l ls; line = h.0; says = h.1 })
+  | inl w ↦ (let h = defined-here l l.says ls func refl w in record { head = l; within = contains_first l ls; line = h.0; says = h.1 })
   | inr w ↦ (let d : IsDefined ls func = line-defined ls func w in
-      record { head = d.head; within = contained-more l ls d.head d.within; line = d.line; says = d.says })
+      record { head = d.head; within = contains_later l d.head ls d.within; line = d.line; says = d.says })
 ]
 
 -- the definition of a line
@@ -44,12 +44,12 @@ pub record IsDefinition (lines : List Line) (number : ℕ) (name : List ℕ) : T
 
 pub defined-line : (lines : List Line) (l : Line) (answer : TypeWord) (name : List ℕ) (arguments : List Named) (strategy : Option (List ℕ))
     → Contains lines l → l.says ≡ define answer name arguments strategy → IsDefinition lines l.number name
-defined-line [] l answer name arguments strategy within e = absurd (contained-none l within)
-defined-line (m ∷ ms) l answer name arguments strategy within e = elim (contained-cases m ms l within) [
+defined-line [] l answer name arguments strategy within e = absurd (contains_none l within)
+defined-line (m ∷ ms) l answer name arguments strategy within e = elim (contains_cons m l ms within) [
   | inl same ↦ (
       let f : Definition = record { line = l.number; answer = answer; name = name; arguments = arguments; strategy = strategy; body = take_while (λ o. not (is_close o.says)) ms } in
       let here : Contains (definition_said l.number l.says ms) f
-      = subst (λ (what : Statement). Contains (definition_said l.number what ms) f) (sym e) (contained-head f []) in
+      = subst (λ (what : Statement). Contains (definition_said l.number what ms) f) (sym e) (contains_first f []) in
       record {
         func = f;
         within = Contains-append_left (definition_said m.number m.says ms) (definitions_of ms) f
@@ -71,12 +71,12 @@ SaysHead _ head = ⊥
 
 said-head : (line : ℕ) (what : Statement) (head : Head) → Contains (head_said line what) head → (head.line ≡ line) × SaysHead what head
 said-head line (declare answer name parameters) head within =
-    let same = contained-one (record { line = line; defined = false; name = name; answer = answer; parameters = types_of parameters }) head within in
+    let same = contains_one (record { line = line; defined = false; name = name; answer = answer; parameters = types_of parameters }) head within in
     (sym (ap (λ (h : Head). h.line) same), (sym (ap (λ (h : Head). h.defined) same), sym (ap (λ (h : Head). h.name) same)))
 said-head line (define answer name arguments strategy) head within =
-    let same = contained-one (record { line = line; defined = true; name = name; answer = answer; parameters = types_of arguments }) head within in
+    let same = contains_one (record { line = line; defined = true; name = name; answer = answer; parameters = types_of arguments }) head within in
     (sym (ap (λ (h : Head). h.line) same), (sym (ap (λ (h : Head). h.defined) same), sym (ap (λ (h : Head). h.name) same)))
-said-head line _ head within = absurd (contained-none head within)
+said-head line _ head within = absurd (contains_none head within)
 
 pub record IsHeadLine (lines : List Line) (head : Head) : Type 0 where
   pub on : Line
@@ -86,6 +86,6 @@ pub record IsHeadLine (lines : List Line) (head : Head) : Type 0 where
 
 pub line-of-head : (lines : List Line) (head : Head) → Contains (heads_of lines) head → IsHeadLine lines head
 line-of-head lines head within =
-    let j : IsJoined (λ l. head_said l.number l.says) lines head = contained-joined (λ l. head_said l.number l.says) lines head within in
-    let h = said-head j.from.number j.from.says head j.gives in
-    record { on = j.from; within = j.within; number = h.0; says = h.1 }
+    let j : IsJoined (λ l. head_said l.number l.says) lines head = contains_joined (λ l. head_said l.number l.says) lines head within in
+    let h = said-head j.of.number j.of.says head j.given in
+    record { on = j.of; within = j.inside; number = h.0; says = h.1 }

@@ -9,7 +9,6 @@ pub mod ScopeLemmas
 pub mod JoinLemmas
 pub mod CaseNotes
 pub mod Union
-pub mod SearchLemmas
 pub mod DerivedLemmas
 pub mod GroupLemmas
 pub mod CountLemmas

@@ -5,6 +5,7 @@ use Rattle.std.specs.List.Sorted.{IsNonDecreasing}
 use Rattle.std.specs.Str.{bytes_eq}
 use Rattle.std.proofs.lemmas.Slice.Eq.{bytes_eq-Decides}
 use Rattle.line_parts.specs.Parts.{Val}
+use Rattle.std.proofs.lemmas.Bool.{not-true}
 use Rattle.ir_lines.specs.Places.{number_in}
 use Rattle.type_checks.specs.Edges.{times, count_in, AreUncounted}
 use Rattle.type_checks.proofs.CountLemmas.{count_by-map, IsApart, same-or-apart}
@@ -15,16 +16,12 @@ entry-counts blocks one entries =
     count_by-map (λ n. nat_eq n one) (λ (entry : Val × List ℕ). number_in blocks entry.1) entries
     ∙ sym (count_by-map (λ name. nat_eq (number_in blocks name) one) (λ (entry : Val × List ℕ). entry.1) entries)
 
-untrue : (b : Bool) → not b ≡ true → b ≡ false
-untrue false e = refl
-untrue true e = let bad : false ≡ true = e in cc
-
 pub uncounted-iff : (blocks : List (List ℕ)) (into : List ℕ) (entries : List (Val × List ℕ)) (numbers : List ℕ) (wrong : Bool)
     → IsNonDecreasing numbers → IsNonDecreasing into
     → ((one : ℕ) → times one numbers ≡ count_in blocks one (map (λ entry. entry.1) entries))
     → wrong ≡ not (bytes_eq numbers into) → (IsTrue wrong ↔ AreUncounted blocks into entries)
 uncounted-iff blocks into entries numbers wrong up down counts is = (
-  (λ t. to (untrue (bytes_eq numbers into) (sym is ∙ t)) (same-or-apart numbers into up down)),
+  (λ t. to (not-true (bytes_eq numbers into) (sym is ∙ t)) (same-or-apart numbers into up down)),
   (λ u. is ∙ ap not (by (bytes_eq numbers into) refl u)),
 )
   where

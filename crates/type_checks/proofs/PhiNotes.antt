@@ -16,7 +16,7 @@ use Rattle.type_checks.specs.FunctionFaults.{StatementIsWrong, PhiAt, PhisOfBloc
 use Rattle.type_checks.specs.Edges.{times, IsWrongBeside, is_late, PhiBeside, PhisBeside}
 use Rattle.ir_lines.proofs.NoteLemmas.{notes-same}
 use Rattle.type_checks.proofs.Founds.{notes-alike}
-use Rattle.ir_lines.proofs.Members.{contains-here, contains-there}
+use Rattle.list_laws.proofs.Contents.{contains_first, contains_later}
 
 -- ---- lines that are no phis
 
@@ -42,10 +42,10 @@ other-line [] e = absurd (let bad : false ≡ true = e in cc)
 other-line (l ∷ ls) e = by (λ rest. other-line ls rest) (is_phi l.says) refl
   where
     by : (is_late ls ≡ true → IsOther ls) → (b : Bool) → is_phi l.says ≡ b → IsOther (l ∷ ls)
-    by more false is = record { line = l; inside = contains-here l ls; is = is }
+    by more false is = record { line = l; inside = contains_first l ls; is = is }
     by more true is =
         let o : IsOther ls = more (ap (λ b. not b || is_late ls) (sym is) ∙ e) in
-        record { line = o.line; inside = contains-there l ls o.line o.inside; is = o.is }
+        record { line = o.line; inside = contains_later l o.line ls o.inside; is = o.is }
 
 line-other : (before : List Line) (l : Line) → Contains before l → is_phi l.says ≡ false → is_late before ≡ true
 line-other before l c is =

@@ -13,7 +13,7 @@ use Rattle.line_parts.specs.Parts.{Val}
 use Rattle.ir_lines.specs.Places.{number_in}
 use Rattle.ir_lines.specs.Modules.{operand_in}
 use Rattle.type_checks.specs.Edges.{Differ}
-use Rattle.ir_lines.proofs.Members.{contains-none, contains-here, contains-one}
+use Rattle.list_laws.proofs.Contents.{contains_first, contains_none, contains_one}
 
 -- a table holds for the block of each entry the entry's value, and nothing else
 pub record IsFilled {S : Type 0} (values blocks : List (List ℕ)) (ty : TypeWord) (entries : List (Val × List ℕ)) (seen : HashMap ℕ Operand S) : Type 0 where
@@ -45,7 +45,7 @@ grown values blocks ty entries e seen next filled same update = record {
         → get nat_eq next (number_in blocks entry.1) ≡ Some (operand_in values ty entry.0)
     there entry (inl c) = moved entry c (eqb_tells (number_in blocks e.1) (number_in blocks entry.1))
     there entry (inr c) = subst (λ (one : Val × List ℕ). get nat_eq next (number_in blocks one.1) ≡ Some (operand_in values ty one.0))
-        (contains-one e entry c) update.1
+        (contains_one e entry c) update.1
 
     from : (number : ℕ) (operand : Operand) → get nat_eq next number ≡ Some operand
         → ((nat_eq (number_in blocks e.1) number ≡ true) × (number_in blocks e.1 ≡ number))
@@ -53,7 +53,7 @@ grown values blocks ty entries e seen next filled same update = record {
         → (entry : Val × List ℕ) × Contains (entries ++ e ∷ []) entry × (number_in blocks entry.1 ≡ number) × (operand_in values ty entry.0 ≡ operand)
     from number operand is (inl t) =
         let h : Some (operand_in values ty e.0) ≡ Some operand = sym update.1 ∙ ap (get nat_eq next) t.1 ∙ is in
-        (e, Contains-append_right entries (e ∷ []) e (contains-here e []), t.1, cc)
+        (e, Contains-append_right entries (e ∷ []) e (contains_first e []), t.1, cc)
     from number operand is (inr t) =
         let f = filled.from number operand (sym (update.2 number t.0) ∙ is) in
         (f.0, Contains-append_left entries (e ∷ []) f.0 f.1, f.2, f.3)
@@ -95,6 +95,6 @@ filled-agree values blocks ty entries seen filled d =
 pub filled-none : {S : Type 0} (values blocks : List (List ℕ)) (ty : TypeWord) (seen : HashMap ℕ Operand S)
     → ((number : ℕ) → get nat_eq seen number ≡ None) → IsFilled values blocks ty [] seen
 filled-none values blocks ty seen empty = record {
-  there = λ entry c. absurd (contains-none entry c);
+  there = λ entry c. absurd (contains_none entry c);
   from = λ number operand is. absurd (let bad : None ≡ Some operand = sym (empty number) ∙ is in cc);
 }

@@ -5,6 +5,7 @@ use Rattle.std.specs.List.{Contains}
 use Rattle.line_parts.specs.declared.readings.TypeWord.{TypeWord}
 use Rattle.line_parts.specs.Lists.{Named}
 use Rattle.line_parts.specs.Parts.{Val}
+use Rattle.std.proofs.lemmas.Bool.{not-true}
 use Rattle.ir_ast.specs.declared.modules.Form.{Form}
 use Rattle.ir_ast.specs.declared.modules.Form.TheVariants.{Source, Rewritten}
 use Rattle.ir_ast.specs.Faults.Reserved.{IsExternalName, IsInsertedName}
@@ -24,7 +25,8 @@ use Rattle.ir_lines.specs.Faults.PhiEdges.{PhiEdges}
 use Rattle.ir_lines.specs.Faults.DerivedEscapes.{DerivedEscapes}
 use Rattle.ir_lines.specs.Faults.GroupShape.{GroupShape, misshapes, PartIsWrong, WrongPart, by_line as shape_by_line, by_part as shape_by_part}
 use Rattle.ir_lines.specs.Faults.Reserved.{Reserved, defines_external, declares_helper, names_value, names_label}
-use Rattle.type_checks.proofs.Contained.{contained-found, found-contained, contained-map, contained-mapped, contained-flat, contained-head, IsMapped}
+use Rattle.list_laws.proofs.Contents.{IsImage, contains_first, contains_image, contains_map, joined_contains}
+use Rattle.type_checks.proofs.Contained.{contained-found, found-contained}
 use Rattle.type_checks.proofs.Heads.{IsDefined, line-defined, IsDefinition, defined-line, IsHeadLine, line-of-head, SaysHead}
 use Rattle.ir_lines.specs.Notes.{Notes}
 use Rattle.ir_lines.specs.declared.faults.Fault.{Fault}
@@ -195,19 +197,19 @@ fault-of-values : (form : Form) (lines : List Line) (func : Definition) (line co
     → NamesFound form (named_values (values_of func)) line code → HasPlainFault form lines line code
 fault-of-values form lines func line code defined (inl f) = at-code form lines line code 3 f.0 (name_twice (value_again func defined f.1))
 fault-of-values form lines func line code defined (inr f) =
-    let m : IsMapped (λ (one : Naming). (one.line, one.name)) (values_of func) (line, f.2.name)
-    = contained-mapped (λ (one : Naming). (one.line, one.name)) (values_of func) (line, f.2.name) f.2.given in
-    at-code form lines line code 14 f.0 (reserved (names_value f.1 func m.from defined m.within (ap (λ (p : ℕ × List ℕ). p.0) m.gives)
-    (inserted-named m.from.name f.2.name (ap (λ (p : ℕ × List ℕ). p.1) m.gives) f.2.inserted)))
+    let m : IsImage (λ (one : Naming). (one.line, one.name)) (values_of func) (line, f.2.name)
+    = contains_image (λ (one : Naming). (one.line, one.name)) (values_of func) (line, f.2.name) f.2.given in
+    at-code form lines line code 14 f.0 (reserved (names_value f.1 func m.of defined m.inside (ap (λ (p : ℕ × List ℕ). p.0) m.is)
+    (inserted-named m.of.name f.2.name (ap (λ (p : ℕ × List ℕ). p.1) m.is) f.2.inserted)))
 
 fault-of-blocks : (form : Form) (lines : List Line) (func : Definition) (line code : ℕ) → Contains (definitions_of lines) func
     → NamesFound form (named_blocks (blocks_of func)) line code → HasPlainFault form lines line code
 fault-of-blocks form lines func line code defined (inl f) = at-code form lines line code 3 f.0 (name_twice (label_again func defined f.1))
 fault-of-blocks form lines func line code defined (inr f) =
-    let m : IsMapped (λ (one : BlockLines). (one.line, one.name)) (blocks_of func) (line, f.2.name)
-    = contained-mapped (λ (one : BlockLines). (one.line, one.name)) (blocks_of func) (line, f.2.name) f.2.given in
-    at-code form lines line code 14 f.0 (reserved (names_label f.1 func m.from defined m.within (ap (λ (p : ℕ × List ℕ). p.0) m.gives)
-    (inserted-named m.from.name f.2.name (ap (λ (p : ℕ × List ℕ). p.1) m.gives) f.2.inserted)))
+    let m : IsImage (λ (one : BlockLines). (one.line, one.name)) (blocks_of func) (line, f.2.name)
+    = contains_image (λ (one : BlockLines). (one.line, one.name)) (blocks_of func) (line, f.2.name) f.2.given in
+    at-code form lines line code 14 f.0 (reserved (names_label f.1 func m.of defined m.inside (ap (λ (p : ℕ × List ℕ). p.0) m.is)
+    (inserted-named m.of.name f.2.name (ap (λ (p : ℕ × List ℕ). p.1) m.is) f.2.inserted)))
 
 fault-in-function : (form : Form) (lines : List Line) (func : Definition) (line code : ℕ) → Contains (definitions_of lines) func
     → FoundInFunction form (scope_of lines func) func line code → HasPlainFault form lines line code
@@ -220,10 +222,6 @@ fault-in-function form lines func line code defined (inr f) = fault-within form 
 
 not-false : (b : Bool) → b ≡ false → not b ≡ true
 not-false b e = ap not e
-
-not-true : (b : Bool) → not b ≡ true → b ≡ false
-not-true true e = sym e
-not-true false e = refl
 
 -- a head of the line of a definition
 record IsHeadOf (lines : List Line) (number : ℕ) (name : List ℕ) (defined : Bool) : Type 0 where
@@ -239,8 +237,8 @@ head-defined lines l answer name arguments strategy within e =
     let h : Head = record { line = l.number; defined = true; name = name; answer = answer; parameters = types_of arguments } in
     record {
       head = h;
-      within = contained-flat (λ m. head_said m.number m.says) lines l h within
-          (subst (λ (what : Statement). Contains (head_said l.number what) h) (sym e) (contained-head h []));
+      within = joined_contains (λ m. head_said m.number m.says) lines l h within
+          (subst (λ (what : Statement). Contains (head_said l.number what) h) (sym e) (contains_first h []));
       line = refl;
       named = refl;
       kind = refl;
@@ -252,8 +250,8 @@ head-declared lines l answer name parameters within e =
     let h : Head = record { line = l.number; defined = false; name = name; answer = answer; parameters = types_of parameters } in
     record {
       head = h;
-      within = contained-flat (λ m. head_said m.number m.says) lines l h within
-          (subst (λ (what : Statement). Contains (head_said l.number what) h) (sym e) (contained-head h []));
+      within = joined_contains (λ m. head_said m.number m.says) lines l h within
+          (subst (λ (what : Statement). Contains (head_said l.number what) h) (sym e) (contains_first h []));
       line = refl;
       named = refl;
       kind = refl;
@@ -263,12 +261,12 @@ head-declared lines l answer name parameters within e =
 head-of-name : (lines : List Line) (name : List ℕ) → Contains (map (λ (one : Definition). one.name) (definitions_of lines)) name
     → (head : Head) × Contains (heads_of lines) head × (head.defined ≡ true) × (head.name ≡ name)
 head-of-name lines name within =
-    let m : IsMapped (λ (one : Definition). one.name) (definitions_of lines) name
-    = contained-mapped (λ (one : Definition). one.name) (definitions_of lines) name within in
-    let d : IsDefined lines m.from = line-defined lines m.from m.within in
-    let h : IsHeadOf lines d.head.number m.from.name true
-    = head-defined lines d.head m.from.answer m.from.name m.from.arguments m.from.strategy d.within d.says in
-    (h.head, h.within, h.kind, h.named ∙ m.gives)
+    let m : IsImage (λ (one : Definition). one.name) (definitions_of lines) name
+    = contains_image (λ (one : Definition). one.name) (definitions_of lines) name within in
+    let d : IsDefined lines m.of = line-defined lines m.of m.inside in
+    let h : IsHeadOf lines d.head.number m.of.name true
+    = head-defined lines d.head m.of.answer m.of.name m.of.arguments m.of.strategy d.within d.says in
+    (h.head, h.within, h.kind, h.named ∙ m.is)
 
 contained-as : (lines : List Line) (l : Line) (line : ℕ) (what : Statement) → Contains lines l → l.number ≡ line → l.says ≡ what
     → Contains lines (record { number = line; says = what })
@@ -461,7 +459,7 @@ named-defined : (lines : List Line) (l : Line) (what : Statement) (head : Head) 
 named-defined lines l (define answer name arguments strategy) head within e defined says =
     let d : IsDefinition lines l.number name = defined-line lines l answer name arguments strategy within e in
     subst (λ (n : List ℕ). Contains (map (λ (one : Definition). one.name) (definitions_of lines)) n) (d.named ∙ sym says.1)
-    (contained-map (λ (one : Definition). one.name) (definitions_of lines) d.func d.within)
+    (contains_map (λ (one : Definition). one.name) (definitions_of lines) d.func d.within)
 named-defined lines l (declare answer name parameters) head within e defined says =
     absurd (let bad : false ≡ true = sym says.0 ∙ defined in cc)
 named-defined lines l _ head within e defined says = absurd says
@@ -506,7 +504,7 @@ reserved-found form lines line (names_value source func one defined within e ins
       record {
         name = one.name;
         given = subst (λ (n : ℕ). Contains (named_values (values_of func)) (n, one.name)) e
-            (contained-map (λ (o : Naming). (o.line, o.name)) (values_of func) one within);
+            (contains_map (λ (o : Naming). (o.line, o.name)) (values_of func) one within);
         inserted = inserted;
       },
     ))))
@@ -517,7 +515,7 @@ reserved-found form lines line (names_label source func one defined within e ins
       record {
         name = one.name;
         given = subst (λ (n : ℕ). Contains (named_blocks (blocks_of func)) (n, one.name)) e
-            (contained-map (λ (o : BlockLines). (o.line, o.name)) (blocks_of func) one within);
+            (contains_map (λ (o : BlockLines). (o.line, o.name)) (blocks_of func) one within);
         inserted = inserted;
       },
     ))))

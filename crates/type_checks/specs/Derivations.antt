@@ -10,7 +10,8 @@ use Rattle.ir_lines.specs.Places.{place_in}
 use Rattle.ir_lines.specs.Sections.{Definition, values_of}
 use Rattle.type_checks.specs.FunctionFaults.{is_number}
 use Rattle.ir_lines.specs.Faults.DerivedEscapes.{StandsFor, Derived}
-use Rattle.type_checks.specs.Follows.{UsedBy, Marked}
+use Rattle.graph_search.specs.Edges.{Edge}
+use Rattle.graph_search.specs.Paths.{Marked}
 
 abbrev pub names_given : Definition → List (List ℕ)
 names_given func = map (λ one. one.name) (values_of func)
@@ -72,8 +73,8 @@ pub record AreSources (func : Definition) (steps : List ℕ) (users : List (List
   pub whole : length users ≡ length (names_given func)
   pub step_found : (value : ℕ) → Contains steps value → IsStepAt func value
   pub step_kept : (value : ℕ) → IsStepAt func value → Contains steps value
-  pub use_found : (value user : ℕ) → UsedBy users value user → IsMergeAt func value user
-  pub use_kept : (value user : ℕ) → IsMergeAt func value user → UsedBy users value user
+  pub use_found : (value user : ℕ) → Edge users value user → IsMergeAt func value user
+  pub use_kept : (value user : ℕ) → IsMergeAt func value user → Edge users value user
 
 -- the marked values are the derived ones
 pub record MarksDerived (func : Definition) (marks : List Bool) : Type 0 where

@@ -4,84 +4,20 @@ ghost use Rattle.std.specs.Prelude.{◌≡◌, ◌<◌, ℕ, ◌&&◌, [], ◌�
 ghost use Rattle.std.specs.List.{Contains, cons_option, list_any};
 ghost use Rattle.line_parts.specs.Seen.{seen_value, seen_passed};
 ghost use Rattle.type_checks.specs.Derivations.{gives_first, count_given, one_if, all_if, number_named, numbers_used, steps_given, merged_given, AreSources, MarksDerived, is_true, has_mark, is_marked, given_marked, lets_out};
-ghost use Rattle.type_checks.specs.Follows.{AreInside, MarksFollowing, Visits, MarksOne, AddsUsers};
+ghost use Rattle.type_checks.specs.Follows.{AddsUsers};
 ghost use Rattle.type_checks.specs.FunctionFaults.{EscapesOf, is_number};
 ghost use Rattle.ir_lines.specs.Notes.{Notes};
 ghost use Rattle.ir_lines.specs.Parts.{gives, uses, local_name};
 ghost use Rattle.ir_lines.specs.Tables.{seen_definition, IsLocal};
 ghost use Rattle.ir_lines.specs.Views.{said, seen_lines};
 
+use graph_search::{Edges, reached_from};
 use ir_lines::best::First;
 use ir_lines::parts::{given, is_merge, is_step, uses};
 use ir_lines::scope::Local;
 use ir_lines::sections::Definition;
 use ir_reader::{Passed, Reading, TypeWord, Value};
 use std::alloc::{AllocError, Global};
-
-// ---- what follows from some values
-
-fn unmarked(alloc: Global, count: usize) -> Result<Vec<bool>, AllocError>
-    ensures { IfOk result (λ marks. marks.items ≡ replicate count false) }
-{
-    let mut marks = Vec::new(alloc);
-    for _ in 0..count {
-        marks.push(false)?;
-    }
-    Ok(marks)
-}
-
-// Marks a value, and puts it at the end of the order if it had no mark.
-fn mark(value: usize, marks: &mut Vec<bool>, order: &mut Vec<usize>) -> Result<(), AllocError>
-    requires { value < length marks.old.items }
-    ensures { IfOk result (λ _. MarksOne value marks.old.items order.old.items marks.new.items order.new.items) }
-{
-    if marks[value] {
-        return Ok(());
-    }
-    marks[value] = true;
-    order.push(value)?;
-    Ok(())
-}
-
-// Marks each of these values.
-fn mark_all(
-    values: &[usize],
-    marks: &mut Vec<bool>,
-    order: &mut Vec<usize>,
-) -> Result<(), AllocError>
-    requires { (value : ℕ) → Contains values.now value → value < length marks.old.items }
-    ensures { IfOk result (λ _. Visits values.now marks.old.items order.old.items marks.new.items order.new.items) }
-{
-    for value in values {
-        mark(*value, marks, order)?;
-    }
-    Ok(())
-}
-
-// The users of a value.
-fn users_of(users: &[Vec<usize>], value: usize) -> &[usize]
-    requires { value < length users.now }
-    ensures { slice_get (map (λ row. row.items) users.now) value ≡ Some result.now }
-{
-    users[value].as_slice()
-}
-
-// For each value whether it is one of the first or follows from one through users.
-fn following(alloc: Global, first: &[usize], users: &[Vec<usize>]) -> Result<Vec<bool>, AllocError>
-    requires { AreInside first.now (map (λ row. row.items) users.now) }
-    ensures { IfOk result (λ marks. MarksFollowing first.now (map (λ row. row.items) users.now) marks.items) }
-{
-    let mut marks = unmarked(alloc, users.len())?;
-    let mut order = Vec::new(alloc);
-    mark_all(first, &mut marks, &mut order)?;
-    let mut done = 0;
-    while done < order.len() {
-        let from = order[done];
-        mark_all(users_of(users, from), &mut marks, &mut order)?;
-        done += 1;
-    }
-    Ok(marks)
-}
 
 // ---- the steps of a function, and what its phis and selects use
 
@@ -90,6 +26,23 @@ fn following(alloc: Global, first: &[usize], users: &[Vec<usize>]) -> Result<Vec
 struct Sources {
     steps: Vec<usize>,
     users: Vec<Vec<usize>>,
+}
+
+// From each value to its users.
+impl Edges for Sources {
+    ghost rows = { λ found. map (λ row. row.items) found.users.items };
+
+    fn node_count(&self) -> usize {
+        self.users.len()
+    }
+
+    fn degree(&self, node: usize) -> usize {
+        self.users[node].len()
+    }
+
+    fn target(&self, node: usize, number: usize) -> usize {
+        self.users[node][number]
+    }
 }
 
 /// Whether the place that was found is this one.
@@ -266,8 +219,7 @@ fn derived(alloc: Global, local: &Local, func: &Definition) -> Result<Vec<bool>,
     ensures { IfOk result (λ marks. MarksDerived (seen_definition func.now) marks.items) }
 {
     let found = sources_of(alloc, local, func)?;
-    let marks = following(alloc, found.steps.as_slice(), found.users.as_slice())?;
-    Ok(marks)
+    reached_from(alloc, &found, found.steps.as_slice())
 }
 
 // ---- what leaves

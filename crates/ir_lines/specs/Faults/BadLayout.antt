@@ -1,5 +1,5 @@
 -- Code 13. A layout without fields, or with a field that is no cell.
-use Rattle.std.specs.Prelude.{ℕ, Bool, true, false, not, ◌&&◌, ◌==◌, List, length}
+use Rattle.std.specs.Prelude.{ℕ, Bool, false, not, ◌&&◌, ◌==◌, List, length}
 use Rattle.std.specs.List.{list_all}
 use Rattle.line_parts.specs.declared.readings.TypeWord.{TypeWord}
 use Rattle.ir_lines.specs.Statements.{Line, Statement, layout}

@@ -1,6 +1,6 @@
 -- Code 9, of the source form alone. A derived pointer leaves the registers (Garbage Collection Safepoints in LLVM, "Base & Derived Pointers").
-use Rattle.std.specs.Prelude.{◌≡◌, ℕ, true, List, ◌∷◌, ◌++◌, map, filter_map, Option, Some}
-use Rattle.std.specs.List.{Contains, All}
+use Rattle.std.specs.Prelude.{◌≡◌, ℕ, true, List, ◌∷◌, ◌++◌, map, filter_map}
+use Rattle.std.specs.List.{Contains}
 use Rattle.ir_lines.specs.Statements.{Line, Statement}
 use Rattle.ir_lines.specs.Parts.{gives, is_step, is_merge, values_named, leaving, local_name}
 use Rattle.ir_lines.specs.Sections.{Definition, definitions_of, result_named, values_before}

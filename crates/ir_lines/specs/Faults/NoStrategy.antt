@@ -1,5 +1,5 @@
 -- Code 10. A definition lacks the strategy, or names another.
-use Rattle.std.specs.Prelude.{ℕ, Bool, true, false, not, List, codes, Option, Some, None}
+use Rattle.std.specs.Prelude.{ℕ, Bool, false, not, List, codes, Option, Some, None}
 use Rattle.std.specs.Str.{bytes_eq}
 use Rattle.ir_lines.specs.Statements.{Line, Statement, define}
 use Rattle.ir_lines.specs.InBody.{InText}

@@ -1,8 +1,7 @@
 -- Code 7. A phi that isn't right (LLVM Language Reference, "'phi' Instruction").
-use Rattle.std.specs.Prelude.{◌≡◌, ◌≢◌, ℕ, ◌==◌, true, false, List, [], ◌∷◌, ◌++◌, map, length, count_by, flat_map, slice_get, Option, Some, None}
+use Rattle.std.specs.Prelude.{◌≡◌, ◌≢◌, ℕ, ◌==◌, false, List, ◌∷◌, ◌++◌, map, length, count_by, flat_map, slice_get}
 use Rattle.std.specs.List.{Contains}
 use Rattle.std.specs.Option.{option_map_or}
-use Rattle.ir_ast.specs.declared.ops.Operand.{Operand}
 use Rattle.line_parts.specs.declared.readings.TypeWord.{TypeWord}
 use Rattle.line_parts.specs.Parts.{Val}
 use Rattle.ir_lines.specs.Statements.{Line, phi}

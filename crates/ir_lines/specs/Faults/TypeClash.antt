@@ -1,5 +1,5 @@
 -- Code 5. An operand doesn't fit, a rule of the form is broken, or a case doesn't fit its `switch`.
-use Rattle.std.specs.Prelude.{◌≡◌, ◌≢◌, ◌⊎◌, ℕ, ◌%◌, ◌^◌, Bool, true, false, not, ◌&&◌, ◌||◌, nat_lt, nat_le, List, [], ◌∷◌, ◌++◌, map, filter_map, length, codes, Option, Some, None, if◌then◌else◌}
+use Rattle.std.specs.Prelude.{◌≡◌, ◌≢◌, ◌⊎◌, ℕ, Bool, true, false, not, ◌&&◌, ◌||◌, nat_lt, nat_le, List, [], ◌∷◌, ◌++◌, map, filter_map, length, codes, Option, Some, None, if◌then◌else◌}
 use Rattle.std.specs.List.{list_any, Contains}
 use Rattle.std.specs.Str.{bytes_eq}
 use Rattle.line_parts.specs.declared.readings.TypeWord.{TypeWord}
@@ -15,7 +15,7 @@ use Rattle.ir_ast.specs.declared.modules.Form.{Form}
 use Rattle.ir_lines.specs.Statements.{Line, Statement, convert, select, layout_step, load, store, call, switch, switch_case, ret_void, ret, statepoint}
 use Rattle.ir_lines.specs.Parts.{uses}
 use Rattle.ir_lines.specs.Sections.{LayoutLine, Head, Definition, definitions_of, cases_of}
-use Rattle.ir_lines.specs.Scope.{Scope, scope_of, head_named, layout_named}
+use Rattle.ir_lines.specs.Scope.{Scope, head_named, layout_named}
 use Rattle.ir_lines.specs.TextForms.{is_source}
 use Rattle.ir_lines.specs.Types.{same_type, same_types, is_cell, literal_fits, fits}
 use Rattle.ir_lines.specs.Modules.{passed_type, wrapped}

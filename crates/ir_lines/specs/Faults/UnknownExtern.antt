@@ -1,5 +1,5 @@
 -- Code 12. A declaration that isn't one of the externals, with its answer and its parameters.
-use Rattle.std.specs.Prelude.{◌≡◌, ℕ, List, map}
+use Rattle.std.specs.Prelude.{ℕ, List, map}
 use Rattle.std.specs.List.{Contains}
 use Rattle.line_parts.specs.declared.readings.TypeWord.{TypeWord}
 use Rattle.line_parts.specs.Lists.{Named}

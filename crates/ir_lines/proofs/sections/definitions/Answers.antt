@@ -6,7 +6,8 @@ use Rattle.ir_lines.specs.declared.sections.Definition.{Definition}
 use Rattle.ir_lines.specs.Sections.{definition_said, definitions_of}
 use Rattle.ir_lines.specs.Tables.{seen_definition}
 use Rattle.ir_lines.specs.Views.{said, seen_lines}
-use Rattle.ir_lines.proofs.FrontLemmas.{dropped, rest-moved}
+use Rattle.list_laws.proofs.Places.{drop_item}
+use Rattle.ir_lines.proofs.FrontLemmas.{rest-moved}
 use Rattle.ir_lines.proofs.sections.definitions.Goals.{in-Some+in_ok-push, in_default}
 use Rattle.ir_lines.proofs.sections.definitions.Goals as goal
 
@@ -19,7 +20,7 @@ loop-i-preserved c =
     let here = definition_said one.line (said one.reading) rest in
     let cut = ap (λ (ls : List NumberedReading). definition_said one.line (said one.reading) (seen_lines ls)) (take_rest lines (i + 1)) in
     let next : definitions_of (seen_lines (drop i lines)) ≡ here ++ definitions_of rest
-    = ap (λ ls. definitions_of (seen_lines ls)) (dropped lines i one c.loop-i-test.true c.index-lines-i.is) in
+    = ap (λ ls. definitions_of (seen_lines ls)) (drop_item lines i one c.loop-i-test.true c.index-lines-i.is) in
     let before = map seen_definition c.loop-i.found.items in
     elim c.match-definition_at.branch [
       | in-Some+in_ok-push w ↦

@@ -1,12 +1,13 @@
 use Rattle.std.proofs.Common.{◌∙◌, ◌+◌, ◌∷◌, ap, sym, drop}
 use Rattle.ir_lines.specs.Views.{seen_lines}
 use Rattle.ir_lines.specs.Modules.{case_values, case_labels}
-use Rattle.module_build.proofs.CaseLemmas.{case_values-more, case_labels-more, cut, moved}
+use Rattle.module_build.proofs.CaseLemmas.{case_values-more, case_labels-more, moved}
+use Rattle.list_laws.proofs.Places.{drop_item}
 use Rattle.module_build.proofs.build.switch.Goals as goal
 
 pub loop-line-preserved : goal.loop-line-preserved
 loop-line-preserved c =
-    let here = cut c.args.behind.now c.loop-line.line-index c.line-item.result c.loop-line-test.true c.line-item.is in
+    let here = drop_item c.args.behind.now c.loop-line.line-index c.line-item.result c.loop-line-test.true c.line-item.is in
     let rest = seen_lines (drop (c.loop-line.line-index + 1) c.args.behind.now) in
     record {
       made = moved _ _ _ _ _ _ c.in_ok-push-3.ensures.ok

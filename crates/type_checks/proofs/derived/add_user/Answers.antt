@@ -1,6 +1,6 @@
 use Rattle.std.proofs.Common.{◌≡◌, ◌∙◌, ◌++◌, ap, sym, [], ◌∷◌, List, ℕ, Vec, Global, set, get_or}
 use Rattle.std.specs.Prelude.{map}
-use Rattle.ir_lines.proofs.FrontLemmas.{get-map}
+use Rattle.std.proofs.lemmas.List.{get_or-map}
 use Rattle.type_checks.proofs.DerivedLemmas.{set-map}
 use Rattle.type_checks.proofs.derived.add_user.Goals as goal
 
@@ -14,4 +14,4 @@ returns c =
     set-map items rows value c.push.new.self
     ∙ ap (λ r. set (map items rows) value r)
     (c.in_ok-push.ensures.items ∙ ap (λ (r : Vec ℕ Global). r.items ++ user ∷ []) is
-    ∙ ap (λ (r : List ℕ). r ++ user ∷ []) (sym (get-map items rows value c.index_mut.result.now [] c.requires)))
+    ∙ ap (λ (r : List ℕ). r ++ user ∷ []) (sym (get_or-map items rows value c.index_mut.result.now [] c.requires)))

@@ -1,25 +1,28 @@
-use Rattle.std.proofs.Common.{ℕ, List, sym, subst, Vec, Global}
+use Rattle.std.proofs.Common.{ℕ, List, sym, subst}
 use Rattle.std.specs.Prelude.{map}
+use Rattle.std.proofs.lemmas.Result.{IfOk-weaker}
 use Rattle.ir_lines.specs.Tables.{seen_definition}
-use Rattle.type_checks.specs.Follows.{AreInside, MarksFollowing}
+use Rattle.graph_search.specs.Edges.{AreInside}
+use Rattle.graph_search.specs.Paths.{MarksReached}
+use Rattle.type_checks.specs.Derivations.{MarksDerived}
 use Rattle.type_checks.proofs.DerivedLemmas.{sources-inside, marks-derived}
 use Rattle.type_checks.proofs.derived.derived.Goals as goal
 
-pub following-requires : goal.following-requires
-following-requires c =
+pub reached_from-requires : goal.reached_from-requires
+reached_from-requires c =
     let steps = c.in_ok-found.found.steps.items in
-    let users = c.in_ok-found.found.users.items in
-    let rows : List (Vec ℕ Global) → List (List ℕ) = λ us. map (λ row. row.items) us in
-    subst (λ (xs : List ℕ). AreInside xs (rows c.as_slice-2.result.now)) (sym c.as_slice.ensures.value)
-    (subst (λ (us : List (Vec ℕ Global)). AreInside steps (rows us)) (sym c.as_slice-2.ensures.value)
-    (sources-inside (seen_definition c.args.func.now) steps (rows users) c.in_ok-found.ensures))
+    let users = map (λ row. row.items) c.in_ok-found.found.users.items in
+    record {
+      inside = subst (λ (xs : List ℕ). AreInside users xs) (sym c.as_slice.ensures.value)
+          (sources-inside (seen_definition c.args.func.now) steps users c.in_ok-found.ensures);
+    }
 
 pub returns : goal.returns
 returns c =
+    let func = seen_definition c.args.func.now in
     let steps = c.in_ok-found.found.steps.items in
-    let users = c.in_ok-found.found.users.items in
-    let marks = c.in_ok-marks.marks.items in
-    let rows : List (Vec ℕ Global) → List (List ℕ) = λ us. map (λ row. row.items) us in
-    marks-derived (seen_definition c.args.func.now) steps (rows users) marks c.in_ok-found.ensures
-    (subst (λ (us : List (Vec ℕ Global)). MarksFollowing steps (rows us) marks) c.as_slice-2.ensures.value
-    (subst (λ (xs : List ℕ). MarksFollowing xs (rows c.as_slice-2.result.now) marks) c.as_slice.ensures.value c.in_ok-marks.ensures))
+    let users = map (λ row. row.items) c.in_ok-found.found.users.items in
+    IfOk-weaker c.reached_from.result (λ marks. MarksReached users c.as_slice.result.now marks.items) (λ marks. MarksDerived func marks.items)
+    (λ marks found.
+    marks-derived func steps users marks.items c.in_ok-found.ensures
+    (subst (λ (xs : List ℕ). MarksReached users xs marks.items) c.as_slice.ensures.value found)) c.reached_from.ensures.marks

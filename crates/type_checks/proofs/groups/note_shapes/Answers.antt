@@ -12,7 +12,8 @@ use Rattle.type_checks.specs.Derivations.{names_given, count_given}
 use Rattle.type_checks.specs.FunctionFaults.{ShapeAt}
 use Rattle.type_checks.specs.Groups.{Open, seen_open, open_behind}
 use Rattle.type_checks.proofs.CaseNotes.{taken-more}
-use Rattle.type_checks.proofs.Founds.{notes-start, notes-turn, notes-all, seen-at, split-at}
+use Rattle.list_laws.proofs.Places.{split_at}
+use Rattle.type_checks.proofs.Founds.{notes-start, notes-turn, notes-all, seen-at}
 use Rattle.type_checks.proofs.DerivedLemmas.{number-start, number-more, number-below, number_at}
 use Rattle.type_checks.proofs.GroupLemmas.{Opened, opened-start, opened-more, notes-shape}
 use Rattle.type_checks.proofs.groups.note_shapes.Goals as goal
@@ -57,13 +58,13 @@ loop-line-preserved c =
           ∙ sym (number-more func i l at);
       opened = subst (λ (ls : List Line). Opened func ls (option_map seen_open c.open_behind-group.result)) (sym (taken-more body i l at))
           (subst (λ (o : Option Open). Opened func (take i body ++ l ∷ []) o) (sym behind)
-          (opened-more func (take i body) l (drop (i + 1) body) c.loop-line.number group (split-at body i l at)
+          (opened-more func (take i body) l (drop (i + 1) body) c.loop-line.number group (split_at body i l at)
           c.loop-line.invariant.number c.loop-line.invariant.opened));
       noted = λ lines.
           notes-turn (ShapeAt (scope_of lines func) func) body i l c.args.first.now.found c.loop-line.first.found c.note_if.new.self.found at
           (c.loop-line.invariant.noted lines)
           (notes-shape lines func (take i body) l (drop (i + 1) body) c.args.local.now.values c.args.local.now.types.items group
-          c.in_ok-misses.misses c.loop-line.first.found c.note_if.new.self.found (split-at body i l at) c.requires.values c.requires.types
+          c.in_ok-misses.misses c.loop-line.first.found c.note_if.new.self.found (split_at body i l at) c.requires.values c.requires.types
           c.loop-line.invariant.opened c.in_ok-misses.ensures c.note_if.ensures);
     }
 

@@ -10,7 +10,7 @@ use Rattle.ir_lines.specs.Again.{FoundAfter, IsBadName, named_values}
 use Rattle.ir_lines.specs.Notes.{Notes}
 use Rattle.ir_lines.specs.Tables.{AddsValues}
 use Rattle.ir_lines.proofs.TableLemmas.{Values, values-none, values-more, same-length, length-arguments, argument-push}
-use Rattle.ir_lines.proofs.FrontLemmas.{get-map}
+use Rattle.std.proofs.lemmas.List.{get_or-map}
 use Rattle.ir_lines.proofs.scope.Local.add_arguments.Goals as goal
 
 pub loop-i-init : goal.loop-i-init
@@ -42,10 +42,10 @@ loop-i-preserved c =
     let same : length names ≡ length all = same-length (λ (v : Vec ℕ Global). v.items) (λ (one : Naming). one.name) names all c.requires in
     let inside : i < length names = (let n = length-arguments c.args.line [] args in omega arith) in
     let named : get_or (map (λ (one : Naming). one.name) all) i [] ≡ c.as_slice.result.now
-    = ap (λ (xs : List (List ℕ)). get_or xs i []) (sym c.requires) ∙ get-map (λ (v : Vec ℕ Global). v.items) names i vec [] inside
+    = ap (λ (xs : List (List ℕ)). get_or xs i []) (sym c.requires) ∙ get_or-map (λ (v : Vec ℕ Global). v.items) names i vec [] inside
     ∙ ap (λ (v : Vec ℕ Global). v.items) (sym c.index-names-i.is) ∙ sym c.as_slice.ensures.value in
     let typed : (get_or args i (seen_argument blank)).ty ≡ ty
-    = ap (λ (one : Named). one.ty) (get-map seen_argument arguments i blank (seen_argument blank) c.loop-i-test.true) in
+    = ap (λ (one : Named). one.ty) (get_or-map seen_argument arguments i blank (seen_argument blank) c.loop-i-test.true) in
     let more : take (i + 1) all ≡ take i all ++ record { line = c.args.line; name = c.as_slice.result.now; ty = ty } ∷ []
     = argument-push c.args.line args i c.as_slice.result.now ty (record { line = 0; name = []; ty = Void }) (seen_argument blank) below named typed in
     let before : Values c.args.form c.args.self.now c.loop-i.self c.args.first.now.found c.loop-i.first.found (take i all)

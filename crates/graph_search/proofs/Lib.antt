@@ -1,0 +1,2 @@
+mod WithoutLemmas
+mod SearchLemmas

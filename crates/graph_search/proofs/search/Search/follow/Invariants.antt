@@ -1,0 +1,7 @@
+use Rattle.std.proofs.Common.{take}
+use Rattle.graph_search.specs.Edges.{targets_of}
+use Rattle.graph_search.specs.Searches.{FindsAll}
+use Rattle.graph_search.proofs.search.Search.follow.Given as goal
+
+abbrev pub invariant-loop-number : goal.invariant-loop-number
+invariant-loop-number g l = FindsAll (take l.number (targets_of (g.E.Edges.rows l.edges) l.node)) l.initial.self l.self
