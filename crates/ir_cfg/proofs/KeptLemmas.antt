@@ -161,8 +161,8 @@ small_kept args kept marks blocks small = record {
 -- the functions of a source module are formed
 pub formed_sources : (content : ModuleContent) → IsSourceModule content → All IsFormed content.funcs
 formed_sources content source = λ k d below.
-    let own = source.functions k d below in
-    let faultless = source.no_fault.functions k d below in
+    let own = source.typed.functions k d below in
+    let faultless = source.typed.no_fault.functions k d below in
     record {
       has_block = own.has_block;
       widths = own.widths;

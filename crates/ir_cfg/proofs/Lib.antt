@@ -19,4 +19,3 @@ pub mod KeepsTypes
 pub mod KeepsNames
 pub mod KeepsDerived
 pub mod KeepsSource
-pub mod SampleLemmas

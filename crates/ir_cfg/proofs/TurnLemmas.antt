@@ -8,7 +8,7 @@ use Rattle.std.proofs.Math.Seq.{take-length}
 use Rattle.sp_ids.specs.declared.ids.BlockId.{BlockId}
 use Rattle.ir_ast.specs.Edges.{count_of}
 use Rattle.ir_cfg.specs.Rows.{rows_from, AreStops}
-use Rattle.ir_cfg.specs.Graphs.{Graph, block_at, succs_of, preds_of, labels_of}
+use Rattle.ir_cfg.specs.Graphs.{Graph, block_at, succs_of, labels_of}
 use Rattle.ir_cfg.specs.Turned.{LeadsInside, IsTurned}
 use Rattle.ir_cfg.specs.Filled.{AreCounts, AddsUp, AreEnds, AreRows, HasRoom, Puts, Enters, IsFilledFrom, start_of, entries_of, preds_since}
 use Rattle.ir_cfg.specs.declared.turned.Filling.{Filling}

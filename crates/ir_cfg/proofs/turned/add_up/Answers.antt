@@ -1,5 +1,5 @@
-use Rattle.std.proofs.Common.{◌≡◌, ◌<◌, length, refl, sym, subst, arith}
-use Rattle.ir_cfg.proofs.CountLemmas.{AddsUpTo, sum_fits, adds_more}
+use Rattle.std.proofs.Common.{◌≡◌, ◌<◌, length, refl, arith}
+use Rattle.ir_cfg.proofs.CountLemmas.{sum_fits, adds_more}
 use Rattle.ir_cfg.proofs.turned.add_up.Goals as goal
 
 pub loop-place-init : goal.loop-place-init
