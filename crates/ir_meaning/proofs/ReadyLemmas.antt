@@ -1,4 +1,4 @@
--- Source modules without pointers are what the interpreter asks for.
+-- Modules without pointers and without bundles are what the interpreter asks for.
 use Rattle.std.proofs.Common.{◌≡◌, ℕ, zero, suc, ◌+◌, Bool, true, false, not, ◌&&◌, List, [], ◌∷◌, ◌++◌, length, map, take, drop, get_or, refl, sym, ap, ◌∙◌}
 use Rattle.std.specs.Prelude.{Option, Some, None, slice_get, if◌then◌else◌}
 use Rattle.std.specs.List.{All, list_all, flat_map}
@@ -14,7 +14,6 @@ use Rattle.ir_ast.specs.Blocks.{BasicBlock}
 use Rattle.ir_ast.specs.Funcs.{Function, instructions_of}
 use Rattle.ir_ast.specs.Modules.{ModuleContent}
 use Rattle.ir_ast.specs.Bundles.{HasNoBundle}
-use Rattle.ir_cfg.specs.SourceModules.{IsSourceFunction, IsSourceModule}
 use Rattle.ir_meaning.specs.declared.spots.Due.{Due}
 use Rattle.ir_meaning.specs.declared.spots.Due.TheVariants.{Front, Line as Next, Behind}
 use Rattle.ir_meaning.specs.Lines.{poll, numbered, following, retreats, lines_from, insts_in, insts_of}
@@ -50,18 +49,18 @@ func_ready [] all func number = All-nil IsReady
 func_ready (first ∷ funcs) all zero number = block_ready first.blocks (All-head FunctionIsReady first funcs all) number
 func_ready (first ∷ funcs) all (suc func) number = func_ready funcs (All-tail FunctionIsReady first funcs all) func number
 
-ready_function : (func : Function) → IsSourceFunction func → FunctionIsToday func → FunctionIsReady func
-ready_function func source today = λ k d h.
+ready_function : (func : Function) → HasNoBundle func → FunctionIsToday func → FunctionIsReady func
+ready_function func bare today = λ k d h.
     let inst = get_or (instructions_of func.blocks) k d in
     record {
       runs = first_holds (runs_today inst.op) (not (is_pointer inst.ty))
           (first_holds (runs_today inst.op && not (is_pointer inst.ty)) (list_all (λ operand. not (is_null operand)) inst.operands) (today k d h));
-      no_bundle = source.no_bundle k d h;
+      no_bundle = bare k d h;
     }
 
-pub ready_module : (content : ModuleContent) → IsSourceModule content → IsToday content → IsReadyModule content
-ready_module content source today = λ func block.
-    func_ready content.funcs (λ k d h. ready_function (get_or content.funcs k d) (source.functions k d h) (today k d h)) func block
+pub ready_module : (content : ModuleContent) → All HasNoBundle content.funcs → IsToday content → IsReadyModule content
+ready_module content bare today = λ func block.
+    func_ready content.funcs (λ k d h. ready_function (get_or content.funcs k d) (bare k d h) (today k d h)) func block
 
 -- the line at which a frame stands has no bundle
 quiet_lines : (due : Due) (block next : ℕ) (insts : List Instruction) → AllReady insts → bundle_of (lines_due due block next insts) ≡ []

@@ -1,9 +1,9 @@
 //! The reference interpreter.
 
 ghost use Rattle.std.specs.Prelude.{◌≡◌, ◌≤◌, ◌<◌, length, codes, IfOk, IfSome, OnErr, IsErrOf};
-ghost use Rattle.std.specs.List.{position};
+ghost use Rattle.std.specs.List.{All, position};
 ghost use Rattle.std.specs.Str.{bytes_eq};
-ghost use Rattle.ir_cfg.specs.SourceModules.{IsSourceModule};
+ghost use Rattle.ir_ast.specs.Bundles.{HasNoBundle};
 ghost use Rattle.tool_io.specs.Counts.{Rose};
 ghost use Rattle.ir_meaning.specs.Lines.{main_of};
 ghost use Rattle.ir_meaning.specs.Machines.{state_of, today, IsOpened};
@@ -63,7 +63,7 @@ impl From<Failed> for RefFault {
     }
 }
 
-/// Runs `@main` of a source module without pointers, which may take these many steps, over this input, and
+/// Runs `@main` of a module without pointers and without bundles, which may take these many steps, over this input, and
 /// writes each line that it prints by one `put`.
 ///
 /// `Write` comes only where the sink counted a fault. After it, and after `Memory`, a front of what the run
@@ -75,7 +75,7 @@ pub fn reference<O: Sink>(
     steps: u64,
     out: &mut O,
 ) -> Result<Ran, RefFault>
-    requires source { IsSourceModule «module».now.content }
+    requires no_bundle { All HasNoBundle «module».now.content.funcs }
     requires now { IsToday «module».now.content }
     ensures ran { IfOk result (λ ran. IsRun «module».now.content input.now no_go steps ran (O.written out.old) (O.written out.new)) }
     ensures front { OnErr result (WritesFrontOfRun «module».now.content input.now no_go steps (O.written out.old) (O.written out.new)) }

@@ -9,10 +9,10 @@ use Rattle.ir_meaning.proofs.ReadyLemmas.{ready_module}
 use Rattle.ir_meaning.proofs.interpret.reference.Goals as goal
 
 pub of-requires : goal.of-requires
-of-requires g c = ready_module c.args.module.now.content c.requires.source c.requires.now
+of-requires g c = ready_module c.args.module.now.content c.requires.no_bundle c.requires.now
 
 pub run-requires : goal.run-requires
-run-requires g c = rw c.in_ok-code.ensures (ready_module c.args.module.now.content c.requires.source c.requires.now)
+run-requires g c = rw c.in_ok-code.ensures (ready_module c.args.module.now.content c.requires.no_bundle c.requires.now)
 
 pub returns-clause-ran : goal.returns-clause-ran
 returns-clause-ran g c =
