@@ -5,6 +5,7 @@ pub mod TurnLemmas
 pub mod PlaceLemmas
 pub mod SearchLemmas
 pub mod CycleLemmas
+pub mod TypedLemmas
 pub mod KeptLemmas
 pub mod KeepsPlaces
 pub mod KeepsLines
