@@ -1,17 +1,20 @@
 -- A source module without its unreached blocks is a source module.
 use Rattle.std.proofs.Common.{◌≡◌, ℕ, zero, suc, ◌<◌, ◌≤◌, Bool, false, List, [], ◌∷◌, ◌++◌, length, map, refl, ap, sym, arith, codes, Some, slice_get, ◌⊎◌, ◌∙◌, subst}
 use Rattle.std.specs.List.{All, AllZip, flat_map}
-use Rattle.std.proofs.lemmas.List.{length-append}
-use Rattle.std.proofs.lemmas.List.Elements.{All-weaker, length_all_zip}
+use Rattle.std.proofs.lemmas.List.{length-append, length-map}
+use Rattle.std.proofs.lemmas.List.Elements.{All-map, All-weaker, length_all_zip}
 use Rattle.std.proofs.lemmas.Option.{none-some, same_Some, slice_get-map, slice_get_within}
 use Rattle.list_laws.proofs.Contents.{all_at, all_from_at}
 use Rattle.ir_ast.specs.declared.modules.Form.{Form}
 use Rattle.ir_ast.specs.declared.modules.Form.TheVariants.{Source}
+use Rattle.ir_ast.specs.declared.types.Ty.{Ty}
 use Rattle.ir_ast.specs.declared.types.Ty.TheVariants.{Int}
+use Rattle.ir_ast.specs.declared.ops.Operand.{Operand}
 use Rattle.ir_ast.specs.declared.ops.Callee.{Callee}
 use Rattle.ir_ast.specs.declared.ops.Callee.TheVariants.{Fun}
 use Rattle.ir_ast.specs.Lists.{Distinct}
 use Rattle.ir_ast.specs.Insts.{Instruction}
+use Rattle.ir_ast.specs.Blocks.{BasicBlock, EndsAtTerminator}
 use Rattle.ir_ast.specs.Layouts.{ObjectLayout}
 use Rattle.ir_ast.specs.Funcs.{Function, instructions_of}
 use Rattle.ir_ast.specs.Modules.{ModuleContent}
@@ -28,10 +31,12 @@ use Rattle.ir_ast.specs.Faults.NoMain.{HasMain}
 use Rattle.ir_cfg.specs.Graphs.{graph_of}
 use Rattle.ir_cfg.specs.Limits.{IsName, IsWithinLimits}
 use Rattle.ir_cfg.specs.Marks.{MarksReached}
-use Rattle.ir_cfg.specs.SourceModules.{IsSourceFunction, IsSourceModule}
-use Rattle.ir_cfg.specs.Unreached.{kept_by, operand_kept, block_kept, function_kept, DropsUnreached, ModuleDropsUnreached}
-use Rattle.ir_cfg.proofs.KeptLemmas.{few_instructions}
-use Rattle.ir_cfg.proofs.KeepsPlaces.{marks_before}
+use Rattle.ir_cfg.specs.SourceModules.{IsSourceModule}
+use Rattle.ir_cfg.specs.Unreached.{kept_by, operand_kept, block_kept, function_kept, DropsUnreached, ModuleDropsUnreached, Kept, kept_of, inst_kept}
+use Rattle.ir_cfg.proofs.KeptLemmas.{few_instructions, ends_kept}
+use Rattle.ir_cfg.proofs.KeepsPlaces.{marks_before, kept_all}
+use Rattle.ir_cfg.specs.DefiniteUses.{UsesAreDefinite}
+use Rattle.ir_cfg.specs.TypedModules.{IsTypedFunction}
 use Rattle.ir_cfg.proofs.KeepsLines.{IsKept, all_lines, block_forth, inst_left, inst_new, line_at, two_steps}
 use Rattle.ir_cfg.proofs.KeepsValues.{new_types}
 use Rattle.ir_cfg.proofs.KeepsPaths.{entry_marked, marked_block, marks_whole}
@@ -47,17 +52,18 @@ use Rattle.ir_cfg.proofs.KeepsDerived.{derived_kept}
 record Sourced (content : ModuleContent) (marks : List Bool) (func : Function) : Type 0 where
   pub form : content.form ≡ Source
   pub reached : MarksReached (graph_of func) marks
-  pub source : IsSourceFunction func
+  pub typed : IsTypedFunction Source func
+  pub definite : UsesAreDefinite func
   pub faultless : FunctionHasNoFault content func
 
 lasts_of : (content : ModuleContent) (marks : List Bool) (func : Function) → Sourced content marks func
     → (inst : Instruction) → IsKept marks func inst → Lasts marks func inst
-lasts_of content marks func is inst kept = lasts marks func inst is.reached is.source kept
+lasts_of content marks func is inst kept = lasts marks func inst is.reached is.typed.lines is.definite kept
 
 left_line : (content : ModuleContent) (marks : List Bool) (func : Function) → Sourced content marks func
     → (inst : Instruction) → IsKept marks func inst → IsLine (inst_left (kept_by marks func) inst)
 left_line content marks func is inst kept =
-    let line = line_at IsLine func kept.number kept.place inst kept.stands is.source.lines in
+    let line = line_at IsLine func kept.number kept.place inst kept.stands is.typed.lines in
     line_left (kept_by marks func) inst (λ phi.
     phi_some marks func kept.number kept.place inst is.reached is.faultless.entry is.faultless.phis kept.marked kept.stands line phi) line
 
@@ -66,10 +72,20 @@ new_line : (content : ModuleContent) (marks : List Bool) (func : Function) → S
 new_line content marks func is inst kept =
     line_new (kept_by marks func) inst.op (inst_left (kept_by marks func) inst) (left_line content marks func is inst kept)
 
+bundle_kept : (kept : Kept) (inst : Instruction) → length inst.bundle ≤ 64 → length (inst_kept kept inst).bundle ≤ 64
+bundle_kept kept inst few =
+    let new : (Ty × Operand) → (Ty × Operand) = λ entry. (entry.0, operand_kept kept entry.1) in
+    let count = length-map inst.bundle new in
+    omega (arith, few, count)
+
+abbrev EndsBlock : BasicBlock → Type 0
+EndsBlock block = EndsAtTerminator block.insts
+
 source_kept : (content : ModuleContent) (marks : List Bool) (func : Function) → Sourced content marks func
-    → IsSourceFunction (function_kept marks func)
+    → IsTypedFunction Source (function_kept marks func)
 source_kept content marks func is =
-    let source = is.source in
+    let typed = is.typed in
+    let kept = kept_by marks func in
     let whole = marks_whole marks func is.reached in
     let block = marked_block marks func 0 is.reached (entry_marked marks func is.reached) in
     let first = block_forth marks func 0 block.0 (entry_marked marks func is.reached) block.1 in
@@ -77,19 +93,20 @@ source_kept content marks func is =
     let few = few_instructions (kept_by marks func) marks func.blocks in
     record {
       has_block = omega arith;
+      ends = All-map EndsBlock (block_kept kept) (kept_of marks func.blocks)
+          (All-weaker EndsBlock (λ block. EndsAtTerminator (map (inst_kept kept) block.insts)) (λ block own. ends_kept kept block.insts own)
+          (kept_of marks func.blocks) (kept_all EndsBlock marks func.blocks typed.ends));
       lines = all_lines IsLine marks func (λ inst kept.
           subst IsLine (sym (two_steps (kept_by marks func) inst)) (new_line content marks func is inst kept));
       names = record {
-        own = source.names.own;
-        values = values_named IsName marks func whole source.names.values;
-        labels = blocks_named IsName marks func source.names.labels;
+        own = typed.names.own;
+        values = values_named IsName marks func whole typed.names.values;
+        labels = blocks_named IsName marks func typed.names.labels;
       };
-      widths = widths_kept marks func source.widths;
-      definite = uses_kept marks func is.reached source.definite;
-      values = omega (arith, few, source.values);
-      no_bundle = all_lines (λ inst. inst.bundle ≡ []) marks func (λ inst kept.
-          ap (map (λ entry. (entry.0, operand_kept (kept_by marks func) entry.1)))
-          (line_at (λ (i : Instruction). i.bundle ≡ []) func kept.number kept.place inst kept.stands source.no_bundle));
+      widths = widths_kept marks func typed.widths;
+      bundles = all_lines (λ inst. length inst.bundle ≤ 64) marks func (λ inst stands.
+          bundle_kept kept inst (line_at (λ (i : Instruction). length i.bundle ≤ 64) func stands.number stands.place inst stands.stands typed.bundles));
+      small = omega (arith, few, typed.small);
     }
 
 is_source_kept : (marks : List Bool) (func : Function) → MarksReached (graph_of func) marks → IsSource func → IsSource (function_kept marks func)
@@ -155,10 +172,11 @@ all_after P funcs after zip each = all_from_at P after (λ k func at.
 sourced : (content : ModuleContent) (k : ℕ) (func : Function) (marks : List Bool) → IsSourceModule content
     → slice_get content.funcs k ≡ Some func → MarksReached (graph_of func) marks → Sourced content marks func
 sourced content k func marks source at reached = record {
-  form = source.form;
+  form = source.typed.of_form;
   reached = reached;
-  source = all_at IsSourceFunction content.funcs k func source.functions at;
-  faultless = all_at (FunctionHasNoFault content) content.funcs k func source.no_fault.functions at;
+  typed = all_at (IsTypedFunction Source) content.funcs k func source.typed.functions at;
+  definite = all_at UsesAreDefinite content.funcs k func source.definite at;
+  faultless = all_at (FunctionHasNoFault content) content.funcs k func source.typed.no_fault.functions at;
 }
 
 same_signatures : (content after : ModuleContent) → ModuleDropsUnreached content after → map signature_of after.funcs ≡ map signature_of content.funcs
@@ -185,8 +203,8 @@ typed_after content after source drops =
     all_after (λ (func : Function). FunctionIsTyped (scope_of after func) func) content.funcs after.funcs drops.functions (λ k func marks at reached.
     let is = sourced content k func marks source at reached in
     typed_kept marks func (scope_of content func) (scope_of after (function_kept marks func)) (sees_kept content after marks func drops reached)
-    is.source.no_bundle (lasts_of content marks func is) (left_line content marks func is)
-    (all_at (λ (f : Function). FunctionIsTyped (scope_of content f) f) content.funcs k func source.no_fault.typed at))
+    (lasts_of content marks func is) (left_line content marks func is)
+    (all_at (λ (f : Function). FunctionIsTyped (scope_of content f) f) content.funcs k func source.typed.no_fault.typed at))
 
 -- the first `@main` and the functions round it
 record MainOrigin (front : List Function) (main : Function) (funcs : List Function) : Type 0 where
@@ -239,20 +257,20 @@ faultless_after content after source drops =
     let funcs = length_all_zip DropsUnreached content.funcs after.funcs drops.functions in
     record {
       names = record {
-        layouts = subst (λ (ls : List ObjectLayout). Distinct (map (λ layout. layout.name) ls)) (sym drops.layouts) source.no_fault.names.layouts;
-        functions = subst Distinct (sym (zip_map DropsUnreached (λ (func : Function). func.name) (λ func new drop. ap (λ (f : Function). f.name) drop.rest) content.funcs after.funcs drops.functions)) source.no_fault.names.functions;
+        layouts = subst (λ (ls : List ObjectLayout). Distinct (map (λ layout. layout.name) ls)) (sym drops.layouts) source.typed.no_fault.names.layouts;
+        functions = subst Distinct (sym (zip_map DropsUnreached (λ (func : Function). func.name) (λ func new drop. ap (λ (f : Function). f.name) drop.rest) content.funcs after.funcs drops.functions)) source.typed.no_fault.names.functions;
         labels = all_after (λ (func : Function). Distinct (map (λ block. block.name) func.blocks)) content.funcs after.funcs drops.functions (λ k func marks at reached.
-            blocks_distinct marks func (all_at (λ (f : Function). Distinct (map (λ block. block.name) f.blocks)) content.funcs k func source.no_fault.names.labels at));
+            blocks_distinct marks func (all_at (λ (f : Function). Distinct (map (λ block. block.name) f.blocks)) content.funcs k func source.typed.no_fault.names.labels at));
         values = all_after (λ (func : Function). Distinct (map definition_name (definitions_of func))) content.funcs after.funcs drops.functions (λ k func marks at reached.
-            values_distinct marks func (marks_whole marks func reached) (all_at (λ (f : Function). Distinct (map definition_name (definitions_of f))) content.funcs k func source.no_fault.names.values at));
+            values_distinct marks func (marks_whole marks func reached) (all_at (λ (f : Function). Distinct (map definition_name (definitions_of f))) content.funcs k func source.typed.no_fault.names.values at));
       };
       typed = typed_after content after source drops;
       functions = all_after (FunctionHasNoFault after) content.funcs after.funcs drops.functions (λ k func marks at reached.
           fault_kept content after marks func (sourced content k func marks source at reached) drops.form layouts funcs);
-      main = has_main_after content after source.no_fault.main drops;
-      fields = subst (λ (ls : List ObjectLayout). All (λ layout. 0 < length layout.fields) ls) (sym drops.layouts) source.no_fault.fields;
+      main = has_main_after content after source.typed.no_fault.main drops;
+      fields = subst (λ (ls : List ObjectLayout). All (λ layout. 0 < length layout.fields) ls) (sym drops.layouts) source.typed.no_fault.fields;
       free = all_after (λ (func : Function). IsExternalName func.name → ⊥) content.funcs after.funcs drops.functions (λ k func marks at reached.
-          all_at (λ (f : Function). IsExternalName f.name → ⊥) content.funcs k func source.no_fault.free at);
+          all_at (λ (f : Function). IsExternalName f.name → ⊥) content.funcs k func source.typed.no_fault.free at);
     }
 
 fewer_after : (funcs after : List Function) → AllZip DropsUnreached funcs after
@@ -284,13 +302,18 @@ limits_after content after limits drops =
 
 pub source_after : (content after : ModuleContent) → IsSourceModule content → ModuleDropsUnreached content after → IsSourceModule after
 source_after content after source drops =
+    let typed = source.typed in
     let fewer = fewer_after content.funcs after.funcs drops.functions in
     record {
-      form = drops.form ∙ source.form;
-      no_fault = faultless_after content after source drops;
-      functions = all_after IsSourceFunction content.funcs after.funcs drops.functions (λ k func marks at reached.
-          source_kept content marks func (sourced content k func marks source at reached));
-      layout_names = subst (λ (ls : List ObjectLayout). All (λ layout. IsName layout.name) ls) (sym drops.layouts) source.layout_names;
-      limits = limits_after content after source.limits drops;
-      instructions = omega (arith, fewer, source.instructions);
+      typed = record {
+        of_form = drops.form ∙ typed.of_form;
+        no_fault = faultless_after content after source drops;
+        functions = all_after (IsTypedFunction Source) content.funcs after.funcs drops.functions (λ k func marks at reached.
+            source_kept content marks func (sourced content k func marks source at reached));
+        layout_names = subst (λ (ls : List ObjectLayout). All (λ layout. IsName layout.name) ls) (sym drops.layouts) typed.layout_names;
+        limits = limits_after content after typed.limits drops;
+        small = omega (arith, fewer, typed.small);
+      };
+      definite = all_after UsesAreDefinite content.funcs after.funcs drops.functions (λ k func marks at reached.
+          uses_kept marks func reached (all_at UsesAreDefinite content.funcs k func source.definite at));
     }

@@ -1,8 +1,7 @@
 -- Kept lines keep their types.
-use Rattle.std.proofs.Common.{◌≡◌, ℕ, suc, Bool, true, false, List, [], ◌∷◌, length, drop, map, replicate, refl, ap, sym, Some, slice_get, inl, inr, ◌∙◌, subst}
+use Rattle.std.proofs.Common.{◌≡◌, ℕ, suc, ◌+◌, Bool, true, false, List, [], ◌∷◌, length, drop, map, replicate, refl, ap, sym, Some, slice_get, inl, inr, ◌∙◌, subst}
 use Rattle.std.specs.List.{All, AllZip, list_all}
 use Rattle.std.proofs.lemmas.List.{length-map, drop-map}
-use Rattle.std.proofs.lemmas.List.Elements.{All-nil}
 use Rattle.std.proofs.lemmas.Bool.{cases_Bool, false≢true}
 use Rattle.list_laws.proofs.Places.{filter_map_forth, get_front, get_map}
 use Rattle.ir_ast.specs.declared.types.Ty.{Ty}
@@ -15,7 +14,7 @@ use Rattle.ir_ast.specs.declared.ops.Operand.TheVariants.{Value, Int, Null, Fun}
 use Rattle.ir_ast.specs.Cells.{kind_of}
 use Rattle.ir_ast.specs.Lists.{Distinct}
 use Rattle.ir_ast.specs.Insts.{Instruction}
-use Rattle.ir_ast.specs.Funcs.{Function, instructions_of}
+use Rattle.ir_ast.specs.Funcs.{Function}
 use Rattle.ir_ast.specs.Lines.{LineOf, IsLine}
 use Rattle.ir_ast.specs.Operands.{is_literal, value_in, operands_of}
 use Rattle.ir_ast.specs.Scope.{Scope}
@@ -23,7 +22,7 @@ use Rattle.ir_ast.specs.Faults.PhiEdges.{is_phi}
 use Rattle.ir_ast.specs.Faults.TypeClash.{Fits, asked, HasField, StartsTask, ChecksKind, TakesOperands, IsCallOf, RuleOf, IsTyped, FunctionIsTyped}
 use Rattle.graph_search.specs.Paths.{Marked}
 use Rattle.ir_cfg.specs.Unreached.{Kept, kept_of, kept_by, value_marks, operand_kept, has_mark, function_kept}
-use Rattle.ir_cfg.proofs.KeepsPlaces.{kept_get, number_of_marked}
+use Rattle.ir_cfg.proofs.KeepsPlaces.{kept_get, number_of_marked, all_at, all_from_at, get_past, map_back}
 use Rattle.ir_cfg.proofs.KeepsLines.{IsKept, all_lines, inst_left, inst_new, line_at, two_steps}
 use Rattle.ir_cfg.proofs.KeepsUses.{Lasts, phi_operands}
 use Rattle.ir_cfg.proofs.KeepsForms.{left_plain}
@@ -66,6 +65,29 @@ operand_marked marks func inst lasts k operand value at is =
     let left = inst_left (kept_by marks func) inst in
     let used = filter_map_forth value_in (operands_of left) k operand value (get_front left.operands (map (λ entry. entry.1) left.bundle) k operand at) is in
     lasts.values used.0 value used.1
+
+-- and those in its bundle
+bundle_marked : (marks : List Bool) (func : Function) (inst : Instruction) → Lasts marks func inst → (k : ℕ) (entry : Ty × Operand) (value : ℕ)
+    → slice_get inst.bundle k ≡ Some entry → value_in entry.1 ≡ Some value → Marked (value_marks marks func) value
+bundle_marked marks func inst lasts k entry value at is =
+    let left = inst_left (kept_by marks func) inst in
+    let second : (Ty × Operand) → Operand = λ entry. entry.1 in
+    let there : slice_get (operands_of left) (length left.operands + k) ≡ Some entry.1 =
+    get_past left.operands (map second inst.bundle) k ∙ get_map second inst.bundle k entry at in
+    let used = filter_map_forth value_in (operands_of left) (length left.operands + k) entry.1 value there is in
+    lasts.values used.0 value used.1
+
+bundle_fits : (marks : List Bool) (func : Function) (values : List Ty) (bundle : List (Ty × Operand)) → All (λ (entry : Ty × Operand). Fits values entry.1 entry.0) bundle
+    → ((k : ℕ) (entry : Ty × Operand) (value : ℕ) → slice_get bundle k ≡ Some entry → value_in entry.1 ≡ Some value → Marked (value_marks marks func) value)
+    → All (λ (entry : Ty × Operand). Fits (kept_of (value_marks marks func) values) entry.1 entry.0) (map (λ (entry : Ty × Operand). (entry.0, operand_kept (kept_by marks func) entry.1)) bundle)
+bundle_fits marks func values bundle fit marked =
+    let new : (Ty × Operand) → (Ty × Operand) = λ entry. (entry.0, operand_kept (kept_by marks func) entry.1) in
+    let Fit : (Ty × Operand) → Type 0 = λ entry. Fits (kept_of (value_marks marks func) values) entry.1 entry.0 in
+    all_from_at Fit (map new bundle) (λ k entry at.
+    let old = map_back new bundle k entry at in
+    subst Fit (sym old.is)
+    (fits_new marks func values old.before.1 old.before.0 (all_at (λ (one : Ty × Operand). Fits values one.1 one.0) bundle k old.before fit old.stands)
+    (λ value is. marked k old.before value old.stands is)))
 
 zip_left : {A B : Type 0} (R : A → B → Type 0) (y : B) (marks : List Bool) (xs : List A) → AllZip R xs (replicate (length xs) y)
     → AllZip R (kept_of marks xs) (replicate (length (kept_of marks xs)) y)
@@ -153,10 +175,10 @@ rule_new marks func scope after Ret inst sees line rule = rule ∙ sym sees.answ
 rule_new marks func scope after op inst sees line rule = tt
 
 typed_new : (marks : List Bool) (func : Function) (scope after : Scope) (inst : Instruction) → SeesKept marks func scope after
-    → Lasts marks func inst → inst.bundle ≡ [] → IsLine (inst_left (kept_by marks func) inst)
+    → Lasts marks func inst → IsLine (inst_left (kept_by marks func) inst)
     → IsTyped scope (inst_left (kept_by marks func) inst)
     → IsTyped after (inst_new (kept_by marks func) (inst_left (kept_by marks func) inst))
-typed_new marks func scope after inst sees lasts bare line typed =
+typed_new marks func scope after inst sees lasts line typed =
     let kept = kept_by marks func in
     let left = inst_left kept inst in
     let many : length (map (operand_kept kept) left.operands) ≡ length left.operands = length-map left.operands (operand_kept kept) in
@@ -166,25 +188,22 @@ typed_new marks func scope after inst sees lasts bare line typed =
           (subst (λ (vs : List Ty). AllZip (Fits vs) (map (operand_kept kept) left.operands) (asked inst.op inst.ty (length left.operands))) (sym sees.values)
           (all_fit_new marks func scope.values left.operands (asked inst.op inst.ty (length left.operands)) typed.operands
           (operand_marked marks func inst lasts)));
-      bundle = subst (All (λ (entry : Ty × Operand). Fits after.values entry.1 entry.0))
-          (sym (ap (map (λ (entry : Ty × Operand). (entry.0, operand_kept kept entry.1))) bare))
-          (All-nil (λ (entry : Ty × Operand). Fits after.values entry.1 entry.0));
+      bundle = subst (λ (vs : List Ty). All (λ (entry : Ty × Operand). Fits vs entry.1 entry.0) (inst_new kept left).bundle) (sym sees.values)
+          (bundle_fits marks func scope.values inst.bundle typed.bundle (bundle_marked marks func inst lasts));
       rule = rule_new marks func scope after inst.op left sees line typed.rule;
     }
 
 -- a function keeps its types
 pub typed_kept : (marks : List Bool) (func : Function) (scope after : Scope) → SeesKept marks func scope after
-    → All (λ inst. inst.bundle ≡ []) (instructions_of func.blocks)
     → ((inst : Instruction) → IsKept marks func inst → Lasts marks func inst)
     → ((inst : Instruction) → IsKept marks func inst → IsLine (inst_left (kept_by marks func) inst))
     → FunctionIsTyped scope func → FunctionIsTyped after (function_kept marks func)
-typed_kept marks func scope after sees bare lasts lines typed = record {
+typed_kept marks func scope after sees lasts lines typed = record {
   answer = typed.answer;
   args = typed.args;
   lines = all_lines (IsTyped after) marks func (λ inst kept.
       subst (IsTyped after) (sym (two_steps (kept_by marks func) inst))
       (typed_new marks func scope after inst sees (lasts inst kept)
-      (line_at (λ (i : Instruction). i.bundle ≡ []) func kept.number kept.place inst kept.stands bare)
       (lines inst kept)
       (typed_left scope (kept_by marks func) inst (line_at (IsTyped scope) func kept.number kept.place inst kept.stands typed.lines))));
 }

@@ -1,6 +1,6 @@
 -- What the lines of reached blocks use, and that uses stay definite.
 use Rattle.std.proofs.Common.{◌≡◌, ℕ, zero, suc, ◌+◌, Bool, true, false, if◌then◌else◌, List, [], ◌∷◌, ◌++◌, length, get_or, map, refl, ap, sym, arith, append-nil, Some, slice_get, inl, inr, ◌∙◌, subst}
-use Rattle.std.specs.List.{filter_map, flat_map}
+use Rattle.std.specs.List.{All, filter_map, flat_map}
 use Rattle.std.proofs.lemmas.List.{map-append, length-map, get_or_past, nil_from_length}
 use Rattle.std.proofs.lemmas.Option.{none-some, same_Some, slice_get-get_or}
 use Rattle.std.proofs.lemmas.Bool.{cases_lt, cases_Bool, false≢true, true≢false}
@@ -14,7 +14,7 @@ use Rattle.ir_ast.specs.declared.ops.Operand.{Operand}
 use Rattle.ir_ast.specs.declared.ops.Operand.TheVariants.{Value, Int, Null, Fun}
 use Rattle.ir_ast.specs.Insts.{Instruction}
 use Rattle.ir_ast.specs.Blocks.{BasicBlock}
-use Rattle.ir_ast.specs.Funcs.{Function}
+use Rattle.ir_ast.specs.Funcs.{Function, instructions_of}
 use Rattle.ir_ast.specs.Ops.{is_terminator}
 use Rattle.ir_ast.specs.Lines.{LineOf, IsLine}
 use Rattle.ir_ast.specs.Operands.{operands_of, value_in, values_used}
@@ -24,7 +24,6 @@ use Rattle.ir_cfg.specs.Paths.{Path}
 use Rattle.ir_cfg.specs.DefiniteUses.{Stands, Meets, IsDefinite, UsesAreDefinite, by_line, by_entry, in_arguments, in_earlier, in_last}
 use Rattle.graph_search.specs.Paths.{Marked}
 use Rattle.ir_cfg.specs.Marks.{MarksReached}
-use Rattle.ir_cfg.specs.SourceModules.{IsSourceFunction}
 use Rattle.ir_cfg.specs.Unreached.{Kept, kept_of, kept_by, new_numbers, value_marks, operand_kept, label_kept, has_mark, inst_kept, function_kept}
 use Rattle.ir_cfg.proofs.KeepsPlaces.{all_marks, before_le, before_same, kept_back, map_through, marks_before, number_of_marked}
 use Rattle.ir_cfg.proofs.KeepsLines.{IsKept, block_back, inst_left, inst_new, labels_left, line_at, operands_left, stands_back, two_steps}
@@ -335,18 +334,21 @@ plain_labels_marked marks func number place inst reached marked stands line plai
           absurd (none-some label (ap (λ (ls : List BlockId). slice_get ls k) (sym none) ∙ there))
     ]
 
-pub lasts : (marks : List Bool) (func : Function) (inst : Instruction) → MarksReached (graph_of func) marks → IsSourceFunction func
-    → IsKept marks func inst → Lasts marks func inst
-lasts marks func inst reached source kept =
-    let line : IsLine inst = line_at IsLine func kept.number kept.place inst kept.stands source.lines in
-    let bare : inst.bundle ≡ [] = line_at (λ (i : Instruction). i.bundle ≡ []) func kept.number kept.place inst kept.stands source.no_bundle in
+phi_bare : (op : Op) (inst : Instruction) → is_phi op ≡ true → LineOf op inst → inst.bundle ≡ []
+phi_bare Phi inst phi line = line.0.no_bundle
+phi_bare op inst phi line = absurd (false≢true phi)
+
+pub lasts : (marks : List Bool) (func : Function) (inst : Instruction) → MarksReached (graph_of func) marks
+    → All IsLine (instructions_of func.blocks) → UsesAreDefinite func → IsKept marks func inst → Lasts marks func inst
+lasts marks func inst reached lines definite kept =
+    let line : IsLine inst = line_at IsLine func kept.number kept.place inst kept.stands lines in
     elim (cases_Bool (is_phi inst.op)) [
       | inl phi ↦ record {
-        values = phi_values marks func kept.number kept.place inst reached source.definite kept.marked kept.stands bare phi;
+        values = phi_values marks func kept.number kept.place inst reached definite kept.marked kept.stands (phi_bare inst.op inst phi line) phi;
         labels = phi_labels_marked marks func inst phi;
       }
       | inr plain ↦ record {
-        values = plain_values marks func kept.number kept.place inst reached source.definite kept.marked kept.stands plain;
+        values = plain_values marks func kept.number kept.place inst reached definite kept.marked kept.stands plain;
         labels = plain_labels_marked marks func kept.number kept.place inst reached kept.marked kept.stands line plain;
       }
     ]

@@ -8,11 +8,13 @@ use Rattle.ir_ast.specs.declared.types.Ty.{Ty}
 use Rattle.ir_ast.specs.Funcs.{Function, LinedFunction, instructions_of, content_of, lines_of, IsSmall}
 use Rattle.ir_ast.specs.Modules.{ModuleContent}
 use Rattle.ir_ast.specs.Formed.{IsFormed}
+use Rattle.ir_ast.specs.declared.modules.Form.TheVariants.{Source}
 use Rattle.ir_cfg.specs.SourceModules.{IsSourceModule}
 use Rattle.ir_ast.specs.Insts.{Instruction}
 use Rattle.ir_ast.specs.Ops.{is_terminator}
 use Rattle.ir_ast.specs.Blocks.{BasicBlock, EndsAtTerminator}
 use Rattle.ir_cfg.specs.Unreached.{Kept, kept_of, inst_kept, block_kept, result_count, result_marks, value_marks, kept_by, function_kept, zeros_of}
+use Rattle.ir_cfg.proofs.TypedLemmas.{formed_module}
 
 kept_next : {A : Type 0} (marks : List Bool) (xs : List A) (place : ℕ) (x : A) → place < length xs
     → kept_of marks (take (suc place) xs) ≡ kept_of marks (take place xs) ++ (if get_or marks place false then get_or xs place x ∷ [] else [])
@@ -158,28 +160,15 @@ small_kept args kept marks blocks small = record {
   few_instructions = omega (arith, small.few_instructions, few_instructions kept marks blocks);
 }
 
--- the functions of a source module are formed
-pub formed_sources : (content : ModuleContent) → IsSourceModule content → All IsFormed content.funcs
-formed_sources content source = λ k d below.
-    let own = source.functions k d below in
-    let faultless = source.no_fault.functions k d below in
-    record {
-      has_block = own.has_block;
-      widths = own.widths;
-      lines = own.lines;
-      known = faultless.local;
-      phis = faultless.phis;
-      entry = faultless.entry;
-    }
-
 pub of_map : {A B : Type 0} (f : A → B) (P : B → Type 0) (xs : List A) → All P (map f xs) → All (λ x. P (f x)) xs
 of_map f P xs all = λ k d below.
     let within : k < length (map f xs) = omega (arith, below, length-map xs f) in
     subst P (get_or-map f xs k d (f d) below) (all k (f d) within)
 
+-- the functions of a source module are formed
 pub formed_funcs : {A : Type 0} (f : A → Function) (funcs : List A) (content : ModuleContent) → map f funcs ≡ content.funcs
     → IsSourceModule content → All (λ func. IsFormed (f func)) funcs
-formed_funcs f funcs content same source = of_map f IsFormed funcs (rw same (formed_sources content source))
+formed_funcs f funcs content same source = of_map f IsFormed funcs (rw same (formed_module Source content source.typed).formed)
 
 pub blocks_left : (func : Function) (marks : List Bool) (kept : Kept) (old new : List BasicBlock) → kept ≡ kept_by marks func
     → old ≡ func.blocks → new ≡ map (block_kept kept) (kept_of kept.marks old) → new ≡ (function_kept marks func).blocks

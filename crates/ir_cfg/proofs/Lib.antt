@@ -4,6 +4,7 @@ pub mod CountLemmas
 pub mod TurnLemmas
 pub mod PathLemmas
 pub mod CycleLemmas
+pub mod TypedLemmas
 pub mod KeptLemmas
 pub mod KeepsPlaces
 pub mod KeepsLines
@@ -18,4 +19,3 @@ pub mod KeepsTypes
 pub mod KeepsNames
 pub mod KeepsDerived
 pub mod KeepsSource
-pub mod SampleLemmas

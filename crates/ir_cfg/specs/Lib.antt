@@ -4,6 +4,8 @@ pub mod Paths
 pub mod PollPoints
 pub mod DefiniteUses
 pub mod Limits
+pub mod Statepoints
+pub mod TypedModules
 pub mod SourceModules
 pub mod TargetModules
 pub mod Turned
@@ -11,4 +13,3 @@ pub mod Filled
 pub mod Marks
 pub mod Cfgs
 pub mod Unreached
-pub mod Samples

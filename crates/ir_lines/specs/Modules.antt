@@ -60,13 +60,18 @@ type_of (types.Int width) = tys.Int width
 type_of types.Managed = tys.Ptr
 type_of types.Plain = tys.Void
 
+-- a field of another type is a fault of its line
 abbrev pub cell_of : TypeWord → Cell
 cell_of types.Managed = cells.Ptr
-cell_of _ = cells.I64
+cell_of (types.Int width) = cells.I64
+cell_of types.Void = cells.I64
+cell_of types.Plain = cells.I64
 
 abbrev pub element_of : TypeWord → Elem
 element_of (types.Int width) = elements.Int width
-element_of _ = elements.Ptr
+element_of types.Managed = elements.Ptr
+element_of types.Void = elements.Ptr
+element_of types.Plain = elements.Ptr
 
 abbrev pub binary_of : Binary → Op
 binary_of binaries.Add = ops.Add
@@ -97,7 +102,9 @@ wrapped width literal =
 
 abbrev pub width_of : TypeWord → ℕ
 width_of (types.Int width) = width
-width_of _ = 64
+width_of types.Managed = 64
+width_of types.Void = 64
+width_of types.Plain = 64
 
 -- among these values
 abbrev pub operand_in : List (List ℕ) → TypeWord → Val → Operand

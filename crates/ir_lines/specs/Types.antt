@@ -24,7 +24,8 @@ same_types _ _ = false
 abbrev pub is_cell : TypeWord → Bool
 is_cell (Int width) = width == 64
 is_cell Managed = true
-is_cell _ = false
+is_cell Void = false
+is_cell Plain = false
 
 -- a literal of iN lies from -2^(N - 1) to 2^N - 1
 abbrev pub is_within : ℕ → Literal → Bool
@@ -33,12 +34,15 @@ is_within width literal =
 
 abbrev pub literal_fits : TypeWord → Literal → Bool
 literal_fits (Int width) literal = is_within width literal
-literal_fits _ literal = false
+literal_fits Managed literal = false
+literal_fits Void literal = false
+literal_fits Plain literal = false
 
 abbrev pub takes_null : TypeWord → Bool
 takes_null Managed = true
 takes_null Plain = true
-takes_null _ = false
+takes_null Void = false
+takes_null (Int width) = false
 
 -- a name that nothing gives has a fault of its own
 abbrev pub naming_fits : TypeWord → Option Naming → Bool

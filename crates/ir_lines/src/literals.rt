@@ -87,6 +87,6 @@ fn has_width(ty: TypeWord, width: u32) -> bool
 {
     match ty {
         TypeWord::Int(other) => width == other,
-        _ => false,
+        TypeWord::Managed | TypeWord::Void | TypeWord::Plain => false,
     }
 }

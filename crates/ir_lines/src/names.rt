@@ -96,8 +96,9 @@ impl<'n> Names<'n> {
     }
 }
 
-/// The number of a name that isn't in a list.
-pub const NOWHERE: u32 = u32::MAX;
+// The number of a name that isn't in a list: a line that uses such a name has a fault, so no module that typing gives has
+// this number.
+const NOWHERE: u32 = u32::MAX;
 
 /// Whether a name is this text.
 pub fn is_text(name: &[u8], text: &[u8]) -> bool

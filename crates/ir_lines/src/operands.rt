@@ -27,7 +27,7 @@ pub fn element_of(ty: TypeWord) -> Elem
 {
     match ty {
         TypeWord::Int(width) => Elem::Int(width),
-        _ => Elem::Ptr,
+        TypeWord::Managed | TypeWord::Void | TypeWord::Plain => Elem::Ptr,
     }
 }
 
@@ -87,7 +87,7 @@ fn width_of(ty: TypeWord) -> u32
 {
     match ty {
         TypeWord::Int(width) => width,
-        _ => 64,
+        TypeWord::Managed | TypeWord::Void | TypeWord::Plain => 64,
     }
 }
 

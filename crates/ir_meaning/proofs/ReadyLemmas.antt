@@ -16,7 +16,7 @@ use Rattle.ir_ast.specs.Insts.{Instruction}
 use Rattle.ir_ast.specs.Blocks.{BasicBlock}
 use Rattle.ir_ast.specs.Funcs.{Function, instructions_of}
 use Rattle.ir_ast.specs.Modules.{ModuleContent}
-use Rattle.ir_cfg.specs.SourceModules.{IsSourceFunction, IsSourceModule}
+use Rattle.ir_cfg.specs.SourceModules.{IsSourceModule}
 use Rattle.ir_meaning.specs.declared.spots.Due.{Due}
 use Rattle.ir_meaning.specs.declared.spots.Due.TheVariants.{Front, Line as Next, Behind}
 use Rattle.object_meaning.specs.Lines.{poll, numbered, following, retreats, lines_from, insts_in, insts_of}
@@ -54,9 +54,9 @@ ready_function content func form of_form bare = λ k d h. record {
   no_bundle = bare k d h;
 }
 
-pub ready_module : (content : ModuleContent) → IsSourceModule content → IsReadyModule content
-ready_module content source = λ func block.
-    func_ready content.funcs (λ k d h. ready_function content (get_or content.funcs k d) source.form (source.no_fault.functions k d h).form (source.functions k d h).no_bundle) func block
+pub ready_module : (content : ModuleContent) → IsSourceModule content → All HasNoBundle content.funcs → IsReadyModule content
+ready_module content source bare = λ func block.
+    func_ready content.funcs (λ k d h. ready_function content (get_or content.funcs k d) source.typed.of_form (source.typed.no_fault.functions k d h).form (bare k d h)) func block
 
 -- the line at which a frame stands has no bundle
 quiet_lines : (due : Due) (block next : ℕ) (insts : List Instruction) → AllReady insts → bundle_of (lines_due due block next insts) ≡ []

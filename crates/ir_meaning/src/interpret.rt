@@ -1,8 +1,9 @@
 //! The reference interpreter.
 
 ghost use Rattle.std.specs.Prelude.{◌≡◌, ◌≤◌, ◌<◌, length, codes, IfOk, IfSome, OnErr, IsErrOf};
-ghost use Rattle.std.specs.List.{position};
+ghost use Rattle.std.specs.List.{All, position};
 ghost use Rattle.std.specs.Str.{bytes_eq};
+ghost use Rattle.ir_ast.specs.Bundles.{HasNoBundle};
 ghost use Rattle.ir_cfg.specs.SourceModules.{IsSourceModule};
 ghost use Rattle.tool_io.specs.Counts.{Rose};
 ghost use Rattle.object_meaning.specs.Lines.{main_of};
@@ -65,7 +66,7 @@ impl From<Failed> for RefFault {
     }
 }
 
-/// Runs `@main` of a source module, which may take these many steps, over this input and under the `go` lines of this plan,
+/// Runs `@main` of a source module without bundles, which may take these many steps, over this input and under the `go` lines of this plan,
 /// and writes each line that it prints by one `put`.
 ///
 /// `Write` comes only where the sink counted a fault. After it, and after `Memory`, a front of what the run
@@ -79,6 +80,7 @@ pub fn reference<O: Sink>(
     out: &mut O,
 ) -> Result<Ran, RefFault>
     requires source { IsSourceModule «module».now.content }
+    requires no_bundle { All HasNoBundle «module».now.content.funcs }
     ensures ran { IfOk result (λ ran. IsRun «module».now.content input.now (go plan.now) steps ran (O.written out.old) (O.written out.new)) }
     ensures front { OnErr result (WritesFrontOfRun «module».now.content input.now (go plan.now) steps (O.written out.old) (O.written out.new)) }
     ensures failed { IsErrOf result RefFault.Write → Rose (O.faults out.old) (O.faults out.new) }

@@ -2,4 +2,3 @@ pub mod Faults
 pub mod FaultSet
 pub mod FirstMissed
 pub mod Answers
-pub mod Forms

@@ -1,15 +1,17 @@
 //! The module that readings stand for, or the first fault.
 
 ghost use Rattle.std.specs.Prelude.{◌≡◌, IfOk, None, Some};
+ghost use Rattle.std.specs.List.{All};
+ghost use Rattle.ir_ast.specs.Bundles.{HasNoBundle};
 ghost use Rattle.ir_ast.specs.Formed.{IsFormedModule};
+ghost use Rattle.ir_cfg.specs.TypedModules.{IsTypedModule, IsModuleOf};
 ghost use Rattle.ir_cfg.specs.SourceModules.{IsSourceModule};
 ghost use Rattle.ir_cfg.specs.TargetModules.{IsTargetModule};
 ghost use Rattle.ir_reader.specs.Raws.{IsRead};
 ghost use Rattle.ir_types.specs.Answers.{Answers};
-ghost use Rattle.ir_types.specs.Forms.{IsModuleOf};
 ghost use Rattle.ir_lines.specs.Modules.{module_of};
 ghost use Rattle.ir_lines.specs.PlainFaults.{HasNoPlainFault};
-ghost use Rattle.module_laws.specs.TypedModules.{IsTypedIn};
+ghost use Rattle.module_laws.specs.TextFunctions.{HasFewInstructions, IsTextFunction};
 ghost use Rattle.ir_lines.specs.Views.{seen_lines};
 
 use crate::faults::TypeFault;
@@ -28,6 +30,7 @@ pub fn typed(alloc: Global, raw: Raw) -> Result<Module, TypeFault>
     requires { raw.form ≡ Form.Source }
     ensures answers { Answers Form.Source (seen_lines raw.entry.lines) result }
     ensures source { IfOk result (λ whole. IsSourceModule whole.content) }
+    ensures no_bundle { IfOk result (λ whole. All HasNoBundle whole.content.funcs) }
     ensures formed { IfOk result (λ whole. IsFormedModule whole.content) }
 {
     checked(alloc, &raw)
@@ -38,6 +41,8 @@ pub fn typed_rewritten(alloc: Global, raw: Raw) -> Result<Module, TypeFault>
     requires { raw.form ≡ Form.Rewritten }
     ensures answers { Answers Form.Rewritten (seen_lines raw.entry.lines) result }
     ensures target { IfOk result (λ whole. IsTargetModule whole.content) }
+    ensures few_instructions { IfOk result (λ whole. All HasFewInstructions whole.content.funcs) }
+    ensures no_bundle { IfOk result (λ whole. All HasNoBundle whole.content.funcs) }
     ensures formed { IfOk result (λ whole. IsFormedModule whole.content) }
 {
     checked(alloc, &raw)
@@ -47,6 +52,7 @@ pub fn typed_rewritten(alloc: Global, raw: Raw) -> Result<Module, TypeFault>
 fn checked(alloc: Global, raw: &Raw) -> Result<Module, TypeFault>
     ensures answers { Answers raw.now.form (seen_lines raw.now.lines) result }
     ensures module { IfOk result (λ whole. IsModuleOf raw.now.form whole.content) }
+    ensures text { IfOk result (λ whole. All IsTextFunction whole.content.funcs) }
     ensures formed { IfOk result (λ whole. IsFormedModule whole.content) }
 {
     let form = raw.form();
@@ -62,6 +68,7 @@ fn with_paths(alloc: Global, raw: &Raw) -> Result<Module, TypeFault>
     requires read { IsRead raw.now }
     ensures answers { Answers raw.now.form (seen_lines raw.now.lines) result }
     ensures module { IfOk result (λ whole. IsModuleOf raw.now.form whole.content) }
+    ensures text { IfOk result (λ whole. All IsTextFunction whole.content.funcs) }
     ensures formed { IfOk result (λ whole. IsFormedModule whole.content) }
 {
     let whole = plain_module(alloc, raw)?;
@@ -75,7 +82,8 @@ fn with_paths(alloc: Global, raw: &Raw) -> Result<Module, TypeFault>
 fn plain_module(alloc: Global, raw: &Raw) -> Result<Module, AllocError>
     requires { HasNoPlainFault raw.now.form (seen_lines raw.now.lines) }
     ensures is { IfOk result (λ whole. whole ≡ module_of raw.now.form (seen_lines raw.now.lines)) }
-    ensures typed { IfOk result (λ whole. IsTypedIn raw.now.form whole.content) }
+    ensures typed { IfOk result (λ whole. IsTypedModule raw.now.form whole.content) }
+    ensures text { IfOk result (λ whole. All IsTextFunction whole.content.funcs) }
     ensures formed { IfOk result (λ whole. IsFormedModule whole.content) }
 {
     let form = raw.form();

@@ -24,7 +24,7 @@ use ir_ast::{
 };
 use ir_lines::best::First;
 use ir_lines::literals::wrapped;
-use ir_lines::names::{NOWHERE, is_text, number_of};
+use ir_lines::names::{is_text, number_of};
 use ir_lines::operands::{binary_of, conversion_of, element_of, passed_type, type_of};
 use ir_lines::parts::TOKEN;
 use ir_lines::scope::{Local, Top};
@@ -55,7 +55,7 @@ fn owned(alloc: Global, name: &[u8]) -> Result<Name, AllocError>
 fn place_of(place: Literal) -> u32
     ensures { result ≡ place_of place }
 {
-    place.magnitude.min(NOWHERE as u64) as u32
+    place.magnitude.min(u64::from(u32::MAX)) as u32
 }
 
 fn place_if_any(place: Option<Literal>) -> Option<u32>
@@ -72,7 +72,7 @@ fn cell_of(ty: TypeWord) -> Cell
 {
     match ty {
         TypeWord::Managed => Cell::Ptr,
-        _ => Cell::I64,
+        TypeWord::Int(_) | TypeWord::Void | TypeWord::Plain => Cell::I64,
     }
 }
 

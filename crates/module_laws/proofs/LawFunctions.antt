@@ -46,7 +46,6 @@ use Rattle.ir_lines.specs.Faults.PointerOrder as words
 use Rattle.ir_lines.specs.Faults.Reserved.{names_value, names_label}
 use Rattle.ir_lines.specs.PlainFaults.{reserved}
 use Rattle.ir_lines.specs.ReadLines.{SaysRead, IsReadArgument, IsNameIfAny, IsValueType, IsReadCall, instruction_count}
-use Rattle.module_laws.specs.TypedModules.{IsTypedFunction}
 use Rattle.module_laws.proofs.LawBodies.{body_insts, func_insts}
 use Rattle.module_laws.proofs.LawFacts.{or-left, or-right, same_type-is}
 use Rattle.module_laws.proofs.LawValues.{few_insts, length-named}
@@ -404,22 +403,6 @@ has_no_bundle form lines func law = each_inst form lines func law (λ inst. inst
 -- as many as lines that count
 pub few_made : (lines : List Line) (func : Definition) → length (instructions_of (made lines func).blocks) ≤ instruction_count func.body
 few_made lines func = omega (arith, ap length (body_insts (known_of lines func) func), few_insts (known_of lines func) func.body)
-
-pub function_formed : (lines : List Line) (func : Definition) → InLaw Source lines func → IsTypedFunction (made lines func)
-function_formed lines func law = record {
-  has_block = has_block Source lines func law;
-  lines = are_lines Source lines func law;
-  names = has_names Source lines func law;
-  widths = function_widths Source lines func law;
-  values = (let v = (read_function Source lines func law).values refl in
-      let few = few_made lines func in
-      omega (
-        arith,
-        length-map (arguments_named func.line [] func.arguments) argument_of,
-        length-named func.line [] func.arguments,
-      ));
-  no_bundle = has_no_bundle Source lines func law;
-}
 
 pub function_entry : (form : Form) (lines : List Line) (func : Definition) → InLaw form lines func → EntryHasNoPred (made lines func)
 function_entry form lines func law = each_inst form lines func law LeavesEntry (λ inst good. good.entry)

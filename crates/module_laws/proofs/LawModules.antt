@@ -15,15 +15,12 @@ use Rattle.ir_ast.specs.Funcs.{Function, instructions_of}
 use Rattle.ir_ast.specs.Layouts.{ObjectLayout}
 use Rattle.ir_ast.specs.Values as defs
 use Rattle.ir_ast.specs.Lists.{Distinct}
-use Rattle.ir_ast.specs.Formed.{IsFormed, IsFormedModule}
 use Rattle.ir_ast.specs.Faults.NameTwice.{NamesAreDistinct}
 use Rattle.ir_ast.specs.Faults.TypeClash.{FunctionIsTyped, ModuleIsTyped}
-use Rattle.ir_ast.specs.Faults.UnknownName.{GlobalNamesAreKnown}
 use Rattle.ir_ast.specs.Faults.BadLayout.{LayoutsHaveFields}
 use Rattle.ir_ast.specs.Faults.NoMain.{HasMain}
 use Rattle.ir_ast.specs.Faults.Reserved.{IsExternalName, FunctionNamesAreFree}
 use Rattle.ir_ast.specs.declared.modules.Form.{Form}
-use Rattle.ir_ast.specs.declared.modules.Form.TheVariants.{Source}
 use Rattle.ir_cfg.specs.Limits.{IsName, IsWithinLimits}
 use Rattle.line_parts.specs.declared.readings.TypeWord.{TypeWord}
 use Rattle.line_parts.specs.declared.readings.TypeWord.TheVariants.{Void, Int, Managed, Plain}
@@ -43,8 +40,7 @@ use Rattle.module_laws.proofs.LawHeads.{SaysOf, says-defined, says-layouts, layo
 use Rattle.module_laws.proofs.LawValues.{few_insts, length-named}
 use Rattle.module_laws.proofs.LawLines.{InLaw, made, names-are, all_lines}
 use Rattle.module_laws.proofs.LawTyped.{content}
-use Rattle.module_laws.proofs.LawFunctions.{contained, local_known, global_known, function_typed, function_widths, has_block, are_lines, function_entry}
-use Rattle.module_laws.proofs.LawPhis.{phis_right}
+use Rattle.module_laws.proofs.LawFunctions.{contained, function_typed}
 
 -- ---- each function
 
@@ -53,16 +49,6 @@ pub each_function : (form : Form) (lines : List Line) → IsReadLines form lines
 each_function form lines read none P f =
     All-map P (λ (func : Definition). function_of (known_of lines func) func) (definitions_of lines)
     (contained (λ (func : Definition). P (made lines func)) (definitions_of lines) (λ func inside. f func (record { read = read; none = none; defined = inside })))
-
-pub formed_function : (form : Form) (lines : List Line) (func : Definition) → InLaw form lines func → IsFormed (made lines func)
-formed_function form lines func law = record {
-  has_block = has_block form lines func law;
-  widths = function_widths form lines func law;
-  lines = are_lines form lines func law;
-  known = local_known form lines func law;
-  phis = phis_right form lines func law;
-  entry = function_entry form lines func law;
-}
 
 -- ---- layouts
 
@@ -238,22 +224,8 @@ total_made form lines =
     let all = total lines (definitions_of lines) in
     omega (arith, ap length (flat_map-map (λ (func : Function). instructions_of func.blocks) (λ (func : Definition). function_of (known_of lines func) func) (definitions_of lines)))
 
-pub few_in_all : (lines : List Line) → IsReadLines Source lines → length (flat_map (λ func. instructions_of func.blocks) (content Source lines).funcs) ≤ 65536
-few_in_all lines read =
-    let most = read.few_instructions refl in
-    let all = total_made Source lines in
-    omega arith
-
--- ---- the module can be printed and analysed
+-- ---- its types
 
 pub module_typed : (form : Form) (lines : List Line) → IsReadLines form lines → HasNoPlainFault form lines → ModuleIsTyped (content form lines)
 module_typed form lines read none =
     each_function form lines read none (λ func. FunctionIsTyped (Rattle.ir_ast.specs.Scope.scope_of (content form lines) func) func) (λ func law. function_typed form lines func law)
-
-pub module_formed : (form : Form) (lines : List Line) → IsReadLines form lines → HasNoPlainFault form lines → IsFormedModule (content form lines)
-module_formed form lines read none = record {
-  formed = each_function form lines read none IsFormed (formed_function form lines);
-  known = each_function form lines read none (GlobalNamesAreKnown (content form lines)) (global_known form lines);
-  typed = module_typed form lines read none;
-  fields = layouts_filled form lines none;
-}

@@ -1,7 +1,7 @@
 -- The relocates of a token stand in one row, so they are few.
 use Rattle.std.proofs.Common.{◌≡◌, ◌∙◌, ◌⊎◌, inl, inr, ℕ, suc, ◌<◌, ◌≤◌, ◌+◌, ◌^◌, Bool, true, false, cond, ◌&&◌, ◌==◌, List, [], ◌∷◌, ◌++◌, map, length, refl, ap, sym, subst, arith, append_assoc, length-append}
 use Rattle.std.specs.Prelude.{Option, Some, None, IfSome, slice_get, filter, count_by, take_while}
-use Rattle.std.specs.List.{Contains, list_all}
+use Rattle.std.specs.List.{All, Contains, list_all}
 use Rattle.std.proofs.lemmas.List.{length-map}
 use Rattle.std.proofs.lemmas.List.Elements.{filter-append, All-contains}
 use Rattle.std.proofs.lemmas.List.Folds.{list_all-append}
@@ -12,8 +12,9 @@ use Rattle.ir_ast.specs.declared.modules.Form.TheVariants.{Rewritten}
 use Rattle.ir_ast.specs.declared.ops.Op.{Op}
 use Rattle.ir_ast.specs.declared.ops.Op.TheVariants as ops
 use Rattle.ir_ast.specs.Insts.{Instruction}
+use Rattle.ir_ast.specs.Funcs.{instructions_of}
 use Rattle.ir_ast.specs.Faults.GroupShape.{is_statepoint, is_part as is_part_made, entries_of, number_at}
-use Rattle.ir_cfg.specs.TargetModules.{is_relocate as is_relocate_op, relocates_of, StatepointsAreSmall}
+use Rattle.ir_cfg.specs.Statepoints.{is_relocate as is_relocate_op, relocates_of, StatepointsAreSmall, IdIsWord}
 use Rattle.line_tokens.specs.declared.literals.Literal.{Literal}
 use Rattle.ir_lines.specs.Statements.{Line, Statement, statepoint, gc_result, gc_relocate}
 use Rattle.ir_lines.specs.Parts.{live_use}
@@ -25,8 +26,8 @@ use Rattle.ir_lines.specs.ReadLines.{SaysRead, is_relocate, relocates_first}
 use Rattle.ir_lines.specs.Faults.GroupShape.{Group, is_part}
 use Rattle.ir_lines.proofs.LawNames.{stands, number-is, contains_middle}
 use Rattle.module_laws.proofs.LawFacts.{and-left, and-right, true-false}
-use Rattle.module_laws.proofs.LawBodies.{insts_said, insts-cons, body_insts}
-use Rattle.module_laws.proofs.LawLines.{InLaw, LineFacts, line_facts, made, read_function, said_function, few_numbers}
+use Rattle.module_laws.proofs.LawBodies.{insts_said, insts-cons, body_insts, func_insts}
+use Rattle.module_laws.proofs.LawLines.{InLaw, LineFacts, line_facts, made, read_function, said_function, few_numbers, wrapped_below}
 use Rattle.module_laws.proofs.LawFunctions.{if_some}
 use Rattle.module_laws.proofs.LawGroups.{live_made, dropped_first}
 use Rattle.module_laws.proofs.LawPlaces.{line_at}
@@ -374,3 +375,25 @@ small lines func law place inst stands op =
           (few_said known at.after at.line.says read) inst at.says op,
       few_relocates lines func law (number_at (made lines func) place),
     )
+
+-- ---- ids
+
+no_id : (op : Op) → is_group_op op ≡ false → IdIsWord op
+no_id (ops.Statepoint id callee types) e = absurd (let bad : true ≡ false = e in cc)
+no_id _ e = tt
+
+plain_id : (o : Option Instruction) → IfSome o (λ inst. is_group_op inst.op ≡ false) → IfSome o (λ inst. IdIsWord inst.op)
+plain_id None e = tt
+plain_id (Some inst) e = no_id inst.op e
+
+-- an id is read modulo 2^64
+id_said : (known : Known) (behind : List Line) (s : Statement) → IfSome (instruction_said known behind s) (λ inst. IdIsWord inst.op)
+id_said known behind (statepoint result called live) = wrapped_below 64 called.id
+id_said known behind (gc_result result ty token) = tt
+id_said known behind (gc_relocate result token base derived) = tt
+id_said known behind s = plain_id (instruction_said known behind s) (group_said known behind s refl)
+
+pub id_words : (lines : List Line) (func : Definition) → All (λ inst. IdIsWord inst.op) (instructions_of (made lines func).blocks)
+id_words lines func =
+    func_insts (known_of lines func) (λ inst. IdIsWord inst.op) func (λ before l after whole inst is.
+    if_some (λ one. IdIsWord one.op) (instruction_said (known_of lines func) after l.says) (id_said (known_of lines func) after l.says) inst is)

@@ -15,10 +15,9 @@ pub mod LawFunctions
 pub mod LawPhis
 pub mod LawModules
 pub mod LawDerived
-pub mod LawSource
 pub mod LawShapes
 pub mod LawRows
-pub mod LawTarget
+pub mod LawForms
 pub mod Runs
 pub mod Rising
 pub mod InOrder

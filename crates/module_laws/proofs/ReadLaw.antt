@@ -1,5 +1,5 @@
 -- The lines of a text that was read are as a reader gives them, so that the law of the typer is one of texts.
-use Rattle.std.proofs.Common.{◌≡◌, ◌+◌, ◌≤◌, refl, Bool, true, false, not, List, [], ◌∷◌, map, length, arith, sym, subst}
+use Rattle.std.proofs.Common.{◌≡◌, ◌+◌, ◌≤◌, refl, Bool, true, false, not, List, [], ◌∷◌, map, length, arith}
 use Rattle.std.specs.List.{All, AllByRecursion, Contains, sum_by}
 use Rattle.std.proofs.lemmas.List.{length-map}
 use Rattle.std.proofs.lemmas.List.Sums.{count_by-le-length}
@@ -9,16 +9,12 @@ use Rattle.ir_reader.specs.declared.raw.NumberedReading.{NumberedReading}
 use Rattle.ir_reader.specs.Raws.{Readings, IsRead}
 use Rattle.ir_reader.specs.Text.{opening}
 use Rattle.ir_reader.specs.declared.states.Counts.{Counts}
-use Rattle.ir_ast.specs.Modules.{LinedModule}
 use Rattle.ir_ast.specs.declared.modules.Form.{Form}
 use Rattle.ir_ast.specs.declared.modules.Form.TheVariants.{Source, Rewritten}
 use Rattle.ir_lines.specs.Statements.{Line}
 use Rattle.ir_lines.specs.Parts.{is_of_group}
 use Rattle.ir_lines.specs.Sections.{Definition, definitions_of, blocks_of}
-use Rattle.ir_lines.specs.Modules.{known_of, block_of, module_of}
-use Rattle.ir_lines.specs.PlainFaults.{HasNoPlainFault}
-use Rattle.module_laws.specs.TypedModules.{IsTypedModule}
-use Rattle.module_laws.proofs.LawSource.{typed_module}
+use Rattle.ir_lines.specs.Modules.{known_of, block_of}
 use Rattle.ir_lines.specs.Views.{seen_line, seen_lines}
 use Rattle.ir_lines.specs.TextLines.{Stand, statement_fits, is_formed, stands_in}
 use Rattle.ir_lines.specs.ReadLines.{IsReadFunction, IsReadLines, SaysRead, is_instruction, instruction_count}
@@ -106,16 +102,3 @@ read_law r read =
       few_instructions = instructions_few r.form lines (opening r.form).counts own text.placed counts;
       few_lines = text.few;
     }
-
-typed_from : (form : Form) (lines : List Line) → form ≡ Source → IsReadLines form lines → HasNoPlainFault form lines → IsTypedModule (module_of form lines).content
-typed_from Source lines is read none = typed_module lines read none
-typed_from Rewritten lines is read none = absurd (let bad : Rewritten ≡ Source = is in cc)
-
--- the law of the typer: a source text that was read, without a fault, stands for a typed module
-pub typed_text : (r : Readings) → IsRead r → r.form ≡ Source → HasNoPlainFault r.form (seen_lines r.lines) → IsTypedModule (module_of r.form (seen_lines r.lines)).content
-typed_text r read is none = typed_from r.form (seen_lines r.lines) is (read_law r read) none
-
--- and so does what typing answers
-pub typed_whole : (r : Readings) → IsRead r → r.form ≡ Source → (whole : LinedModule) → whole ≡ module_of r.form (seen_lines r.lines) → HasNoPlainFault r.form (seen_lines r.lines)
-    → IsTypedModule whole.content
-typed_whole r read source whole is none = subst (λ (one : LinedModule). IsTypedModule one.content) (sym is) (typed_text r read source none)

@@ -1,1 +1,1 @@
-pub mod TypedModules
+pub mod TextFunctions

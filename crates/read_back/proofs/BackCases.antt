@@ -29,7 +29,6 @@ use Rattle.ir_lines.specs.Sections.{cases_of}
 use Rattle.ir_lines.specs.Modules.{known_of, operand_of, label_of, instruction, case_value, case_values, case_labels, wrapped}
 use Rattle.ir_lines.specs.Faults.TypeClash.{number_said, case_number, case_numbers, CaseClash}
 use Rattle.ir_lines.proofs.LawNames.{get_contained, contains_first, contains_later, contains_cons}
-use Rattle.read_back.specs.BlocksEnd.{BlocksEnd}
 use Rattle.read_back.specs.Said.{width_in, step_says, return_says, case_says, block_says, operator_says, instruction_says, said_by}
 use Rattle.read_back.proofs.BackLines.{said}
 use Rattle.read_back.proofs.BackModules.{IsShaped, names_in, function-back}
@@ -159,9 +158,9 @@ not_twice xs x ys distinct c =
     distinct g.0 (length xs) below (slice_get_within (xs ++ x ∷ ys) (length xs) x (get_middle xs x ys))
     (get_front xs (x ∷ ys) g.0 x g.1 ∙ sym (get_middle xs x ys))
 
-pub case_clash-clear : (content : ModuleContent) → IsShaped content → BlocksEnd content → (lines : List Line) → said lines ≡ said_by content
+pub case_clash-clear : (content : ModuleContent) → IsShaped content → (lines : List Line) → said lines ≡ said_by content
     → (line : ℕ) → ¬ (CaseClash lines line)
-case_clash-clear content shaped ends lines e line f = by f.wrong
+case_clash-clear content shaped lines e line f = by f.wrong
   where
     case_line : Line
     case_line = record { number = line; says = switch_case f.case_width f.case f.to }
@@ -175,7 +174,7 @@ case_clash-clear content shaped ends lines e line f = by f.wrong
     inside =
         let o = printed_from content lines e f.func f.defined in
         inst_of_line (known_of lines f.func) f.func o.func
-        (function-back content shaped (known_of lines f.func) f.func o.func o.says o.stands (setting_of content shaped ends lines e f.func o.func o.says o.stands))
+        (function-back content shaped (known_of lines f.func) f.func o.func o.says o.stands (setting_of content shaped lines e f.func o.func o.says o.stands))
         f.before (record { number = f.number; says = switch f.width f.value f.default }) f.behind f.whole inst refl
 
     once : Distinct (case_values (known_of lines f.func).values f.width f.behind)

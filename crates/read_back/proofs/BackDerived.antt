@@ -17,7 +17,6 @@ use Rattle.ir_ast.specs.Faultless.{FunctionHasNoFault, OfForm}
 use Rattle.ir_ast.specs.Faults.DerivedEscapes.{values_leaving, KeepsDerived, DerivedStay}
 use Rattle.ir_ast.specs.declared.modules.Form.{Form}
 use Rattle.ir_ast.specs.declared.modules.Form.TheVariants.{Source}
-use Rattle.ir_cfg.specs.SourceModules.{IsSourceModule}
 use Rattle.ir_printer.specs.Names.{Names}
 use Rattle.line_parts.specs.declared.readings.TypeWord.{TypeWord}
 use Rattle.line_parts.specs.declared.readings.TypeWord.TheVariants.{Int}
@@ -32,12 +31,11 @@ use Rattle.ir_lines.specs.Modules.{Known, known_of, operand_in, entry_operand, p
 use Rattle.ir_lines.specs.Faults.DerivedEscapes.{Derived, by_step, by_merge, DerivedEscapes}
 use Rattle.module_laws.proofs.LawBodies.{insts_said, insts-cons, body_insts}
 use Rattle.ir_lines.proofs.LawNames.{get_contained, contains_first, contains_later, contains_cons, contains_map, split_at}
-use Rattle.read_back.specs.BlocksEnd.{BlocksEnd}
 use Rattle.read_back.specs.Said.{said_by}
 use Rattle.read_back.proofs.BackLines.{said}
 use Rattle.read_back.proofs.BackNames.{Setting, numbered-back}
 use Rattle.read_back.proofs.BackSections.{definitions-are}
-use Rattle.read_back.proofs.BackModules.{source_shaped, names_in, setting, function-names, function-back, few_in}
+use Rattle.read_back.proofs.BackModules.{IsBare, shaped_of, names_in, setting, function-names, function-back, few_in}
 use Rattle.read_back.proofs.BackFaults.{printed_from}
 
 -- ---- a line's instruction is one of the function
@@ -234,20 +232,21 @@ stays_of form func e h = (subst (λ (f : Form). OfForm f func) e h).1
 
 -- ---- code 9
 
-pub derived_escapes-clear : (content : ModuleContent) → IsSourceModule content → BlocksEnd content → (lines : List Line) → said lines ≡ said_by content
+pub derived_escapes-clear : (content : ModuleContent) → IsBare Source content → (lines : List Line) → said lines ≡ said_by content
     → (line : ℕ) → ¬ (DerivedEscapes lines line)
-derived_escapes-clear content source ends lines e line f =
+derived_escapes-clear content source lines e line f =
+    let shaped = shaped_of Source content source in
     let o = printed_from content lines e f.func f.defined in
     let names = function-names content.layouts content.funcs (definitions_of lines) content.funcs (definitions-are content lines e) in
     let known = known_of lines f.func in
-    let s = setting content (source_shaped content source) lines e f.func o.func o.says o.stands (few_in content (source_shaped content source) ends o.func o.stands) names in
-    let back = function-back content (source_shaped content source) known f.func o.func o.says o.stands s in
+    let s = setting content shaped lines e f.func o.func o.says o.stands (few_in content shaped o.func o.stands) names in
+    let back = function-back content shaped known f.func o.func o.says o.stands s in
     let d = is_derived (names_in content o.func) known s f.func back f.name f.derived in
     let at = get_contained f.func.body f.found f.inside in
     let l = leaves_by known (drop (suc at.0) f.func.body) f.found.says f.name f.leaves in
     let inside = inst_of_line known f.func o.func back (take at.0 f.func.body) f.found (drop (suc at.0) f.func.body)
     (split_at f.func.body at.0 f.found at.1) l.inst l.is in
-    let stay = stays_of content.form o.func source.form (All-contains (FunctionHasNoFault content) content.funcs o.func source.no_fault.functions o.stands).form in
+    let stay = stays_of content.form o.func source.typed.of_form (All-contains (FunctionHasNoFault content) content.funcs o.func source.typed.no_fault.functions o.stands).form in
     All-contains (λ (value : ℕ). ¬ (made_derived.Derived o.func value)) (values_leaving l.inst) d.value
     (All-contains (KeepsDerived o.func) (instructions_of o.func.blocks) l.inst stay inside)
     (subst (λ (n : ℕ). Contains (values_leaving l.inst) n) d.number l.leaves) d.derived

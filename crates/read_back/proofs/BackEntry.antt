@@ -25,7 +25,6 @@ use Rattle.ir_lines.specs.Sections.{Definition, definitions_of}
 use Rattle.ir_lines.specs.Scope.{Scope, scope_of, block_number}
 use Rattle.ir_lines.specs.Modules.{known_of}
 use Rattle.ir_lines.specs.Faults.EntryHasPred.{names_entry, EntryHasPred}
-use Rattle.read_back.specs.BlocksEnd.{BlocksEnd}
 use Rattle.read_back.specs.Said.{operator_says, step_says, return_says, case_says, label_says, said_by}
 use Rattle.read_back.proofs.BackNames.{Setting, label-back}
 use Rattle.read_back.proofs.BackLines.{said, lab, one_label, two_labels}
@@ -36,11 +35,11 @@ use Rattle.read_back.proofs.BackModules.{IsShaped, names_in, shaped_inst, settin
 use Rattle.read_back.proofs.BackFaults.{no_body_fault}
 
 -- what the typer knows of a definition that a function is printed as
-pub setting_of : (content : ModuleContent) → IsShaped content → BlocksEnd content → (lines : List Line) → said lines ≡ said_by content
+pub setting_of : (content : ModuleContent) → IsShaped content → (lines : List Line) → said lines ≡ said_by content
     → (one : Definition) (func : Function) → SaysDefinition content.layouts content.funcs one func → Contains content.funcs func
     → Setting (names_in content func) (known_of lines one)
-setting_of content shaped ends lines e one func says c =
-    setting content shaped lines e one func says c (few_in content shaped ends func c)
+setting_of content shaped lines e one func says c =
+    setting content shaped lines e one func says c (few_in content shaped func c)
     (function-names content.layouts content.funcs (definitions_of lines) content.funcs (definitions-are content lines e))
 
 -- a label that is not that of the first block
@@ -109,13 +108,13 @@ inst_leaves scope names ops.Switch inst p h =
     (or_false (block_number scope (label_says names (lab inst.labels 0)) == 0) false parts.0 refl, parts.1)
 inst_leaves scope names _ inst p h = (refl, tt)
 
-pub entry_has_pred-clear : (content : ModuleContent) → IsShaped content → BlocksEnd content → (lines : List Line) → said lines ≡ said_by content
+pub entry_has_pred-clear : (content : ModuleContent) → IsShaped content → (lines : List Line) → said lines ≡ said_by content
     → (line : ℕ) → ¬ (EntryHasPred lines line)
-entry_has_pred-clear content shaped ends lines e line f =
+entry_has_pred-clear content shaped lines e line f =
     no_body_fault content lines e names_entry
     (λ one func says c inst d.
     let p = shaped_inst content shaped func c inst d in
-    let s = setting_of content shaped ends lines e one func says c in
+    let s = setting_of content shaped lines e one func says c in
     let clean = All-contains (FunctionHasNoFault content) content.funcs func shaped.no_fault.functions c in
     let entry = All-contains module_entry.LeavesEntry (instructions_of func.blocks) inst clean.entry d in
     inst_leaves (scope_of lines one) (names_in content func) inst.op inst p

@@ -1,7 +1,7 @@
 -- The lines that a target module is printed as have no fault of code 18.
 use Rattle.std.proofs.Common.{◌≡◌, ◌∙◌, ℕ, ◌+◌, ◌*◌, ◌<◌, ◌≤◌, ◌^◌, Bool, true, false, List, [], ◌∷◌, ◌++◌, map, length, refl, ap, sym, subst, arith, nat_lt, if◌then◌else◌, pos, ◌-ℤ◌, length-append}
 use Rattle.std.specs.Prelude.{Some, slice_get, option_map, unwrap_or}
-use Rattle.std.specs.List.{All, AllByRecursion, Contains}
+use Rattle.std.specs.List.{AllByRecursion, Contains}
 use Rattle.std.proofs.Math.Nat.{mod-eq_of_lt}
 use Rattle.std.proofs.lemmas.Bool.Decides.{Decides-ltb}
 use Rattle.std.proofs.lemmas.Option.{slice_get-map, slice_get_within}
@@ -23,7 +23,8 @@ use Rattle.ir_ast.specs.Values.{definition_name}
 use Rattle.ir_ast.specs.Values as defs
 use Rattle.ir_ast.specs.Faultless.{FunctionHasNoFault, OfForm}
 use Rattle.ir_ast.specs.Faults.GroupShape.{ResultInShape, RelocateInShape, ShapeOf, GroupsInShape, entries_of}
-use Rattle.ir_cfg.specs.TargetModules.{IsTargetFunction, IsTargetModule}
+use Rattle.ir_ast.specs.declared.modules.Form.TheVariants.{Rewritten}
+use Rattle.ir_cfg.specs.TypedModules.{IsTypedFunction}
 use Rattle.ir_printer.specs.Names.{Names, value_name}
 use Rattle.line_parts.specs.declared.readings.TypeWord.{TypeWord}
 use Rattle.line_parts.specs.declared.readings.TypeWord.TheVariants as types
@@ -39,13 +40,11 @@ use Rattle.module_laws.proofs.LawFacts.{and-left, and-right, true-false}
 use Rattle.module_laws.proofs.LawPlaces.{get_past, get_behind}
 use Rattle.module_laws.proofs.LawShapes.{is_part_op}
 use Rattle.module_laws.proofs.LawTokens.{are_parts, point}
-use Rattle.read_back.specs.BlocksEnd.{BlocksEnd}
-use Rattle.read_back.specs.IdsAreWords.{IdsAreWords}
 use Rattle.read_back.specs.Said.{word_of, literal_of, number_says, value_says, token_says, gc_result_says, gc_relocate_says, operator_says, said_by}
 use Rattle.read_back.proofs.BackLines.{said, cons_parts}
 use Rattle.read_back.proofs.BackBlocks.{nothing_said}
 use Rattle.read_back.proofs.BackSections.{SaysDefinition, definitions-are}
-use Rattle.read_back.proofs.BackModules.{target_shaped, names_in, setting, few_in, function-names}
+use Rattle.read_back.proofs.BackModules.{IsBare, shaped_of, names_in, setting, few_in, function-names}
 use Rattle.read_back.proofs.BackFaults.{printed_from}
 use Rattle.read_back.proofs.BackRules.{same_type-refl}
 use Rattle.read_back.proofs.BackShapes.{misshapes-clear}
@@ -151,10 +150,10 @@ wrong_part one before (gc_result result ty token) wrong = refl
 wrong_part one before (gc_relocate result token base derived) wrong = refl
 wrong_part one before _ wrong = absurd wrong
 
-parts_right : (content : ModuleContent) → IsTargetModule content → BlocksEnd content → (one : Definition) (func : Function) → SaysDefinition content.layouts content.funcs one func
+parts_right : (content : ModuleContent) → IsBare Rewritten content → (one : Definition) (func : Function) → SaysDefinition content.layouts content.funcs one func
     → Contains content.funcs func → map (λ (n : Naming). n.name) (values_of one) ≡ map definition_name (defs.definitions_of func)
     → (before : List Line) (number : ℕ) (s : Statement) (after : List Line) → one.body ≡ before ++ (record { number = number; says = s }) ∷ after → ¬ (PartIsWrong one before s)
-parts_right content target ends one func says c values before number s after whole wrong = by at.inst.op refl at.op
+parts_right content target one func says c values before number s after whole wrong = by at.inst.op refl at.op
   where
     names : Names
     names = names_in content func
@@ -162,15 +161,14 @@ parts_right content target ends one func says c values before number s after who
     line : Line
     line = record { number = number; says = s }
 
-    own : IsTargetFunction func
-    own = All-contains IsTargetFunction content.funcs func target.functions c
+    own : IsTypedFunction Rewritten func
+    own = All-contains (IsTypedFunction Rewritten) content.funcs func target.typed.functions c
 
     shapes : GroupsInShape func
-    shapes = subst (λ (form : Form). OfForm form func) target.form (All-contains (FunctionHasNoFault content) content.funcs func target.no_fault.functions c).form
+    shapes = subst (λ (form : Form). OfForm form func) target.typed.of_form (All-contains (FunctionHasNoFault content) content.funcs func target.typed.no_fault.functions c).form
 
     ended : AllByRecursion (λ (block : BasicBlock). EndsAtTerminator block.insts) func.blocks
-    ended = recursion_from_All (λ (block : BasicBlock). EndsAtTerminator block.insts) func.blocks
-        (All-contains (λ (f : Function). All (λ (block : BasicBlock). EndsAtTerminator block.insts) f.blocks) content.funcs func ends c)
+    ended = recursion_from_All (λ (block : BasicBlock). EndsAtTerminator block.insts) func.blocks own.ends
 
     at : PartAt names (said before) s
     at = part_at names (said before) s (said after) (wrong_part one before s wrong)
@@ -186,7 +184,7 @@ parts_right content target ends one func says c values before number s after who
         ∙ get_past (instructions_of at.earlier) (at.front ++ rest) (length at.front) ∙ get_behind at.front at.inst (at.back ++ instructions_of at.later)
 
     once : Rattle.ir_ast.specs.Lists.Distinct (map definition_name (defs.definitions_of func))
-    once = All-contains (λ (f : Function). Rattle.ir_ast.specs.Lists.Distinct (map definition_name (defs.definitions_of f))) content.funcs func target.no_fault.names.values c
+    once = All-contains (λ (f : Function). Rattle.ir_ast.specs.Lists.Distinct (map definition_name (defs.definitions_of f))) content.funcs func target.typed.no_fault.names.values c
 
     of_op : (op : Op) → at.inst.op ≡ op → operator_says names op at.inst ≡ s ∷ []
     of_op op e = ap (λ (o : Op). operator_says names o at.inst) (sym e) ∙ at.says
@@ -221,7 +219,7 @@ parts_right content target ends one func says c values before number s after who
         (number_says 32 (unwrap_or (slice_get os 1) operands.Null)) (number_says 32 (unwrap_or (slice_get os 2) operands.Null))) r.operands
         (subst (PartIsWrong one before) (sym is) wrong) in
         relocate_right names one before r.token.0 r.group.statepoint pl.parts g r.base r.derived
-        (own.statepoints r.group.head r.group.statepoint r.group.stands r.group.op).0 r.base_entry r.derived_entry bad
+        (own.small.statepoints r.group.head r.group.statepoint r.group.stands r.group.op).0 r.base_entry r.derived_entry bad
 
     by : (op : Op) → at.inst.op ≡ op → is_part_op op ≡ true → ⊥
     by ops.GcResult e is = result e
@@ -230,12 +228,12 @@ parts_right content target ends one func says c values before number s after who
 
 -- ---- code 18
 
-pub group_shape-clear : (content : ModuleContent) → IsTargetModule content → IdsAreWords content → BlocksEnd content → (lines : List Line) → said lines ≡ said_by content
+pub group_shape-clear : (content : ModuleContent) → IsBare Rewritten content → (lines : List Line) → said lines ≡ said_by content
     → ((line : ℕ) → ¬ (InBody lines line misfits)) → (line : ℕ) → ¬ (GroupShape lines line)
-group_shape-clear content target ids ends lines e fit line (by_line f) = misshapes-clear content (target_shaped content target ids) lines e fit line f
-group_shape-clear content target ids ends lines e fit line (by_part w) =
-    let shaped = target_shaped content target ids in
+group_shape-clear content target lines e fit line (by_line f) = misshapes-clear content (shaped_of Rewritten content target) lines e fit line f
+group_shape-clear content target lines e fit line (by_part w) =
+    let shaped = shaped_of Rewritten content target in
     let o = printed_from content lines e w.func w.defined in
     let names = function-names content.layouts content.funcs (definitions_of lines) content.funcs (definitions-are content lines e) in
-    let s = setting content shaped lines e w.func o.func o.says o.stands (few_in content shaped ends o.func o.stands) names in
-    parts_right content target ends w.func o.func o.says o.stands s.values w.before line w.what w.after w.whole w.wrong
+    let s = setting content shaped lines e w.func o.func o.says o.stands (few_in content shaped o.func o.stands) names in
+    parts_right content target w.func o.func o.says o.stands s.values w.before line w.what w.after w.whole w.wrong

@@ -38,7 +38,7 @@ use Rattle.module_laws.proofs.LawFacts.{and-left, and-right}
 use Rattle.module_laws.proofs.LawCalls.{argument-value}
 use Rattle.ir_printer.specs.Operands.{operand_at, label_at}
 use Rattle.read_back.specs.Said.{width_in, value_at, target_at, operator_says, binary_says, compare_says, convert_says, select_says, phi_says, step_says, load_says, store_says, call_says, statepoint_says, gc_result_says, gc_relocate_says, jump_says, branch_says, case_says, switch_says, return_says}
-use Rattle.read_back.specs.IdsAreWords.{IdIsWord}
+use Rattle.ir_cfg.specs.Statepoints.{IdIsWord}
 use Rattle.read_back.proofs.BackNames.{Setting, Good, operand-back, label-back}
 use Rattle.read_back.proofs.BackLines.{said, cons_parts, single, same-inst, no_result, integer-is, integer-word, void-is, at, lab, binary-back, compare-back, convert-back, select-back, load-back, store-back, step-back, jump-back, branch-back, return-back}
 use Rattle.read_back.proofs.BackLists.{Below, each_given, phi-back, Passes, NamesAreFree, CalleeBelow, call-back, Cases, cases-back}

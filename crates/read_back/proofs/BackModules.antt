@@ -1,5 +1,5 @@
 -- The lines that a module is printed as stand for that module.
-use Rattle.std.proofs.Common.{◌≡◌, ◌∙◌, ℕ, zero, suc, ◌+◌, ◌^◌, ◌<◌, ◌≤◌, true, false, List, [], ◌∷◌, ◌++◌, map, length, refl, ap, subst, arith, length-append}
+use Rattle.std.proofs.Common.{◌≡◌, ◌∙◌, ℕ, zero, suc, ◌+◌, ◌^◌, ◌<◌, ◌≤◌, true, false, List, [], ◌∷◌, ◌++◌, map, length, get_or, refl, ap, subst, arith, length-append}
 use Rattle.std.specs.Prelude.{Some, IfSome, slice_get, flat_map, is_some, filter}
 use Rattle.std.specs.List.{All, AllByRecursion, AllZip, Contains}
 use Rattle.std.proofs.lemmas.List.{length-map}
@@ -8,7 +8,7 @@ use Rattle.std.proofs.lemmas.List.Elements.{All-from_recursion, recursion_from_A
 use Rattle.ir_ast.specs.declared.types.Ty.{Ty}
 use Rattle.ir_ast.specs.declared.funcs.Arg.{Arg}
 use Rattle.ir_ast.specs.declared.modules.Form.{Form}
-use Rattle.ir_ast.specs.declared.modules.Form.TheVariants.{Source}
+use Rattle.ir_ast.specs.declared.modules.Form.TheVariants.{Source, Rewritten}
 use Rattle.ir_ast.specs.declared.ops.Op.{Op}
 use Rattle.ir_ast.specs.declared.ops.Op.TheVariants as ops
 use Rattle.ir_ast.specs.declared.ops.Elem.TheVariants as elements
@@ -25,21 +25,19 @@ use Rattle.ir_ast.specs.Operands.{layouts_named, functions_named}
 use Rattle.ir_ast.specs.Faultless.{HasNoFault, FunctionHasNoFault, OfForm}
 use Rattle.ir_ast.specs.Bundles.{HasNoBundle}
 use Rattle.ir_cfg.specs.Limits.{IsWithinLimits}
-use Rattle.ir_cfg.specs.TargetModules.{IsTargetModule}
+use Rattle.ir_cfg.specs.Statepoints.{IdIsWord}
+use Rattle.ir_cfg.specs.TypedModules.{FunctionIsSmall, IsTypedModule}
 use Rattle.ir_ast.specs.Faults.TypeClash.{IsTyped, FunctionIsTyped, RuleOf}
 use Rattle.ir_ast.specs.Faults.Reserved.{IsExternalName, IsSource}
 use Rattle.ir_ast.specs.Faults.UnknownName.{NamesOfFunction, NamesOfModule}
 use Rattle.ir_ast.specs.Lines.{IsLine, is_rewritten}
 use Rattle.ir_ast.specs.Lists.{Distinct}
 use Rattle.ir_ast.specs.Scope.{scope_of}
-use Rattle.ir_cfg.specs.SourceModules.{IsSourceModule}
 use Rattle.ir_printer.specs.Names.{Names}
 use Rattle.line_parts.specs.Lists.{Named}
 use Rattle.ir_lines.specs.Statements.{Line}
 use Rattle.ir_lines.specs.Sections.{Definition, definitions_of, arguments_named, blocks_of}
 use Rattle.ir_lines.specs.Modules.{Known, known_of, type_of, argument_of, block_of, function_of, module_of}
-use Rattle.read_back.specs.BlocksEnd.{BlocksEnd}
-use Rattle.read_back.specs.IdsAreWords.{IdIsWord, IdsAreWords}
 use Rattle.read_back.specs.Said.{said_by}
 use Rattle.read_back.proofs.BackNames.{Setting}
 use Rattle.read_back.proofs.BackLines.{said}
@@ -77,49 +75,49 @@ small_place content func inst few typed layout width n e named =
     at (l ∷ ls) zero few below rule = let f = few.0 in omega arith
     at (l ∷ ls) (suc k) few below rule = at ls k few.1 (omega arith) rule
 
--- what modules of both kinds have
+-- a typed module without bundles
+pub record IsBare (form : Form) (content : ModuleContent) : Type 0 where
+  pub typed : IsTypedModule form content
+  pub no_bundle : All HasNoBundle content.funcs
+
+-- what such modules of both forms have
 pub record IsShaped (content : ModuleContent) : Type 0 where
   pub no_fault : HasNoFault content
+  pub ends : All (λ (func : Function). All (λ (block : BasicBlock). EndsAtTerminator block.insts) func.blocks) content.funcs
   pub lines : All (λ (func : Function). All IsLine (instructions_of func.blocks)) content.funcs
   pub widths : All (λ (func : Function). All IsWidth (widths_of func)) content.funcs
   pub no_bundle : All HasNoBundle content.funcs
   pub limits : IsWithinLimits content
   pub few : All (λ (func : Function). length (instructions_of func.blocks) < 2 ^ 30) content.funcs
-  pub ids : IdsAreWords content
+  pub ids : All (λ (func : Function). All (λ (inst : Instruction). IdIsWord inst.op) (instructions_of func.blocks)) content.funcs
 
 -- no line of a source module is a statepoint
 no_id : (op : Op) → is_rewritten op ≡ false → IdIsWord op
 no_id (ops.Statepoint id callee takes) plain = absurd (let bad : true ≡ false = plain in cc)
 no_id _ plain = tt
 
-source_ids : (content : ModuleContent) → IsSourceModule content → IdsAreWords content
-source_ids content source =
-    All-weaker (Contains content.funcs) (λ (f : Function). All (λ (i : Instruction). IdIsWord i.op) (instructions_of f.blocks)) (λ (f : Function) c.
-    let clean : FunctionHasNoFault content f = All-contains (FunctionHasNoFault content) content.funcs f source.no_fault.functions c in
-    All-weaker (λ (i : Instruction). is_rewritten i.op ≡ false) (λ (i : Instruction). IdIsWord i.op) (λ (i : Instruction) plain. no_id i.op plain) (instructions_of f.blocks)
-    (form_of content.form f source.form clean.form).lines) content.funcs (All-contains_itself content.funcs)
+few_insts : (form : Form) (func : Function) → FunctionIsSmall form func → length (instructions_of func.blocks) < 2 ^ 30
+few_insts Source func small = omega (arith, small)
+few_insts Rewritten func small = small.few_instructions
 
-pub source_shaped : (content : ModuleContent) → IsSourceModule content → IsShaped content
-source_shaped content source = record {
-  no_fault = source.no_fault;
-  lines = λ k d low. (source.functions k d low).lines;
-  widths = λ k d low. (source.functions k d low).widths;
-  no_bundle = λ k d low. (source.functions k d low).no_bundle;
-  limits = source.limits;
-  few = λ k d low. (let own = (source.functions k d low).values in omega arith);
-  ids = source_ids content source;
-}
+own_ids : (form : Form) (func : Function) → OfForm form func → FunctionIsSmall form func → All (λ (inst : Instruction). IdIsWord inst.op) (instructions_of func.blocks)
+own_ids Source func own small =
+    All-weaker (λ (i : Instruction). is_rewritten i.op ≡ false) (λ (i : Instruction). IdIsWord i.op) (λ (i : Instruction) plain. no_id i.op plain) (instructions_of func.blocks) own.0.lines
+own_ids Rewritten func own small = small.ids
 
-pub target_shaped : (content : ModuleContent) → IsTargetModule content → IdsAreWords content → IsShaped content
-target_shaped content target ids = record {
-  no_fault = target.no_fault;
-  lines = λ k d low. (target.functions k d low).lines;
-  widths = λ k d low. (target.functions k d low).widths;
-  no_bundle = λ k d low. (target.functions k d low).no_bundle;
-  limits = target.limits;
-  few = λ k d low. (target.functions k d low).few_instructions;
-  ids = ids;
-}
+pub shaped_of : (form : Form) (content : ModuleContent) → IsBare form content → IsShaped content
+shaped_of form content bare =
+    let typed = bare.typed in
+    record {
+      no_fault = typed.no_fault;
+      ends = λ k d low. (typed.functions k d low).ends;
+      lines = λ k d low. (typed.functions k d low).lines;
+      widths = λ k d low. (typed.functions k d low).widths;
+      no_bundle = bare.no_bundle;
+      limits = typed.limits;
+      few = λ k d low. few_insts form (get_or content.funcs k d) (typed.functions k d low).small;
+      ids = λ k d low. own_ids form (get_or content.funcs k d) (subst (λ (f : Form). OfForm f (get_or content.funcs k d)) typed.of_form (typed.no_fault.functions k d low).form) (typed.functions k d low).small;
+    }
 
 pub printed_in : (of : Form) (content : ModuleContent) → IsShaped content → (func : Function) → Contains content.funcs func
     → (of ≡ Source → All (λ (inst : Instruction). is_rewritten inst.op ≡ false) (instructions_of func.blocks))
@@ -167,11 +165,11 @@ printed_in of content shaped func c plain inst d = one
               (All-contains (λ (f : Function). All (λ (i : Instruction). IdIsWord i.op) (instructions_of f.blocks)) content.funcs func shaped.ids c) d;
         }
 
-pub printed_inst : (content : ModuleContent) → IsSourceModule content → (func : Function) → Contains content.funcs func
+pub printed_inst : (content : ModuleContent) → IsBare Source content → (func : Function) → Contains content.funcs func
     → (inst : Instruction) → Contains (instructions_of func.blocks) inst → IsPrinted (names_in content func) inst.op inst
 printed_inst content source func c inst d =
-    let clean : FunctionHasNoFault content func = All-contains (FunctionHasNoFault content) content.funcs func source.no_fault.functions c in
-    printed_in Source content (source_shaped content source) func c (λ is. (form_of content.form func source.form clean.form).lines) inst d
+    let clean : FunctionHasNoFault content func = All-contains (FunctionHasNoFault content) content.funcs func source.typed.no_fault.functions c in
+    printed_in Source content (shaped_of Source content source) func c (λ is. (form_of content.form func source.typed.of_form clean.form).lines) inst d
 
 pub shaped_inst : (content : ModuleContent) → IsShaped content → (func : Function) → Contains content.funcs func
     → (inst : Instruction) → Contains (instructions_of func.blocks) inst → IsPrintedIn content.form (names_in content func) inst.op inst
@@ -192,7 +190,7 @@ pub shaped_insts : (content : ModuleContent) → IsShaped content → (func : Fu
     → AllByRecursion (λ block. AllByRecursion (λ inst. IsPrintedIn content.form (names_in content func) inst.op inst) block.insts) func.blocks
 shaped_insts content shaped func c = each_printed content.form (names_in content func) func (shaped_inst content shaped func c)
 
-pub printed : (content : ModuleContent) → IsSourceModule content → (func : Function) → Contains content.funcs func
+pub printed : (content : ModuleContent) → IsBare Source content → (func : Function) → Contains content.funcs func
     → AllByRecursion (λ block. AllByRecursion (λ inst. IsPrinted (names_in content func) inst.op inst) block.insts) func.blocks
 printed content source func c = each_printed Source (names_in content func) func (printed_inst content source func c)
 
@@ -279,23 +277,23 @@ blocks_few (b ∷ bs) ends =
     let one : 1 ≤ length b.insts = (let l = ap length ends.0.whole ∙ length-append ends.0.before (ends.0.last ∷ []) in omega arith) in
     omega (arith, length-append b.insts (instructions_of bs))
 
-pub few_in : (content : ModuleContent) → IsShaped content → BlocksEnd content → (func : Function) → Contains content.funcs func → length func.blocks < 2 ^ 32
-few_in content shaped ends func c =
+pub few_in : (content : ModuleContent) → IsShaped content → (func : Function) → Contains content.funcs func → length func.blocks < 2 ^ 32
+few_in content shaped func c =
     let insts = All-contains (λ (f : Function). length (instructions_of f.blocks) < 2 ^ 30) content.funcs func shaped.few c in
-    let end = All-contains (λ (f : Function). All (λ (block : BasicBlock). EndsAtTerminator block.insts) f.blocks) content.funcs func ends c in
+    let end = All-contains (λ (f : Function). All (λ (block : BasicBlock). EndsAtTerminator block.insts) f.blocks) content.funcs func shaped.ends c in
     let few = blocks_few func.blocks (recursion_from_All (λ (block : BasicBlock). EndsAtTerminator block.insts) func.blocks end) in
     omega arith
 
 -- for a module of either form
-pub module-back : (content : ModuleContent) → IsShaped content → BlocksEnd content → (lines : List Line) → said lines ≡ said_by content
+pub module-back : (content : ModuleContent) → IsShaped content → (lines : List Line) → said lines ≡ said_by content
     → (module_of content.form lines).content ≡ content
-module-back content shaped ends lines e =
+module-back content shaped lines e =
     let zip = definitions-are content lines e in
     let names = function-names content.layouts content.funcs (definitions_of lines) content.funcs zip in
     let funcs : map (λ (d : Definition). function_of (known_of lines d) d) (definitions_of lines) ≡ content.funcs =
     made_back content (λ d. function_of (known_of lines d) d)
     (λ one func says c. function-back content shaped (known_of lines one) one func says c
-    (setting content shaped lines e one func says c (few_in content shaped ends func c) names))
+    (setting content shaped lines e one func says c (few_in content shaped func c) names))
     (definitions_of lines) content.funcs zip (recursion_from_All (Contains content.funcs) content.funcs (All-contains_itself content.funcs)) in
     ap (λ (ls : List ObjectLayout). record { layouts = ls; funcs = map (λ (d : Definition). function_of (known_of lines d) d) (definitions_of lines); form = content.form }) (layouts-back content lines e)
     ∙ ap (λ (fs : List Function). record { layouts = content.layouts; funcs = fs; form = content.form }) funcs

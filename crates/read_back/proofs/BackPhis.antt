@@ -39,7 +39,6 @@ use Rattle.ir_lines.specs.Faults.PhiEdges as wrong
 use Rattle.ir_lines.specs.Faults.PhiEdges.{PhiEdges, PhiIsWrong, late, uncounted, differ}
 use Rattle.module_laws.proofs.LawFacts.{and-left, and-right, true-false}
 use Rattle.ir_lines.proofs.LawNames.{get_contained}
-use Rattle.read_back.specs.BlocksEnd.{BlocksEnd}
 use Rattle.read_back.specs.Said.{target_at, phi_says, step_says, return_says, case_says, operator_says, instruction_says, said_by}
 use Rattle.read_back.proofs.BackNames.{Setting, label-back}
 use Rattle.read_back.proofs.BackLines.{said, cons_parts, one_label, two_labels}
@@ -301,13 +300,13 @@ not_wrong lines one func number front inst is edges before first result ty entri
 
 -- ---- code 7
 
-pub phi_edges-clear : (content : ModuleContent) → IsShaped content → BlocksEnd content → (lines : List Line) → said lines ≡ said_by content
+pub phi_edges-clear : (content : ModuleContent) → IsShaped content → (lines : List Line) → said lines ≡ said_by content
     → (line : ℕ) → ¬ (PhiEdges lines line)
-phi_edges-clear content shaped ends lines e line f =
+phi_edges-clear content shaped lines e line f =
     let o = printed_from content lines e f.func f.defined in
     let names = names_in content o.func in
     let known = known_of lines f.func in
-    let s = setting_of content shaped ends lines e f.func o.func o.says o.stands in
+    let s = setting_of content shaped lines e f.func o.func o.says o.stands in
     let all = shaped_insts content shaped o.func o.stands in
     let zipped = blocks-are names f.func o.func.blocks o.says.body in
     let b = zip_at (SaysBlock names) f.earlier f.block f.later o.func.blocks (subst (λ (bs : List BlockLines). AllZip (SaysBlock names) bs o.func.blocks) f.blocks zipped) in

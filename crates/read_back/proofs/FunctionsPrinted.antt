@@ -26,12 +26,12 @@ use Rattle.ir_ast.specs.Scope.{Signature, signature_of, called_in, scope_of}
 use Rattle.ir_ast.specs.Types.{is_first_class}
 use Rattle.ir_ast.specs.Values.{Definition, argument, outcome, definition_name, definitions_of}
 use Rattle.ir_ast.specs.Widths.{IsWidth, type_widths, line_widths, widths_of}
-use Rattle.ir_cfg.specs.Limits.{HasNames, LayoutsHaveNames}
+use Rattle.ir_cfg.specs.Limits.{HasNames}
+use Rattle.ir_cfg.specs.TypedModules.{IsTypedFunction}
 use Rattle.ir_printer.specs.Names.{Names}
-use Rattle.read_back.specs.BlocksEnd.{BlocksEnd}
 use Rattle.read_back.specs.Said.{result_of}
 use Rattle.read_back.proofs.BackInsts.{split_all}
-use Rattle.read_back.proofs.BackModules.{IsShaped, names_in, printed_in}
+use Rattle.read_back.proofs.BackModules.{IsBare, shaped_of, names_in, printed_in}
 use Rattle.read_back.proofs.FormsIn.{own_name}
 use Rattle.read_back.proofs.NotCalled.{each_of}
 use Rattle.read_back.proofs.Operands.{HaveNames}
@@ -112,33 +112,25 @@ arguments_say (arg ∷ args) first widths named =
 
 -- ---- functions
 
--- what is asked of modules of both forms
-pub record IsReadable (of : TextForm) (content : ModuleContent) : Type 0 where
-  pub shaped : IsShaped content
-  pub layout_names : LayoutsHaveNames content
-  pub names : All HasNames content.funcs
-  pub ends : BlocksEnd content
-
--- and of a function of them, by its form
+-- what is asked of a function by its form
 pub record FunctionIsReadable (of : TextForm) (func : Function) : Type 0 where
-  pub has_block : 0 < length func.blocks
   pub plain : of ≡ Source → All (λ (inst : Instruction). is_rewritten inst.op ≡ false) (instructions_of func.blocks)
   pub few : All (λ (inst : Instruction). length (entries_of inst) ≤ 16384) (instructions_of func.blocks)
   pub runs : AllByRecursion (λ (block : BasicBlock). RunsFit 0 block.insts) func.blocks
   pub values : length func.args + weight of (length (instructions_of func.blocks)) ≤ 4096
 
-pub function_reads : (of : TextForm) (content : ModuleContent) → IsReadable of content → (func : Function) → Contains content.funcs func → FunctionIsReadable of func → FunctionReads of content.layouts content.funcs func
-function_reads of content readable func c own = record {
+pub function_reads : (of : TextForm) (content : ModuleContent) → IsBare of content → (func : Function) → Contains content.funcs func → FunctionIsReadable of func → FunctionReads of content.layouts content.funcs func
+function_reads of content bare func c own = record {
   named = names.own;
-  short = All-contains (λ (f : Function). length f.name ≤ 4096) content.funcs func readable.shaped.limits.function_names c;
+  short = All-contains (λ (f : Function). length f.name ≤ 4096) content.funcs func bare.typed.limits.function_names c;
   answers = typed.answer;
   narrow = narrow_of func.answer (All-from_recursion IsWidth (type_widths func.answer) heads.0);
   args = All-from_recursion ArgumentSays func.args (arguments_say func.args (recursion_from_All (λ (arg : Arg). is_first_class arg.ty ≡ true) func.args typed.args) heads.1 values.0);
-  few = All-contains (λ (f : Function). length f.args ≤ 64) content.funcs func readable.shaped.limits.arguments c;
-  has_block = own.has_block;
+  few = All-contains (λ (f : Function). length f.args ≤ 64) content.funcs func bare.typed.limits.arguments c;
+  has_block = typed_func.has_block;
   blocks = blocks_say of (names_in content func) have_names func.blocks
       (recursion_from_All (λ (block : BasicBlock). is_name block.name ≡ true) func.blocks names.labels)
-      (recursion_from_All (λ (block : BasicBlock). EndsAtTerminator block.insts) func.blocks (All-contains (λ (f : Function). All (λ (block : BasicBlock). EndsAtTerminator block.insts) f.blocks) content.funcs func readable.ends c))
+      (recursion_from_All (λ (block : BasicBlock). EndsAtTerminator block.insts) func.blocks typed_func.ends)
       own.runs (each_of insts (λ (inst : Instruction). IsPrintable of (names_in content func) inst.op inst) printable);
   values = own.values;
 }
@@ -146,24 +138,27 @@ function_reads of content readable func c own = record {
     insts : List Instruction
     insts = instructions_of func.blocks
 
+    typed_func : IsTypedFunction of func
+    typed_func = All-contains (IsTypedFunction of) content.funcs func bare.typed.functions c
+
     names : HasNames func
-    names = All-contains HasNames content.funcs func readable.names c
+    names = typed_func.names
 
     have_names : HaveNames (names_in content func)
     have_names = record {
       values = names.values;
       blocks = names.labels;
-      layouts = readable.layout_names;
-      functions = λ k d low. (readable.names k d low).own;
-      own = λ k d low. own_name _ (readable.shaped.no_fault.free k d low);
+      layouts = bare.typed.layout_names;
+      functions = λ k d low. (bare.typed.functions k d low).names.own;
+      own = λ k d low. own_name _ (bare.typed.no_fault.free k d low);
     }
 
     typed : FunctionIsTyped (scope_of content func) func
-    typed = All-contains (λ (f : Function). FunctionIsTyped (scope_of content f) f) content.funcs func readable.shaped.no_fault.typed c
+    typed = All-contains (λ (f : Function). FunctionIsTyped (scope_of content f) f) content.funcs func bare.typed.no_fault.typed c
 
     widths : AllByRecursion IsWidth (type_widths func.answer ++ flat_map (λ (arg : Arg). type_widths arg.ty) func.args) × AllByRecursion IsWidth (flat_map line_widths insts)
     widths = split_all IsWidth (type_widths func.answer ++ flat_map (λ (arg : Arg). type_widths arg.ty) func.args) (flat_map line_widths insts)
-        (recursion_from_All IsWidth (widths_of func) (All-contains (λ (f : Function). All IsWidth (widths_of f)) content.funcs func readable.shaped.widths c))
+        (recursion_from_All IsWidth (widths_of func) typed_func.widths)
 
     heads : AllByRecursion IsWidth (type_widths func.answer) × AllByRecursion IsWidth (flat_map (λ (arg : Arg). type_widths arg.ty) func.args)
     heads = split_all IsWidth (type_widths func.answer) (flat_map (λ (arg : Arg). type_widths arg.ty) func.args) widths.0
@@ -174,12 +169,12 @@ function_reads of content readable func c own = record {
     counted : (inst : Instruction) → IsTyped (scope_of content func) inst → (id : ℕ) (callee : Callee) (takes : List Ty) → inst.op ≡ ops.Statepoint id callee takes → length takes < 2 ^ 64
     counted inst fit id callee takes is =
         let call : IsCallOf (scope_of content func) callee takes inst = subst (λ (o : Op). RuleOf (scope_of content func) o inst) is fit.rule in
-        let few = takes_few content.funcs (recursion_from_All (λ (f : Function). length f.args ≤ 64) content.funcs readable.shaped.limits.arguments) callee _ call.signature in
+        let few = takes_few content.funcs (recursion_from_All (λ (f : Function). length f.args ≤ 64) content.funcs bare.typed.limits.arguments) callee _ call.signature in
         omega arith
 
     printable : (inst : Instruction) → Contains insts inst → IsPrintable of (names_in content func) inst.op inst
     printable inst d = record {
-      printed = printed_in of content readable.shaped func c own.plain inst d;
+      printed = printed_in of content (shaped_of of content bare) func c own.plain inst d;
       named = All-contains ResultIsNamed insts inst (All-from_recursion ResultIsNamed insts (results_named insts values.1)) d;
       few = All-contains (λ (i : Instruction). length (entries_of i) ≤ 16384) insts inst own.few d;
       counted = counted inst (All-contains (IsTyped (scope_of content func)) insts inst typed.lines d);

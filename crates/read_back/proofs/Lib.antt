@@ -24,8 +24,9 @@ pub mod Functions
 pub mod FunctionsRead
 pub mod FunctionsPrinted
 pub mod SourceFunctions
+pub mod TargetFunctions
 pub mod ModulesRead
-pub mod TargetReads
+pub mod TextsRead
 pub mod BackLiterals
 pub mod BackNames
 pub mod BackLines

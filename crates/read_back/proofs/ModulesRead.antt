@@ -18,9 +18,8 @@ use Rattle.ir_ast.specs.Layouts.{ObjectLayout}
 use Rattle.ir_ast.specs.Funcs.{Function, instructions_of}
 use Rattle.ir_ast.specs.Modules.{ModuleContent}
 use Rattle.ir_cfg.specs.Limits.{IsWithinLimits, LayoutsHaveNames}
-use Rattle.ir_cfg.specs.SourceModules.{IsSourceModule}
-use Rattle.print_tables.specs.declared.externals.External.{External}
 use Rattle.print_tables.specs.declared.externals.External.TheVariants as externs
+use Rattle.print_tables.specs.declared.externals.External.{External}
 use Rattle.ir_printer.specs.Declarations as printed_declarations
 use Rattle.ir_printer.specs.Declarations.{calls, new_words, result_of_words, fixed_declaration, declaration_text, externals, declarations_text, has_top}
 use Rattle.ir_printer.specs.Lists.{joined, led}
@@ -49,7 +48,6 @@ use Rattle.line_forms.specs.Slots as parts
 use Rattle.ir_reader.specs.Text.{Numbered, readings, readings_in, next_state, opening}
 use Rattle.ir_lines.specs.Statements.{Line, Statement, stated}
 use Rattle.ir_lines.specs.Statements as statements
-use Rattle.read_back.specs.BlocksEnd.{BlocksEnd}
 use Rattle.read_back.specs.Said.{cell_word, layout_says, unnamed, declaration_says, declaration_if_called, function_says, said_by}
 use Rattle.read_back.proofs.BackFaults.{IsBelow, externals_below}
 use Rattle.read_back.proofs.Spellings.{SpellsType, integer_type, pointer_type, void_type}
@@ -64,8 +62,7 @@ use Rattle.read_back.proofs.Operands.{named_at}
 use Rattle.read_back.proofs.Chains.{joined-cons, behind_all}
 use Rattle.read_back.proofs.Blocks.{weight, Room, room-fits, room_as}
 use Rattle.read_back.proofs.FunctionsRead.{FunctionReads, behind_function, function_read, function_form, function_room}
-use Rattle.read_back.proofs.NotCalled.{is_of_source, each_of, not_called_in}
-use Rattle.read_back.proofs.SourceFunctions.{function_reads}
+use Rattle.read_back.proofs.NotCalled.{is_of_source, each_of}
 
 -- outside functions
 abbrev at_top : TextForm → Counts → State
@@ -279,7 +276,7 @@ declaration_read of layouts named c same room externs.ResultPointer low may =
     family_read of externs.ResultPointer may refl (λ is. dropped_read of c (codes "declare ptr addrspace(1) @llvm.experimental.gc.result.p1(token)") is pointer_declared refl)
 
 -- what a text of the source form doesn't declare
-abbrev Uncalled : TextForm → List Function → Type 0
+abbrev pub Uncalled : TextForm → List Function → Type 0
 Uncalled of funcs = of ≡ text_forms.Source → (e : External) → is_of_source e ≡ false → calls funcs e ≡ false
 
 if_called_read : (of : TextForm) (layouts : List ObjectLayout) (funcs : List Function) → All (λ (layout : ObjectLayout). is_name layout.name ≡ true) layouts → (c : Counts) → IsStill of c → counts_fit c ≡ true → (e : External) → IsBelow (length layouts) e
@@ -305,7 +302,7 @@ declarations_read of layouts funcs named c same room uncalled (e ∷ es) low =
 
 -- ---- functions
 
-abbrev all_instructions : List Function → List Instruction
+abbrev pub all_instructions : List Function → List Instruction
 all_instructions funcs = flat_map (λ func. instructions_of func.blocks) funcs
 
 split_room : (func : Function) (funcs : List Function) (s : State) → Room s.form 0 (suc (length funcs)) 0 (length (all_instructions (func ∷ funcs))) s.counts
@@ -421,13 +418,3 @@ text_reads of text last says top read = record {
 pub module_text_reads : (of : TextForm) (content : ModuleContent) → ModuleReads of content → TextReads of (text_of content) (said_by content)
 module_text_reads of content is =
     text_reads of (text_of content) (behind_module of content) (said_by content) (functions_top content.funcs (at_top of (behind_layouts of content.layouts (opening of).counts)) refl) (module_read of content is)
-
--- and so does that of a source module
-pub source_text_reads : (content : ModuleContent) → IsSourceModule content → BlocksEnd content → TextReads text_forms.Source (text_of content) (said_by content)
-source_text_reads content source ends = module_text_reads text_forms.Source content (record {
-  layout_names = source.layout_names;
-  limits = source.limits;
-  instructions = source.instructions;
-  uncalled = λ is. not_called_in content source;
-  functions = each_of content.funcs (FunctionReads text_forms.Source content.layouts content.funcs) (λ func c. function_reads content source ends func c);
-})

@@ -15,7 +15,7 @@ use Rattle.ir_ast.specs.Insts.{Instruction}
 use Rattle.ir_ast.specs.Blocks.{BasicBlock}
 use Rattle.ir_ast.specs.Funcs.{Function, instructions_of}
 use Rattle.ir_ast.specs.Faults.GroupShape.{Group, ShapeOf, GroupsInShape, is_statepoint, is_part}
-use Rattle.ir_cfg.specs.TargetModules.{is_relocate, StatepointsAreSmall}
+use Rattle.ir_cfg.specs.Statepoints.{is_relocate, StatepointsAreSmall}
 use Rattle.module_laws.proofs.LawPlaces.{get_behind}
 use Rattle.read_back.proofs.Blocks.{run, RunsFit}
 

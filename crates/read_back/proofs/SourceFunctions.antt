@@ -1,4 +1,4 @@
--- Each function of a source module is printed as a text that is read.
+-- A function of a source module can be read.
 use Rattle.std.proofs.Common.{◌≡◌, refl, ℕ, ◌≤◌, arith, true, false, List, [], ◌∷◌, length}
 use Rattle.std.specs.List.{All, AllByRecursion, Contains}
 use Rattle.std.proofs.lemmas.List.Elements.{recursion_from_All, All-contains, All-weaker}
@@ -13,13 +13,11 @@ use Rattle.ir_ast.specs.Insts.{Instruction}
 use Rattle.ir_ast.specs.Blocks.{BasicBlock}
 use Rattle.ir_ast.specs.Funcs.{Function, instructions_of}
 use Rattle.ir_ast.specs.Modules.{ModuleContent}
-use Rattle.ir_cfg.specs.SourceModules.{IsSourceFunction, IsSourceModule}
-use Rattle.read_back.specs.BlocksEnd.{BlocksEnd}
+use Rattle.ir_cfg.specs.TypedModules.{IsTypedFunction}
 use Rattle.read_back.proofs.BackInsts.{split_all}
-use Rattle.read_back.proofs.BackModules.{form_of, source_shaped}
+use Rattle.read_back.proofs.BackModules.{IsBare, form_of}
 use Rattle.read_back.proofs.Blocks.{run, RunsFit}
-use Rattle.read_back.proofs.FunctionsRead.{FunctionReads}
-use Rattle.read_back.proofs.FunctionsPrinted as printed
+use Rattle.read_back.proofs.FunctionsPrinted.{FunctionIsReadable}
 
 abbrev IsPlain : Instruction → Type 0
 IsPlain inst = is_rewritten inst.op ≡ false
@@ -44,22 +42,13 @@ blocks_plain [] plain = tt
 blocks_plain (block ∷ blocks) plain =
     let parts = split_all IsPlain block.insts (instructions_of blocks) plain in (runs_plain block.insts 0 parts.0, blocks_plain blocks parts.1)
 
-pub function_reads : (content : ModuleContent) → IsSourceModule content → BlocksEnd content → (func : Function) → Contains content.funcs func → FunctionReads Source content.layouts content.funcs func
-function_reads content source ends func c = printed.function_reads Source content (record {
-  shaped = source_shaped content source;
-  layout_names = source.layout_names;
-  names = λ k d low. (source.functions k d low).names;
-  ends = ends;
-}) func c (record {
-  has_block = own.has_block;
+pub source_readable : (content : ModuleContent) → IsBare Source content → (func : Function) → Contains content.funcs func → FunctionIsReadable Source func
+source_readable content source func c = record {
   plain = λ is. plain;
   few = All-weaker IsPlain (λ (inst : Instruction). length (entries_of inst) ≤ 16384) (λ inst is. live_plain inst.op inst.operands is) (instructions_of func.blocks) plain;
   runs = blocks_plain func.blocks (recursion_from_All IsPlain (instructions_of func.blocks) plain);
-  values = own.values;
-})
+  values = (All-contains (IsTypedFunction Source) content.funcs func source.typed.functions c).small;
+}
   where
-    own : IsSourceFunction func
-    own = All-contains IsSourceFunction content.funcs func source.functions c
-
     plain : All IsPlain (instructions_of func.blocks)
-    plain = (form_of content.form func source.form (All-contains (FunctionHasNoFault content) content.funcs func source.no_fault.functions c).form).lines
+    plain = (form_of content.form func source.typed.of_form (All-contains (FunctionHasNoFault content) content.funcs func source.typed.no_fault.functions c).form).lines

@@ -1,4 +1,2 @@
 pub mod Said
-pub mod BlocksEnd
-pub mod IdsAreWords
 pub mod ReadsBack

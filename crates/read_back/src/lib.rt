@@ -1,15 +1,16 @@
 //! Reading back: the printed text of a source or a target module reads and types to that module again.
 #![tactic(auto)]
 
-ghost use Rattle.read_back.specs.ReadsBack.{EachReadsBack, EachTargetReadsBack};
+ghost use Rattle.ir_ast.specs.declared.modules.Form.{Form};
+ghost use Rattle.read_back.specs.ReadsBack.{EachReadsBack};
 
 /// The printed text of every source module within the file limit has readings without a fault, which stand for that
 /// module again.
 pub fn printed_text_reads_back()
-    ensures { EachReadsBack }
+    ensures { EachReadsBack Form.Source }
 {}
 
 /// And so has that of every target module, as a text of the rewritten form.
 pub fn rewritten_text_reads_back()
-    ensures { EachTargetReadsBack }
+    ensures { EachReadsBack Form.Rewritten }
 {}

@@ -4,7 +4,8 @@ ghost use Rattle.sp_ids.specs.declared.limits.TheConstants.{FILE_BYTES};
 ghost use Rattle.tool_io.specs.Counts.{NoneFell};
 ghost use Rattle.ir_ast.specs.Formed.{IsFormedModule};
 ghost use Rattle.ir_ast.specs.declared.modules.Form.TheVariants.{Source};
-ghost use Rattle.ir_cfg.specs.SourceModules.{IsSourceModule};
+ghost use Rattle.std.specs.List.{All};
+ghost use Rattle.ir_ast.specs.Bundles.{HasNoBundle};
 ghost use Rattle.ir_meaning.specs.Stages.{IsToday};
 ghost use Rattle.ir_lines.specs.Views.{seen_lines};
 ghost use Rattle.statepoint_tool.specs.Answers.{Agrees, Reads};
@@ -66,7 +67,7 @@ pub(crate) fn take_runnable<F: Files>(
 ) -> Result<Module, Refusal>
     ensures read { Reads (files_seen (F.contents files.old) (F.faults files.old) (F.faults files.new)) name
         runnable_phase (λ read. read.content) result }
-    ensures source { IfOk result (λ read. IsSourceModule read.content) }
+    ensures no_bundle { IfOk result (λ read. All HasNoBundle read.content.funcs) }
     ensures today { IfOk result (λ read. IsToday read.content) }
     ensures kept { F.contents files.new ≡ F.contents files.old }
     ensures counted { NoneFell (F.faults files.old) (F.faults files.new) }
@@ -128,7 +129,7 @@ fn type_in(alloc: Global, raw: Raw) -> Result<Module, Refusal>
     requires { raw.form ≡ Source }
     ensures typed { Agrees (λ read. read.content) result (Typing (seen_lines raw.entry.lines)) }
     ensures formed { IfOk result (λ read. IsFormedModule read.content) }
-    ensures source { IfOk result (λ read. IsSourceModule read.content) }
+    ensures no_bundle { IfOk result (λ read. All HasNoBundle read.content.funcs) }
 {
     match typed(alloc, raw) {
         Ok(read) => Ok(read),
@@ -151,7 +152,7 @@ fn module_in(alloc: Global, text: &[u8]) -> Result<Module, Refusal>
 fn runnable_in(alloc: Global, text: &[u8]) -> Result<Module, Refusal>
     requires { length text.now ≤ FILE_BYTES }
     ensures read { Agrees (λ read. read.content) result (runnable_phase text.now) }
-    ensures source { IfOk result (λ read. IsSourceModule read.content) }
+    ensures no_bundle { IfOk result (λ read. All HasNoBundle read.content.funcs) }
     ensures today { IfOk result (λ read. IsToday read.content) }
 {
     let raw = read_in(alloc, text)?;
@@ -162,7 +163,7 @@ fn runnable_in(alloc: Global, text: &[u8]) -> Result<Module, Refusal>
 fn type_to_run(alloc: Global, raw: Raw) -> Result<Module, Refusal>
     requires { raw.form ≡ Source }
     ensures read { Agrees (λ read. read.content) result (typing_to_run (seen_lines raw.entry.lines)) }
-    ensures source { IfOk result (λ read. IsSourceModule read.content) }
+    ensures no_bundle { IfOk result (λ read. All HasNoBundle read.content.funcs) }
     ensures today { IfOk result (λ read. IsToday read.content) }
 {
     let not_yet = first_not_yet(raw.lines());

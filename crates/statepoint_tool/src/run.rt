@@ -1,6 +1,7 @@
 //! The commands `source` and `run`: the module, the input and the plan are taken in this order, then the module runs.
 ghost use Rattle.std.specs.Prelude.{◌≡◌, ◌≤◌, ℕ, IfOk, OnErr, IsErrOf};
-ghost use Rattle.ir_cfg.specs.SourceModules.{IsSourceModule};
+ghost use Rattle.std.specs.List.{All};
+ghost use Rattle.ir_ast.specs.Bundles.{HasNoBundle};
 ghost use Rattle.ir_meaning.specs.Stages.{IsToday};
 ghost use Rattle.tool_io.specs.Counts.{Rose};
 ghost use Rattle.tool_io.specs.Counts.{NoneFell};
@@ -57,7 +58,7 @@ fn run_module<F: Files, O: Sink>(
     files: &mut F,
     out: &mut O,
 ) -> Result<Status, Refusal>
-    requires source { IsSourceModule read.now.content }
+    requires no_bundle { All HasNoBundle read.now.content.funcs }
     requires today { IsToday read.now.content }
     ensures works { Works (MayGiveBoth (files_seen (F.contents files.old) (F.faults files.old) (F.faults files.new)) input plan)
         (after_module input plan read.now.content steps) result
@@ -79,7 +80,7 @@ fn run_with_input<F: Files, O: Sink>(
     files: &mut F,
     out: &mut O,
 ) -> Result<Status, Refusal>
-    requires source { IsSourceModule read.now.content }
+    requires no_bundle { All HasNoBundle read.now.content.funcs }
     requires today { IsToday read.now.content }
     ensures works { Works (MayGive (files_seen (F.contents files.old) (F.faults files.old) (F.faults files.new)) plan)
         (after_input plan read.now.content steps) result
@@ -99,7 +100,7 @@ fn run_under_plan<O: Sink>(
     steps: u64,
     out: &mut O,
 ) -> Result<Status, Refusal>
-    requires source { IsSourceModule read.now.content }
+    requires no_bundle { All HasNoBundle read.now.content.funcs }
     requires today { IsToday read.now.content }
     ensures came { Came result (run_phase read.now.content steps)
         (sink_seen (O.written out.old) (O.written out.new) (O.faults out.old) (O.faults out.new)) }
@@ -119,7 +120,7 @@ fn write_run<O: Sink>(
     steps: u64,
     out: &mut O,
 ) -> Result<Status, RefFault>
-    requires source { IsSourceModule read.now.content }
+    requires no_bundle { All HasNoBundle read.now.content.funcs }
     requires today { IsToday read.now.content }
     ensures done { IfOk result (λ status. IsDone status (run_phase read.now.content steps)
         (sink_seen (O.written out.old) (O.written out.new) (O.faults out.old) (O.faults out.new))) }

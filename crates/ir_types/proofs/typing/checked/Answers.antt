@@ -2,7 +2,7 @@ use Rattle.std.proofs.Common.{Option, None, subst}
 use Rattle.std.proofs.lemmas.Result.{err_from_is_err_and}
 use Rattle.ir_lines.specs.declared.faults.Fault.{Fault}
 use Rattle.ir_lines.specs.Notes.{Notes}
-use Rattle.ir_lines.specs.PlainFaults.{HasPlainFault, HasNoPlainFault}
+use Rattle.ir_lines.specs.PlainFaults.{HasPlainFault}
 use Rattle.ir_lines.specs.Views.{seen_lines}
 use Rattle.ir_lines.proofs.NoteLemmas.{notes-least, notes-none}
 use Rattle.ir_types.proofs.PathLaw.{plain-least}

@@ -2,8 +2,8 @@ use Rattle.std.proofs.Common.{List, sym, subst}
 use Rattle.ir_reader.specs.declared.raw.NumberedReading.{NumberedReading}
 use Rattle.ir_lines.specs.Views.{seen_lines}
 use Rattle.module_build.specs.Placed.{IsPlaced}
-use Rattle.module_laws.proofs.LawTarget.{formed_in}
-use Rattle.module_laws.proofs.TypedTexts.{whole_in}
+use Rattle.ir_cfg.proofs.TypedLemmas.{formed_module}
+use Rattle.module_laws.proofs.TypedTexts.{whole_typed, whole_functions}
 use Rattle.module_laws.proofs.ReadTexts.{read-lines}
 use Rattle.module_laws.proofs.Placing.{read-placed}
 use Rattle.ir_types.proofs.typing.plain_module.Goals as goal
@@ -18,9 +18,13 @@ returns-clause-is c = rw (← c.form-form.ensures, ← c.lines-lines.ensures.lin
 
 pub returns-clause-typed : goal.returns-clause-typed
 returns-clause-typed c =
-    whole_in c.args.raw.now c.lines-lines.ensures.read c.in_ok-whole.whole (returns-clause-is c) c.requires
+    whole_typed c.args.raw.now c.lines-lines.ensures.read c.in_ok-whole.whole (returns-clause-is c) c.requires
 
 pub returns-clause-formed : goal.returns-clause-formed
 returns-clause-formed c =
-    formed_in c.args.raw.now.form c.in_ok-whole.whole.content
-    (whole_in c.args.raw.now c.lines-lines.ensures.read c.in_ok-whole.whole (returns-clause-is c) c.requires)
+    formed_module c.args.raw.now.form c.in_ok-whole.whole.content
+    (whole_typed c.args.raw.now c.lines-lines.ensures.read c.in_ok-whole.whole (returns-clause-is c) c.requires)
+
+pub returns-clause-text : goal.returns-clause-text
+returns-clause-text c =
+    whole_functions c.args.raw.now c.lines-lines.ensures.read c.in_ok-whole.whole (returns-clause-is c) c.requires

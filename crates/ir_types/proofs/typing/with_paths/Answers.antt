@@ -9,7 +9,6 @@ use Rattle.module_laws.proofs.ReadTexts.{read-lines}
 use Rattle.module_laws.proofs.Rising.{lines-rise}
 use Rattle.ir_types.specs.FirstMissed.{IsFirstMissed}
 use Rattle.ir_types.proofs.PathLaw.{missed-least, definite-faultless}
-use Rattle.ir_types.proofs.FormLemmas.{module_in}
 use Rattle.ir_types.proofs.typing.with_paths.Goals as goal
 
 pub returns-in_err-whole-clause-answers : goal.returns-in_err-whole-clause-answers
@@ -36,5 +35,7 @@ returns-in-None-clause-answers c =
 
 pub returns-in-None-clause-module : goal.returns-in-None-clause-module
 returns-in-None-clause-module c =
-    module_in c.args.raw.now.form c.in_ok-whole.whole.content c.in_ok-whole.ensures.typed
-    (subst (λ (o : Option ℕ). IfNone o (All UsesAreDefinite c.in_ok-whole.whole.content.funcs)) c.in-None.is c.in_ok-line.ensures.none)
+    record {
+      typed = c.in_ok-whole.ensures.typed;
+      definite = subst (λ (o : Option ℕ). IfNone o (All UsesAreDefinite c.in_ok-whole.whole.content.funcs)) c.in-None.is c.in_ok-line.ensures.none;
+    }
