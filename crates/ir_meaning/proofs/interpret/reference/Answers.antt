@@ -17,10 +17,10 @@ use Rattle.ir_meaning.proofs.ReferenceLaws.{run_is, front_is}
 use Rattle.ir_meaning.proofs.interpret.reference.Goals as goal
 
 pub of-requires : goal.of-requires
-of-requires g c = ready_module c.args.module.now.content c.requires
+of-requires g c = ready_module c.args.module.now.content c.requires.source
 
 pub run-requires-clause-ready : goal.run-requires-clause-ready
-run-requires-clause-ready g c = rw c.in_ok-code.ensures (ready_module c.args.module.now.content c.requires)
+run-requires-clause-ready g c = rw c.in_ok-code.ensures (ready_module c.args.module.now.content c.requires.source)
 
 pub run-requires-clause-layouts : goal.run-requires-clause-layouts
 run-requires-clause-layouts g c = c.in_ok-machine.ensures.layouts
