@@ -1,5 +1,5 @@
 -- Loads, stores, new objects and new tasks: the interpreter does what the meaning does.
-use Rattle.std.proofs.Common.{◌≡◌, ℕ, ℤ, pos, ◌+◌, ◌-◌, ◌<◌, true, false, List, [], ◌∷◌, ◌++◌, length, map, set, replicate, refl, sym, ap, ◌∙◌, lt-ltb}
+use Rattle.std.proofs.Common.{subst, ◌≡◌, ℕ, ℤ, pos, ◌+◌, ◌-◌, ◌<◌, true, false, List, [], ◌∷◌, ◌++◌, length, map, set, replicate, refl, sym, ap, ◌∙◌, lt-ltb}
 use Rattle.std.specs.Prelude.{Option, Some, None, slice_get, int_lt, unsigned_abs, Result, Ok, Err}
 use Rattle.std.proofs.lemmas.List.{length-map, map-append, map-set}
 use Rattle.sp_ids.specs.declared.ends.End.TheVariants.{Trap}
@@ -130,3 +130,21 @@ make_is content plan bound frames others inst layout count object events objects
     (ap goes_on (passed_is content frames (record others { objects = others.objects ++ made content.layouts layout (unsigned_abs count) ∷ []; events = raised others.events }) inst (pointer_word (length others.objects + 1) 0))
     ∙ made_is (today content plan bound) (state_from content frames others)
     (passed (state_from content frames others) (numbered frames.running.spot.next inst) (lines_behind content frames.running.spot inst)) layout count some room)
+
+-- the same of a store's layouts and of the count as the code has it
+pub make_made : (content : ModuleContent) (plan : List PlanLine) (bound : ℕ) (frames : Frames) (others : Rest) (inst : Instruction) (layout : ℕ) (count : ℤ)
+    (object events : ℕ) (objects : List Object) → count ≡ signed 64 (number_in (operand (map datum frames.running.registers) inst.operands 0))
+    → int_lt count (pos 0) ≡ false → events ≡ raised others.events → (layouts : List ObjectLayout) (n : ℕ) → layouts ≡ content.layouts → n ≡ unsigned_abs count
+    → is_full layouts (others.objects ++ made layouts layout n ∷ []) ≡ false
+    → object ≡ length others.objects + 1 → objects ≡ others.objects ++ made layouts layout n ∷ []
+    → goes_on (state_from content (record frames { running = passed_frame frames.running inst (pointer_word object 0) }) (record others { objects = objects; events = events }))
+    ≡ allocating (today content plan bound) (state_from content frames others)
+    (passed (state_from content frames others) (numbered frames.running.spot.next inst) (lines_behind content frames.running.spot inst)) layout
+    (signed 64 (number_in (operand (map datum frames.running.registers) inst.operands 0)))
+make_made content plan bound frames others inst layout count object events objects count_is some events_are layouts n layouts_are amount room object_is objects_are =
+    make_is content plan bound frames others inst layout count object events objects count_is some events_are
+    (subst (λ (k : ℕ). is_full content.layouts (others.objects ++ made content.layouts layout k ∷ []) ≡ false) amount
+    (subst (λ (ls : List ObjectLayout). is_full ls (others.objects ++ made ls layout n ∷ []) ≡ false) layouts_are room))
+    object_is
+    (subst (λ (k : ℕ). objects ≡ others.objects ++ made content.layouts layout k ∷ []) amount
+    (subst (λ (ls : List ObjectLayout). objects ≡ others.objects ++ made ls layout n ∷ []) layouts_are objects_are))
