@@ -11,6 +11,7 @@ use ir_reader::read;
 use ir_types::{Fault, TypeFault, typed};
 use sp_ids::Memory;
 use std::alloc::Global;
+use std::fmt;
 
 /// What is found in a text.
 #[derive(Clone, Copy, Debug, PartialEq, Eq)]
@@ -20,6 +21,16 @@ pub(crate) enum Verdict {
     Missed(u32),
     /// The text stands for no module, or memory was wanted.
     Refused,
+}
+
+impl fmt::Display for Verdict {
+    fn fmt<W: fmt::Write>(&self, f: &mut fmt::Formatter<W>) -> fmt::Result {
+        match self {
+            Verdict::Definite => f.write_str("each use is definite"),
+            Verdict::Missed(line) => write!(f, "line {line}: a use that isn't definite"),
+            Verdict::Refused => f.write_str("refused"),
+        }
+    }
 }
 
 /// Judges the uses of a text, each function as often as there are rounds.

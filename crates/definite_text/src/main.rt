@@ -1,39 +1,52 @@
-//! Reads the text of a module and says for each function the line of the first use that isn't definite, so
-//! that finding it can be measured (bench/definite). Its tests compare the line with an enumeration of paths.
+//! Judges the uses of a text: it says the line of the first one that isn't definite, so that finding it can be measured
+//! (bench/definite). And it judges every function of three blocks, and compares that with an enumeration of its paths.
 #![tactic(auto)]
 
 mod judge;
+mod paths;
 
 ghost use Rattle.std.specs.Prelude.{◌≤◌, length};
 ghost use Rattle.sp_ids.specs.declared.limits.TheConstants.{FILE_BYTES};
 
-use judge::{Verdict, judged};
+use judge::judged;
+use paths::compare_all;
 use sp_ids::limits::FILE_BYTES;
-use std::alloc::Global;
+use std::process::ExitCode;
 use std::{env, io};
 use tool_io::{DiskFiles, Files};
 
-fn main(rt: HostRuntime) -> io::Result<()> {
-    let Some(name) = env::args(&rt)?.nth(1) else {
-        return println!(rt; "usage: definite_text FILE [ROUNDS]");
-    };
-    let rounds = match env::args(&rt)?.nth(2) {
-        Some(word) => word.as_str().parse::<u32>().unwrap_or(1),
-        None => 1,
-    };
-    let mut files = DiskFiles::new(&rt);
-    match files.take(rt.alloc(), name.as_str(), FILE_BYTES) {
-        Ok(text) => report(&rt, rt.alloc(), &text, rounds),
-        Err(fault) => println!(rt; "{fault}"),
+fn main(rt: HostRuntime) -> io::Result<ExitCode> {
+    let words: Vec<String> = env::args(&rt)?.collect(rt.alloc())?;
+    let words: Vec<&str> = words.iter().map(|word| word.as_str()).collect(rt.alloc())?;
+    match *words.as_slice() {
+        [_, "uses", name] => uses(&rt, name, 1),
+        [_, "uses", name, rounds] => uses(&rt, name, rounds.parse::<u32>().unwrap_or(1)),
+        [_, "paths"] => compare_paths(&rt),
+        _ => {
+            println!(rt; "usage: definite_text uses FILE [ROUNDS], or definite_text paths")?;
+            Ok(ExitCode::from(2))
+        }
     }
 }
 
-fn report(rt: &impl Print, alloc: Global, text: &[u8], rounds: u32) -> io::Result<()>
-    requires { length text.now ≤ FILE_BYTES }
-{
-    match judged(alloc, text, rounds) {
-        Verdict::Definite => println!(rt; "each use is definite"),
-        Verdict::Missed(line) => println!(rt; "line {line}: a use that isn't definite"),
-        Verdict::Refused => println!(rt; "refused"),
+// Judges the uses of a file, each function so many times.
+fn uses(rt: &HostRuntime, name: &str, rounds: u32) -> io::Result<ExitCode> {
+    let mut files = DiskFiles::new(rt);
+    match files.take(rt.alloc(), name, FILE_BYTES) {
+        Ok(text) => {
+            let verdict = judged(rt.alloc(), &text, rounds);
+            println!(rt; "{verdict}")?;
+            Ok(ExitCode::SUCCESS)
+        }
+        Err(fault) => {
+            println!(rt; "{fault}")?;
+            Ok(ExitCode::from(2))
+        }
     }
+}
+
+fn compare_paths(rt: &HostRuntime) -> io::Result<ExitCode> {
+    let tally = compare_all(rt, rt.alloc())?;
+    println!(rt; "{tally}")?;
+    Ok(if tally.all_agree() { ExitCode::SUCCESS } else { ExitCode::FAILURE })
 }

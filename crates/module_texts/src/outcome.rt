@@ -1,0 +1,128 @@
+//! What becomes of a text.
+
+ghost use Rattle.std.specs.Prelude.{◌≤◌, length, IfOk};
+ghost use Rattle.sp_ids.specs.declared.limits.TheConstants.{FILE_BYTES};
+ghost use Rattle.ir_ast.specs.Formed.{IsFormedModule};
+
+use ir_ast::{Form, Module};
+use ir_printer::print;
+use ir_reader::{Raw, ReadFault, read, read_rewritten};
+use ir_types::{Fault, TypeFault, typed, typed_rewritten};
+use sp_ids::Memory;
+use std::alloc::Global;
+use std::fmt;
+use tool_io::MemSink;
+
+// More than the printed text of any text of the benches or of a case has.
+const MOST_PRINTED: usize = 20_000_000;
+
+/// How far a text is worked on.
+#[derive(Clone, Copy, Debug, PartialEq, Eq)]
+pub(crate) enum Step {
+    Reading,
+    Typing,
+    Printing,
+    /// The lines of the module's instructions are told.
+    Lines,
+}
+
+/// What becomes of a text.
+#[derive(Drop)]
+pub(crate) enum Outcome {
+    /// So many lines have a reading, and none lacks one.
+    Readings(usize),
+    /// The first fault.
+    Fault(Fault),
+    /// It stands for a module.
+    Module,
+    /// The module's printed text.
+    Printed(Vec<u8>),
+    /// The lines of the module's instructions.
+    Lines(Vec<u32>),
+    /// The text or its printed text is longer than any may be here.
+    TooLong,
+}
+
+impl fmt::Display for Outcome {
+    fn fmt<W: fmt::Write>(&self, f: &mut fmt::Formatter<W>) -> fmt::Result {
+        match self {
+            Outcome::Readings(count) => write!(f, "{count} readings"),
+            Outcome::Fault(fault) => write!(f, "code {} at line {}", fault.code, fault.line),
+            Outcome::Module => f.write_str("a module"),
+            Outcome::Printed(text) => write!(f, "{} bytes printed", text.len()),
+            Outcome::Lines(lines) => write!(f, "instructions at lines {lines:?}"),
+            Outcome::TooLong => f.write_str("a text that is too long"),
+        }
+    }
+}
+
+/// What becomes of a text of this form, as far as it is worked on.
+pub(crate) fn outcome_of(
+    alloc: Global,
+    form: Form,
+    text: &[u8],
+    step: Step,
+) -> Result<Outcome, Memory>
+    requires { length text.now ≤ FILE_BYTES }
+{
+    let found = match form {
+        Form::Source => read(alloc, text),
+        Form::Rewritten => read_rewritten(alloc, text),
+    };
+    match found {
+        Ok(raw) if step == Step::Reading => Ok(Outcome::Readings(raw.lines().len())),
+        Ok(raw) => of_readings(alloc, raw, step),
+        Err(ReadFault::Syntax { line }) => Ok(Outcome::Fault(Fault { line, code: 1 })),
+        Err(ReadFault::Limit { line }) => Ok(Outcome::Fault(Fault { line, code: 2 })),
+        Err(ReadFault::Memory) => Err(Memory),
+    }
+}
+
+fn of_readings(alloc: Global, raw: Raw, step: Step) -> Result<Outcome, Memory> {
+    match typed_in(alloc, raw) {
+        Ok(module) => of_module(alloc, &module, step),
+        Err(TypeFault::Fault(fault)) => Ok(Outcome::Fault(fault)),
+        Err(TypeFault::Memory) => Err(Memory),
+    }
+}
+
+// Types readings in the form that they were read in.
+fn typed_in(alloc: Global, raw: Raw) -> Result<Module, TypeFault>
+    ensures { IfOk result (λ module. IsFormedModule module.content) }
+{
+    match raw.form() {
+        Form::Source => typed(alloc, raw),
+        Form::Rewritten => typed_rewritten(alloc, raw),
+    }
+}
+
+fn of_module(alloc: Global, module: &Module, step: Step) -> Result<Outcome, Memory>
+    requires { IsFormedModule module.now.content }
+{
+    match step {
+        Step::Printing => printed(alloc, module),
+        Step::Lines => Ok(Outcome::Lines(lines(alloc, module)?)),
+        _ => Ok(Outcome::Module),
+    }
+}
+
+fn printed(alloc: Global, module: &Module) -> Result<Outcome, Memory>
+    requires { IsFormedModule module.now.content }
+{
+    let mut out = MemSink::new(alloc, MOST_PRINTED)?;
+    match print(module, &mut out) {
+        Ok(()) => Ok(Outcome::Printed(Vec::from_slice(alloc, out.bytes())?)),
+        Err(_) => Ok(Outcome::TooLong),
+    }
+}
+
+fn lines(alloc: Global, module: &Module) -> Result<Vec<u32>, Memory> {
+    let mut lines = Vec::new(alloc);
+    for func in module.funcs() {
+        let count: usize = func.blocks().iter().map(|block| block.insts().len()).sum();
+        for place in 0..count as u32 {
+            lines.push(func.line_of(place))?;
+        }
+    }
+    Ok(lines)
+}
