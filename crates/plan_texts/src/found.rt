@@ -7,11 +7,7 @@ use crate::cases::{OfInput, OfPlan};
 use move_plan::{Move, Plan, PlanLine, read_input};
 use std::alloc::{AllocError, Global};
 
-pub(crate) fn found_in_plan(
-    alloc: Global,
-    asked: OfPlan,
-    text: &[u8],
-) -> Result<String, AllocError>
+pub(crate) fn found_in_plan(alloc: Global, asked: OfPlan, text: &[u8]) -> Result<String, AllocError>
     requires { length text.now ≤ FILE_BYTES }
 {
     match Plan::read(alloc, text) {
