@@ -133,7 +133,9 @@ some_input : IsInputOf (codes "7" ++ 10 ∷ 10 ∷ codes " -012 " ++ 13 ∷ 10 �
 unfolding words
 some_input = record {
   readings = Some (pos 7) ∷ None ∷ Some (negsuc 11) ∷ [];
-  each = (record { word = codes "7"; only = refl; number = record { spelled = positive (record { each = (lit< tt, (lit< tt, tt)); few = lit≤ tt }) refl; fits = search (arith, ints) } },
-    (refl, (leading_zero_and_sign, tt)));
+  each = (
+    record { word = codes "7"; only = refl; number = record { spelled = positive (record { each = (lit< tt, (lit< tt, tt)); few = lit≤ tt }) refl; fits = search (arith, ints) } },
+    (refl, (leading_zero_and_sign, tt)),
+  );
   given = refl;
 }
