@@ -22,7 +22,9 @@ use Rattle.ir_ast.specs.Faults.PhiEdges.{is_phi}
 use Rattle.ir_ast.specs.Faults.TypeClash.{Fits, asked, HasField, StartsTask, ChecksKind, TakesOperands, IsCallOf, RuleOf, IsTyped, FunctionIsTyped}
 use Rattle.graph_search.specs.Paths.{Marked}
 use Rattle.ir_cfg.specs.Unreached.{Kept, kept_of, kept_by, value_marks, operand_kept, has_mark, function_kept}
-use Rattle.ir_cfg.proofs.KeepsPlaces.{kept_get, number_of_marked, all_at, all_from_at, get_past, map_back}
+use Rattle.ir_cfg.proofs.KeepsPlaces.{kept_get, number_of_marked}
+use Rattle.list_laws.proofs.Contents.{all_at, all_from_at}
+use Rattle.list_laws.proofs.Places.{get_past, map_back}
 use Rattle.ir_cfg.proofs.KeepsLines.{IsKept, all_lines, inst_left, inst_new, line_at, two_steps}
 use Rattle.ir_cfg.proofs.KeepsUses.{Lasts, phi_operands}
 use Rattle.ir_cfg.proofs.KeepsForms.{left_plain}
