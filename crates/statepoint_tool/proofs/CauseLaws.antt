@@ -11,22 +11,20 @@ use Rattle.object_meaning.specs.SourceRuns.{source_setting}
 use Rattle.object_meaning.proofs.EndLaws.{IsFinal}
 use Rattle.object_meaning.proofs.OutcomeLaws.{gives_final}
 use Rattle.tool_io.specs.Counts.{Rose}
-use Rattle.statepoint_tool.specs.Causes.{AsksToShow, AsksForRun, Shows, ReadsModule, ReadsInput, Runs, RunGives, module_run, steps_asked, Ends, by_showing, by_running, EndsWith, NoCommand, NamesModule, to_show, to_run, HasModuleFault, HasSomeModuleFault, HasInputFault, HasSomeInputFault, HasPlanFault, HasSomePlanFault, FileGives, module_gives, input_gives, plan_gives, CannotRead, IsTooLong, StopsBy}
+use Rattle.statepoint_tool.specs.Causes.{AsksToShow, AsksForRun, ReadsModule, ReadsInput, Runs, RunGives, module_run, steps_asked, Ends, by_showing, by_running, EndsWith, NoCommand, NamesModule, to_show, to_run, HasSomeModuleFault, HasSomeInputFault, HasSomePlanFault, FileGives, module_gives, input_gives, plan_gives, CannotRead, IsTooLong, StopsBy}
 use Rattle.statepoint_tool.specs.Statuses.{CauseOf, status_of_step}
-use Rattle.statepoint_tool.specs.Steps.{Step, Go, Stop, Then, goes_on, stops, comes_to}
+use Rattle.statepoint_tool.specs.Steps.{Step, Go, Stop, Then, goes_on, stops}
 use Rattle.statepoint_tool.specs.Taken.{Taken, Bytes, Longer, Faulty, FilesSeen, MayGive, file_phase}
 use Rattle.statepoint_tool.specs.Words.{command_of}
 use Rattle.statepoint_tool.specs.Work.{Output, Given, MayGiveAll, MayGiveNamed, content_of, shown, module_phase, ReadingInput, has_numbers, no_input, ReadingPlan, planned, no_plan, show_phase, after_input, after_module, Running, run_work, comes, output_of, command_work, work}
 use Rattle.statepoint_tool.specs.Closings.{status_of_end}
 use Rattle.statepoint_tool.specs.declared.refusal.Cause.{Cause}
 use Rattle.statepoint_tool.specs.declared.refusal.Cause.TheVariants as cause
-use Rattle.statepoint_tool.specs.declared.refusal.ModuleFault.{ModuleFault}
-use Rattle.statepoint_tool.specs.declared.refusal.PlanFault.{PlanFault}
 use Rattle.statepoint_tool.specs.declared.request.RunRequest.{RunRequest}
 use Rattle.statepoint_tool.specs.declared.request.Command.{Command}
 use Rattle.statepoint_tool.specs.declared.request.Command.TheVariants.{Show, Source, Run}
 use Rattle.statepoint_tool.specs.declared.status.Status.{Status}
-use Rattle.statepoint_tool.specs.declared.status.Status.TheVariants.{Done, OutOfSteps, ModuleRefused, WordsRefused, ReadFault, PlanRefused, InputRefused, TooLong}
+use Rattle.statepoint_tool.specs.declared.status.Status.TheVariants.{ModuleRefused, WordsRefused, ReadFault, PlanRefused, InputRefused, TooLong}
 use Rattle.statepoint_tool.proofs.InputLaws.{Once-ReadingInput, Once-ReadingPlan, input-gives, input-refused, plan-gives, plan-refused}
 use Rattle.statepoint_tool.proofs.RunLaws.{Once-Running}
 use Rattle.statepoint_tool.proofs.StepLaws.{Once, stop_in, not_both, Once-comes_to, Once-Then, Once-file_phase}
@@ -247,8 +245,7 @@ module _ (words : List (List ℕ)) (given : Given) where
 
   pub comes-HasSomeModuleFault : HasSomeModuleFault words given → ComesWith ModuleRefused
   comes-HasSomeModuleFault has =
-      let reason = cause.Module has.0 in
-      (
+      let reason = cause.Module has.0 in (
         Stop reason,
         module_stops has.1.name reason has.1.names
             (subst (λ (t : Taken). file_phase has.1.name module_phase t (Stop reason)) (sym has.1.taken) (as-refused has.1.text has.0 has.1.has)),
@@ -258,8 +255,7 @@ module _ (words : List (List ℕ)) (given : Given) where
   pub comes-HasSomeInputFault : HasSomeInputFault words given → ComesWith InputRefused
   comes-HasSomeInputFault has =
       let reason = cause.Input has.0 in
-      let fault = has.1 in
-      (
+      let fault = has.1 in (
         Stop reason,
         with_module fault.accepts (Stop reason)
             (stops reason (subst (λ (t : Taken). file_phase fault.accepts.asks.request.input ReadingInput t (Stop reason)) (sym fault.taken)
@@ -270,8 +266,7 @@ module _ (words : List (List ℕ)) (given : Given) where
   pub comes-HasSomePlanFault : HasSomePlanFault words given → ComesWith PlanRefused
   comes-HasSomePlanFault has =
       let reason = cause.Plan has.0 in
-      let fault = has.1 in
-      (
+      let fault = has.1 in (
         Stop reason,
         with_input fault.reads (Stop reason)
             (stops reason (subst (λ (t : Taken). file_phase fault.reads.accepts.asks.request.plan ReadingPlan t (Stop reason)) (sym fault.taken)

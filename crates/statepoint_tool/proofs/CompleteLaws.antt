@@ -1,8 +1,7 @@
 -- Completeness from the whole answer of a call.
-use Rattle.std.proofs.Common.{◌≡◌, ◌≢◌, ℕ, ◌<◌, ◌≤◌, length, ◌⊎◌, inl, inr, List, [], Option, Some, None, IfSome, Result, Ok, Err, refl, sym, ap, subst, ◌∙◌, arith}
+use Rattle.std.proofs.Common.{◌≡◌, ℕ, ◌<◌, ◌≤◌, length, ◌⊎◌, inl, inr, List, [], Option, Some, None, Result, Ok, Err, refl, sym, ap, subst, ◌∙◌, arith}
 use Rattle.statepoint_tool.specs.Answers.{SinkSeen, Gained, GainedFront, SinkFailed, Came, IsBegun, IsTold as IsToldOf, IsAnswer}
 use Rattle.tool_io.proofs.AppendLaws.{AppendsFront-all, AppendsFront-front}
-use Rattle.statepoint_tool.specs.Causes.{Ends}
 use Rattle.statepoint_tool.specs.Complete.{IsTold, RunIsTold, AllTold, IsWhole, IsShort, WantsMemory, IsComplete}
 use Rattle.statepoint_tool.specs.Steps.{Step, Go, Stop}
 use Rattle.statepoint_tool.specs.Taken.{Taken, Bytes, Longer, Faulty, FilesSeen, MayGive}

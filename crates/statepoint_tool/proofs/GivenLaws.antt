@@ -1,8 +1,8 @@
 -- What files may give, over the parts of a call.
-use Rattle.std.proofs.Common.{◌≡◌, ℕ, ◌<◌, ◌≤◌, Bool, true, false, cond, List, [], length, Option, Some, None, IfSome, refl, sym, rules, arith, ap}
+use Rattle.std.proofs.Common.{◌≡◌, ℕ, Bool, true, false, cond, List, [], length, Option, Some, None, refl, arith}
 use Rattle.std.specs.Prelude.{nat_le}
 use Rattle.std.proofs.lemmas.Bool.Decides.{nat_tests}
-use Rattle.tool_io.specs.Counts.{Rose, NoneFell}
+use Rattle.tool_io.specs.Counts.{NoneFell}
 use Rattle.tool_io.proofs.CountLaws.{Rose-then-none_fell, Rose-after-none_fell}
 use Rattle.statepoint_tool.specs.Taken.{Taken, Bytes, Longer, Faulty, FilesSeen, files_seen, MayGive}
 

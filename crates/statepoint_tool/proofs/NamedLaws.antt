@@ -1,5 +1,5 @@
 -- The work where no file was taken.
-use Rattle.std.proofs.Common.{◌≡◌, ℕ, List, [], Option, Some, None, Result, Err, inl, refl, sym, ap, subst}
+use Rattle.std.proofs.Common.{◌≡◌, ℕ, List, [], Option, Some, None, Err, inl, refl, sym, subst}
 use Rattle.tool_io.proofs.AppendLaws.{append_known-nil}
 use Rattle.statepoint_tool.specs.Answers.{Works, sink_seen}
 use Rattle.statepoint_tool.specs.Steps.{Step, Stop}

@@ -1,9 +1,8 @@
 -- Phases that read a file.
-use Rattle.std.proofs.Common.{◌≡◌, ℕ, ◌≤◌, List, length, IfSome, Result, Ok, Err, refl, Vec, Global}
+use Rattle.std.proofs.Common.{◌≡◌, ℕ, ◌≤◌, List, length, IfSome, Ok, Err, refl, Vec, Global}
 use Rattle.statepoint_tool.specs.Answers.{Reads}
 use Rattle.statepoint_tool.specs.Steps.{Step, Go, comes_to}
 use Rattle.statepoint_tool.specs.Taken.{Bytes, FilesSeen}
-use Rattle.statepoint_tool.specs.declared.refusal.Refusal.{Refusal}
 use Rattle.statepoint_tool.specs.declared.refusal.Refusal.TheVariants.{Memory}
 use Rattle.statepoint_tool.proofs.GivenLaws.{as_told, MayGive-as_told}
 

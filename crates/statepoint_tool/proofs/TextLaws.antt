@@ -1,5 +1,5 @@
 -- What reading and typing a module's text come to.
-use Rattle.std.proofs.Common.{◌≡◌, ℕ, ◌<◌, ◌≤◌, ◌⊎◌, inl, inr, List, [], ◌∷◌, map, Option, Some, None, Result, Ok, Err, ◌∙◌, refl, sym, ap, subst, arith}
+use Rattle.std.proofs.Common.{◌≡◌, ℕ, inl, inr, List, [], ◌∷◌, map, Result, Ok, Err, ◌∙◌, refl, sym, ap, subst, arith}
 use Rattle.ir_ast.specs.declared.modules.Form.TheVariants as text_forms
 use Rattle.ir_ast.specs.Modules.{ModuleContent, LinedModule}
 use Rattle.ir_reader.specs.Text.{Numbered, Fault, syntax_fault, limit_fault, text_readings}
@@ -12,9 +12,9 @@ use Rattle.ir_types.specs.declared.faults.TypeFault.TheVariants as answers
 use Rattle.ir_lines.specs.Views.{seen_line, seen_lines}
 use Rattle.ir_lines.specs.Statements.{Line, lines_of}
 use Rattle.ir_lines.specs.PlainFaults.{ComesFirst}
-use Rattle.ir_types.specs.FaultSet.{HasNoFault, IsLeastFault}
+use Rattle.ir_types.specs.FaultSet.{IsLeastFault}
 use Rattle.statepoint_tool.specs.Causes.{IsReadAs, IsAccepted, HasTextFault, unread, over_limit, faulty}
-use Rattle.statepoint_tool.specs.Steps.{Step, Go, Stop, Then, goes_on, stops}
+use Rattle.statepoint_tool.specs.Steps.{Step, Go, Stop, goes_on, stops}
 use Rattle.statepoint_tool.specs.Work.{content_of, read_step, reading, Typing, faultless, faulty as typed_faulty, module_phase}
 use Rattle.statepoint_tool.specs.declared.refusal.Cause.{Cause}
 use Rattle.statepoint_tool.specs.declared.refusal.Cause.TheVariants.{Module}

@@ -1,6 +1,6 @@
 -- The order of work: the words; then the module is taken, read and typed; to show it, its text is written; to run it,
 -- the input is taken and read, then the plan, and it runs by the source meaning.
-use Rattle.std.specs.Prelude.{◌≡◌, ℕ, ℤ, ⊤, List, ◌++◌, Option, Some, None, Result, Ok, Err}
+use Rattle.std.specs.Prelude.{ℕ, ℤ, ⊤, List, ◌++◌, Option, Some, None, Result, Ok, Err}
 use Rattle.ir_ast.specs.declared.modules.Form.TheVariants as text_forms
 use Rattle.ir_ast.specs.Modules.{ModuleContent}
 use Rattle.ir_reader.specs.Text.{Numbered, Fault, syntax_fault, limit_fault, text_readings}
