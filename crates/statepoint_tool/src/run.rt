@@ -52,7 +52,7 @@ fn run_module<F: Files, O: Sink>(
     files: &mut F,
     out: &mut O,
 ) -> Result<Status, Refusal>
-    requires { IsSourceModule read.now.content }
+    requires source { IsSourceModule read.now.content }
     ensures works { Works (MayGiveBoth (files_seen (F.contents files.old) (F.faults files.old) (F.faults files.new)) input plan)
         (after_module input plan read.now.content steps) result
         (sink_seen (O.written out.old) (O.written out.new) (O.faults out.old) (O.faults out.new)) }
@@ -74,7 +74,7 @@ fn run_with_input<F: Files, O: Sink>(
     files: &mut F,
     out: &mut O,
 ) -> Result<Status, Refusal>
-    requires { IsSourceModule read.now.content }
+    requires source { IsSourceModule read.now.content }
     ensures works { Works (MayGive (files_seen (F.contents files.old) (F.faults files.old) (F.faults files.new)) plan)
         (after_input plan read.now.content numbers.now steps) result
         (sink_seen (O.written out.old) (O.written out.new) (O.faults out.old) (O.faults out.new)) }
@@ -95,7 +95,7 @@ fn run_under_plan<O: Sink>(
     steps: u64,
     out: &mut O,
 ) -> Result<Status, Refusal>
-    requires { IsSourceModule read.now.content }
+    requires source { IsSourceModule read.now.content }
     ensures came { Came result (Running read.now.content numbers.now plan.now steps)
         (sink_seen (O.written out.old) (O.written out.new) (O.faults out.old) (O.faults out.new)) }
     ensures out_counted { O.faults out.old ≤ O.faults out.new }
@@ -116,7 +116,7 @@ fn write_run<O: Sink>(
     steps: u64,
     out: &mut O,
 ) -> Result<Status, RefFault>
-    requires { IsSourceModule read.now.content }
+    requires source { IsSourceModule read.now.content }
     ensures done { IfOk result (λ status. IsDone status (Running read.now.content numbers.now plan.now steps)
         (sink_seen (O.written out.old) (O.written out.new) (O.faults out.old) (O.faults out.new))) }
     ensures begun { OnErr result (IsBegun (λ output. Running read.now.content numbers.now plan.now steps (Go output))
