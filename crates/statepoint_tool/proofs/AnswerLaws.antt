@@ -1,15 +1,16 @@
 -- What follows from the whole answer of a call.
-use Rattle.std.proofs.Common.{◌≡◌, ◌≢◌, ℕ, ◌⊎◌, inl, inr, List, [], Option, Some, None, Result, Ok, Err, refl, sym, ap, subst, ◌∙◌, arith}
+use Rattle.std.proofs.Common.{◌≡◌, ◌≢◌, ℕ, ◌⊎◌, inl, inr, List, [], Result, Ok, Err, refl, sym, ap, subst, ◌∙◌}
 use Rattle.sp_ids.specs.declared.ends.End.{End}
 use Rattle.sp_ids.specs.declared.ends.End.TheVariants as ended_by
+use Rattle.move_plan.specs.Plans.{go}
 use Rattle.object_meaning.specs.Outcomes.{Outcome}
-use Rattle.object_meaning.specs.SourceRuns.{SourceGives, no_go, source_setting}
+use Rattle.object_meaning.specs.SourceRuns.{source_setting}
 use Rattle.object_meaning.proofs.EndLaws.{IsFinal}
 use Rattle.object_meaning.proofs.OutcomeLaws.{gives_final}
-use Rattle.statepoint_tool.specs.Answers.{SinkSeen, Gained, GainedFront, SinkFailed, Came, IsBegun, IsTold, IsSaid, IsSaidInPart, IsAnswer}
-use Rattle.statepoint_tool.specs.Causes.{CannotRead, Ends, by_showing, by_running, Runs, module_run, steps_asked, Shows}
-use Rattle.statepoint_tool.specs.Notes.{refusal_line, status_of_cause, status_of_refusal}
-use Rattle.statepoint_tool.specs.Statuses.{CauseOf, Exactly, IsDue, OverSome, OverAll, ReadFaultCounted, Says, Writes, WritesFront, Yields, status_of_step}
+use Rattle.statepoint_tool.specs.Answers.{SinkSeen, Gained, SinkFailed, Came, IsBegun, IsTold, IsSaidInPart, IsAnswer}
+use Rattle.statepoint_tool.specs.Causes.{CannotRead, Ends, by_showing, by_running, Runs, RunGives, module_run, steps_asked}
+use Rattle.statepoint_tool.specs.Notes.{refusal_line, status_of_cause}
+use Rattle.statepoint_tool.specs.Statuses.{CauseOf, Exactly, IsDue, NoteFailed, ReadFaultCounted, Says, Writes, WritesFront, Yields, status_of_step}
 use Rattle.statepoint_tool.specs.Steps.{Step, Go, Stop}
 use Rattle.statepoint_tool.specs.Taken.{FilesSeen}
 use Rattle.statepoint_tool.specs.Words.{command_of}
@@ -17,7 +18,6 @@ use Rattle.statepoint_tool.specs.Work.{Output, Given, MayGiveNamed, content_of, 
 use Rattle.statepoint_tool.specs.Closings.{status_of_end}
 use Rattle.statepoint_tool.specs.declared.refusal.Cause.{Cause}
 use Rattle.statepoint_tool.specs.declared.refusal.Cause.TheVariants as cause
-use Rattle.statepoint_tool.specs.declared.refusal.PlanFault.{PlanFault}
 use Rattle.statepoint_tool.specs.declared.refusal.Refusal.{Refusal}
 use Rattle.statepoint_tool.specs.declared.refusal.Refusal.TheVariants.{Defined, WriteFault, Memory}
 use Rattle.statepoint_tool.specs.declared.status.Status.{Status}
@@ -30,24 +30,31 @@ pub record StatusOf (phase : Step Output → Type 0) (status : Status) : Type 0 
   pub due : phase step
   pub is : status ≡ status_of_step step
 
--- it is, or it yields
-status_of_answer : (ended : Result Status Refusal) (phase : Step Output → Type 0) (out notes : SinkSeen) (status : Status) →
-    Came ended phase out → IsTold ended status notes → StatusOf phase status ⊎ Yields status out notes
-status_of_answer (Ok ended) phase out notes status came told =
-    inl (record { step = Go came.output; due = came.defined; is = told.0 ∙ came.status_is })
-status_of_answer (Err (Defined reason)) phase out notes status came (inl said) =
-    inl (record { step = Stop reason; due = came.defined; is = said.status_is })
-status_of_answer (Err (Defined reason)) phase out notes status came (inr part) = inr (inr (part.status_is, inr part.failed))
-status_of_answer (Err WriteFault) phase out notes status came (inl said) = inr (inr (said.status_is, inl came.0))
-status_of_answer (Err WriteFault) phase out notes status came (inr part) = inr (inr (part.status_is, inr part.failed))
-status_of_answer (Err Memory) phase out notes status came (inl said) = inr (inl said.status_is)
-status_of_answer (Err Memory) phase out notes status came (inr part) = inr (inr (part.status_is, inr part.failed))
+module _ (words : List (List ℕ)) (files : FilesSeen) (out notes : SinkSeen) (given : Given) (may : MayGiveNamed files (command_of words) given) where
+  -- a line that was cut off was due
+  note_failed : (refusal : Refusal) (status : Status) → IsDue refusal words given out → IsSaidInPart refusal status notes → NoteFailed words files out notes
+  note_failed refusal status due part =
+      (part.failed, record { given = given; may = may; holds = record { refusal = refusal; due = due; front = part.front } })
+
+  -- it is, or it yields
+  status_of_answer : (ended : Result Status Refusal) (status : Status) → Came ended (work words given) out → IsTold ended status notes →
+      StatusOf (work words given) status ⊎ Yields words files status out notes
+  status_of_answer (Ok ended) status came told =
+      inl (record { step = Go came.output; due = came.defined; is = told.0 ∙ came.status_is })
+  status_of_answer (Err (Defined reason)) status came (inl said) =
+      inl (record { step = Stop reason; due = came.defined; is = said.status_is })
+  status_of_answer (Err (Defined reason)) status came (inr part) =
+      inr (inr (part.status_is, inr (note_failed (Defined reason) status (Explains-work words given (Stop reason) came.defined) part)))
+  status_of_answer (Err WriteFault) status came (inl said) = inr (inr (said.status_is, inl came.0))
+  status_of_answer (Err WriteFault) status came (inr part) = inr (inr (part.status_is, inl came.0))
+  status_of_answer (Err Memory) status came (inl said) = inr (inl said.status_is)
+  status_of_answer (Err Memory) status came (inr part) = inr (inr (part.status_is, inr (note_failed Memory status tt part)))
 
 module _ (words : List (List ℕ)) (files : FilesSeen) (out notes : SinkSeen) (status : Status) (answer : IsAnswer words files out notes status) where
-  step_of_answer : StatusOf (work words answer.works.given) status ⊎ Yields status out notes
-  step_of_answer = status_of_answer answer.ended (work words answer.works.given) out notes status answer.works.came answer.told
+  step_of_answer : StatusOf (work words answer.works.given) status ⊎ Yields words files status out notes
+  step_of_answer = status_of_answer words files out notes answer.works.given answer.works.may answer.ended status answer.works.came answer.told
 
-  not_yielding : (wanted : Status) → wanted ≢ ending.WantOfMemory → wanted ≢ ending.WriteFault → status ≡ wanted → Yields status out notes → ⊥
+  not_yielding : (wanted : Status) → wanted ≢ ending.WantOfMemory → wanted ≢ ending.WriteFault → status ≡ wanted → Yields words files status out notes → ⊥
   not_yielding wanted no_memory no_write is (inl memory) = no_memory (sym is ∙ memory)
   not_yielding wanted no_memory no_write is (inr write) = no_write (sym is ∙ write.0)
 
@@ -99,7 +106,10 @@ module _ (words : List (List ℕ)) (files : FilesSeen) (out notes : SinkSeen) (s
   pub write_fault-answer : status ≡ ending.WriteFault → SinkFailed out ⊎ SinkFailed notes
   write_fault-answer is = elim step_of_answer [
     | inl of ↦ absurd (cause_of_answer ending.WriteFault is of)
-    | inr yields ↦ elim yields [ inl memory ↦ absurd (same_status (sym memory ∙ is)) | inr write ↦ write.1 ]
+    | inr yields ↦ elim yields [
+      | inl memory ↦ absurd (same_status (sym memory ∙ is))
+      | inr write ↦ elim write.1 [ inl failed ↦ inl failed | inr cut_off ↦ inr cut_off.0 ]
+    ]
   ]
     where
       same_status : ending.WantOfMemory ≡ ending.WriteFault → ⊥
@@ -110,7 +120,7 @@ module _ (words : List (List ℕ)) (files : FilesSeen) (out notes : SinkSeen) (g
   ends_of : (output : Output) → work words given (Go output) → Ends words given output
   ends_of output due = Explains-work words given (Go output) due
 
-  writes_at : (runs : Runs words given) (outcome : Outcome) → SourceGives (module_run runs) [] no_go (steps_asked runs) outcome
+  writes_at : (runs : Runs words given) (outcome : Outcome) → RunGives runs outcome
       → (end : End) → outcome.end ≡ end → IsFinal end → Gained out (output_of (module_run runs) outcome).text → Writes (status_of_end end) words files out
   writes_at runs outcome gives (ended_by.Return number) is final written =
       record { given = given; may = may; holds = ((output_of (module_run runs) outcome, by_running runs outcome gives, ap status_of_end is), written) }
@@ -121,10 +131,10 @@ module _ (words : List (List ℕ)) (files : FilesSeen) (out notes : SinkSeen) (g
   writes_at runs outcome gives ended_by.Poison is final written = absurd final
   writes_at runs outcome gives ended_by.LostFrame is final written = absurd final
 
-  writes_run : (runs : Runs words given) (outcome : Outcome) → SourceGives (module_run runs) [] no_go (steps_asked runs) outcome
+  writes_run : (runs : Runs words given) (outcome : Outcome) → RunGives runs outcome
       → Gained out (output_of (module_run runs) outcome).text → Writes (status_of_end outcome.end) words files out
   writes_run runs outcome gives written =
-      writes_at runs outcome gives outcome.end refl (gives_final (source_setting (module_run runs) no_go (steps_asked runs)) [] outcome gives) written
+      writes_at runs outcome gives outcome.end refl (gives_final (source_setting (module_run runs) (go runs.plan) (steps_asked runs)) runs.reads.numbers outcome gives) written
 
   writes_output : (output : Output) → Ends words given output → Gained out output.text → Writes output.status words files out
   writes_output _ (by_showing shows) written =
@@ -173,18 +183,19 @@ module _ (words : List (List ℕ)) (files : FilesSeen) (out notes : SinkSeen) (g
   says_output : (output : Output) → Ends words given output → Gained notes [] → Says output.status words files out notes
   says_output _ (by_showing shows) silent = silent
   says_output _ (by_running runs outcome gives) silent =
-      says_nothing outcome.end (gives_final (source_setting (module_run runs) no_go (steps_asked runs)) [] outcome gives) silent
+      says_nothing outcome.end (gives_final (source_setting (module_run runs) (go runs.plan) (steps_asked runs)) runs.reads.numbers outcome gives) silent
 
   says_line : (reason : Cause) → Explains (Stop reason) words given → Gained notes (refusal_line (Defined reason)) → Says (status_of_cause reason) words files out notes
   says_line cause.Words explains line = line
   says_line (cause.ReadFault name) explains line = record { given = given; may = may; holds = ((name, explains), line) }
   says_line (cause.TooLong name) explains line = record { given = given; may = may; holds = ((name, explains), line) }
   says_line (cause.Module fault) explains line = record { given = given; may = may; holds = ((fault, explains), line) }
-  says_line (cause.Input number) explains line = subst (λ (n : ℕ). Gained notes (refusal_line (Defined (cause.Input n)))) explains.1 line
-  says_line (cause.Plan fault) explains line = subst (λ (f : PlanFault). Gained notes (refusal_line (Defined (cause.Plan f)))) explains.1 line
+  says_line (cause.Input number) explains line = record { given = given; may = may; holds = ((number, explains), line) }
+  says_line (cause.Plan fault) explains line = record { given = given; may = may; holds = ((fault, explains), line) }
 
-  says_front : SinkFailed notes → (refusal : Refusal) → IsDue refusal (work words given) out → GainedFront notes (refusal_line refusal) → Says ending.WriteFault words files out notes
-  says_front failed refusal due front = inr (failed, record { given = given; may = may; holds = (refusal, due, front) })
+  says_cut_off : (refusal : Refusal) (status : Status) → IsDue refusal words given out → IsSaidInPart refusal status notes → Says status words files out notes
+  says_cut_off refusal status due part =
+      subst (λ (s : Status). Says s words files out notes) (sym part.status_is) (inr (note_failed words files out notes given may refusal status due part))
 
   says_of : (ended : Result Status Refusal) (status : Status) → Came ended (work words given) out → IsTold ended status notes → Says status words files out notes
   says_of (Ok ended) status came told =
@@ -192,14 +203,12 @@ module _ (words : List (List ℕ)) (files : FilesSeen) (out notes : SinkSeen) (g
   says_of (Err (Defined reason)) status came (inl said) =
       subst (λ (s : Status). Says s words files out notes) (sym said.status_is) (says_line reason (Explains-work words given (Stop reason) came.defined) said.line)
   says_of (Err (Defined reason)) status came (inr part) =
-      subst (λ (s : Status). Says s words files out notes) (sym part.status_is) (says_front part.failed (Defined reason) came.defined part.front)
+      says_cut_off (Defined reason) status (Explains-work words given (Stop reason) came.defined) part
   says_of (Err WriteFault) status came (inl said) =
       subst (λ (s : Status). Says s words files out notes) (sym said.status_is) (inl (came.0, said.line))
-  says_of (Err WriteFault) status came (inr part) =
-      subst (λ (s : Status). Says s words files out notes) (sym part.status_is) (says_front part.failed WriteFault came.0 part.front)
+  says_of (Err WriteFault) status came (inr part) = says_cut_off WriteFault status came.0 part
   says_of (Err Memory) status came (inl said) = subst (λ (s : Status). Says s words files out notes) (sym said.status_is) said.line
-  says_of (Err Memory) status came (inr part) =
-      subst (λ (s : Status). Says s words files out notes) (sym part.status_is) (says_front part.failed Memory tt part.front)
+  says_of (Err Memory) status came (inr part) = says_cut_off Memory status tt part
 
 pub Writes-answer : (words : List (List ℕ)) (files : FilesSeen) (out notes : SinkSeen) (status : Status) → IsAnswer words files out notes status → Writes status words files out
 Writes-answer words files out notes status answer =

@@ -1,60 +1,62 @@
 -- Each status of the work comes exactly by its cause.
-use Rattle.std.proofs.Common.{◌≡◌, inl, inr, ℕ, List, [], ◌∷◌, Option, Some, None, refl, sym, ap, subst, ◌∙◌}
+use Rattle.std.proofs.Common.{◌≡◌, inl, inr, ℕ, List, Option, Some, None, refl, sym, ap, subst}
+use Rattle.std.specs.Prelude.{ℤ}
 use Rattle.sp_ids.specs.declared.ends.End.{End}
 use Rattle.sp_ids.specs.declared.ends.End.TheVariants as ended
 use Rattle.ir_ast.specs.Modules.{ModuleContent}
+use Rattle.move_plan.specs.declared.plan_lines.PlanLine.{PlanLine}
+use Rattle.move_plan.specs.Plans.{go}
 use Rattle.object_meaning.specs.Outcomes.{Outcome}
-use Rattle.object_meaning.specs.SourceRuns.{SourceGives, no_go, source_setting}
+use Rattle.object_meaning.specs.SourceRuns.{source_setting}
 use Rattle.object_meaning.proofs.EndLaws.{IsFinal}
 use Rattle.object_meaning.proofs.OutcomeLaws.{gives_final}
 use Rattle.tool_io.specs.Counts.{Rose}
-use Rattle.statepoint_tool.specs.Causes.{AsksToShow, AsksForRun, Shows, ReadsModule, Prepares, ReadsInput, Runs, module_run, steps_asked, Ends, by_showing, by_running, EndsWith, NoCommand, NamesModule, to_show, to_run, HasTextFault, IsAccepted, HasModuleFault, in_text, not_yet, HasSomeModuleFault, HasInputFault, HasPlanFault, FileGives, module_gives, input_gives, plan_gives, CannotRead, IsTooLong}
-use Rattle.statepoint_tool.specs.NotYet.{first_not_yet}
+use Rattle.statepoint_tool.specs.Causes.{AsksToShow, AsksForRun, ReadsModule, ReadsInput, Runs, RunGives, module_run, steps_asked, Ends, by_showing, by_running, EndsWith, NoCommand, NamesModule, to_show, to_run, HasSomeModuleFault, HasSomeInputFault, HasSomePlanFault, FileGives, module_gives, input_gives, plan_gives, CannotRead, IsTooLong, StopsBy}
 use Rattle.statepoint_tool.specs.Statuses.{CauseOf, status_of_step}
-use Rattle.statepoint_tool.specs.Steps.{Step, Go, Stop, Then, goes_on, stops, comes_to}
+use Rattle.statepoint_tool.specs.Steps.{Step, Go, Stop, Then, goes_on, stops}
 use Rattle.statepoint_tool.specs.Taken.{Taken, Bytes, Longer, Faulty, FilesSeen, MayGive, file_phase}
 use Rattle.statepoint_tool.specs.Words.{command_of}
-use Rattle.statepoint_tool.specs.Work.{Output, Given, MayGiveAll, MayGiveNamed, content_of, shown, module_phase, runnable_phase, input_phase, input_step, plan_phase, plan_step, show_phase, show_work, after_input, after_module, run_phase, run_work, comes, output_of, command_work, work}
+use Rattle.statepoint_tool.specs.Work.{Output, Given, MayGiveAll, MayGiveNamed, content_of, shown, module_phase, ReadingInput, has_numbers, no_input, ReadingPlan, planned, no_plan, show_phase, after_input, after_module, Running, run_work, comes, output_of, command_work, work}
 use Rattle.statepoint_tool.specs.Closings.{status_of_end}
 use Rattle.statepoint_tool.specs.declared.refusal.Cause.{Cause}
 use Rattle.statepoint_tool.specs.declared.refusal.Cause.TheVariants as cause
-use Rattle.statepoint_tool.specs.declared.refusal.ModuleFault.{ModuleFault}
-use Rattle.statepoint_tool.specs.declared.refusal.ModuleFault.TheVariants as module_fault
-use Rattle.statepoint_tool.specs.declared.refusal.PlanFault.TheVariants as plan_fault
+use Rattle.statepoint_tool.specs.declared.request.RunRequest.{RunRequest}
 use Rattle.statepoint_tool.specs.declared.request.Command.{Command}
 use Rattle.statepoint_tool.specs.declared.request.Command.TheVariants.{Show, Source, Run}
 use Rattle.statepoint_tool.specs.declared.status.Status.{Status}
-use Rattle.statepoint_tool.specs.declared.status.Status.TheVariants.{Done, OutOfSteps, ModuleRefused, WordsRefused, ReadFault, PlanRefused, InputRefused, TooLong}
-use Rattle.statepoint_tool.proofs.RunLaws.{Once-run_phase}
-use Rattle.statepoint_tool.proofs.StepLaws.{Once, stop_in, same-value, not_both, Once-comes_to, Once-Then, Once-file_phase}
-use Rattle.statepoint_tool.proofs.TextLaws.{Accepts, accepts, StopsByText, refuses, AcceptsToRun, accepts-to_run, StopsToRun, by_text, by_line, refuses-to_run, as-accepted, as-refused, as-runnable, as-not_yet, as-unrunnable, Once-module_phase, Once-runnable_phase}
+use Rattle.statepoint_tool.specs.declared.status.Status.TheVariants.{ModuleRefused, WordsRefused, ReadFault, PlanRefused, InputRefused, TooLong}
+use Rattle.statepoint_tool.proofs.InputLaws.{Once-ReadingInput, Once-ReadingPlan, input-gives, input-refused, plan-gives, plan-refused}
+use Rattle.statepoint_tool.proofs.RunLaws.{Once-Running}
+use Rattle.statepoint_tool.proofs.StepLaws.{Once, stop_in, not_both, Once-comes_to, Once-Then, Once-file_phase}
+use Rattle.statepoint_tool.proofs.TextLaws.{Accepts, accepts, StopsByText, refuses, as-accepted, as-refused, Once-module_phase}
 
 -- ---- the work comes to one step
 
-Once-after_input : (plan : List ℕ) (content : ModuleContent) (steps : ℕ) (taken : Taken) → Once (after_input plan content steps taken)
-Once-after_input plan content steps taken =
-    Once-Then (file_phase plan plan_phase taken) (λ _. run_phase content steps)
-    (Once-file_phase plan plan_phase (λ text. Once-comes_to (plan_step text)) taken) (λ _. Once-run_phase content steps)
+Once-after_input : (plan : List ℕ) (content : ModuleContent) (numbers : List ℤ) (steps : ℕ) (taken : Taken) →
+    Once (after_input plan content numbers steps taken)
+Once-after_input plan content numbers steps taken =
+    Once-Then (file_phase plan ReadingPlan taken) (λ lines. Running content numbers lines steps)
+    (Once-file_phase plan ReadingPlan Once-ReadingPlan taken) (λ lines. Once-Running content numbers lines steps)
 
 Once-after_module : (input plan : List ℕ) (content : ModuleContent) (steps : ℕ) (given : Taken × Taken) → Once (after_module input plan content steps given)
 Once-after_module input plan content steps given =
-    Once-Then (file_phase input input_phase given.0) (λ _. after_input plan content steps given.1)
-    (Once-file_phase input input_phase (λ text. Once-comes_to (input_step text)) given.0) (λ _. Once-after_input plan content steps given.1)
+    Once-Then (file_phase input ReadingInput given.0) (λ numbers. after_input plan content numbers steps given.1)
+    (Once-file_phase input ReadingInput Once-ReadingInput given.0) (λ numbers. Once-after_input plan content numbers steps given.1)
 
-Once-run_work : (module_file input plan : List ℕ) (steps : ℕ) (given : Given) → Once (run_work module_file input plan steps given)
-Once-run_work module_file input plan steps given =
-    Once-Then (file_phase module_file runnable_phase given.module_file)
-    (λ content. after_module input plan content steps (given.input, given.plan))
-    (Once-file_phase module_file runnable_phase Once-runnable_phase given.module_file)
-    (λ content. Once-after_module input plan content steps (given.input, given.plan))
+Once-run_work : (request : RunRequest) (given : Given) → Once (run_work request given)
+Once-run_work request given =
+    Once-Then (file_phase request.code module_phase given.module_file)
+    (λ content. after_module request.input request.plan content request.steps (given.input, given.plan))
+    (Once-file_phase request.code module_phase Once-module_phase given.module_file)
+    (λ content. Once-after_module request.input request.plan content request.steps (given.input, given.plan))
 
 Once-command : (command : Option Command) (given : Given) → Once (command_work command given)
 Once-command None given = Once-comes_to (Stop cause.Words)
 Once-command (Some (Show module_file)) given =
     Once-Then (file_phase module_file module_phase given.module_file) show_phase
     (Once-file_phase module_file module_phase Once-module_phase given.module_file) (λ content. Once-comes_to (Go (shown content)))
-Once-command (Some (Source module_file input plan steps)) given = Once-run_work module_file input plan steps given
-Once-command (Some (Run module_file input plan steps)) given = Once-run_work module_file input plan steps given
+Once-command (Some (Source request)) given = Once-run_work request given
+Once-command (Some (Run request)) given = Once-run_work request given
 
 pub Once-work : (words : List (List ℕ)) (given : Given) → Once (work words given)
 Once-work words given = Once-command (command_of words) given
@@ -63,12 +65,7 @@ Once-work words given = Once-command (command_of words) given
 
 abbrev pub Explains : Step Output → List (List ℕ) → Given → Type 0
 Explains (Go output) words given = Ends words given output
-Explains (Stop cause.Words) words given = NoCommand words given
-Explains (Stop (cause.ReadFault name)) words given = FileGives words given Faulty name
-Explains (Stop (cause.TooLong name)) words given = FileGives words given Longer name
-Explains (Stop (cause.Module fault)) words given = HasModuleFault words given fault
-Explains (Stop (cause.Input line)) words given = HasInputFault words given × (line ≡ 1)
-Explains (Stop (cause.Plan fault)) words given = HasPlanFault words given × (fault ≡ plan_fault.NotYet 1)
+Explains (Stop reason) words given = StopsBy reason words given
 
 module _ (words : List (List ℕ)) (given : Given) where
   explains-at : (step due : Step Output) → step ≡ due → Explains due words given → Explains step words given
@@ -89,7 +86,8 @@ module _ (words : List (List ℕ)) (given : Given) where
   stops_text : (name text : List ℕ) (cause : Cause) → NamesModule words name → given.module_file ≡ Bytes text → StopsByText text cause →
       Explains (Stop cause) words given
   stops_text name text reason names taken stopped =
-      stop-at {A = Output} reason (cause.Module stopped.fault) (ap Stop stopped.is) (in_text name text stopped.fault names taken stopped.has)
+      stop-at {A = Output} reason (cause.Module stopped.fault) (ap Stop stopped.is)
+      (record { name = name; names = names; text = text; taken = taken; has = stopped.has })
 
   show_explains : (asks : AsksToShow words) (taken : Taken) → given.module_file ≡ taken → (step : Step Output) →
       Then (file_phase asks.module_file module_phase taken) show_phase step → Explains step words given
@@ -103,74 +101,67 @@ module _ (words : List (List ℕ)) (given : Given) where
 
   -- running
 
-  running_explains : (runs : Runs words given) (step : Step Output) → run_phase (module_run runs) (steps_asked runs) step → Explains step words given
+  running_explains : (runs : Runs words given) (step : Step Output) →
+      Running (module_run runs) runs.reads.numbers runs.plan (steps_asked runs) step → Explains step words given
   running_explains runs _ (comes outcome gives) = by_running runs outcome gives
 
   plan_explains : (reads : ReadsInput words given) (plan : Taken) → given.plan ≡ plan → (step : Step Output) →
-      after_input reads.prepares.reads.asks.plan (content_of reads.prepares.reads.lines) reads.prepares.reads.asks.steps plan step → Explains step words given
-  plan_explains reads (Bytes []) is _ (goes_on value step first rest) =
-      running_explains (record { reads = reads; empty = is }) step rest
-  plan_explains reads (Bytes []) is _ (stops reason first) = absurd (not_both tt reason (sym first))
-  plan_explains reads (Bytes (byte ∷ more)) is _ (goes_on value step first rest) = absurd (not_both value (cause.Plan (plan_fault.NotYet 1)) first)
-  plan_explains reads (Bytes (byte ∷ more)) is _ (stops reason first) =
-      stop-at reason (cause.Plan (plan_fault.NotYet 1)) first (record { reads = reads; byte = byte; rest = more; text = is }, refl)
-  plan_explains reads Longer is _ (goes_on value step first rest) = absurd (not_both value (cause.TooLong reads.prepares.reads.asks.plan) first)
-  plan_explains reads Longer is _ (stops reason first) = stop-at reason (cause.TooLong reads.prepares.reads.asks.plan) first (plan_gives reads is)
-  plan_explains reads Faulty is _ (goes_on value step first rest) = absurd (not_both value (cause.ReadFault reads.prepares.reads.asks.plan) first)
-  plan_explains reads Faulty is _ (stops reason first) = stop-at reason (cause.ReadFault reads.prepares.reads.asks.plan) first (plan_gives reads is)
+      after_input reads.accepts.asks.request.plan (content_of reads.accepts.lines) reads.numbers reads.accepts.asks.request.steps plan step → Explains step words given
+  plan_explains reads (Bytes text) is _ (goes_on lines step first rest) =
+      let gives = plan-gives text lines first in
+      running_explains (record { reads = reads; text = text; taken = is; plan = lines; is = gives.is; faultless = gives.faultless }) step rest
+  plan_explains reads (Bytes text) is _ (stops reason first) =
+      let refused = plan-refused text reason first in
+      stop-at {A = Output} reason (cause.Plan refused.fault) (ap Stop refused.is)
+      (record { reads = reads; text = text; taken = is; least = refused.least })
+  plan_explains reads Longer is _ (goes_on value step first rest) = absurd (not_both value (cause.TooLong reads.accepts.asks.request.plan) first)
+  plan_explains reads Longer is _ (stops reason first) = stop-at reason (cause.TooLong reads.accepts.asks.request.plan) first (plan_gives reads is)
+  plan_explains reads Faulty is _ (goes_on value step first rest) = absurd (not_both value (cause.ReadFault reads.accepts.asks.request.plan) first)
+  plan_explains reads Faulty is _ (stops reason first) = stop-at reason (cause.ReadFault reads.accepts.asks.request.plan) first (plan_gives reads is)
 
-  input_explains : (prepares : Prepares words given) (input : Taken) → given.input ≡ input → (step : Step Output) →
-      after_module prepares.reads.asks.input prepares.reads.asks.plan (content_of prepares.reads.lines) prepares.reads.asks.steps (input, given.plan) step → Explains step words given
-  input_explains prepares (Bytes []) is _ (goes_on value step first rest) = plan_explains (record { prepares = prepares; empty = is }) given.plan refl step rest
-  input_explains prepares (Bytes []) is _ (stops reason first) = absurd (not_both tt reason (sym first))
-  input_explains prepares (Bytes (byte ∷ more)) is _ (goes_on value step first rest) = absurd (not_both value (cause.Input 1) first)
-  input_explains prepares (Bytes (byte ∷ more)) is _ (stops reason first) =
-      stop-at reason (cause.Input 1) first (record { prepares = prepares; byte = byte; rest = more; text = is }, refl)
-  input_explains prepares Longer is _ (goes_on value step first rest) = absurd (not_both value (cause.TooLong prepares.reads.asks.input) first)
-  input_explains prepares Longer is _ (stops reason first) = stop-at reason (cause.TooLong prepares.reads.asks.input) first (input_gives prepares is)
-  input_explains prepares Faulty is _ (goes_on value step first rest) = absurd (not_both value (cause.ReadFault prepares.reads.asks.input) first)
-  input_explains prepares Faulty is _ (stops reason first) = stop-at reason (cause.ReadFault prepares.reads.asks.input) first (input_gives prepares is)
+  input_explains : (accepted : ReadsModule words given) (input : Taken) → given.input ≡ input → (step : Step Output) →
+      after_module accepted.asks.request.input accepted.asks.request.plan (content_of accepted.lines) accepted.asks.request.steps (input, given.plan) step → Explains step words given
+  input_explains accepted (Bytes text) is _ (goes_on numbers step first rest) =
+      let gives = input-gives text numbers first in
+      plan_explains (record { accepts = accepted; text = text; taken = is; numbers = numbers; are = gives.are; faultless = gives.faultless }) given.plan refl step rest
+  input_explains accepted (Bytes text) is _ (stops reason first) =
+      let refused = input-refused text reason first in
+      stop-at {A = Output} reason (cause.Input refused.line) (ap Stop refused.is)
+      (record { accepts = accepted; text = text; taken = is; first = refused.first })
+  input_explains accepted Longer is _ (goes_on value step first rest) = absurd (not_both value (cause.TooLong accepted.asks.request.input) first)
+  input_explains accepted Longer is _ (stops reason first) = stop-at reason (cause.TooLong accepted.asks.request.input) first (input_gives accepted is)
+  input_explains accepted Faulty is _ (goes_on value step first rest) = absurd (not_both value (cause.ReadFault accepted.asks.request.input) first)
+  input_explains accepted Faulty is _ (stops reason first) = stop-at reason (cause.ReadFault accepted.asks.request.input) first (input_gives accepted is)
 
-  runs_text : (asks : AsksForRun words) (text : List ℕ) → given.module_file ≡ Bytes text → (content : ModuleContent) → AcceptsToRun text content → (step : Step Output) →
-      after_module asks.input asks.plan content asks.steps (given.input, given.plan) step → Explains step words given
+  runs_text : (asks : AsksForRun words) (text : List ℕ) → given.module_file ≡ Bytes text → (content : ModuleContent) → Accepts text content → (step : Step Output) →
+      after_module asks.request.input asks.request.plan content asks.request.steps (given.input, given.plan) step → Explains step words given
   runs_text asks text taken content accepted step rest =
-      input_explains
-      (record {
-        reads = record { asks = asks; text = text; taken = taken; lines = accepted.accepts.lines; accepted = accepted.accepts.accepted };
-        built = accepted.built;
-      })
+      input_explains (record { asks = asks; text = text; taken = taken; lines = accepted.lines; accepted = accepted.accepted })
       given.input refl step
-      (subst (λ (c : ModuleContent). after_module asks.input asks.plan c asks.steps (given.input, given.plan) step) accepted.accepts.is rest)
-
-  unrunnable_text : (asks : AsksForRun words) (text : List ℕ) (reason : Cause) → given.module_file ≡ Bytes text → StopsToRun text reason → Explains (Stop reason) words given
-  unrunnable_text asks text reason taken (by_text stopped) = stops_text asks.module_file text reason (to_run asks) taken stopped
-  unrunnable_text asks text reason taken (by_line lines line accepted found is) =
-      stop-at {A = Output} reason (cause.Module (module_fault.NotYet line)) (ap Stop is)
-      (not_yet (record { asks = asks; text = text; taken = taken; lines = lines; accepted = accepted }) line found)
+      (subst (λ (c : ModuleContent). after_module asks.request.input asks.request.plan c asks.request.steps (given.input, given.plan) step) accepted.is rest)
 
   run_explains : (asks : AsksForRun words) (taken : Taken) → given.module_file ≡ taken → (step : Step Output) →
-      Then (file_phase asks.module_file runnable_phase taken) (λ content. after_module asks.input asks.plan content asks.steps (given.input, given.plan)) step → Explains step words given
-  run_explains asks (Bytes text) is _ (goes_on content step first rest) = runs_text asks text is content (accepts-to_run text content first) step rest
-  run_explains asks (Bytes text) is _ (stops reason first) = unrunnable_text asks text reason is (refuses-to_run text reason first)
-  run_explains asks Longer is _ (goes_on content step first rest) = absurd (not_both content (cause.TooLong asks.module_file) first)
-  run_explains asks Longer is _ (stops reason first) = stop-at reason (cause.TooLong asks.module_file) first (module_gives asks.module_file (to_run asks) is)
-  run_explains asks Faulty is _ (goes_on content step first rest) = absurd (not_both content (cause.ReadFault asks.module_file) first)
-  run_explains asks Faulty is _ (stops reason first) = stop-at reason (cause.ReadFault asks.module_file) first (module_gives asks.module_file (to_run asks) is)
+      Then (file_phase asks.request.code module_phase taken)
+      (λ content. after_module asks.request.input asks.request.plan content asks.request.steps (given.input, given.plan)) step → Explains step words given
+  run_explains asks (Bytes text) is _ (goes_on content step first rest) = runs_text asks text is content (accepts text content first) step rest
+  run_explains asks (Bytes text) is _ (stops reason first) = stops_text asks.request.code text reason (to_run asks) is (refuses text reason first)
+  run_explains asks Longer is _ (goes_on content step first rest) = absurd (not_both content (cause.TooLong asks.request.code) first)
+  run_explains asks Longer is _ (stops reason first) = stop-at reason (cause.TooLong asks.request.code) first (module_gives asks.request.code (to_run asks) is)
+  run_explains asks Faulty is _ (goes_on content step first rest) = absurd (not_both content (cause.ReadFault asks.request.code) first)
+  run_explains asks Faulty is _ (stops reason first) = stop-at reason (cause.ReadFault asks.request.code) first (module_gives asks.request.code (to_run asks) is)
 
   command_explains : (command : Option Command) → command_of words ≡ command → (step : Step Output) → command_work command given step → Explains step words given
   command_explains None is step due = explains-at step (Stop cause.Words) due is
   command_explains (Some (Show module_file)) is step due = show_explains (record { module_file = module_file; command = is }) given.module_file refl step due
-  command_explains (Some (Source module_file input plan steps)) is step due =
-      run_explains (record { module_file = module_file; input = input; plan = plan; steps = steps; command = inl is }) given.module_file refl step due
-  command_explains (Some (Run module_file input plan steps)) is step due =
-      run_explains (record { module_file = module_file; input = input; plan = plan; steps = steps; command = inr is }) given.module_file refl step due
+  command_explains (Some (Source request)) is step due = run_explains (record { request = request; command = inl is }) given.module_file refl step due
+  command_explains (Some (Run request)) is step due = run_explains (record { request = request; command = inr is }) given.module_file refl step due
 
   -- each step of the work has its cause
   pub Explains-work : (step : Step Output) → work words given step → Explains step words given
   Explains-work step due = command_explains (command_of words) refl step due
 
-  cause_at_end : (runs : Runs words given) (outcome : Outcome) → SourceGives (module_run runs) [] no_go (steps_asked runs) outcome
-      → (end : End) → outcome.end ≡ end → IsFinal end → CauseOf (status_of_end end) words given
+  cause_at_end : (runs : Runs words given) (outcome : Outcome) → RunGives runs outcome → (end : End) → outcome.end ≡ end → IsFinal end
+      → CauseOf (status_of_end end) words given
   cause_at_end runs outcome gives (ended.Return number) is final = (output_of (module_run runs) outcome, by_running runs outcome gives, ap status_of_end is)
   cause_at_end runs outcome gives (ended.Trap trap) is final = (output_of (module_run runs) outcome, by_running runs outcome gives, ap status_of_end is)
   cause_at_end runs outcome gives ended.OutOfSteps is final = (output_of (module_run runs) outcome, by_running runs outcome gives, ap status_of_end is)
@@ -180,7 +171,8 @@ module _ (words : List (List ℕ)) (given : Given) where
   cause_of_output : (output : Output) → Ends words given output → CauseOf output.status words given
   cause_of_output _ (by_showing shows) = (shown (content_of shows.lines), by_showing shows, refl)
   cause_of_output _ (by_running runs outcome gives) =
-      cause_at_end runs outcome gives outcome.end refl (gives_final (source_setting (module_run runs) no_go (steps_asked runs)) [] outcome gives)
+      cause_at_end runs outcome gives outcome.end refl
+      (gives_final (source_setting (module_run runs) (go runs.plan) (steps_asked runs)) runs.reads.numbers outcome gives)
 
   -- and so has its status
   pub CauseOf-explained : (step : Step Output) → Explains step words given → CauseOf (status_of_step step) words given
@@ -189,35 +181,37 @@ module _ (words : List (List ℕ)) (given : Given) where
   CauseOf-explained (Stop (cause.ReadFault name)) explained = (name, explained)
   CauseOf-explained (Stop (cause.TooLong name)) explained = (name, explained)
   CauseOf-explained (Stop (cause.Module fault)) explained = (fault, explained)
-  CauseOf-explained (Stop (cause.Input line)) explained = explained.0
-  CauseOf-explained (Stop (cause.Plan fault)) explained = explained.0
+  CauseOf-explained (Stop (cause.Input line)) explained = (line, explained)
+  CauseOf-explained (Stop (cause.Plan fault)) explained = (fault, explained)
 
   -- ---- and each cause its step
 
   commanded : (command : Option Command) (step : Step Output) → command_of words ≡ command → command_work command given step → work words given step
   commanded command step is due = subst (λ (c : Option Command). command_work c given step) (sym is) due
 
-  commanded_run : (asks : AsksForRun words) (step : Step Output) → run_work asks.module_file asks.input asks.plan asks.steps given step → work words given step
+  commanded_run : (asks : AsksForRun words) (step : Step Output) → run_work asks.request given step → work words given step
   commanded_run asks step due = elim asks.command [
-    | inl is ↦ commanded (Some (Source asks.module_file asks.input asks.plan asks.steps)) step is due
-    | inr is ↦ commanded (Some (Run asks.module_file asks.input asks.plan asks.steps)) step is due
+    | inl is ↦ commanded (Some (Source asks.request)) step is due
+    | inr is ↦ commanded (Some (Run asks.request)) step is due
   ]
 
-  prepared : (prepares : Prepares words given) (step : Step Output) →
-      after_module prepares.reads.asks.input prepares.reads.asks.plan (content_of prepares.reads.lines) prepares.reads.asks.steps (given.input, given.plan) step → work words given step
-  prepared prepares step rest =
-      let reads = prepares.reads in
-      commanded_run reads.asks step
-      (goes_on (content_of reads.lines) step
-      (subst (λ (taken : Taken). file_phase reads.asks.module_file runnable_phase taken (Go (content_of reads.lines))) (sym reads.taken)
-      (as-runnable reads.text reads.lines reads.accepted prepares.built))
+  with_module : (accepted : ReadsModule words given) (step : Step Output) →
+      after_module accepted.asks.request.input accepted.asks.request.plan (content_of accepted.lines) accepted.asks.request.steps (given.input, given.plan) step → work words given step
+  with_module accepted step rest =
+      commanded_run accepted.asks step
+      (goes_on (content_of accepted.lines) step
+      (subst (λ (taken : Taken). file_phase accepted.asks.request.code module_phase taken (Go (content_of accepted.lines))) (sym accepted.taken)
+      (as-accepted accepted.text accepted.lines accepted.accepted))
       rest)
 
   with_input : (reads : ReadsInput words given) (step : Step Output) →
-      after_input reads.prepares.reads.asks.plan (content_of reads.prepares.reads.lines) reads.prepares.reads.asks.steps given.plan step → work words given step
+      after_input reads.accepts.asks.request.plan (content_of reads.accepts.lines) reads.numbers reads.accepts.asks.request.steps given.plan step → work words given step
   with_input reads step rest =
-      prepared reads.prepares step
-      (goes_on tt step (subst (λ (taken : Taken). file_phase reads.prepares.reads.asks.input input_phase taken (Go tt)) (sym reads.empty) refl) rest)
+      with_module reads.accepts step
+      (goes_on reads.numbers step
+      (subst (λ (taken : Taken). file_phase reads.accepts.asks.request.input ReadingInput taken (Go reads.numbers)) (sym reads.taken)
+      (has_numbers reads.numbers reads.are reads.faultless))
+      rest)
 
   -- the work of a run is the source meaning
   pub work-ends : (output : Output) → Ends words given output → work words given (Go output)
@@ -229,8 +223,9 @@ module _ (words : List (List ℕ)) (given : Given) where
       refl)
   work-ends _ (by_running runs outcome gives) =
       with_input runs.reads (Go (output_of (module_run runs) outcome))
-      (goes_on tt (Go (output_of (module_run runs) outcome))
-      (subst (λ (taken : Taken). file_phase runs.reads.prepares.reads.asks.plan plan_phase taken (Go tt)) (sym runs.empty) refl)
+      (goes_on runs.plan (Go (output_of (module_run runs) outcome))
+      (subst (λ (taken : Taken). file_phase runs.reads.accepts.asks.request.plan ReadingPlan taken (Go runs.plan)) (sym runs.taken)
+      (planned runs.plan runs.is runs.faultless))
       (comes outcome gives))
 
   -- the work comes to a step of this status
@@ -243,56 +238,55 @@ module _ (words : List (List ℕ)) (given : Given) where
   pub comes-NoCommand : NoCommand words given → ComesWith WordsRefused
   comes-NoCommand none = (Stop cause.Words, commanded None (Stop cause.Words) none refl, refl)
 
-  module_stops : (name : List ℕ) (reason : Cause) → NamesModule words name →
-      file_phase name module_phase given.module_file (Stop reason) → file_phase name runnable_phase given.module_file (Stop reason) → work words given (Stop reason)
-  module_stops _ reason (to_show asks) shown runnable = commanded (Some (Show asks.module_file)) (Stop reason) asks.command (stops reason shown)
-  module_stops _ reason (to_run asks) shown runnable =
-      commanded_run asks (Stop reason) (stops reason runnable)
-
-  module_fault_stops : (fault : ModuleFault) → HasModuleFault words given fault → work words given (Stop (cause.Module fault))
-  module_fault_stops _ (in_text name text fault names taken has) =
-      module_stops name (cause.Module fault) names
-      (subst (λ (t : Taken). file_phase name module_phase t (Stop (cause.Module fault))) (sym taken) (as-refused text fault has))
-      (subst (λ (t : Taken). file_phase name runnable_phase t (Stop (cause.Module fault))) (sym taken) (as-unrunnable text fault has))
-  module_fault_stops _ (not_yet reads line found) =
-      commanded_run reads.asks (Stop (cause.Module (module_fault.NotYet line)))
-      (stops (cause.Module (module_fault.NotYet line))
-      (subst (λ (t : Taken). file_phase reads.asks.module_file runnable_phase t (Stop (cause.Module (module_fault.NotYet line)))) (sym reads.taken)
-      (as-not_yet reads.text reads.lines line reads.accepted found)))
+  module_stops : (name : List ℕ) (reason : Cause) → NamesModule words name → file_phase name module_phase given.module_file (Stop reason) →
+      work words given (Stop reason)
+  module_stops _ reason (to_show asks) stopped = commanded (Some (Show asks.module_file)) (Stop reason) asks.command (stops reason stopped)
+  module_stops _ reason (to_run asks) stopped = commanded_run asks (Stop reason) (stops reason stopped)
 
   pub comes-HasSomeModuleFault : HasSomeModuleFault words given → ComesWith ModuleRefused
-  comes-HasSomeModuleFault has = (Stop (cause.Module has.0), module_fault_stops has.0 has.1, refl)
+  comes-HasSomeModuleFault has =
+      let reason = cause.Module has.0 in (
+        Stop reason,
+        module_stops has.1.name reason has.1.names
+            (subst (λ (t : Taken). file_phase has.1.name module_phase t (Stop reason)) (sym has.1.taken) (as-refused has.1.text has.0 has.1.has)),
+        refl,
+      )
 
-  pub comes-HasInputFault : HasInputFault words given → ComesWith InputRefused
-  comes-HasInputFault fault = (
-    Stop (cause.Input 1),
-    prepared fault.prepares (Stop (cause.Input 1))
-        (stops (cause.Input 1) (subst (λ (t : Taken). file_phase fault.prepares.reads.asks.input input_phase t (Stop (cause.Input 1))) (sym fault.text) refl)),
-    refl,
-  )
+  pub comes-HasSomeInputFault : HasSomeInputFault words given → ComesWith InputRefused
+  comes-HasSomeInputFault has =
+      let reason = cause.Input has.0 in
+      let fault = has.1 in (
+        Stop reason,
+        with_module fault.accepts (Stop reason)
+            (stops reason (subst (λ (t : Taken). file_phase fault.accepts.asks.request.input ReadingInput t (Stop reason)) (sym fault.taken)
+            (no_input has.0 fault.first))),
+        refl,
+      )
 
-  pub comes-HasPlanFault : HasPlanFault words given → ComesWith PlanRefused
-  comes-HasPlanFault fault = (
-    Stop (cause.Plan (plan_fault.NotYet 1)),
-    with_input fault.reads (Stop (cause.Plan (plan_fault.NotYet 1)))
-        (stops (cause.Plan (plan_fault.NotYet 1)) (subst (λ (t : Taken). file_phase fault.reads.prepares.reads.asks.plan plan_phase t (Stop (cause.Plan (plan_fault.NotYet 1)))) (sym fault.text) refl)),
-    refl,
-  )
+  pub comes-HasSomePlanFault : HasSomePlanFault words given → ComesWith PlanRefused
+  comes-HasSomePlanFault has =
+      let reason = cause.Plan has.0 in
+      let fault = has.1 in (
+        Stop reason,
+        with_input fault.reads (Stop reason)
+            (stops reason (subst (λ (t : Taken). file_phase fault.reads.accepts.asks.request.plan ReadingPlan t (Stop reason)) (sym fault.taken)
+            (no_plan has.0 fault.least))),
+        refl,
+      )
 
   file_stops : (what : Taken) (reason : List ℕ → Cause) → ((A : Type 0) (name : List ℕ) (read : List ℕ → Step A → Type 0) → file_phase name read what (Stop (reason name))) →
       (name : List ℕ) → FileGives words given what name → work words given (Stop (reason name))
   file_stops what reason stopping _ (module_gives name names is) =
       module_stops name (reason name) names
       (subst (λ (t : Taken). file_phase name module_phase t (Stop (reason name))) (sym is) (stopping ModuleContent name module_phase))
-      (subst (λ (t : Taken). file_phase name runnable_phase t (Stop (reason name))) (sym is) (stopping ModuleContent name runnable_phase))
-  file_stops what reason stopping _ (input_gives prepares is) =
-      let name = prepares.reads.asks.input in
-      prepared prepares (Stop (reason name))
-      (stops (reason name) (subst (λ (t : Taken). file_phase name input_phase t (Stop (reason name))) (sym is) (stopping (Unit {0}) name input_phase)))
+  file_stops what reason stopping _ (input_gives accepted is) =
+      let name = accepted.asks.request.input in
+      with_module accepted (Stop (reason name))
+      (stops (reason name) (subst (λ (t : Taken). file_phase name ReadingInput t (Stop (reason name))) (sym is) (stopping (List ℤ) name ReadingInput)))
   file_stops what reason stopping _ (plan_gives reads is) =
-      let name = reads.prepares.reads.asks.plan in
+      let name = reads.accepts.asks.request.plan in
       with_input reads (Stop (reason name))
-      (stops (reason name) (subst (λ (t : Taken). file_phase name plan_phase t (Stop (reason name))) (sym is) (stopping (Unit {0}) name plan_phase)))
+      (stops (reason name) (subst (λ (t : Taken). file_phase name ReadingPlan t (Stop (reason name))) (sym is) (stopping (List PlanLine) name ReadingPlan)))
 
   pub comes-CannotRead : CannotRead words given → ComesWith ReadFault
   comes-CannotRead cannot =
@@ -303,7 +297,7 @@ module _ (words : List (List ℕ)) (given : Given) where
 
 -- a file that could not be read had its fault counted
 module _ (words : List (List ℕ)) (given : Given) (files : FilesSeen) (may : MayGiveNamed files (command_of words) given) where
-  may_of_run : (asks : AsksForRun words) → MayGiveAll files asks.module_file asks.input asks.plan given
+  may_of_run : (asks : AsksForRun words) → MayGiveAll files asks.request given
   may_of_run asks = elim asks.command [
     | inl is ↦ subst (λ (command : Option Command). MayGiveNamed files command given) is may
     | inr is ↦ subst (λ (command : Option Command). MayGiveNamed files command given) is may
@@ -318,5 +312,5 @@ module _ (words : List (List ℕ)) (given : Given) (files : FilesSeen) (may : Ma
 
   pub Rose-gives : (name : List ℕ) → FileGives words given Faulty name → Rose (files.faults_before name) (files.faults_after name)
   Rose-gives _ (module_gives name names is) = rose_at name given.module_file is (may_of_module name names)
-  Rose-gives _ (input_gives prepares is) = rose_at prepares.reads.asks.input given.input is (may_of_run prepares.reads.asks).1.0
-  Rose-gives _ (plan_gives reads is) = rose_at reads.prepares.reads.asks.plan given.plan is (may_of_run reads.prepares.reads.asks).1.1
+  Rose-gives _ (input_gives accepted is) = rose_at accepted.asks.request.input given.input is (may_of_run accepted.asks).1.0
+  Rose-gives _ (plan_gives reads is) = rose_at reads.accepts.asks.request.plan given.plan is (may_of_run reads.accepts.asks).1.1

@@ -1,16 +1,15 @@
 -- Completeness from the whole answer of a call.
-use Rattle.std.proofs.Common.{◌≡◌, ◌≢◌, ℕ, ◌<◌, ◌≤◌, length, ◌⊎◌, inl, inr, List, [], Option, Some, None, IfSome, Result, Ok, Err, refl, sym, ap, subst, ◌∙◌, arith}
-use Rattle.sp_ids.specs.declared.limits.TheConstants.{FILE_BYTES}
+use Rattle.std.proofs.Common.{◌≡◌, ℕ, ◌<◌, ◌≤◌, length, ◌⊎◌, inl, inr, List, [], Option, Some, None, Result, Ok, Err, refl, sym, ap, subst, ◌∙◌, arith}
 use Rattle.statepoint_tool.specs.Answers.{SinkSeen, Gained, GainedFront, SinkFailed, Came, IsBegun, IsTold as IsToldOf, IsAnswer}
 use Rattle.tool_io.proofs.AppendLaws.{AppendsFront-all, AppendsFront-front}
-use Rattle.statepoint_tool.specs.Causes.{Ends}
-use Rattle.statepoint_tool.specs.Complete.{IsTold, AllTold, IsWhole, IsShort, IsComplete}
+use Rattle.statepoint_tool.specs.Complete.{IsTold, RunIsTold, AllTold, IsWhole, IsShort, WantsMemory, IsComplete}
 use Rattle.statepoint_tool.specs.Steps.{Step, Go, Stop}
 use Rattle.statepoint_tool.specs.Taken.{Taken, Bytes, Longer, Faulty, FilesSeen, MayGive}
 use Rattle.statepoint_tool.specs.Words.{command_of}
 use Rattle.statepoint_tool.specs.Work.{Output, Given, MayGiveAll, MayGiveNamed, command_work, show_work, run_work, work}
 use Rattle.statepoint_tool.specs.declared.refusal.Refusal.{Refusal}
 use Rattle.statepoint_tool.specs.declared.refusal.Refusal.TheVariants.{Defined, WriteFault, Memory}
+use Rattle.statepoint_tool.specs.declared.request.RunRequest.{RunRequest}
 use Rattle.statepoint_tool.specs.declared.request.Command.{Command}
 use Rattle.statepoint_tool.specs.declared.request.Command.TheVariants.{Show, Source, Run}
 use Rattle.statepoint_tool.specs.declared.status.Status.{Status}
@@ -22,20 +21,19 @@ same_taken : (files : FilesSeen) (name : List ℕ) (given told : Taken) → MayG
 same_taken files name (Bytes bytes) told may is =
     let same : bytes ≡ is.bytes = rw is.told at may.1 in ap Bytes same ∙ sym is.given_is
 same_taken files name Longer told may is =
-    let longer : FILE_BYTES < length is.bytes = rw is.told at may in let within : length is.bytes ≤ FILE_BYTES = is.within in absurd (omega arith)
+    let longer : 16777216 < length is.bytes = rw is.told at may in let within : length is.bytes ≤ 16777216 = is.within in absurd (omega arith)
 same_taken files name Faulty told may is = absurd (is.sure may)
 
 -- told files leave one run
-same_run : (files : FilesSeen) (module_file input plan : List ℕ) (steps : ℕ) (given told : Given) → MayGiveAll files module_file input plan given →
-    IsTold files module_file told.module_file × IsTold files input told.input × IsTold files plan told.plan →
-    (step : Step Output) → run_work module_file input plan steps told step → run_work module_file input plan steps given step
-same_run files module_file input plan steps given told may is step due =
-    let code : given.module_file ≡ told.module_file = same_taken files module_file given.module_file told.module_file may.0 is.0 in
-    let numbers : given.input ≡ told.input = same_taken files input given.input told.input may.1.0 is.1 in
-    let moves : given.plan ≡ told.plan = same_taken files plan given.plan told.plan may.1.1 is.2 in
-    subst (λ (taken : Taken). run_work module_file input plan steps (record { module_file = taken; input = given.input; plan = given.plan }) step) (sym code)
-    (subst (λ (taken : Taken). run_work module_file input plan steps (record { module_file = told.module_file; input = taken; plan = given.plan }) step) (sym numbers)
-    (subst (λ (taken : Taken). run_work module_file input plan steps (record { module_file = told.module_file; input = told.input; plan = taken }) step) (sym moves) due))
+same_run : (files : FilesSeen) (request : RunRequest) (given told : Given) → MayGiveAll files request given → RunIsTold files request told →
+    (step : Step Output) → run_work request told step → run_work request given step
+same_run files request given told may is step due =
+    let code : given.module_file ≡ told.module_file = same_taken files request.code given.module_file told.module_file may.0 is.0 in
+    let numbers : given.input ≡ told.input = same_taken files request.input given.input told.input may.1.0 is.1 in
+    let moves : given.plan ≡ told.plan = same_taken files request.plan given.plan told.plan may.1.1 is.2 in
+    subst (λ (taken : Taken). run_work request (record { module_file = taken; input = given.input; plan = given.plan }) step) (sym code)
+    (subst (λ (taken : Taken). run_work request (record { module_file = told.module_file; input = taken; plan = given.plan }) step) (sym numbers)
+    (subst (λ (taken : Taken). run_work request (record { module_file = told.module_file; input = told.input; plan = taken }) step) (sym moves) due))
 
 -- told files leave one work
 same_work : (files : FilesSeen) (command : Option Command) (given told : Given) → MayGiveNamed files command given → AllTold files command told →
@@ -44,8 +42,8 @@ same_work files None given told may is step due = due
 same_work files (Some (Show module_file)) given told may is step due =
     let code : given.module_file ≡ told.module_file = same_taken files module_file given.module_file told.module_file may is in
     subst (λ (taken : Taken). show_work module_file (record { module_file = taken; input = told.input; plan = told.plan }) step) (sym code) due
-same_work files (Some (Source module_file input plan steps)) given told may is step due = same_run files module_file input plan steps given told may is step due
-same_work files (Some (Run module_file input plan steps)) given told may is step due = same_run files module_file input plan steps given told may is step due
+same_work files (Some (Source request)) given told may is step due = same_run files request given told may is step due
+same_work files (Some (Run request)) given told may is step due = same_run files request given told may is step due
 
 same_output : (one other : Output) → Go one ≡ Go other → one ≡ other
 same_output one other same = cc
@@ -57,25 +55,30 @@ module _ (words : List (List ℕ)) (given : Given) (output : Output) (due : work
   begun_short : IsBegun (λ o. work words given (Go o)) out → GainedFront out output.text
   begun_short begun = subst (λ (o : Output). GainedFront out o.text) (same_due begun.output begun.defined) begun.front
 
+  front_of : Gained out [] ⊎ IsBegun (λ o. work words given (Go o)) out → GainedFront out output.text
+  front_of (inl unwritten) = AppendsFront-front (AppendsFront-all out.old out.new [] unwritten) output.text output.text refl
+  front_of (inr begun) = begun_short begun
+
+  wants_memory : IsToldOf (Err Memory) status notes → WantsMemory status notes
+  wants_memory (inl said) = inl said.status_is
+  wants_memory (inr part) = inr (part.status_is, part.failed, part.front)
+
   whole_or_short : (ended : Result Status Refusal) → Came ended (work words given) out → IsToldOf ended status notes →
-      ¬ SinkFailed out → ¬ SinkFailed notes → IsWhole output status out notes ⊎ IsShort output status out
-  whole_or_short (Ok ended) came told sure_out sure_notes =
+      ¬ SinkFailed out → IsWhole output status out notes ⊎ IsShort output status out notes
+  whole_or_short (Ok ended) came told sure_out =
       let same : came.output ≡ output = same_due came.output came.defined in
       inl (record {
         status_is = told.0 ∙ came.status_is ∙ ap (λ (o : Output). o.status) same;
         written = subst (λ (o : Output). Gained out o.text) same came.written;
         nothing_said = told.1;
       })
-  whole_or_short (Err (Defined reason)) came told sure_out sure_notes =
+  whole_or_short (Err (Defined reason)) came told sure_out =
       absurd (not_both output reason (Once-work words given (Go output) (Stop reason) due came.defined))
-  whole_or_short (Err WriteFault) came told sure_out sure_notes = absurd (sure_out came.0)
-  whole_or_short (Err Memory) (inl unwritten) (inl said) sure_out sure_notes =
-      inr (record { status_is = said.status_is; front = AppendsFront-front (AppendsFront-all out.old out.new [] unwritten) output.text output.text refl })
-  whole_or_short (Err Memory) (inr begun) (inl said) sure_out sure_notes = inr (record { status_is = said.status_is; front = begun_short begun })
-  whole_or_short (Err Memory) came (inr part) sure_out sure_notes = absurd (sure_notes part.failed)
+  whole_or_short (Err WriteFault) came told sure_out = absurd (sure_out came.0)
+  whole_or_short (Err Memory) came told sure_out = inr (record { wants_memory = wants_memory told; front = front_of came })
 
 pub IsComplete-answer : (words : List (List ℕ)) (files : FilesSeen) (out notes : SinkSeen) (status : Status) → IsAnswer words files out notes status → IsComplete words files out notes status
-IsComplete-answer words files out notes status answer told output all_told ends sure_out sure_notes =
+IsComplete-answer words files out notes status answer told output all_told ends sure_out =
     let given = answer.works.given in
     let due : work words given (Go output) = same_work files (command_of words) given told answer.works.may all_told (Go output) (work-ends words told output ends) in
-    whole_or_short words given output due out notes status answer.ended answer.works.came answer.told sure_out sure_notes
+    whole_or_short words given output due out notes status answer.ended answer.works.came answer.told sure_out

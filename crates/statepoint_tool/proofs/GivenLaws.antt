@@ -1,15 +1,14 @@
 -- What files may give, over the parts of a call.
-use Rattle.std.proofs.Common.{◌≡◌, ℕ, ◌<◌, ◌≤◌, Bool, true, false, cond, List, [], length, Option, Some, None, IfSome, refl, sym, rules, arith, ap}
+use Rattle.std.proofs.Common.{◌≡◌, ℕ, Bool, true, false, cond, List, [], length, Option, Some, None, refl, arith}
 use Rattle.std.specs.Prelude.{nat_le}
 use Rattle.std.proofs.lemmas.Bool.Decides.{nat_tests}
-use Rattle.sp_ids.specs.declared.limits.TheConstants.{FILE_BYTES}
-use Rattle.tool_io.specs.Counts.{Rose, NoneFell}
+use Rattle.tool_io.specs.Counts.{NoneFell}
 use Rattle.tool_io.proofs.CountLaws.{Rose-then-none_fell, Rose-after-none_fell}
 use Rattle.statepoint_tool.specs.Taken.{Taken, Bytes, Longer, Faulty, FilesSeen, files_seen, MayGive}
 
 -- what told contents give
 abbrev pub given_within : List ℕ → Taken
-given_within told = cond (nat_le (length told) FILE_BYTES) (Bytes told) Longer
+given_within told = cond (nat_le (length told) 16777216) (Bytes told) Longer
 
 -- what a file gives by its contents where they are told, and else no bytes
 abbrev pub given_by : Option (List ℕ) → Taken
@@ -20,14 +19,14 @@ abbrev pub as_told : FilesSeen → List ℕ → Taken
 as_told files name = given_by (files.contents name)
 
 MayGive-within : (files : FilesSeen) (name told : List ℕ) → files.contents name ≡ Some told →
-    (fits : Bool) → nat_le (length told) FILE_BYTES ≡ fits → MayGive files name (cond fits (Bytes told) Longer)
+    (fits : Bool) → nat_le (length told) 16777216 ≡ fits → MayGive files name (cond fits (Bytes told) Longer)
 MayGive-within files name told is true fits = (grind (arith, nat_tests), rw is refl)
 MayGive-within files name told is false fits = rw is (grind (arith, nat_tests))
 
 MayGive-given_by : (files : FilesSeen) (name : List ℕ) (contents : Option (List ℕ)) → files.contents name ≡ contents →
     MayGive files name (given_by contents)
 MayGive-given_by files name None is = (omega arith, rw is tt)
-MayGive-given_by files name (Some told) is = MayGive-within files name told is (nat_le (length told) FILE_BYTES) refl
+MayGive-given_by files name (Some told) is = MayGive-within files name told is (nat_le (length told) 16777216) refl
 
 -- a file may give what is told of it
 pub MayGive-as_told : (files : FilesSeen) (name : List ℕ) → MayGive files name (as_told files name)

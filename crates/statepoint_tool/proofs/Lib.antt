@@ -2,6 +2,7 @@ pub mod StepBounds
 pub mod GivenLaws
 pub mod StepLaws
 pub mod TextLaws
+pub mod InputLaws
 pub mod ReadsLaws
 pub mod WorksLaws
 pub mod NamedLaws
@@ -9,5 +10,3 @@ pub mod CauseLaws
 pub mod AnswerLaws
 pub mod CompleteLaws
 pub mod RunLaws
-pub mod NotYetLaws
-pub mod NotYetLaw

@@ -1,34 +1,39 @@
 -- The work where no file was taken.
-use Rattle.std.proofs.Common.{◌≡◌, ℕ, List, [], Option, Some, None, Result, Err, inl, refl, sym, ap, subst}
+use Rattle.std.proofs.Common.{◌≡◌, ℕ, List, [], Option, Some, None, Err, inl, refl, sym, subst}
 use Rattle.tool_io.proofs.AppendLaws.{append_known-nil}
 use Rattle.statepoint_tool.specs.Answers.{Works, sink_seen}
 use Rattle.statepoint_tool.specs.Steps.{Step, Stop}
 use Rattle.statepoint_tool.specs.Taken.{FilesSeen, Bytes}
 use Rattle.statepoint_tool.specs.Words.{command_of}
-use Rattle.statepoint_tool.specs.Work.{Output, Given, MayGiveNamed, command_work, work}
+use Rattle.statepoint_tool.specs.Work.{Output, Given, MayGiveAll, MayGiveNamed, command_work, work}
 use Rattle.statepoint_tool.specs.declared.refusal.Cause.TheVariants.{Words}
 use Rattle.statepoint_tool.specs.declared.refusal.Refusal.TheVariants.{Defined, Memory}
+use Rattle.statepoint_tool.specs.declared.request.RunRequest.{RunRequest}
 use Rattle.statepoint_tool.specs.declared.request.Command.{Command}
 use Rattle.statepoint_tool.specs.declared.request.Command.TheVariants.{Show, Source, Run}
 use Rattle.statepoint_tool.proofs.GivenLaws.{as_told, MayGive-as_told}
 
 -- what told files give
+abbrev pub run_as_told : FilesSeen → RunRequest → Given
+run_as_told files request =
+    record { module_file = as_told files request.code; input = as_told files request.input; plan = as_told files request.plan }
+
 abbrev pub all_as_told : FilesSeen → Option Command → Given
 all_as_told files None = record { module_file = Bytes []; input = Bytes []; plan = Bytes [] }
 all_as_told files (Some (Show module_file)) =
     record { module_file = as_told files module_file; input = Bytes []; plan = Bytes [] }
-all_as_told files (Some (Source module_file input plan steps)) =
-    record { module_file = as_told files module_file; input = as_told files input; plan = as_told files plan }
-all_as_told files (Some (Run module_file input plan steps)) =
-    record { module_file = as_told files module_file; input = as_told files input; plan = as_told files plan }
+all_as_told files (Some (Source request)) = run_as_told files request
+all_as_told files (Some (Run request)) = run_as_told files request
+
+MayGiveAll-as_told : (files : FilesSeen) (request : RunRequest) → MayGiveAll files request (run_as_told files request)
+MayGiveAll-as_told files request =
+    (MayGive-as_told files request.code, (MayGive-as_told files request.input, MayGive-as_told files request.plan))
 
 pub MayGiveNamed-as_told : (files : FilesSeen) (command : Option Command) → MayGiveNamed files command (all_as_told files command)
 MayGiveNamed-as_told files None = tt
 MayGiveNamed-as_told files (Some (Show module_file)) = MayGive-as_told files module_file
-MayGiveNamed-as_told files (Some (Source module_file input plan steps)) =
-    (MayGive-as_told files module_file, (MayGive-as_told files input, MayGive-as_told files plan))
-MayGiveNamed-as_told files (Some (Run module_file input plan steps)) =
-    (MayGive-as_told files module_file, (MayGive-as_told files input, MayGive-as_told files plan))
+MayGiveNamed-as_told files (Some (Source request)) = MayGiveAll-as_told files request
+MayGiveNamed-as_told files (Some (Run request)) = MayGiveAll-as_told files request
 
 -- want of memory before anything was written
 pub Works-memory : (files : FilesSeen) (command : Option Command) (phases : Given → Step Output → Type 0) (old : Option (List ℕ)) (faults : ℕ) →

@@ -1,5 +1,8 @@
 -- Runs by the source meaning, as a phase of the work.
-use Rattle.std.proofs.Common.{◌≡◌, ℕ, List, [], Option, Result, Ok, Err, IfOk, OnOk, refl, sym, ap, ◌∙◌}
+use Rattle.std.proofs.Common.{◌≡◌, ℕ, List, Option, Result, Ok, Err, IfOk, OnOk, refl, sym, ap, ◌∙◌}
+use Rattle.std.specs.Prelude.{ℤ}
+use Rattle.move_plan.specs.declared.plan_lines.PlanLine.{PlanLine}
+use Rattle.move_plan.specs.Plans.{go}
 use Rattle.tool_io.specs.Sink.{append_known, AppendsFront}
 use Rattle.tool_io.proofs.AppendLaws.{append_known-then, AppendsFront-front, AppendsFront-same, AppendsFront-second}
 use Rattle.ir_ast.specs.Modules.{ModuleContent}
@@ -7,41 +10,41 @@ use Rattle.ir_meaning.specs.declared.interpret.Ran.{Ran}
 use Rattle.ir_meaning.specs.declared.interpret.RefFault.{RefFault}
 use Rattle.ir_meaning.specs.References.{IsRun, WritesFrontOfRun}
 use Rattle.object_meaning.specs.Outcomes.{Outcome, whole_text}
-use Rattle.object_meaning.specs.SourceRuns.{no_go, source_setting}
+use Rattle.object_meaning.specs.SourceRuns.{source_setting}
 use Rattle.object_meaning.proofs.OutcomeLaws.{gives_one}
 use Rattle.statepoint_tool.specs.Answers.{IsBegun, IsDone, SinkSeen, sink_seen}
 use Rattle.statepoint_tool.specs.Closings.{closing_line, status_of_end}
 use Rattle.statepoint_tool.specs.Steps.{Go}
-use Rattle.statepoint_tool.specs.Work.{comes, output_of, run_phase}
+use Rattle.statepoint_tool.specs.Work.{Running, comes, output_of}
 use Rattle.statepoint_tool.specs.declared.status.Status.{Status}
 use Rattle.statepoint_tool.proofs.StepLaws.{Once}
 
 -- a run has one output
-pub Once-run_phase : (content : ModuleContent) (steps : ℕ) → Once (run_phase content steps)
-Once-run_phase content steps _ _ (comes one first) (comes other second) =
-    ap (λ (outcome : Outcome). Go (output_of content outcome)) (gives_one (source_setting content no_go steps) [] one other first second)
+pub Once-Running : (content : ModuleContent) (input : List ℤ) (plan : List PlanLine) (steps : ℕ) → Once (Running content input plan steps)
+Once-Running content input plan steps _ _ (comes one first) (comes other second) =
+    ap (λ (outcome : Outcome). Go (output_of content outcome)) (gives_one (source_setting content (go plan) steps) input one other first second)
 
 closing_of : ModuleContent → Outcome → List ℕ
 closing_of content outcome = closing_line content outcome.end outcome.func outcome.steps outcome.events
 
 -- a front of what the run writes is one of the output
-pub begun-run : (content : ModuleContent) (steps : ℕ) (out : SinkSeen) → WritesFrontOfRun content [] no_go steps out.old out.new
-    → IsBegun (λ output. run_phase content steps (Go output)) out
+pub begun-run : (content : ModuleContent) (input : List ℤ) (plan : List PlanLine) (steps : ℕ) (out : SinkSeen) →
+    WritesFrontOfRun content input (go plan) steps out.old out.new → IsBegun (λ output. Running content input plan steps (Go output)) out
 unfolding closing_of
-begun-run content steps out writes = record {
+begun-run content input plan steps out writes = record {
   output = output_of content writes.outcome;
   defined = comes writes.outcome writes.gives;
   front = AppendsFront-front writes.front (closing_of content writes.outcome) (output_of content writes.outcome).text refl;
 }
 
-module _ (content : ModuleContent) (steps : ℕ) (ran : Ran) (old mid new : Option (List ℕ)) (before after : ℕ) (run : IsRun content [] no_go steps ran old mid) where
+module _ (content : ModuleContent) (input : List ℤ) (plan : List PlanLine) (steps : ℕ) (ran : Ran) (old mid new : Option (List ℕ)) (before after : ℕ) (run : IsRun content input (go plan) steps ran old mid) where
   closes : closing_line content ran.end ran.func.0 ran.steps ran.events ≡ closing_of content run.outcome
   unfolding closing_of
   closes = ap (λ (answer : Ran). closing_line content answer.end answer.func.0 answer.steps answer.events) run.answer
 
   -- the whole of the output is written once the closing line is
   done-run : (status : Status) → status ≡ status_of_end ran.end → new ≡ append_known mid (closing_line content ran.end ran.func.0 ran.steps ran.events)
-      → IsDone status (run_phase content steps) (sink_seen old new before after)
+      → IsDone status (Running content input plan steps) (sink_seen old new before after)
   unfolding closing_of
   done-run status is closed = record {
     output = output_of content run.outcome;
@@ -54,7 +57,7 @@ module _ (content : ModuleContent) (steps : ℕ) (ran : Ran) (old mid new : Opti
 
   -- and before that a front of it
   pub begun-closing : AppendsFront mid new (closing_line content ran.end ran.func.0 ran.steps ran.events)
-      → IsBegun (λ output. run_phase content steps (Go output)) (sink_seen old new before after)
+      → IsBegun (λ output. Running content input plan steps (Go output)) (sink_seen old new before after)
   unfolding closing_of
   begun-closing front = record {
     output = output_of content run.outcome;
@@ -64,6 +67,6 @@ module _ (content : ModuleContent) (steps : ℕ) (ran : Ran) (old mid new : Opti
 
   pub closed-run : (result : Result Status RefFault) → IfOk result (λ status. status ≡ status_of_end ran.end)
       → OnOk result (new ≡ append_known mid (closing_line content ran.end ran.func.0 ran.steps ran.events))
-      → IfOk result (λ status. IsDone status (run_phase content steps) (sink_seen old new before after))
+      → IfOk result (λ status. IsDone status (Running content input plan steps) (sink_seen old new before after))
   closed-run (Ok status) is closed = done-run status is closed
   closed-run (Err fault) is closed = tt

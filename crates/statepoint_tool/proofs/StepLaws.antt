@@ -1,5 +1,5 @@
 -- A phase of the work comes to one step at most.
-use Rattle.std.proofs.Common.{◌≡◌, ℕ, List, ◌∙◌, refl, sym, ap, subst}
+use Rattle.std.proofs.Common.{◌≡◌, ℕ, List, ◌∙◌, sym, ap, subst}
 use Rattle.statepoint_tool.specs.Steps.{Step, Go, Stop, comes_to, Then, goes_on, stops}
 use Rattle.statepoint_tool.specs.Taken.{Taken, Bytes, Longer, Faulty, file_phase}
 use Rattle.statepoint_tool.specs.declared.refusal.Cause.{Cause}

@@ -1,5 +1,5 @@
 -- What reading and typing a module's text come to.
-use Rattle.std.proofs.Common.{◌≡◌, ℕ, ◌<◌, ◌≤◌, ◌⊎◌, inl, inr, List, [], ◌∷◌, map, Option, Some, None, Result, Ok, Err, ◌∙◌, refl, sym, ap, subst, arith}
+use Rattle.std.proofs.Common.{◌≡◌, ℕ, inl, inr, List, [], ◌∷◌, map, Result, Ok, Err, ◌∙◌, refl, sym, ap, subst, arith}
 use Rattle.ir_ast.specs.declared.modules.Form.TheVariants as text_forms
 use Rattle.ir_ast.specs.Modules.{ModuleContent, LinedModule}
 use Rattle.ir_reader.specs.Text.{Numbered, Fault, syntax_fault, limit_fault, text_readings}
@@ -11,18 +11,15 @@ use Rattle.ir_types.specs.declared.faults.TypeFault.{TypeFault as TypingFault}
 use Rattle.ir_types.specs.declared.faults.TypeFault.TheVariants as answers
 use Rattle.ir_lines.specs.Views.{seen_line, seen_lines}
 use Rattle.ir_lines.specs.Statements.{Line, lines_of}
-use Rattle.ir_meaning.specs.Stages.{IsToday}
 use Rattle.ir_lines.specs.PlainFaults.{ComesFirst}
-use Rattle.ir_types.specs.FaultSet.{HasNoFault, IsLeastFault}
+use Rattle.ir_types.specs.FaultSet.{IsLeastFault}
 use Rattle.statepoint_tool.specs.Causes.{IsReadAs, IsAccepted, HasTextFault, unread, over_limit, faulty}
-use Rattle.statepoint_tool.specs.NotYet.{first_not_yet}
-use Rattle.statepoint_tool.specs.Steps.{Step, Go, Stop, Then, goes_on, stops}
-use Rattle.statepoint_tool.specs.Work.{content_of, read_step, reading, Typing, faultless, faulty as typed_faulty, built_step, building, typing_to_run, module_phase, runnable_phase}
+use Rattle.statepoint_tool.specs.Steps.{Step, Go, Stop, goes_on, stops}
+use Rattle.statepoint_tool.specs.Work.{content_of, read_step, reading, Typing, faultless, faulty as typed_faulty, module_phase}
 use Rattle.statepoint_tool.specs.declared.refusal.Cause.{Cause}
 use Rattle.statepoint_tool.specs.declared.refusal.Cause.TheVariants.{Module}
 use Rattle.statepoint_tool.specs.declared.refusal.ModuleFault.{ModuleFault}
-use Rattle.statepoint_tool.specs.declared.refusal.ModuleFault.TheVariants.{Syntax, Limit, Typed, NotYet}
-use Rattle.statepoint_tool.proofs.NotYetLaw.{runs_today}
+use Rattle.statepoint_tool.specs.declared.refusal.ModuleFault.TheVariants.{Syntax, Limit, Typed}
 use Rattle.statepoint_tool.proofs.StepLaws.{Once, stop_in, same-value, not_both, Once-comes_to, Once-Then}
 
 -- ---- one fault is the least
@@ -58,11 +55,6 @@ Once-Typing lines _ _ (typed_faulty one p) (typed_faulty other q) =
 
 pub Once-module_phase : (text : List ℕ) → Once (module_phase text)
 Once-module_phase text = Once-Then (reading text) Typing (Once-comes_to (read_step (text_readings text))) Once-Typing
-
-pub Once-runnable_phase : (text : List ℕ) → Once (runnable_phase text)
-Once-runnable_phase text =
-    Once-Then (reading text) typing_to_run (Once-comes_to (read_step (text_readings text)))
-    (λ lines. Once-Then (Typing lines) (building lines) (Once-Typing lines) (λ content. Once-comes_to (built_step content (first_not_yet lines))))
 
 -- ---- the lines of a text
 
@@ -145,101 +137,3 @@ as-refused text _ (unread line is) = stops (Module (Syntax line)) (sym (ap read_
 as-refused text _ (over_limit line is) = stops (Module (Limit line)) (sym (ap read_step is))
 as-refused text _ (faulty lines fault read least) =
     goes_on lines (Stop (Module (Typed fault))) (as-read text lines read) (typed_faulty fault least)
-
--- ---- a module to be run
-
-pub builds : (lines : List Line) (content : ModuleContent) → Typing lines (Go content) → first_not_yet lines ≡ None → typing_to_run lines (Go content)
-builds lines content typing none = goes_on content (Go content) typing (sym (ap (built_step content) none))
-
-pub not_built : (lines : List Line) (content : ModuleContent) (line : ℕ) → Typing lines (Go content) → first_not_yet lines ≡ Some line →
-    typing_to_run lines (Stop (Module (NotYet line)))
-not_built lines content line typing found = goes_on content (Stop (Module (NotYet line))) typing (sym (ap (built_step content) found))
-
-runs_today_by : (lines : List Line) (step : Step ModuleContent) (content : ModuleContent) → step ≡ Go content → Typing lines step
-    → first_not_yet lines ≡ None → IsToday content
-runs_today_by lines _ content same (faultless clear) none = subst IsToday (same-value (content_of lines) content same) (runs_today lines clear none)
-runs_today_by lines _ content same (typed_faulty fault least) none = absurd (not_both content (Module (Typed fault)) (sym same))
-
--- the interpreter runs it
-pub runs_today_as : (lines : List Line) (content : ModuleContent) → Typing lines (Go content) → first_not_yet lines ≡ None → IsToday content
-runs_today_as lines content typing none = runs_today_by lines (Go content) content refl typing none
-
--- a text is accepted, and its module can be run
-pub record AcceptsToRun (text : List ℕ) (content : ModuleContent) : Type 0 where
-  pub accepts : Accepts text content
-  pub built : first_not_yet accepts.lines ≡ None
-
--- a text has a fault, or is accepted with a line that can't be run yet
-pub data StopsToRun (text : List ℕ) (cause : Cause) : Type 0 where
-  by_text : StopsByText text cause → StopsToRun text cause
-  by_line : (lines : List Line) (line : ℕ) → IsAccepted text lines → first_not_yet lines ≡ Some line → cause ≡ Module (NotYet line) → StopsToRun text cause
-
-built_by : (content other : ModuleContent) (found : Option ℕ) → Go other ≡ built_step content found → (found ≡ None) × (other ≡ content)
-built_by content other None same = (refl, same-value other content same)
-built_by content other (Some line) same = absurd (not_both other (Module (NotYet line)) same)
-
-runs_built : (text : List ℕ) (lines : List Line) → IsReadAs text lines → (step : Step ModuleContent) (content other : ModuleContent) → step ≡ Go content → Typing lines step → Go other ≡ built_step content (first_not_yet lines) → AcceptsToRun text other
-runs_built text lines read _ content other same (faultless none) built =
-    let b = built_by content other (first_not_yet lines) built in
-    record {
-      accepts = record {
-        lines = lines;
-        accepted = record { read = read; faultless = none };
-        is = b.1 ∙ sym (same-value (content_of lines) content same);
-      };
-      built = b.0;
-    }
-runs_built text lines read _ content other same (typed_faulty fault least) built = absurd (not_both content (Module (Typed fault)) (sym same))
-
-runs_by : (text : List ℕ) (lines : List Line) → IsReadAs text lines → (step : Step ModuleContent) (content : ModuleContent) → step ≡ Go content → typing_to_run lines step → AcceptsToRun text content
-runs_by text lines read _ content same (goes_on typed step typing built) = runs_built text lines read (Go typed) typed content refl typing (sym same ∙ built)
-runs_by text lines read _ content same (stops cause typing) = absurd (not_both content cause (sym same))
-
-runs_in : (text : List ℕ) (step : Step ModuleContent) (content : ModuleContent) → step ≡ Go content → runnable_phase text step → AcceptsToRun text content
-runs_in text _ content same (goes_on lines step read typing) = runs_by text lines (reads-as text lines read) step content same typing
-runs_in text _ content same (stops cause read) = absurd (not_both content cause (sym same))
-
-pub accepts-to_run : (text : List ℕ) (content : ModuleContent) → runnable_phase text (Go content) → AcceptsToRun text content
-accepts-to_run text content phase = runs_in text (Go content) content refl phase
-
-unbuilt_by : (text : List ℕ) (lines : List Line) → IsAccepted text lines → (content : ModuleContent) (cause : Cause) (found : Option ℕ) → first_not_yet lines ≡ found → Stop cause ≡ built_step content found → StopsToRun text cause
-unbuilt_by text lines accepted content cause None is same = absurd (not_both content cause (sym same))
-unbuilt_by text lines accepted content cause (Some line) is same =
-    by_line lines line accepted is (let s : stop_in ModuleContent cause ≡ Stop (Module (NotYet line)) = same in cc)
-
-unbuilt : (text : List ℕ) (lines : List Line) → IsReadAs text lines → (step : Step ModuleContent) (content : ModuleContent) (cause : Cause) → step ≡ Go content → Typing lines step → Stop cause ≡ built_step content (first_not_yet lines) → StopsToRun text cause
-unbuilt text lines read _ content cause same (faultless none) built = unbuilt_by text lines (record { read = read; faultless = none }) content cause (first_not_yet lines) refl built
-unbuilt text lines read _ content cause same (typed_faulty fault least) built = absurd (not_both content (Module (Typed fault)) (sym same))
-
-stops_typing : (text : List ℕ) (lines : List Line) → IsReadAs text lines → (step : Step ModuleContent) (cause : Cause) → step ≡ Stop cause → typing_to_run lines step → StopsToRun text cause
-stops_typing text lines read _ cause same (goes_on content step typing built) = unbuilt text lines read (Go content) content cause refl typing (sym same ∙ built)
-stops_typing text lines read _ cause same (stops own typing) =
-    let is : own ≡ cause = (let s : stop_in ModuleContent own ≡ Stop cause = same in cc) in
-    by_text (subst (λ (c : Cause). StopsByText text c) is (typed_stops text lines read (Stop own) own refl typing))
-
-stops_in : (text : List ℕ) (step : Step ModuleContent) (cause : Cause) → step ≡ Stop cause → runnable_phase text step → StopsToRun text cause
-stops_in text _ cause same (goes_on lines step read typing) = stops_typing text lines (reads-as text lines read) step cause same typing
-stops_in text _ cause same (stops own read) =
-    let is : own ≡ cause = (let s : stop_in ModuleContent own ≡ Stop cause = same in cc) in
-    by_text (subst (λ (c : Cause). StopsByText text c) is (stops_reading text own read))
-
-pub refuses-to_run : (text : List ℕ) (cause : Cause) → runnable_phase text (Stop cause) → StopsToRun text cause
-refuses-to_run text cause phase = stops_in text (Stop cause) cause refl phase
-
-pub as-runnable : (text : List ℕ) (lines : List Line) → IsAccepted text lines → first_not_yet lines ≡ None → runnable_phase text (Go (content_of lines))
-as-runnable text lines accepted built =
-    goes_on lines (Go (content_of lines)) (as-read text lines accepted.read)
-    (goes_on (content_of lines) (Go (content_of lines)) (faultless accepted.faultless)
-    (sym (ap (built_step (content_of lines)) built)))
-
-pub as-not_yet : (text : List ℕ) (lines : List Line) (line : ℕ) → IsAccepted text lines → first_not_yet lines ≡ Some line → runnable_phase text (Stop (Module (NotYet line)))
-as-not_yet text lines line accepted found =
-    goes_on lines (Stop (Module (NotYet line))) (as-read text lines accepted.read)
-    (goes_on (content_of lines) (Stop (Module (NotYet line))) (faultless accepted.faultless)
-    (sym (ap (built_step (content_of lines)) found)))
-
-pub as-unrunnable : (text : List ℕ) (fault : ModuleFault) → HasTextFault text fault → runnable_phase text (Stop (Module fault))
-as-unrunnable text _ (unread line is) = stops (Module (Syntax line)) (sym (ap read_step is))
-as-unrunnable text _ (over_limit line is) = stops (Module (Limit line)) (sym (ap read_step is))
-as-unrunnable text _ (faulty lines fault read least) =
-    goes_on lines (Stop (Module (Typed fault))) (as-read text lines read) (stops (Module (Typed fault)) (typed_faulty fault least))

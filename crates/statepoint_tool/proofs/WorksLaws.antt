@@ -1,5 +1,5 @@
 -- How a phase that reads a file and what follows it make a work.
-use Rattle.std.proofs.Common.{◌≡◌, ℕ, List, [], Option, Result, Ok, Err, inl, inr, refl, sym}
+use Rattle.std.proofs.Common.{ℕ, List, Option, Result, Ok, Err, inl, inr, sym}
 use Rattle.tool_io.specs.Counts.{NoneFell}
 use Rattle.tool_io.proofs.AppendLaws.{append_known-nil}
 use Rattle.statepoint_tool.specs.Answers.{Agrees, Came, IsBegun, Reads, SinkSeen, sink_seen, Works}

@@ -1,19 +1,27 @@
 -- What brings each status about, over what the files gave.
-use Rattle.std.specs.Prelude.{◌≡◌, ◌⊎◌, ℕ, List, [], ◌∷◌, Option, Some, None, Result, Ok, Err}
-use Rattle.ir_reader.specs.Text.{Numbered, Fault, syntax_fault, limit_fault, text_readings}
+use Rattle.std.specs.Prelude.{◌≡◌, ◌⊎◌, ℕ, ℤ, List, Some, None, Ok, Err}
+use Rattle.ir_reader.specs.Text.{Numbered, syntax_fault, limit_fault, text_readings}
 use Rattle.ir_lines.specs.declared.faults.Fault.{Fault as TypeFault}
 use Rattle.ir_lines.specs.Statements.{Line, lines_of}
 use Rattle.ir_types.specs.FaultSet.{HasNoFault, IsLeastFault}
 use Rattle.ir_ast.specs.declared.modules.Form.TheVariants as text_forms
 use Rattle.ir_ast.specs.Modules.{ModuleContent}
+use Rattle.move_plan.specs.declared.plan_lines.PlanLine.{PlanLine}
+use Rattle.move_plan.specs.Inputs.{HasNoInputFault, IsFirstInputFault, IsInputOf}
+use Rattle.move_plan.specs.PlanFaults.{HasNoFault as HasNoPlanFault}
+use Rattle.move_plan.specs.Plans.{IsPlanOf, go}
 use Rattle.object_meaning.specs.Outcomes.{Outcome}
-use Rattle.object_meaning.specs.SourceRuns.{SourceGives, no_go}
-use Rattle.statepoint_tool.specs.NotYet.{first_not_yet}
+use Rattle.object_meaning.specs.SourceRuns.{SourceGives}
+use Rattle.statepoint_tool.specs.PlanFaults.{IsLeastPlanFault}
 use Rattle.statepoint_tool.specs.Taken.{Taken, Bytes, Longer, Faulty}
 use Rattle.statepoint_tool.specs.Words.{command_of}
 use Rattle.statepoint_tool.specs.Work.{Given, Output, content_of, shown, output_of}
+use Rattle.statepoint_tool.specs.declared.refusal.Cause.{Cause}
+use Rattle.statepoint_tool.specs.declared.refusal.Cause.TheVariants as cause
 use Rattle.statepoint_tool.specs.declared.refusal.ModuleFault.{ModuleFault}
-use Rattle.statepoint_tool.specs.declared.refusal.ModuleFault.TheVariants.{Syntax, Limit, Typed, NotYet}
+use Rattle.statepoint_tool.specs.declared.refusal.ModuleFault.TheVariants.{Syntax, Limit, Typed}
+use Rattle.statepoint_tool.specs.declared.refusal.PlanFault.{PlanFault}
+use Rattle.statepoint_tool.specs.declared.request.RunRequest.{RunRequest}
 use Rattle.statepoint_tool.specs.declared.request.Command.TheVariants.{Show, Source, Run}
 use Rattle.statepoint_tool.specs.declared.status.Status.{Status}
 
@@ -44,14 +52,10 @@ pub record AsksToShow (words : List (List ℕ)) : Type 0 where
   pub module_file : List ℕ
   pub command : command_of words ≡ Some (Show module_file)
 
--- the words are those of a run over these files
+-- the words ask for this run
 pub record AsksForRun (words : List (List ℕ)) : Type 0 where
-  pub module_file : List ℕ
-  pub input : List ℕ
-  pub plan : List ℕ
-  pub steps : ℕ
-  pub command :
-      (command_of words ≡ Some (Source module_file input plan steps)) ⊎ (command_of words ≡ Some (Run module_file input plan steps))
+  pub request : RunRequest
+  pub command : (command_of words ≡ Some (Source request)) ⊎ (command_of words ≡ Some (Run request))
 
 -- the module to be shown is accepted
 pub record Shows (words : List (List ℕ)) (given : Given) : Type 0 where
@@ -69,35 +73,41 @@ pub record ReadsModule (words : List (List ℕ)) (given : Given) : Type 0 where
   pub lines : List Line
   pub accepted : IsAccepted text lines
 
--- and can be run
-pub record Prepares (words : List (List ℕ)) (given : Given) : Type 0 where
-  pub reads : ReadsModule words given
-  pub built : first_not_yet reads.lines ≡ None
-
--- and the input's file gave nothing
+-- and the input's text has no fault, and these numbers
 pub record ReadsInput (words : List (List ℕ)) (given : Given) : Type 0 where
-  pub prepares : Prepares words given
-  pub empty : given.input ≡ Bytes []
+  pub accepts : ReadsModule words given
+  pub text : List ℕ
+  pub taken : given.input ≡ Bytes text
+  pub numbers : List ℤ
+  pub are : IsInputOf text numbers
+  pub faultless : HasNoInputFault text
 
--- nor did the plan's: the module runs
+-- and the plan's text has no fault, and stands for this plan: the module runs
 pub record Runs (words : List (List ℕ)) (given : Given) : Type 0 where
   pub reads : ReadsInput words given
-  pub empty : given.plan ≡ Bytes []
+  pub text : List ℕ
+  pub taken : given.plan ≡ Bytes text
+  pub plan : List PlanLine
+  pub is : IsPlanOf text plan
+  pub faultless : HasNoPlanFault text
 
 -- the module that runs, and the steps that it may take
 abbrev pub module_run : {words : List (List ℕ)} {given : Given} → Runs words given → ModuleContent
-module_run runs = content_of runs.reads.prepares.reads.lines
+module_run runs = content_of runs.reads.accepts.lines
 
 abbrev pub steps_asked : {words : List (List ℕ)} {given : Given} → Runs words given → ℕ
-steps_asked runs = runs.reads.prepares.reads.asks.steps
+steps_asked runs = runs.reads.accepts.asks.request.steps
+
+-- its run over that input and under that plan gives this
+abbrev pub RunGives : {words : List (List ℕ)} {given : Given} → Runs words given → Outcome → Type 0
+RunGives runs outcome = SourceGives (module_run runs) runs.reads.numbers (go runs.plan) (steps_asked runs) outcome
 
 -- ---- the causes
 
 -- the work comes to its end, with this output: a module is shown, or runs, and so ends by the source meaning
 pub data Ends (words : List (List ℕ)) (given : Given) : Output → Type 0 where
   by_showing : (shows : Shows words given) → Ends words given (shown (content_of shows.lines))
-  by_running : (runs : Runs words given) (outcome : Outcome) → SourceGives (module_run runs) [] no_go (steps_asked runs) outcome
-      → Ends words given (output_of (module_run runs) outcome)
+  by_running : (runs : Runs words given) (outcome : Outcome) → RunGives runs outcome → Ends words given (output_of (module_run runs) outcome)
 
 abbrev pub EndsWith : Status → List (List ℕ) → Given → Type 0
 EndsWith status words given = (output : Output) × Ends words given output × (output.status ≡ status)
@@ -108,38 +118,56 @@ NoCommand words given = command_of words ≡ None
 -- the words name this file as that of a module
 pub data NamesModule (words : List (List ℕ)) : List ℕ → Type 0 where
   to_show : (asks : AsksToShow words) → NamesModule words asks.module_file
-  to_run : (asks : AsksForRun words) → NamesModule words asks.module_file
+  to_run : (asks : AsksForRun words) → NamesModule words asks.request.code
 
--- the module's text has a fault, or is accepted and has a line that can't be run yet
-pub data HasModuleFault (words : List (List ℕ)) (given : Given) : ModuleFault → Type 0 where
-  in_text : (name text : List ℕ) (fault : ModuleFault) → NamesModule words name → given.module_file ≡ Bytes text
-      → HasTextFault text fault → HasModuleFault words given fault
-  not_yet : (reads : ReadsModule words given) (line : ℕ) → first_not_yet reads.lines ≡ Some line
-      → HasModuleFault words given (NotYet line)
+-- the module's text has this fault, its first
+pub record HasModuleFault (words : List (List ℕ)) (given : Given) (fault : ModuleFault) : Type 0 where
+  pub name : List ℕ
+  pub names : NamesModule words name
+  pub text : List ℕ
+  pub taken : given.module_file ≡ Bytes text
+  pub has : HasTextFault text fault
 
 abbrev pub HasSomeModuleFault : List (List ℕ) → Given → Type 0
 HasSomeModuleFault words given = (fault : ModuleFault) × HasModuleFault words given fault
 
-pub record HasInputFault (words : List (List ℕ)) (given : Given) : Type 0 where
-  pub prepares : Prepares words given
-  pub byte : ℕ
-  pub rest : List ℕ
-  pub text : given.input ≡ Bytes (byte ∷ rest)
+-- the module is accepted, and this is the first line of the input's text with a fault
+pub record HasInputFault (words : List (List ℕ)) (given : Given) (line : ℕ) : Type 0 where
+  pub accepts : ReadsModule words given
+  pub text : List ℕ
+  pub taken : given.input ≡ Bytes text
+  pub first : IsFirstInputFault text line
 
-pub record HasPlanFault (words : List (List ℕ)) (given : Given) : Type 0 where
+abbrev pub HasSomeInputFault : List (List ℕ) → Given → Type 0
+HasSomeInputFault words given = (line : ℕ) × HasInputFault words given line
+
+-- the input is read too, and this is the least fault of the plan's text
+pub record HasPlanFault (words : List (List ℕ)) (given : Given) (fault : PlanFault) : Type 0 where
   pub reads : ReadsInput words given
-  pub byte : ℕ
-  pub rest : List ℕ
-  pub text : given.plan ≡ Bytes (byte ∷ rest)
+  pub text : List ℕ
+  pub taken : given.plan ≡ Bytes text
+  pub least : IsLeastPlanFault text fault
+
+abbrev pub HasSomePlanFault : List (List ℕ) → Given → Type 0
+HasSomePlanFault words given = (fault : PlanFault) × HasPlanFault words given fault
 
 -- the file of this name, which the words name, gave this, and nothing before it in the order of work refuses
 pub data FileGives (words : List (List ℕ)) (given : Given) (what : Taken) : List ℕ → Type 0 where
   module_gives : (name : List ℕ) → NamesModule words name → given.module_file ≡ what → FileGives words given what name
-  input_gives : (prepares : Prepares words given) → given.input ≡ what → FileGives words given what prepares.reads.asks.input
-  plan_gives : (reads : ReadsInput words given) → given.plan ≡ what → FileGives words given what reads.prepares.reads.asks.plan
+  input_gives : (accepts : ReadsModule words given) → given.input ≡ what → FileGives words given what accepts.asks.request.input
+  plan_gives : (reads : ReadsInput words given) → given.plan ≡ what → FileGives words given what reads.accepts.asks.request.plan
 
 abbrev pub CannotRead : List (List ℕ) → Given → Type 0
 CannotRead words given = (name : List ℕ) × FileGives words given Faulty name
 
 abbrev pub IsTooLong : List (List ℕ) → Given → Type 0
 IsTooLong words given = (name : List ℕ) × FileGives words given Longer name
+
+-- the work stops by this cause
+abbrev pub StopsBy : Cause → List (List ℕ) → Given → Type 0
+StopsBy cause.Words words given = NoCommand words given
+StopsBy (cause.ReadFault name) words given = FileGives words given Faulty name
+StopsBy (cause.TooLong name) words given = FileGives words given Longer name
+StopsBy (cause.Module fault) words given = HasModuleFault words given fault
+StopsBy (cause.Input line) words given = HasInputFault words given line
+StopsBy (cause.Plan fault) words given = HasPlanFault words given fault

@@ -3,7 +3,7 @@ pub mod Words
 pub mod Steps
 pub mod Taken
 pub mod Closings
-pub mod NotYet
+pub mod PlanFaults
 pub mod Work
 pub mod Notes
 pub mod Answers

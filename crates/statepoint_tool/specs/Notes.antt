@@ -5,8 +5,8 @@ use Rattle.statepoint_tool.specs.declared.refusal.Cause.{Cause}
 use Rattle.statepoint_tool.specs.declared.refusal.Cause.TheVariants.{Words, ReadFault, TooLong, Module, Input, Plan}
 use Rattle.statepoint_tool.specs.declared.refusal.ModuleFault.{ModuleFault}
 use Rattle.statepoint_tool.specs.declared.refusal.PlanFault.{PlanFault}
-use Rattle.statepoint_tool.specs.declared.refusal.ModuleFault.TheVariants.{Syntax, Limit, Typed, NotYet as ModuleNotYet}
-use Rattle.statepoint_tool.specs.declared.refusal.PlanFault.TheVariants.{NotYet as PlanNotYet}
+use Rattle.statepoint_tool.specs.declared.refusal.ModuleFault.TheVariants.{Syntax, Limit, Typed}
+use Rattle.statepoint_tool.specs.declared.refusal.PlanFault.TheVariants as plan_fault
 use Rattle.statepoint_tool.specs.declared.refusal.Refusal.{Refusal}
 use Rattle.statepoint_tool.specs.declared.refusal.Refusal.TheVariants.{Defined, WriteFault, Memory}
 use Rattle.statepoint_tool.specs.declared.status.Status.{Status}
@@ -50,10 +50,12 @@ abbrev pub module_fault_line : ModuleFault → List ℕ
 module_fault_line (Syntax line) = at_line (codes "module") line (codes ": 1 Syntax\n")
 module_fault_line (Limit line) = at_line (codes "module") line (codes ": 2 Limit\n")
 module_fault_line (Typed fault) = typed_fault_line fault
-module_fault_line (ModuleNotYet line) = at_line (codes "module") line (codes ": 90 NotYet\n")
 
 abbrev pub plan_fault_line : PlanFault → List ℕ
-plan_fault_line (PlanNotYet line) = at_line (codes "plan") line (codes ": 90 NotYet\n")
+plan_fault_line (plan_fault.Syntax line) = at_line (codes "plan") line (codes ": 1 Syntax\n")
+plan_fault_line (plan_fault.Order line) = at_line (codes "plan") line (codes ": 2 Order\n")
+plan_fault_line (plan_fault.TwoGo line) = at_line (codes "plan") line (codes ": 3 TwoGo\n")
+plan_fault_line (plan_fault.Limit line) = at_line (codes "plan") line (codes ": 4 Limit\n")
 
 abbrev pub cause_line : Cause → List ℕ
 cause_line Words = codes "usage: statepoint COMMAND WORDS\n"

@@ -2,18 +2,17 @@
 use Rattle.std.specs.Prelude.{◌≡◌, ℕ, ⊤, ◌⊎◌, List, []}
 use Rattle.tool_io.specs.Counts.{Rose}
 use Rattle.statepoint_tool.specs.Answers.{SinkSeen, Gained, GainedFront, SinkFailed, IsBegun}
-use Rattle.statepoint_tool.specs.Causes.{Ends, EndsWith, NoCommand, HasModuleFault, HasSomeModuleFault, HasInputFault, HasPlanFault, CannotRead, IsTooLong}
+use Rattle.statepoint_tool.specs.Causes.{Ends, EndsWith, NoCommand, HasSomeModuleFault, HasSomeInputFault, HasSomePlanFault, CannotRead, IsTooLong, StopsBy}
 use Rattle.statepoint_tool.specs.Notes.{refusal_line, status_of_cause}
 use Rattle.statepoint_tool.specs.Steps.{Step, Go, Stop}
 use Rattle.statepoint_tool.specs.Taken.{FilesSeen}
 use Rattle.statepoint_tool.specs.Words.{command_of}
-use Rattle.statepoint_tool.specs.Work.{Output, Given, MayGiveNamed, work}
+use Rattle.statepoint_tool.specs.Work.{Output, Given, MayGiveNamed}
 use Rattle.statepoint_tool.specs.declared.refusal.Cause.TheVariants as cause
-use Rattle.statepoint_tool.specs.declared.refusal.PlanFault.TheVariants as plan_fault
 use Rattle.statepoint_tool.specs.declared.refusal.Refusal.{Refusal}
 use Rattle.statepoint_tool.specs.declared.refusal.Refusal.TheVariants as refused
 use Rattle.statepoint_tool.specs.declared.status.Status.{Status}
-use Rattle.statepoint_tool.specs.declared.status.Status.TheVariants.{Done, ModuleRefused, WordsRefused, ReadFault, WriteFault, WantOfMemory, Trapped, OutOfSteps, PlanRefused, InputRefused, CheckSaidNo, MapRefused, TooLong, Stray}
+use Rattle.statepoint_tool.specs.declared.status.Status.TheVariants.{Done, ModuleRefused, WordsRefused, ReadFault, WriteFault, WantOfMemory, Trapped, OutOfSteps, PlanRefused, InputRefused, TooLong}
 
 -- the status that a step of the work defines
 abbrev pub status_of_step : Step Output → Status
@@ -30,15 +29,32 @@ pub record OverSome (words : List (List ℕ)) (files : FilesSeen) (P : Given →
 abbrev pub OverAll : List (List ℕ) → FilesSeen → (Given → Type 0) → Type 0
 OverAll words files P = (given : Given) → MayGiveNamed files (command_of words) given → P given
 
--- memory was wanted, or a sink failed
-abbrev pub Yields : Status → (out notes : SinkSeen) → Type 0
-Yields status out notes = (status ≡ WantOfMemory) ⊎ ((status ≡ WriteFault) × (SinkFailed out ⊎ SinkFailed notes))
+-- what stands behind a line that is due: the cause that stops the work, a failed output, or want of memory, which is
+-- tied to nothing
+abbrev pub IsDue : Refusal → List (List ℕ) → Given → SinkSeen → Type 0
+IsDue (refused.Defined reason) words given out = StopsBy reason words given
+IsDue refused.WriteFault words given out = SinkFailed out
+IsDue refused.Memory words given out = ⊤
+
+-- standard error failed where this line was due, after a front of it
+pub record IsCutOff (words : List (List ℕ)) (out notes : SinkSeen) (given : Given) : Type 0 where
+  pub refusal : Refusal
+  pub due : IsDue refusal words given out
+  pub front : GainedFront notes (refusal_line refusal)
+
+abbrev pub NoteFailed : List (List ℕ) → FilesSeen → (out notes : SinkSeen) → Type 0
+NoteFailed words files out notes = SinkFailed notes × OverSome words files (IsCutOff words out notes)
+
+-- memory was wanted, standard output failed, or standard error did where a line was due
+abbrev pub Yields : List (List ℕ) → FilesSeen → Status → (out notes : SinkSeen) → Type 0
+Yields words files status out notes =
+    (status ≡ WantOfMemory) ⊎ ((status ≡ WriteFault) × (SinkFailed out ⊎ NoteFailed words files out notes))
 
 -- the status is `wanted` only where its cause holds; and where the cause holds it is, unless it yields to
 -- want of memory or to a failed sink
 pub record Exactly (words : List (List ℕ)) (files : FilesSeen) (out notes : SinkSeen) (status wanted : Status) (cause : List (List ℕ) → Given → Type 0) : Type 0 where
   pub only : status ≡ wanted → OverSome words files (cause words)
-  pub wherever : OverAll words files (cause words) → (status ≡ wanted) ⊎ Yields status out notes
+  pub wherever : OverAll words files (cause words) → (status ≡ wanted) ⊎ Yields words files status out notes
 
 -- a file that could not be read had a fault counted for its name
 abbrev pub ReadFaultCounted : List (List ℕ) → FilesSeen → Type 0
@@ -53,8 +69,8 @@ CauseOf OutOfSteps = EndsWith OutOfSteps
 CauseOf ModuleRefused = HasSomeModuleFault
 CauseOf WordsRefused = NoCommand
 CauseOf ReadFault = CannotRead
-CauseOf InputRefused = HasInputFault
-CauseOf PlanRefused = HasPlanFault
+CauseOf InputRefused = HasSomeInputFault
+CauseOf PlanRefused = HasSomePlanFault
 CauseOf TooLong = IsTooLong
 CauseOf _ = λ words given. ⊥
 
@@ -72,12 +88,6 @@ Writes WriteFault words files out = WritesFront words files out
 Writes WantOfMemory words files out = WritesFront words files out
 Writes _ words files out = Gained out []
 
--- what stands before the end of a line that was due: the cause, a failed output, or want of memory
-abbrev pub IsDue : Refusal → (Step Output → Type 0) → SinkSeen → Type 0
-IsDue (refused.Defined reason) phase out = phase (Stop reason)
-IsDue refused.WriteFault phase out = SinkFailed out
-IsDue refused.Memory phase out = ⊤
-
 -- what is written to standard error: the line of the status, with the line of the text or the name of
 -- the file that is at fault; nothing where the run ended; and where standard error failed, a front of
 -- the line that was due
@@ -89,13 +99,14 @@ Says WordsRefused words files out notes = Gained notes (refusal_line (refused.De
 Says WantOfMemory words files out notes = Gained notes (refusal_line refused.Memory)
 Says ModuleRefused words files out notes =
     OverSome words files (λ given. (has : HasSomeModuleFault words given) × Gained notes (refusal_line (refused.Defined (cause.Module has.0))))
-Says InputRefused words files out notes = Gained notes (refusal_line (refused.Defined (cause.Input 1)))
-Says PlanRefused words files out notes = Gained notes (refusal_line (refused.Defined (cause.Plan (plan_fault.NotYet 1))))
+Says InputRefused words files out notes =
+    OverSome words files (λ given. (has : HasSomeInputFault words given) × Gained notes (refusal_line (refused.Defined (cause.Input has.0))))
+Says PlanRefused words files out notes =
+    OverSome words files (λ given. (has : HasSomePlanFault words given) × Gained notes (refusal_line (refused.Defined (cause.Plan has.0))))
 Says ReadFault words files out notes =
     OverSome words files (λ given. (cannot : CannotRead words given) × Gained notes (refusal_line (refused.Defined (cause.ReadFault cannot.0))))
 Says TooLong words files out notes =
     OverSome words files (λ given. (long : IsTooLong words given) × Gained notes (refusal_line (refused.Defined (cause.TooLong long.0))))
 Says WriteFault words files out notes =
-    (SinkFailed out × Gained notes (refusal_line refused.WriteFault)) ⊎
-    (SinkFailed notes × OverSome words files (λ given. (refusal : Refusal) × IsDue refusal (work words given) out × GainedFront notes (refusal_line refusal)))
+    (SinkFailed out × Gained notes (refusal_line refused.WriteFault)) ⊎ NoteFailed words files out notes
 Says _ words files out notes = ⊥

@@ -1,11 +1,10 @@
 -- What the files give.
 use Rattle.std.specs.Prelude.{◌≡◌, ℕ, ◌<◌, ◌≤◌, List, length, Option, IfSome}
-use Rattle.sp_ids.specs.declared.limits.TheConstants.{FILE_BYTES}
 use Rattle.tool_io.specs.Counts.{Rose}
 use Rattle.statepoint_tool.specs.Steps.{Step, Stop}
 use Rattle.statepoint_tool.specs.declared.refusal.Cause.TheVariants.{ReadFault, TooLong}
 
--- a file gives its bytes, has more of them than the limit, or can't be read
+-- a file gives its bytes, has more of them than the limit of 16 MiB, or can't be read
 pub data Taken : Type 0 where
   Bytes : List ℕ → Taken
   Longer : Taken
@@ -24,8 +23,8 @@ files_seen contents before after = record { contents = contents; faults_before =
 -- the file of this name may have given this: told contents are what it gave, and it failed only where a
 -- fault was counted for its name
 abbrev pub MayGive : FilesSeen → List ℕ → Taken → Type 0
-MayGive files name (Bytes bytes) = (length bytes ≤ FILE_BYTES) × IfSome (files.contents name) (λ told. bytes ≡ told)
-MayGive files name Longer = IfSome (files.contents name) (λ told. FILE_BYTES < length told)
+MayGive files name (Bytes bytes) = (length bytes ≤ 16777216) × IfSome (files.contents name) (λ told. bytes ≡ told)
+MayGive files name Longer = IfSome (files.contents name) (λ told. 16777216 < length told)
 MayGive files name Faulty = Rose (files.faults_before name) (files.faults_after name)
 
 -- a file is taken and read

@@ -1,10 +1,10 @@
 -- Which words give which command.
-use Rattle.std.specs.Prelude.{ℕ, Bool, true, false, not, ◌&&◌, ◌==◌, ◌^◌, nat_le, if◌then◌else◌, List, [], ◌∷◌, length, Option, Some, None, option_map, codes}
+use Rattle.std.specs.Prelude.{ℕ, Bool, true, false, not, ◌&&◌, ◌==◌, nat_le, if◌then◌else◌, List, [], ◌∷◌, length, Option, Some, None, option_map, codes}
 use Rattle.std.specs.List.{list_all}
 use Rattle.std.specs.Char.{is_ascii_digit}
 use Rattle.std.specs.Str.{bytes_eq}
 use Rattle.std.specs.Str.Parse.{digits_value}
-use Rattle.sp_ids.specs.declared.limits.TheConstants.{STEPS}
+use Rattle.statepoint_tool.specs.declared.request.RunRequest.{RunRequest}
 use Rattle.statepoint_tool.specs.declared.request.Command.{Command}
 use Rattle.statepoint_tool.specs.declared.request.Command.TheVariants.{Show, Source, Run}
 
@@ -14,25 +14,27 @@ names_file [] = false
 names_file (byte ∷ []) = true
 names_file (byte ∷ next ∷ rest) = not (byte == 45)
 
--- a bound on steps: 1 to 20 digits that spell no more than the limit
+-- a bound on steps: 1 to 20 digits that spell no more than 10^12
 abbrev pub steps_of : List ℕ → Option ℕ
 steps_of word =
-    if nat_le 1 (length word) && nat_le (length word) 20 && list_all is_ascii_digit word && nat_le (digits_value 10 word) STEPS
+    if nat_le 1 (length word) && nat_le (length word) 20 && list_all is_ascii_digit word && nat_le (digits_value 10 word) 1000000000000
     then Some (digits_value 10 word)
     else None
 
--- a command that runs names three files, in order, and a bound on steps
-abbrev pub bound_of : (module_file input plan steps : List ℕ) → Option ℕ
-bound_of module_file input plan steps =
-    if names_file module_file && names_file input && names_file plan then steps_of steps else None
+-- the names of three files, in order, and a bound on steps
+abbrev pub asked : (code input plan : List ℕ) → ℕ → RunRequest
+asked code input plan steps = record { code = code; input = input; plan = plan; steps = steps }
 
-abbrev pub source_of : (module_file input plan steps : List ℕ) → Option Command
-source_of module_file input plan steps =
-    option_map (λ bound. Source module_file input plan bound) (bound_of module_file input plan steps)
+-- what the words of a run ask for
+abbrev pub request_of : (code input plan steps : List ℕ) → Option RunRequest
+request_of code input plan steps =
+    if names_file code && names_file input && names_file plan then option_map (asked code input plan) (steps_of steps) else None
 
-abbrev pub run_of : (module_file input plan steps : List ℕ) → Option Command
-run_of module_file input plan steps =
-    option_map (λ bound. Run module_file input plan bound) (bound_of module_file input plan steps)
+abbrev pub source_of : (code input plan steps : List ℕ) → Option Command
+source_of code input plan steps = option_map (λ request. Source request) (request_of code input plan steps)
+
+abbrev pub run_of : (code input plan steps : List ℕ) → Option Command
+run_of code input plan steps = option_map (λ request. Run request) (request_of code input plan steps)
 
 -- the command `show` names one
 abbrev pub show_of : List ℕ → Option Command
@@ -42,14 +44,14 @@ show_of module_file = if names_file module_file then Some (Show module_file) els
 unfoldable pub of_module : (name module_file : List ℕ) → Option Command
 of_module name module_file = if bytes_eq name (codes "show") then show_of module_file else None
 
-unfoldable pub of_run : (name module_file input plan steps : List ℕ) → Option Command
-of_run name module_file input plan steps =
-    if bytes_eq name (codes "source") then source_of module_file input plan steps
-    else if bytes_eq name (codes "run") then run_of module_file input plan steps
+unfoldable pub of_run : (name code input plan steps : List ℕ) → Option Command
+of_run name code input plan steps =
+    if bytes_eq name (codes "source") then source_of code input plan steps
+    else if bytes_eq name (codes "run") then run_of code input plan steps
     else None
 
 -- the program's name, the command's name, and what the command takes; nothing else is a command
 abbrev pub command_of : List (List ℕ) → Option Command
 command_of (program ∷ name ∷ module_file ∷ []) = of_module name module_file
-command_of (program ∷ name ∷ module_file ∷ input ∷ plan ∷ steps ∷ []) = of_run name module_file input plan steps
+command_of (program ∷ name ∷ code ∷ input ∷ plan ∷ steps ∷ []) = of_run name code input plan steps
 command_of _ = None

@@ -2,7 +2,6 @@
 #![tactic(auto)]
 
 mod closing;
-mod not_yet;
 mod notes;
 mod phases;
 mod refusal;

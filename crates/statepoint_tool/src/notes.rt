@@ -52,7 +52,6 @@ fn put_module_fault<E: Sink>(fault: &ModuleFault, notes: &mut E) -> Result<(), F
         ModuleFault::Syntax { line } => put_line(b"module", *line, b": 1 Syntax\n", notes),
         ModuleFault::Limit { line } => put_line(b"module", *line, b": 2 Limit\n", notes),
         ModuleFault::Typed(fault) => put_typed(*fault, notes),
-        ModuleFault::NotYet { line } => put_line(b"module", *line, b": 90 NotYet\n", notes),
     }
 }
 
@@ -131,7 +130,10 @@ fn put_plan_fault<E: Sink>(fault: &PlanFault, notes: &mut E) -> Result<(), Faile
     ensures count { E.faults notes.old ≤ E.faults notes.new }
 {
     match fault {
-        PlanFault::NotYet { line } => put_line(b"plan", *line, b": 90 NotYet\n", notes),
+        PlanFault::Syntax { line } => put_line(b"plan", *line, b": 1 Syntax\n", notes),
+        PlanFault::Order { line } => put_line(b"plan", *line, b": 2 Order\n", notes),
+        PlanFault::TwoGo { line } => put_line(b"plan", *line, b": 3 TwoGo\n", notes),
+        PlanFault::Limit { line } => put_line(b"plan", *line, b": 4 Limit\n", notes),
     }
 }
 

@@ -11,15 +11,19 @@ pub(crate) enum ModuleFault {
     Limit { line: u32 },
     /// The least fault of the lines.
     Typed(Fault),
-    /// The first line that can't be run yet.
-    NotYet { line: u32 },
 }
 
-/// What is wrong with the text of a plan.
+/// What is wrong with the text of a plan: its least fault.
 #[derive(Clone, Copy, Debug, PartialEq, Eq)]
 pub(crate) enum PlanFault {
-    /// A plan with a line, which isn't read yet.
-    NotYet { line: u32 },
+    /// A line without a form.
+    Syntax { line: u32 },
+    /// A line whose event is below that of an earlier line, or an `every` line that doesn't stand first.
+    Order { line: u32 },
+    /// A second `go` line of its event.
+    TwoGo { line: u32 },
+    /// The first line too many.
+    Limit { line: u32 },
 }
 
 /// Why the work stops, by the definition of the work over what the files gave.
@@ -32,7 +36,7 @@ pub(crate) enum Cause {
     /// The file is longer than the limit.
     TooLong(FileName),
     Module(ModuleFault),
-    /// The first line of the input that holds no number.
+    /// The first line of the input that is neither blank nor a number, or that holds the first number too many.
     Input { line: u32 },
     Plan(PlanFault),
 }

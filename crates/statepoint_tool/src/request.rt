@@ -43,25 +43,22 @@ impl FileName {
     }
 }
 
+/// A run that the words ask for: the names of the files that it takes, and how many steps it may take.
+#[derive(Debug, Drop)]
+pub(crate) struct RunRequest {
+    pub(crate) code: FileName,
+    pub(crate) input: FileName,
+    pub(crate) plan: FileName,
+    pub(crate) steps: u64,
+}
+
 /// What the words of the command line ask for.
 #[derive(Debug, Drop)]
 pub(crate) enum Command {
     /// Write the text of the module.
-    Show {
-        module: FileName,
-    },
+    Show { module: FileName },
     /// Run the module by the source meaning, over the input and under the plan, for at most so many steps.
-    Source {
-        module: FileName,
-        input: FileName,
-        plan: FileName,
-        steps: u64,
-    },
+    Source(RunRequest),
     /// The same, of the rewritten module. No module is rewritten yet, so that this is the run of the source meaning.
-    Run {
-        module: FileName,
-        input: FileName,
-        plan: FileName,
-        steps: u64,
-    },
+    Run(RunRequest),
 }

@@ -2,49 +2,45 @@
 ghost use Rattle.std.specs.Prelude.{◌≡◌, ◌≤◌, ℕ, IfOk, OnErr, IsErrOf};
 ghost use Rattle.std.specs.List.{All};
 ghost use Rattle.ir_ast.specs.Bundles.{HasNoBundle};
-ghost use Rattle.ir_meaning.specs.Stages.{IsToday};
-ghost use Rattle.tool_io.specs.Counts.{Rose};
-ghost use Rattle.tool_io.specs.Counts.{NoneFell};
+ghost use Rattle.ir_cfg.specs.SourceModules.{IsSourceModule};
+ghost use Rattle.tool_io.specs.Counts.{Rose, NoneFell};
 ghost use Rattle.statepoint_tool.specs.Answers.{Came, IsBegun, IsDone, Works, sink_seen};
 ghost use Rattle.statepoint_tool.specs.Steps.{Go};
 ghost use Rattle.statepoint_tool.specs.Taken.{files_seen, MayGive};
-ghost use Rattle.statepoint_tool.specs.Work.{MayGiveAll, MayGiveBoth, after_input, after_module, run_phase, run_work};
+ghost use Rattle.statepoint_tool.specs.Work.{MayGiveAll, MayGiveBoth, Running, after_input, after_module, run_work};
 
 use crate::closing::close;
-use crate::phases::{take_input, take_plan, take_runnable};
+use crate::phases::{take_input, take_module, take_plan};
 use crate::refusal::Refusal;
-use crate::request::FileName;
+use crate::request::{FileName, RunRequest};
 use crate::status::Status;
 use ir_ast::Module;
 use ir_meaning::{RefFault, reference};
+use move_plan::Plan;
 use std::alloc::Global;
 use tool_io::{Files, Sink};
 
-/// The names of the files that a run takes.
-#[derive(Debug, Drop)]
-pub(crate) struct RunFiles {
-    pub(crate) code: FileName,
-    pub(crate) input: FileName,
-    pub(crate) plan: FileName,
-}
-
-/// Runs the module of the first file for at most `steps` steps, by the source meaning.
+/// Does the run that is asked for, by the source meaning.
 pub(crate) fn run<F: Files, O: Sink>(
     alloc: Global,
-    names: RunFiles,
-    steps: u64,
+    request: RunRequest,
     files: &mut F,
     out: &mut O,
 ) -> Result<Status, Refusal>
-    ensures works { Works (MayGiveAll (files_seen (F.contents files.old) (F.faults files.old) (F.faults files.new)) names.code names.input names.plan)
-        (run_work names.code names.input names.plan steps) result
+    ensures works { Works (MayGiveAll (files_seen (F.contents files.old) (F.faults files.old) (F.faults files.new)) request)
+        (run_work request) result
         (sink_seen (O.written out.old) (O.written out.new) (O.faults out.old) (O.faults out.new)) }
     ensures kept { F.contents files.new ≡ F.contents files.old }
     ensures counted { NoneFell (F.faults files.old) (F.faults files.new) }
     ensures out_counted { O.faults out.old ≤ O.faults out.new }
 {
-    let RunFiles { code, input, plan } = names;
-    let read = take_runnable(alloc, files, code)?;
+    let RunRequest {
+        code,
+        input,
+        plan,
+        steps,
+    } = request;
+    let read = take_module(alloc, files, code)?;
     run_module(alloc, &read, input, plan, steps, files, out)
 }
 
@@ -58,8 +54,8 @@ fn run_module<F: Files, O: Sink>(
     files: &mut F,
     out: &mut O,
 ) -> Result<Status, Refusal>
+    requires source { IsSourceModule read.now.content }
     requires no_bundle { All HasNoBundle read.now.content.funcs }
-    requires today { IsToday read.now.content }
     ensures works { Works (MayGiveBoth (files_seen (F.contents files.old) (F.faults files.old) (F.faults files.new)) input plan)
         (after_module input plan read.now.content steps) result
         (sink_seen (O.written out.old) (O.written out.new) (O.faults out.old) (O.faults out.new)) }
@@ -67,46 +63,49 @@ fn run_module<F: Files, O: Sink>(
     ensures counted { NoneFell (F.faults files.old) (F.faults files.new) }
     ensures out_counted { O.faults out.old ≤ O.faults out.new }
 {
-    take_input(alloc, files, input)?;
-    run_with_input(alloc, read, plan, steps, files, out)
+    let numbers = take_input(alloc, files, input)?;
+    run_with_input(alloc, read, &numbers, plan, steps, files, out)
 }
 
 // What is left once the input is read.
 fn run_with_input<F: Files, O: Sink>(
     alloc: Global,
     read: &Module,
+    numbers: &[i64],
     plan: FileName,
     steps: u64,
     files: &mut F,
     out: &mut O,
 ) -> Result<Status, Refusal>
+    requires source { IsSourceModule read.now.content }
     requires no_bundle { All HasNoBundle read.now.content.funcs }
-    requires today { IsToday read.now.content }
     ensures works { Works (MayGive (files_seen (F.contents files.old) (F.faults files.old) (F.faults files.new)) plan)
-        (after_input plan read.now.content steps) result
+        (after_input plan read.now.content numbers.now steps) result
         (sink_seen (O.written out.old) (O.written out.new) (O.faults out.old) (O.faults out.new)) }
     ensures kept { F.contents files.new ≡ F.contents files.old }
     ensures counted { NoneFell (F.faults files.old) (F.faults files.new) }
     ensures out_counted { O.faults out.old ≤ O.faults out.new }
 {
-    take_plan(alloc, files, plan)?;
-    run_under_plan(alloc, read, steps, out)
+    let lines = take_plan(alloc, files, plan)?;
+    run_under_plan(alloc, read, numbers, &lines, steps, out)
 }
 
 // The run itself.
 fn run_under_plan<O: Sink>(
     alloc: Global,
     read: &Module,
+    numbers: &[i64],
+    plan: &Plan,
     steps: u64,
     out: &mut O,
 ) -> Result<Status, Refusal>
+    requires source { IsSourceModule read.now.content }
     requires no_bundle { All HasNoBundle read.now.content.funcs }
-    requires today { IsToday read.now.content }
-    ensures came { Came result (run_phase read.now.content steps)
+    ensures came { Came result (Running read.now.content numbers.now plan.now steps)
         (sink_seen (O.written out.old) (O.written out.new) (O.faults out.old) (O.faults out.new)) }
     ensures out_counted { O.faults out.old ≤ O.faults out.new }
 {
-    match write_run(alloc, read, steps, out) {
+    match write_run(alloc, read, numbers, plan, steps, out) {
         Ok(status) => Ok(status),
         Err(RefFault::Memory) => Err(Refusal::Memory),
         Err(RefFault::Write) => Err(Refusal::WriteFault),
@@ -117,18 +116,20 @@ fn run_under_plan<O: Sink>(
 fn write_run<O: Sink>(
     alloc: Global,
     read: &Module,
+    numbers: &[i64],
+    plan: &Plan,
     steps: u64,
     out: &mut O,
 ) -> Result<Status, RefFault>
+    requires source { IsSourceModule read.now.content }
     requires no_bundle { All HasNoBundle read.now.content.funcs }
-    requires today { IsToday read.now.content }
-    ensures done { IfOk result (λ status. IsDone status (run_phase read.now.content steps)
+    ensures done { IfOk result (λ status. IsDone status (Running read.now.content numbers.now plan.now steps)
         (sink_seen (O.written out.old) (O.written out.new) (O.faults out.old) (O.faults out.new))) }
-    ensures begun { OnErr result (IsBegun (λ output. run_phase read.now.content steps (Go output))
+    ensures begun { OnErr result (IsBegun (λ output. Running read.now.content numbers.now plan.now steps (Go output))
         (sink_seen (O.written out.old) (O.written out.new) (O.faults out.old) (O.faults out.new))) }
     ensures failed { IsErrOf result RefFault.Write → Rose (O.faults out.old) (O.faults out.new) }
     ensures out_counted { O.faults out.old ≤ O.faults out.new }
 {
-    let ran = reference(alloc, read, &[], steps, out)?;
+    let ran = reference(alloc, read, numbers, plan, steps, out)?;
     close(alloc, read, ran, out)
 }

@@ -2,7 +2,7 @@
 ghost use Rattle.std.specs.Prelude.{◌≡◌, ◌≢◌, ◌≤◌, ◌⊎◌, ℕ, List, map, string_bytes};
 ghost use Rattle.tool_io.specs.Counts.{NoneFell};
 ghost use Rattle.statepoint_tool.specs.Answers.{SinkFailed, IsAnswer, IsTold, Works, sink_seen};
-ghost use Rattle.statepoint_tool.specs.Causes.{CannotRead, EndsWith, HasInputFault, HasPlanFault, HasSomeModuleFault, IsTooLong, NoCommand};
+ghost use Rattle.statepoint_tool.specs.Causes.{CannotRead, EndsWith, HasSomeInputFault, HasSomeModuleFault, HasSomePlanFault, IsTooLong, NoCommand};
 ghost use Rattle.statepoint_tool.specs.Complete.{IsComplete};
 ghost use Rattle.statepoint_tool.specs.Statuses.{Exactly, ReadFaultCounted, Says, Writes};
 ghost use Rattle.statepoint_tool.specs.Taken.{files_seen};
@@ -12,7 +12,7 @@ ghost use Rattle.statepoint_tool.specs.Work.{MayGiveNamed, work as work_of};
 use crate::notes::put_note;
 use crate::refusal::{Cause, Refusal};
 use crate::request::Command;
-use crate::run::{RunFiles, run};
+use crate::run::run;
 use crate::show::show;
 use crate::status::Status;
 use crate::words::{WordsFault, command};
@@ -21,11 +21,11 @@ use tool_io::{Failed, Files, Sink};
 
 /// Does what the words ask for, and says how it ended. The first word is the program's name.
 ///
-/// `show` writes the text of the module. `source` and `run` write the lines of the source meaning, over an empty input
-/// and under an empty plan so far, and then the line that closes the run.
+/// `show` writes the text of the module. `source` and `run` write the lines of the source meaning, over the numbers of the
+/// input and under the `go` lines of the plan, and then the line that closes the run.
 ///
-/// The work goes in this order: the words; the module is taken, read and typed; for `source` and `run` the input, the
-/// plan, and the run. A run writes each line by one `put`, as it comes. A refusal puts one line on `notes`.
+/// The work goes in this order: the words; the module is taken, read and typed; for `source` and `run` the input is taken
+/// and read, then the plan, and the module runs. A run writes each line by one `put`, as it comes. A refusal puts one line on `notes`.
 ///
 /// What the files gave is what is told of them, or anything where nothing is told; a file could not be
 /// read only where a fault was counted for its name. Each status comes exactly where its cause holds over
@@ -75,12 +75,12 @@ pub fn statepoint<F: Files, O: Sink, E: Sink>(
         (files_seen (F.contents files.old) (F.faults files.old) (F.faults files.new))
         (sink_seen (O.written out.old) (O.written out.new) (O.faults out.old) (O.faults out.new))
         (sink_seen (E.written notes.old) (E.written notes.new) (E.faults notes.old) (E.faults notes.new))
-        result Status.InputRefused HasInputFault }
+        result Status.InputRefused HasSomeInputFault }
     ensures plan_refused { Exactly (map string_bytes words.now)
         (files_seen (F.contents files.old) (F.faults files.old) (F.faults files.new))
         (sink_seen (O.written out.old) (O.written out.new) (O.faults out.old) (O.faults out.new))
         (sink_seen (E.written notes.old) (E.written notes.new) (E.faults notes.old) (E.faults notes.new))
-        result Status.PlanRefused HasPlanFault }
+        result Status.PlanRefused HasSomePlanFault }
     ensures too_long { Exactly (map string_bytes words.now)
         (files_seen (F.contents files.old) (F.faults files.old) (F.faults files.new))
         (sink_seen (O.written out.old) (O.written out.new) (O.faults out.old) (O.faults out.new))
@@ -151,36 +151,8 @@ fn work<F: Files, O: Sink>(
 {
     match command(alloc, words) {
         Ok(Command::Show { module }) => show(alloc, module, files, out),
-        Ok(
-            Command::Source {
-                module,
-                input,
-                plan,
-                steps,
-            },
-        ) => {
-            let names = RunFiles {
-                code: module,
-                input,
-                plan,
-            };
-            run(alloc, names, steps, files, out)
-        }
-        Ok(
-            Command::Run {
-                module,
-                input,
-                plan,
-                steps,
-            },
-        ) => {
-            let names = RunFiles {
-                code: module,
-                input,
-                plan,
-            };
-            run(alloc, names, steps, files, out)
-        }
+        Ok(Command::Source(request)) => run(alloc, request, files, out),
+        Ok(Command::Run(request)) => run(alloc, request, files, out),
         Err(WordsFault::Words) => Err(Refusal::Defined(Cause::Words)),
         Err(WordsFault::Memory) => Err(Refusal::Memory),
     }

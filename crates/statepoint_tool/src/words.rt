@@ -1,9 +1,9 @@
 ghost use Rattle.std.specs.Prelude.{◌≡◌, Some, None, map, string_bytes, IfOk, IsErrOf};
 ghost use Rattle.std.specs.Char.{is_ascii_digit};
 ghost use Rattle.std.specs.List.{list_all};
-ghost use Rattle.statepoint_tool.specs.Words.{bound_of, command_of, names_file, of_module, of_run, run_of, show_of, source_of, steps_of};
+ghost use Rattle.statepoint_tool.specs.Words.{command_of, names_file, of_module, of_run, request_of, run_of, show_of, source_of, steps_of};
 
-use crate::request::{Command, FileName};
+use crate::request::{Command, FileName, RunRequest};
 use sp_ids::{Memory, limits};
 use std::alloc::Global;
 
@@ -33,10 +33,10 @@ pub(crate) fn command(alloc: Global, words: &[String]) -> Result<Command, WordsF
 {
     match words {
         [_program, name, module_name] => of_module(alloc, name.as_str(), module_name.as_str()),
-        [_program, name, module_name, input, plan, steps] => of_run(
+        [_program, name, code, input, plan, steps] => of_run(
             alloc,
             name.as_str(),
-            module_name.as_str(),
+            code.as_str(),
             input.as_str(),
             plan.as_str(),
             steps.as_str(),
@@ -63,18 +63,18 @@ fn of_module(alloc: Global, name: &str, module_name: &str) -> Result<Command, Wo
 fn of_run(
     alloc: Global,
     name: &str,
-    module_name: &str,
+    code: &str,
     input: &str,
     plan: &str,
     steps: &str,
 ) -> Result<Command, WordsFault>
-    ensures gives { IfOk result (λ command. of_run name.now module_name.now input.now plan.now steps.now ≡ Some command) }
-    ensures none { IsErrOf result WordsFault.Words → of_run name.now module_name.now input.now plan.now steps.now ≡ None }
+    ensures gives { IfOk result (λ command. of_run name.now code.now input.now plan.now steps.now ≡ Some command) }
+    ensures none { IsErrOf result WordsFault.Words → of_run name.now code.now input.now plan.now steps.now ≡ None }
 {
     if name == "source" {
-        source_command(alloc, module_name, input, plan, steps)
+        source_command(alloc, code, input, plan, steps)
     } else if name == "run" {
-        run_command(alloc, module_name, input, plan, steps)
+        run_command(alloc, code, input, plan, steps)
     } else {
         Err(WordsFault::Words)
     }
@@ -96,56 +96,56 @@ fn show_command(alloc: Global, module_name: &str) -> Result<Command, WordsFault>
 // The command `source` over these words.
 fn source_command(
     alloc: Global,
-    module_name: &str,
+    code: &str,
     input: &str,
     plan: &str,
     steps: &str,
 ) -> Result<Command, WordsFault>
-    ensures gives { IfOk result (λ command. source_of module_name.now input.now plan.now steps.now ≡ Some command) }
-    ensures none { IsErrOf result WordsFault.Words → source_of module_name.now input.now plan.now steps.now ≡ None }
+    ensures gives { IfOk result (λ command. source_of code.now input.now plan.now steps.now ≡ Some command) }
+    ensures none { IsErrOf result WordsFault.Words → source_of code.now input.now plan.now steps.now ≡ None }
 {
-    let Some(steps) = run_bound(module_name, input, plan, steps) else {
-        return Err(WordsFault::Words);
-    };
-    Ok(Command::Source {
-        module: FileName::of(alloc, module_name)?,
-        input: FileName::of(alloc, input)?,
-        plan: FileName::of(alloc, plan)?,
-        steps,
-    })
+    let request = run_request(alloc, code, input, plan, steps)?;
+    Ok(Command::Source(request))
 }
 
 // The command `run` over these words.
 fn run_command(
     alloc: Global,
-    module_name: &str,
+    code: &str,
     input: &str,
     plan: &str,
     steps: &str,
 ) -> Result<Command, WordsFault>
-    ensures gives { IfOk result (λ command. run_of module_name.now input.now plan.now steps.now ≡ Some command) }
-    ensures none { IsErrOf result WordsFault.Words → run_of module_name.now input.now plan.now steps.now ≡ None }
+    ensures gives { IfOk result (λ command. run_of code.now input.now plan.now steps.now ≡ Some command) }
+    ensures none { IsErrOf result WordsFault.Words → run_of code.now input.now plan.now steps.now ≡ None }
 {
-    let Some(steps) = run_bound(module_name, input, plan, steps) else {
+    let request = run_request(alloc, code, input, plan, steps)?;
+    Ok(Command::Run(request))
+}
+
+// The run that these words ask for.
+fn run_request(
+    alloc: Global,
+    code: &str,
+    input: &str,
+    plan: &str,
+    steps: &str,
+) -> Result<RunRequest, WordsFault>
+    ensures gives { IfOk result (λ request. request_of code.now input.now plan.now steps.now ≡ Some request) }
+    ensures none { IsErrOf result WordsFault.Words → request_of code.now input.now plan.now steps.now ≡ None }
+{
+    if !may_name_file(code) || !may_name_file(input) || !may_name_file(plan) {
+        return Err(WordsFault::Words);
+    }
+    let Some(steps) = step_bound(steps) else {
         return Err(WordsFault::Words);
     };
-    Ok(Command::Run {
-        module: FileName::of(alloc, module_name)?,
+    Ok(RunRequest {
+        code: FileName::of(alloc, code)?,
         input: FileName::of(alloc, input)?,
         plan: FileName::of(alloc, plan)?,
         steps,
     })
-}
-
-// The bound on steps, where the words before it name files.
-fn run_bound(module_name: &str, input: &str, plan: &str, steps: &str) -> Option<u64>
-    ensures { result ≡ bound_of module_name.now input.now plan.now steps.now }
-{
-    if may_name_file(module_name) && may_name_file(input) && may_name_file(plan) {
-        step_bound(steps)
-    } else {
-        None
-    }
 }
 
 fn may_name_file(word: &str) -> bool

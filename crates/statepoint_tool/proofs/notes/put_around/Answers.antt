@@ -1,4 +1,4 @@
-use Rattle.std.proofs.Common.{◌++◌, append_assoc, refl}
+use Rattle.std.proofs.Common.{◌++◌, append_assoc}
 use Rattle.std.proofs.lemmas.Result.{err_from_is_err_and, on_err_weaker}
 use Rattle.tool_io.proofs.AppendLaws.{append_known-then, AppendsFront-among, AppendsFront-front, AppendsFront-second}
 use Rattle.statepoint_tool.proofs.notes.put_around.Goals as goal

@@ -1,4 +1,4 @@
-use Rattle.std.proofs.Common.{◌≡◌, ◌++◌, List, ℕ, codes, decimal, rules}
+use Rattle.std.proofs.Common.{◌++◌, codes, decimal}
 use Rattle.std.proofs.lemmas.Result.{err_from_is_err_and, on_err_weaker, on_ok_weaker}
 use Rattle.tool_io.proofs.AppendLaws.{append_known-then, AppendsFront-first, AppendsFront-second}
 use Rattle.statepoint_tool.specs.Notes.{at_line}

@@ -7,12 +7,12 @@ use Rattle.statepoint_tool.proofs.run.run.Goals as goal
 
 pub returns-in_err-read-clause-works : goal.returns-in_err-read-clause-works
 returns-in_err-read-clause-works g c =
-    let files = files_seen (g.F.Files.contents c.args.files.now) (g.F.Files.faults c.args.files.now) (g.F.Files.faults c.take_runnable.new.files) in
+    let files = files_seen (g.F.Files.contents c.args.files.now) (g.F.Files.faults c.args.files.now) (g.F.Files.faults c.take_module.new.files) in
     let exit = err_from_is_err_and c.from_residual.result c.from_residual.ensures.1 in
-    rw (exit.1, exit.2) (Works-given (Works-stops (λ content. after_module c.args.names.input c.args.names.plan content c.args.steps)
-    (MayGiveBoth files c.args.names.input c.args.names.plan)
-    (as_told files c.args.names.input, as_told files c.args.names.plan)
-    (MayGive-as_told files c.args.names.input, MayGive-as_told files c.args.names.plan)
+    rw (exit.1, exit.2) (Works-given (Works-stops (λ content. after_module c.args.request.input c.args.request.plan content c.args.request.steps)
+    (MayGiveBoth files c.args.request.input c.args.request.plan)
+    (as_told files c.args.request.input, as_told files c.args.request.plan)
+    (MayGive-as_told files c.args.request.input, MayGive-as_told files c.args.request.plan)
     (g.O.Sink.written c.args.out.now) (g.O.Sink.faults c.args.out.now) c.in_err-read.ensures.read))
 
 pub returns-clause-works : goal.returns-clause-works
@@ -21,10 +21,10 @@ returns-clause-works g c =
     let files = files_seen (g.F.Files.contents c.args.files.now) (g.F.Files.faults c.args.files.now) after in
     let kept = c.in_ok-read.ensures.kept in
     let counted = c.in_ok-read.ensures.counted in
-    Works-given (Works-goes_on (λ content. after_module c.args.names.input c.args.names.plan content c.args.steps)
-    (MayGiveBoth files c.args.names.input c.args.names.plan)
+    Works-given (Works-goes_on (λ content. after_module c.args.request.input c.args.request.plan content c.args.request.steps)
+    (MayGiveBoth files c.args.request.input c.args.request.plan)
     (λ given may. (
-      MayGive-earlier _ _ _ _ after c.args.names.input given.0 kept counted may.0,
-      MayGive-earlier _ _ _ _ after c.args.names.plan given.1 kept counted may.1,
+      MayGive-earlier _ _ _ _ after c.args.request.input given.0 kept counted may.0,
+      MayGive-earlier _ _ _ _ after c.args.request.plan given.1 kept counted may.1,
     ))
     after c.run_module.ensures.counted c.in_ok-read.ensures.read c.run_module.ensures.works)

@@ -1,3 +1,5 @@
+use Rattle.std.proofs.Common.{List}
+use Rattle.std.specs.Prelude.{ℤ}
 use Rattle.std.proofs.lemmas.Result.{err_from_is_err_and}
 use Rattle.statepoint_tool.specs.Taken.{files_seen, MayGive}
 use Rattle.statepoint_tool.specs.Work.{after_input}
@@ -5,18 +7,18 @@ use Rattle.statepoint_tool.proofs.GivenLaws.{MayGive-as_told, MayGive-earlier, a
 use Rattle.statepoint_tool.proofs.WorksLaws.{Works-stops, Works-goes_on}
 use Rattle.statepoint_tool.proofs.run.run_module.Goals as goal
 
-pub returns-in_err-take_input-clause-works : goal.returns-in_err-take_input-clause-works
-returns-in_err-take_input-clause-works g c =
+pub returns-in_err-numbers-clause-works : goal.returns-in_err-numbers-clause-works
+returns-in_err-numbers-clause-works g c =
     let files = files_seen (g.F.Files.contents c.args.files.now) (g.F.Files.faults c.args.files.now) (g.F.Files.faults c.take_input.new.files) in
     let exit = err_from_is_err_and c.from_residual.result c.from_residual.ensures.1 in
-    rw (exit.1, exit.2) (Works-stops (λ _. after_input c.args.plan c.args.read.now.content c.args.steps)
+    rw (exit.1, exit.2) (Works-stops (λ (numbers : List ℤ). after_input c.args.plan c.args.read.now.content numbers c.args.steps)
     (MayGive files c.args.plan) (as_told files c.args.plan) (MayGive-as_told files c.args.plan)
-    (g.O.Sink.written c.args.out.now) (g.O.Sink.faults c.args.out.now) c.in_err-take_input.ensures.read)
+    (g.O.Sink.written c.args.out.now) (g.O.Sink.faults c.args.out.now) c.in_err-numbers.ensures.read)
 
 pub returns-clause-works : goal.returns-clause-works
 returns-clause-works g c =
     let after = g.F.Files.faults c.run_with_input.new.files in
     let files = files_seen (g.F.Files.contents c.args.files.now) (g.F.Files.faults c.args.files.now) after in
-    Works-goes_on (λ _. after_input c.args.plan c.args.read.now.content c.args.steps) (MayGive files c.args.plan)
-    (λ given. MayGive-earlier _ _ _ _ after c.args.plan given c.in_ok-take_input.ensures.kept c.in_ok-take_input.ensures.counted)
-    after c.run_with_input.ensures.counted c.in_ok-take_input.ensures.read c.run_with_input.ensures.works
+    Works-goes_on (λ (numbers : List ℤ). after_input c.args.plan c.args.read.now.content numbers c.args.steps) (MayGive files c.args.plan)
+    (λ given. MayGive-earlier _ _ _ _ after c.args.plan given c.in_ok-numbers.ensures.kept c.in_ok-numbers.ensures.counted)
+    after c.run_with_input.ensures.counted c.in_ok-numbers.ensures.read (rw c.deref.ensures.value at c.run_with_input.ensures.works)

@@ -7,11 +7,11 @@ use Rattle.statepoint_tool.proofs.run.write_run.Goals as goal
 pub returns-in_err-ran-clause-begun : goal.returns-in_err-ran-clause-begun
 returns-in_err-ran-clause-begun g c =
     let out = sink_seen (g.O.Sink.written c.args.out.now) (g.O.Sink.written c.reference.new.out) (g.O.Sink.faults c.args.out.now) (g.O.Sink.faults c.reference.new.out) in
-    OnErr-always c.from_residual.result (begun-run c.args.read.now.content c.args.steps out c.in_err-ran.ensures.front)
+    OnErr-always c.from_residual.result (begun-run c.args.read.now.content c.args.numbers.now c.args.plan.now c.args.steps out c.in_err-ran.ensures.front)
 
 pub returns-clause-done : goal.returns-clause-done
 returns-clause-done g c =
-    closed-run c.args.read.now.content c.args.steps c.in_ok-ran.ran
+    closed-run c.args.read.now.content c.args.numbers.now c.args.plan.now c.args.steps c.in_ok-ran.ran
     (g.O.Sink.written c.args.out.now) (g.O.Sink.written c.reference.new.out) (g.O.Sink.written c.close.new.out)
     (g.O.Sink.faults c.args.out.now) (g.O.Sink.faults c.close.new.out)
     c.in_ok-ran.ensures.ran c.close.result c.close.ensures.ok c.close.ensures.written
@@ -19,7 +19,7 @@ returns-clause-done g c =
 pub returns-clause-begun : goal.returns-clause-begun
 returns-clause-begun g c =
     on_err_weaker c.close.result
-    (begun-closing c.args.read.now.content c.args.steps c.in_ok-ran.ran
+    (begun-closing c.args.read.now.content c.args.numbers.now c.args.plan.now c.args.steps c.in_ok-ran.ran
     (g.O.Sink.written c.args.out.now) (g.O.Sink.written c.reference.new.out) (g.O.Sink.written c.close.new.out)
     (g.O.Sink.faults c.args.out.now) (g.O.Sink.faults c.close.new.out) c.in_ok-ran.ensures.ran)
     c.close.ensures.front

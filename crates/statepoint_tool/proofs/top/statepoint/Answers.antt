@@ -3,7 +3,7 @@ use Rattle.statepoint_tool.specs.Answers.{sink_seen}
 use Rattle.statepoint_tool.specs.Taken.{files_seen}
 use Rattle.statepoint_tool.specs.declared.status.Status.TheVariants as status
 use Rattle.statepoint_tool.proofs.AnswerLaws.{Exactly-answer, ReadFaultCounted-answer, Says-answer, Writes-answer, never-answer, write_fault-answer}
-use Rattle.statepoint_tool.proofs.CauseLaws.{comes-CannotRead, comes-EndsWith, comes-HasInputFault, comes-HasSomeModuleFault, comes-HasPlanFault, comes-IsTooLong, comes-NoCommand}
+use Rattle.statepoint_tool.proofs.CauseLaws.{comes-CannotRead, comes-EndsWith, comes-HasSomeInputFault, comes-HasSomeModuleFault, comes-HasSomePlanFault, comes-IsTooLong, comes-NoCommand}
 use Rattle.statepoint_tool.proofs.CompleteLaws.{IsComplete-answer}
 use Rattle.statepoint_tool.proofs.top.statepoint.Goals as goal
 
@@ -61,7 +61,7 @@ returns-clause-input_refused g c =
     let files = files_seen (g.F.Files.contents c.args.files.now) (g.F.Files.faults c.args.files.now) (g.F.Files.faults c.answer.new.files) in
     let out = sink_seen (g.O.Sink.written c.args.out.now) (g.O.Sink.written c.answer.new.out) (g.O.Sink.faults c.args.out.now) (g.O.Sink.faults c.answer.new.out) in
     let notes = sink_seen (g.E.Sink.written c.args.notes.now) (g.E.Sink.written c.answer.new.notes) (g.E.Sink.faults c.args.notes.now) (g.E.Sink.faults c.answer.new.notes) in
-    Exactly-answer words files out notes c.answer.result c.answer.ensures.answer status.InputRefused (λ clash. cc) (λ clash. cc) (comes-HasInputFault words)
+    Exactly-answer words files out notes c.answer.result c.answer.ensures.answer status.InputRefused (λ clash. cc) (λ clash. cc) (comes-HasSomeInputFault words)
 
 pub returns-clause-plan_refused : goal.returns-clause-plan_refused
 returns-clause-plan_refused g c =
@@ -69,7 +69,7 @@ returns-clause-plan_refused g c =
     let files = files_seen (g.F.Files.contents c.args.files.now) (g.F.Files.faults c.args.files.now) (g.F.Files.faults c.answer.new.files) in
     let out = sink_seen (g.O.Sink.written c.args.out.now) (g.O.Sink.written c.answer.new.out) (g.O.Sink.faults c.args.out.now) (g.O.Sink.faults c.answer.new.out) in
     let notes = sink_seen (g.E.Sink.written c.args.notes.now) (g.E.Sink.written c.answer.new.notes) (g.E.Sink.faults c.args.notes.now) (g.E.Sink.faults c.answer.new.notes) in
-    Exactly-answer words files out notes c.answer.result c.answer.ensures.answer status.PlanRefused (λ clash. cc) (λ clash. cc) (comes-HasPlanFault words)
+    Exactly-answer words files out notes c.answer.result c.answer.ensures.answer status.PlanRefused (λ clash. cc) (λ clash. cc) (comes-HasSomePlanFault words)
 
 pub returns-clause-too_long : goal.returns-clause-too_long
 returns-clause-too_long g c =
