@@ -48,5 +48,9 @@ fn uses(rt: &HostRuntime, name: &str, rounds: u32) -> io::Result<ExitCode> {
 fn compare_paths(rt: &HostRuntime) -> io::Result<ExitCode> {
     let tally = compare_all(rt, rt.alloc())?;
     println!(rt; "{tally}")?;
-    Ok(if tally.all_agree() { ExitCode::SUCCESS } else { ExitCode::FAILURE })
+    Ok(if tally.all_agree() {
+        ExitCode::SUCCESS
+    } else {
+        ExitCode::FAILURE
+    })
 }

@@ -241,7 +241,9 @@ impl<'a> Sheet<'a> {
         expected: &str,
         body: &str,
     ) -> Result<(), Unread> {
-        let text = self.frame(group.place)?.around(self.alloc, &self.written(body)?)?;
+        let text = self
+            .frame(group.place)?
+            .around(self.alloc, &self.written(body)?)?;
         let Some(expected) = Expected::of(self.alloc, expected, &text)? else {
             return Err(Unread::Expectation);
         };
@@ -260,10 +262,12 @@ impl<'a> Sheet<'a> {
     fn expect_printed(&mut self, body: &str) -> Result<(), Unread> {
         let printed = self.written(body)?;
         match self.cases.last_mut() {
-            Some(Case {
-                expected: Expected::Prints(text),
-                ..
-            }) => {
+            Some(
+                Case {
+                    expected: Expected::Prints(text),
+                    ..
+                },
+            ) => {
                 *text = printed;
                 Ok(())
             }

@@ -85,7 +85,11 @@ fn judge_files(rt: &HostRuntime, names: &[String]) -> io::Result<End> {
         }
     }
     println!(rt; "{whole}")?;
-    Ok(if whole.all_hold() { End::Done } else { End::Fails })
+    Ok(if whole.all_hold() {
+        End::Done
+    } else {
+        End::Fails
+    })
 }
 
 // Nothing comes of a file that can't be read.
