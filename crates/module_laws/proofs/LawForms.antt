@@ -13,7 +13,7 @@ use Rattle.ir_ast.specs.Faults.GroupShape.{is_statepoint}
 use Rattle.ir_ast.specs.declared.modules.Form.{Form}
 use Rattle.ir_ast.specs.declared.modules.Form.TheVariants.{Source, Rewritten}
 use Rattle.ir_cfg.specs.TypedModules.{FunctionIsSmall, ModuleIsSmall, IsTypedFunction, IsTypedModule}
-use Rattle.ir_reader.specs.declared.forms.Place.TheVariants as places
+use Rattle.ir_reader.specs.declared.states.Place.TheVariants as places
 use Rattle.ir_lines.specs.Statements.{Line}
 use Rattle.ir_lines.specs.Sections.{Definition, definitions_of, blocks_of, arguments_named}
 use Rattle.ir_lines.specs.Modules.{known_of, block_of, argument_of}
