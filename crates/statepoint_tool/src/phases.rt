@@ -1,6 +1,8 @@
 //! The phases that take a file and read it.
 ghost use Rattle.std.specs.Prelude.{◌≡◌, ◌≤◌, ℕ, List, length, vec_len, IfOk};
+ghost use Rattle.std.specs.List.{All};
 ghost use Rattle.tool_io.specs.Counts.{NoneFell};
+ghost use Rattle.ir_ast.specs.Bundles.{HasNoBundle};
 ghost use Rattle.ir_ast.specs.Formed.{IsFormedModule};
 ghost use Rattle.ir_ast.specs.declared.modules.Form.TheVariants.{Source};
 ghost use Rattle.std.specs.List.{All};
