@@ -5,8 +5,6 @@ ghost use Rattle.tool_io.specs.Counts.{NoneFell};
 ghost use Rattle.ir_ast.specs.Bundles.{HasNoBundle};
 ghost use Rattle.ir_ast.specs.Formed.{IsFormedModule};
 ghost use Rattle.ir_ast.specs.declared.modules.Form.TheVariants.{Source};
-ghost use Rattle.std.specs.List.{All};
-ghost use Rattle.ir_ast.specs.Bundles.{HasNoBundle};
 ghost use Rattle.ir_cfg.specs.SourceModules.{IsSourceModule};
 ghost use Rattle.ir_lines.specs.Views.{seen_lines};
 ghost use Rattle.statepoint_tool.specs.Answers.{Agrees, Reads};

@@ -3,7 +3,7 @@ ghost use Rattle.std.specs.Prelude.{◌≡◌, ◌≤◌, ℕ, IfOk, OnErr, IsEr
 ghost use Rattle.std.specs.List.{All};
 ghost use Rattle.ir_ast.specs.Bundles.{HasNoBundle};
 ghost use Rattle.ir_cfg.specs.SourceModules.{IsSourceModule};
-ghost use Rattle.tool_io.specs.Counts.{Rose, NoneFell};
+ghost use Rattle.tool_io.specs.Counts.{NoneFell, Rose};
 ghost use Rattle.statepoint_tool.specs.Answers.{Came, IsBegun, IsDone, Works, sink_seen};
 ghost use Rattle.statepoint_tool.specs.Steps.{Go};
 ghost use Rattle.statepoint_tool.specs.Taken.{files_seen, MayGive};
