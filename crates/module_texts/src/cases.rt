@@ -31,7 +31,7 @@ impl fmt::Display for Case<'_> {
 }
 
 /// Why a file of cases can't be read.
-#[derive(Clone, Copy, Debug, PartialEq, Eq)]
+#[derive(Clone, Copy)]
 pub(crate) enum Unread {
     /// A line opens no part, or none that may stand there.
     Head,
@@ -70,7 +70,7 @@ impl<T: Drop> From<AllocFailed<T>> for Unread {
 }
 
 /// Why a file of cases can't be read, and the line of the part that is at fault.
-#[derive(Clone, Copy, Debug, PartialEq, Eq)]
+#[derive(Clone, Copy)]
 pub(crate) struct Refusal {
     pub(crate) line: usize,
     pub(crate) why: Unread,
@@ -241,7 +241,9 @@ impl<'a> Sheet<'a> {
         expected: &str,
         body: &str,
     ) -> Result<(), Unread> {
-        let text = self.frame(group.place)?.around(self.alloc, &self.written(body)?)?;
+        let text = self
+            .frame(group.place)?
+            .around(self.alloc, &self.written(body)?)?;
         let Some(expected) = Expected::of(self.alloc, expected, &text)? else {
             return Err(Unread::Expectation);
         };
@@ -260,10 +262,12 @@ impl<'a> Sheet<'a> {
     fn expect_printed(&mut self, body: &str) -> Result<(), Unread> {
         let printed = self.written(body)?;
         match self.cases.last_mut() {
-            Some(Case {
-                expected: Expected::Prints(text),
-                ..
-            }) => {
+            Some(
+                Case {
+                    expected: Expected::Prints(text),
+                    ..
+                },
+            ) => {
                 *text = printed;
                 Ok(())
             }

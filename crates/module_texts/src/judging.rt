@@ -5,11 +5,10 @@ use crate::outcome::{Outcome, outcome_of};
 use sp_ids::Memory;
 use sp_ids::limits::FILE_BYTES;
 use std::alloc::Global;
-use std::fmt;
-use std::io;
+use std::{fmt, io};
 
 /// How many cases there are, and of how many what is expected holds.
-#[derive(Clone, Copy, Debug, PartialEq, Eq)]
+#[derive(Clone, Copy)]
 pub(crate) struct Tally {
     pub(crate) cases: u32,
     pub(crate) held: u32,

@@ -25,7 +25,7 @@ const USAGE: &str =
     "usage: module_texts read|read-rewritten|show|show-rewritten FILE, or module_texts judge FILE..";
 
 /// How a run ends.
-#[derive(Clone, Copy, Debug, PartialEq, Eq)]
+#[derive(Clone, Copy)]
 enum End {
     Done,
     // some case doesn't hold
@@ -85,7 +85,11 @@ fn judge_files(rt: &HostRuntime, names: &[String]) -> io::Result<End> {
         }
     }
     println!(rt; "{whole}")?;
-    Ok(if whole.all_hold() { End::Done } else { End::Fails })
+    Ok(if whole.all_hold() {
+        End::Done
+    } else {
+        End::Fails
+    })
 }
 
 // Nothing comes of a file that can't be read.
