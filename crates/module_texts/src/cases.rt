@@ -31,7 +31,7 @@ impl fmt::Display for Case<'_> {
 }
 
 /// Why a file of cases can't be read.
-#[derive(Clone, Copy, Debug, PartialEq, Eq)]
+#[derive(Clone, Copy)]
 pub(crate) enum Unread {
     /// A line opens no part, or none that may stand there.
     Head,
@@ -70,7 +70,7 @@ impl<T: Drop> From<AllocFailed<T>> for Unread {
 }
 
 /// Why a file of cases can't be read, and the line of the part that is at fault.
-#[derive(Clone, Copy, Debug, PartialEq, Eq)]
+#[derive(Clone, Copy)]
 pub(crate) struct Refusal {
     pub(crate) line: usize,
     pub(crate) why: Unread,

@@ -15,7 +15,7 @@ struct Open {
 }
 
 // What a byte is part of.
-#[derive(Clone, Copy, Debug, PartialEq, Eq)]
+#[derive(Clone, Copy)]
 enum Place {
     Plain,
     // behind a backslash
@@ -97,7 +97,7 @@ impl Writer {
     }
 
     fn whole(self) -> Result<Vec<u8>, Unread> {
-        if self.place == Place::Plain && self.open.is_empty() {
+        if matches!(self.place, Place::Plain) && self.open.is_empty() {
             Ok(self.text)
         } else {
             Err(Unread::Escape)

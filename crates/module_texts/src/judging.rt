@@ -8,7 +8,7 @@ use std::alloc::Global;
 use std::{fmt, io};
 
 /// How many cases there are, and of how many what is expected holds.
-#[derive(Clone, Copy, Debug, PartialEq, Eq)]
+#[derive(Clone, Copy)]
 pub(crate) struct Tally {
     pub(crate) cases: u32,
     pub(crate) held: u32,

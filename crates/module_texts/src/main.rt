@@ -25,7 +25,7 @@ const USAGE: &str =
     "usage: module_texts read|read-rewritten|show|show-rewritten FILE, or module_texts judge FILE..";
 
 /// How a run ends.
-#[derive(Clone, Copy, Debug, PartialEq, Eq)]
+#[derive(Clone, Copy)]
 enum End {
     Done,
     // some case doesn't hold

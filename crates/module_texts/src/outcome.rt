@@ -17,7 +17,7 @@ use tool_io::MemSink;
 const MOST_PRINTED: usize = 20_000_000;
 
 /// How far a text is worked on.
-#[derive(Clone, Copy, Debug, PartialEq, Eq)]
+#[derive(Clone, Copy)]
 pub(crate) enum Step {
     Reading,
     Typing,
@@ -70,7 +70,6 @@ pub(crate) fn outcome_of(
         Form::Rewritten => read_rewritten(alloc, text),
     };
     match found {
-        Ok(raw) if step == Step::Reading => Ok(Outcome::Readings(raw.lines().len())),
         Ok(raw) => of_readings(alloc, raw, step),
         Err(ReadFault::Syntax { line }) => Ok(Outcome::Fault(Fault { line, code: 1 })),
         Err(ReadFault::Limit { line }) => Ok(Outcome::Fault(Fault { line, code: 2 })),
@@ -79,8 +78,11 @@ pub(crate) fn outcome_of(
 }
 
 fn of_readings(alloc: Global, raw: Raw, step: Step) -> Result<Outcome, Memory> {
+    if let Step::Reading = step {
+        return Ok(Outcome::Readings(raw.lines().len()));
+    }
     match typed_in(alloc, raw) {
-        Ok(module) => of_module(alloc, &module, step),
+        Ok(program) => of_module(alloc, &program, step),
         Err(TypeFault::Fault(fault)) => Ok(Outcome::Fault(fault)),
         Err(TypeFault::Memory) => Err(Memory),
     }
@@ -88,7 +90,7 @@ fn of_readings(alloc: Global, raw: Raw, step: Step) -> Result<Outcome, Memory> {
 
 // Types readings in the form that they were read in.
 fn typed_in(alloc: Global, raw: Raw) -> Result<Module, TypeFault>
-    ensures { IfOk result (λ module. IsFormedModule module.content) }
+    ensures { IfOk result (λ made. IsFormedModule made.content) }
 {
     match raw.form() {
         Form::Source => typed(alloc, raw),
@@ -96,32 +98,35 @@ fn typed_in(alloc: Global, raw: Raw) -> Result<Module, TypeFault>
     }
 }
 
-fn of_module(alloc: Global, module: &Module, step: Step) -> Result<Outcome, Memory>
-    requires { IsFormedModule module.now.content }
+fn of_module(alloc: Global, program: &Module, step: Step) -> Result<Outcome, Memory>
+    requires { IsFormedModule program.now.content }
 {
     match step {
-        Step::Printing => printed(alloc, module),
-        Step::Lines => Ok(Outcome::Lines(lines(alloc, module)?)),
+        Step::Printing => printed(alloc, program),
+        Step::Lines => Ok(Outcome::Lines(lines(alloc, program)?)),
         _ => Ok(Outcome::Module),
     }
 }
 
-fn printed(alloc: Global, module: &Module) -> Result<Outcome, Memory>
-    requires { IsFormedModule module.now.content }
+fn printed(alloc: Global, program: &Module) -> Result<Outcome, Memory>
+    requires { IsFormedModule program.now.content }
 {
     let mut out = MemSink::new(alloc, MOST_PRINTED)?;
-    match print(module, &mut out) {
+    match print(program, &mut out) {
         Ok(()) => Ok(Outcome::Printed(Vec::from_slice(alloc, out.bytes())?)),
         Err(_) => Ok(Outcome::TooLong),
     }
 }
 
-fn lines(alloc: Global, module: &Module) -> Result<Vec<u32>, Memory> {
+fn lines(alloc: Global, program: &Module) -> Result<Vec<u32>, Memory> {
     let mut lines = Vec::new(alloc);
-    for func in module.funcs() {
-        let count: usize = func.blocks().iter().map(|block| block.insts().len()).sum();
-        for place in 0..count as u32 {
-            lines.push(func.line_of(place))?;
+    for func in program.funcs() {
+        let mut place: u32 = 0;
+        for block in func.blocks() {
+            for _ in block.insts() {
+                lines.push(func.line_of(place))?;
+                place = place.saturating_add(1);
+            }
         }
     }
     Ok(lines)
