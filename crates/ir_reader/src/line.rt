@@ -61,10 +61,7 @@ impl<'a> Step<'a> {
     }
 
     // A line that is dropped, if it passes no limit.
-    fn dropped(
-        which: DroppedLine,
-        answer: Option<TypeWord>,
-    ) -> Result<Option<Step<'a>>, LineFault>
+    fn dropped(which: DroppedLine, answer: Option<TypeWord>) -> Result<Option<Step<'a>>, LineFault>
         ensures came { Came result (dropped_within (of_form (Form.Dropped which) (dropped_says which answer))) }
         ensures none { IfOk result (λ found. found ≡ None) }
     {
