@@ -85,11 +85,11 @@ outcome-is s bytes fits = if_limited s (is_top s.place && is_metadata bytes) _ _
 
 -- ---- lines in a row
 
-abbrev prefixed : List Numbered → Option (List Numbered × Place) → Option (List Numbered × Place)
+abbrev pub prefixed : List Numbered → Option (List Numbered × Place) → Option (List Numbered × Place)
 prefixed front None = None
 prefixed front (Some read) = Some (front ++ read.0, read.1)
 
-abbrev then_said : Option (List Numbered × Place) → (Place → Option (List Numbered × Place)) → Option (List Numbered × Place)
+abbrev pub then_said : Option (List Numbered × Place) → (Place → Option (List Numbered × Place)) → Option (List Numbered × Place)
 then_said None more = None
 then_said (Some read) more = prefixed read.0 (more read.1)
 
@@ -114,7 +114,7 @@ behind-append text l ls back place (says what next) more =
     ap (λ (r : Option (List Numbered × Place)). before (record { line = l.number; said = what }) r) (more next)
     ∙ before-then (record { line = l.number; said = what }) (said_in text next ls) (λ next. said_in text next back)
 
-said_in-append : (text : TextForm) (place : Place) (front back : List NumberedLine) → said_in text place (front ++ back) ≡ then_said (said_in text place front) (λ next. said_in text next back)
+pub said_in-append : (text : TextForm) (place : Place) (front back : List NumberedLine) → said_in text place (front ++ back) ≡ then_said (said_in text place front) (λ next. said_in text next back)
 unfolding said_in
 said_in-append text place [] back = prefixed-none (said_in text place back)
 said_in-append text place (l ∷ ls) back = behind-append text l ls back place (placed text place l.bytes) (λ next. said_in-append text next ls back)

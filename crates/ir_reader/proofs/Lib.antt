@@ -1,5 +1,6 @@
 pub mod AllOf
 pub mod Counting
 pub mod FittingLines
+pub mod JudgedOnce
 pub mod Judging
 pub mod LineByLine

@@ -1,6 +1,6 @@
 //! Whether a line that fits a form is read, and why a text is refused.
 
-ghost use Rattle.std.specs.Prelude.{◌≡◌, ℕ, List, [], Some, true};
+ghost use Rattle.std.specs.Prelude.{◌≡◌, ℕ, List, [], Some, Result, true};
 ghost use Rattle.sp_text.specs.Lines.{lines_of};
 ghost use Rattle.sp_text.specs.Tokens.{Tok};
 ghost use Rattle.ir_ast.specs.declared.modules.Form.{Form as TextForm};
@@ -12,7 +12,7 @@ ghost use Rattle.line_forms.specs.Forms.{slots, stands_in};
 ghost use Rattle.line_forms.specs.Seen.{of_form};
 ghost use Rattle.ir_reader.specs.Judged.{Judged};
 ghost use Rattle.ir_reader.specs.Places.{behind};
-ghost use Rattle.ir_reader.specs.Text.{said_by, tokens_outcome, readings_in};
+ghost use Rattle.ir_reader.specs.Text.{said_by, tokens_outcome, Fault, Numbered, readings_in};
 
 /// A line that fits a form which may stand in its text and place is read by that form: it is dropped, over a limit, or
 /// says what stands at the form's slots.
@@ -26,5 +26,6 @@ pub fn fitting_line()
 /// the line says by itself, the layouts, the functions, the arguments and instructions of a function, the instructions
 /// of all, or the relocates in a row. Else each of its lines has a reading in its place, and all are within the limits.
 pub fn judged_text()
-    ensures { (form : TextForm) (text : List ℕ) → Judged form (lines_of text) (readings_in form text) }
+    ensures is { (form : TextForm) (text : List ℕ) → Judged form (lines_of text) (readings_in form text) }
+    ensures only { (form : TextForm) (text : List ℕ) (read : Result (List Numbered) Fault) → Judged form (lines_of text) read → read ≡ readings_in form text }
 {}

@@ -1,7 +1,7 @@
 //! The parts that modules are made from, each made and taken apart.
 
 use anyhow::Result;
-use ir_ast::{BaseTable, Cell, LiveTable, Name, Operand, Ty, Types};
+use ir_ast::{BaseTable, Cell, Layout, LiveTable, Name, Operand, Ty, Types};
 use sp_ids::ValueId;
 use std::alloc::Global;
 
@@ -25,7 +25,7 @@ fn show_cells(rt: &impl Print, alloc: Global) -> Result<()> {
 }
 
 fn show_lists(rt: &impl Print, alloc: Global) -> Result<()> {
-    let name = Name::of(Vec::from_slice(alloc, b"a.b")?);
+    let name = name_of(alloc, b"a.b")?;
     let bytes = name.into_parts();
     println!(rt; "name: {bytes:?}")?;
     let types = Types::of(vec![in alloc; Ty::Void, Ty::Ptr]?);
@@ -33,7 +33,14 @@ fn show_lists(rt: &impl Print, alloc: Global) -> Result<()> {
     println!(rt; "types: {list:?}")?;
     let taken = types.into_parts();
     println!(rt; "types taken apart: {taken:?}")?;
+    let layout = Layout::of(name_of(alloc, b"N")?, vec![in alloc; Cell::I64, Cell::Ptr]?);
+    let (name, fields) = layout.into_parts();
+    println!(rt; "layout taken apart: {name:?} {fields:?}")?;
     Ok(())
+}
+
+fn name_of(alloc: Global, bytes: &[u8]) -> Result<Name> {
+    Ok(Name::of(Vec::from_slice(alloc, bytes)?))
 }
 
 fn show_tables(rt: &impl Print, alloc: Global) -> Result<()> {
