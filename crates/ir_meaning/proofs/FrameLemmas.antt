@@ -4,7 +4,6 @@ use Rattle.std.proofs.Common.{◌≡◌, ℕ, zero, suc, ◌-◌, false, List, [
 use Rattle.std.specs.Prelude.{Option, Some, None, slice_get, unwrap_or}
 use Rattle.std.specs.Option.{option_map, option_map_or}
 use Rattle.std.proofs.lemmas.List.{map-append, length-map, map-set}
-use Rattle.sp_ids.specs.Numbers.{signed}
 use Rattle.sp_ids.specs.declared.ends.End.TheVariants.{Trap}
 use Rattle.sp_ids.specs.declared.ends.Trap.TheVariants.{Unreachable}
 use Rattle.ir_ast.specs.declared.ops.Op.{Op}
@@ -18,7 +17,7 @@ use Rattle.ir_meaning.specs.declared.spots.Spot.{Spot}
 use Rattle.object_store.specs.declared.words.Word.{Word}
 use Rattle.object_store.specs.Words.{number_word}
 use Rattle.object_meaning.specs.Lines.{Line, poll, numbered, insts_of, lines_of, first_register, register_count}
-use Rattle.object_meaning.specs.Registers.{nothing, value, number_in, put}
+use Rattle.object_meaning.specs.Registers.{nothing, value, put}
 use Rattle.object_meaning.specs.States.{Frame, State}
 use Rattle.object_meaning.specs.Effects.{goes_on, ends}
 use Rattle.object_meaning.specs.Frames.{entered, answered_by, answered_at, resumed}

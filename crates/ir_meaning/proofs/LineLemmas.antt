@@ -5,13 +5,12 @@ use Rattle.std.specs.Prelude.{Some, None, slice_get, Result, Ok, Err}
 use Rattle.sp_ids.specs.declared.ends.Trap.{Trap as Kind}
 use Rattle.ir_ast.specs.Objects.{Datum}
 use Rattle.object_meaning.specs.Computing.{computed, value_of_line}
-use Rattle.object_meaning.specs.Registers.{nothing, operand}
+use Rattle.object_meaning.specs.Registers.{operand}
 use Rattle.ir_ast.specs.Insts.{Instruction}
 use Rattle.ir_ast.specs.Modules.{ModuleContent}
 use Rattle.std.specs.Int.{w64, cast_unsigned}
 use Rattle.object_meaning.specs.Calls.{taking}
 use Rattle.object_store.specs.Words.{number_word}
-use Rattle.ir_meaning.specs.declared.spots.Due.{Due}
 use Rattle.ir_meaning.specs.declared.spots.Due.TheVariants.{Front, Line as Next, Behind}
 use Rattle.ir_meaning.specs.declared.spots.Spot.{Spot}
 use Rattle.object_store.specs.declared.words.Word.{Word}

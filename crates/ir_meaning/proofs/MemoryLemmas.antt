@@ -1,6 +1,6 @@
 -- Loads, stores, new objects and new tasks: the interpreter does what the meaning does.
-use Rattle.std.proofs.Common.{subst, ◌≡◌, ℕ, ℤ, pos, ◌+◌, ◌-◌, ◌<◌, true, false, List, [], ◌∷◌, ◌++◌, length, map, set, replicate, refl, sym, ap, ◌∙◌, lt-ltb}
-use Rattle.std.specs.Prelude.{Option, Some, None, slice_get, int_lt, unsigned_abs, Result, Ok, Err}
+use Rattle.std.proofs.Common.{subst, ◌≡◌, ℕ, ℤ, pos, ◌+◌, ◌-◌, ◌<◌, false, List, [], ◌∷◌, ◌++◌, length, map, set, replicate, refl, ap, ◌∙◌, lt-ltb}
+use Rattle.std.specs.Prelude.{Option, Some, None, int_lt, unsigned_abs, Result, Ok, Err}
 use Rattle.std.proofs.lemmas.List.{length-map, map-append, map-set}
 use Rattle.sp_ids.specs.declared.ends.End.TheVariants.{Trap}
 use Rattle.sp_ids.specs.declared.ends.Trap.{Trap as Kind}
@@ -8,7 +8,7 @@ use Rattle.ir_ast.specs.declared.cells.Cell.{Cell}
 use Rattle.ir_ast.specs.Insts.{Instruction}
 use Rattle.ir_ast.specs.Layouts.{ObjectLayout}
 use Rattle.ir_ast.specs.Modules.{ModuleContent}
-use Rattle.ir_ast.specs.Objects.{Datum, pointer, Pointer, Object}
+use Rattle.ir_ast.specs.Objects.{Datum, pointer, Object}
 use Rattle.move_plan.specs.declared.plan_lines.PlanLine.{PlanLine}
 use Rattle.object_meaning.specs.Accesses.{Place, accessed, cell_of}
 use Rattle.object_meaning.specs.Calls.{allocating, made}
@@ -20,7 +20,7 @@ use Rattle.object_meaning.specs.States.{Frame, State, Setting}
 use Rattle.object_meaning.specs.Steps.{accesses, loading, storing}
 use Rattle.object_meaning.specs.Tasks.{started, with_event}
 use Rattle.object_store.specs.declared.words.Word.{Word}
-use Rattle.object_store.specs.Stored.{Store, load_of, load_from, store_of, store_to, is_full}
+use Rattle.object_store.specs.Stored.{load_of, load_from, store_of, store_to, is_full}
 use Rattle.object_store.specs.Words.{datum, datum_result, number_word, pointer_word}
 use Rattle.ir_meaning.specs.declared.spots.Spot.{Spot}
 use Rattle.ir_meaning.specs.declared.spots.Due.TheVariants.{Front}

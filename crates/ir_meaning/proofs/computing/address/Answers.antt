@@ -1,10 +1,9 @@
-use Rattle.std.proofs.Common.{ℕ, ◌%◌, ◌+◌, ◌*◌, ◌^◌, ap, ◌∙◌}
+use Rattle.std.proofs.Common.{ℕ, ◌^◌, ap, ◌∙◌}
 use mir.Syntax.{w64}
 use mir.Val.{of_z}
 use mir.ValLaws.{to_z-of_z}
 use Rattle.sp_ids.specs.Numbers.{signed}
 use Rattle.ir_ast.specs.Objects.{pointer}
-use Rattle.object_store.specs.declared.words.Word.{Word}
 use Rattle.object_store.specs.Words.{datum}
 use Rattle.object_meaning.specs.Registers.{pointer_in}
 use Rattle.object_meaning.specs.Computing.{element_bytes, field_bytes}

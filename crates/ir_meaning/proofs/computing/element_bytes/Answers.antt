@@ -3,7 +3,6 @@ use Rattle.std.proofs.Math.Nat.{mul_comm}
 use Rattle.ir_ast.specs.declared.cells.Cell.{Cell}
 use Rattle.ir_ast.specs.Sizes.{fields_in}
 use Rattle.ir_ast.proofs.SizeLaws.{size_is}
-use Rattle.object_meaning.specs.Computing.{element_bytes}
 use Rattle.ir_meaning.proofs.computing.element_bytes.Goals as goal
 
 pub returns-in-Layout : goal.returns-in-Layout

@@ -1,5 +1,4 @@
 use Rattle.std.proofs.Common.{◌≡◌, sym, ◌∙◌}
-use Rattle.ir_meaning.specs.declared.spots.Due.TheVariants.{Behind}
 use Rattle.ir_meaning.specs.Machines.{rest_of, state_of, today, effect_of}
 use Rattle.object_meaning.proofs.StepLaws.{step_at_end}
 use Rattle.ir_meaning.proofs.LineLemmas.{at_line, at_line_end, at_poll, step_polls, does_is}

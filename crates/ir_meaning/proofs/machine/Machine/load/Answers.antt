@@ -1,7 +1,5 @@
-use Rattle.std.proofs.Common.{◌≡◌, List, ap, ◌∙◌}
-use Rattle.std.specs.Prelude.{Result, Ok, Err}
+use Rattle.std.proofs.Common.{List, ap, ◌∙◌}
 use Rattle.ir_ast.specs.declared.ops.Operand.{Operand}
-use Rattle.ir_ast.specs.declared.types.Ty.{Ty}
 use Rattle.object_meaning.specs.Accesses.{cell_of}
 use Rattle.object_meaning.specs.Effects.{goes_on}
 use Rattle.object_meaning.specs.Lines.{numbered}

@@ -1,16 +1,11 @@
-use Rattle.std.proofs.Common.{◌≡◌, ℕ, ℤ, pos, ◌+◌, false, List, ◌++◌, ◌∷◌, [], length, map, ap, ◌∙◌}
-use Rattle.std.specs.Prelude.{int_lt, unsigned_abs}
+use Rattle.std.proofs.Common.{◌≡◌, List, map, ap, ◌∙◌}
+use Rattle.std.specs.Prelude.{unsigned_abs}
 use Rattle.ir_ast.specs.declared.ops.Operand.{Operand}
-use Rattle.ir_ast.specs.Layouts.{ObjectLayout}
-use Rattle.ir_ast.specs.Objects.{Object}
 use Rattle.sp_ids.specs.Numbers.{signed}
-use Rattle.tool_io.specs.Counts.{raised}
-use Rattle.object_meaning.specs.Calls.{made}
 use Rattle.object_meaning.specs.Registers.{number_in, operand}
 use Rattle.object_store.specs.declared.words.Word.{Word}
-use Rattle.object_store.specs.Stored.{Store, is_full}
+use Rattle.object_store.specs.Stored.{Store}
 use Rattle.object_store.specs.Words.{datum}
-use Rattle.ir_meaning.specs.Stacks.{word_at}
 use Rattle.ir_meaning.specs.Machines.{rest_of}
 use Rattle.ir_meaning.proofs.WordLemmas.{operand_is}
 use Rattle.ir_meaning.proofs.MemoryLemmas.{make_made}

@@ -1,13 +1,10 @@
-use Rattle.std.proofs.Common.{◌≡◌, ℕ, ◌-◌, ◌+◌, ◌<◌, List, ◌++◌, ◌∷◌, [], length, map, set, replicate, ap, ◌∙◌, arith}
+use Rattle.std.proofs.Common.{◌≡◌, ℕ, ◌-◌, ◌<◌, List, ◌++◌, ◌∷◌, [], length, set, replicate, ap, ◌∙◌, arith}
 use Rattle.std.specs.Prelude.{Option, Some, None, slice_get}
 use Rattle.object_meaning.specs.Calls.{function_in}
-use Rattle.object_meaning.specs.Effects.{Effect, goes_on}
-use Rattle.object_meaning.specs.Registers.{operand}
-use Rattle.object_meaning.specs.States.{State}
+use Rattle.object_meaning.specs.Effects.{goes_on}
 use Rattle.object_meaning.specs.Tasks.{started}
-use Rattle.object_store.specs.declared.words.Word.{Word}
 use Rattle.object_store.specs.Words.{datum, number_word}
-use Rattle.ir_meaning.specs.Stacks.{Frames, word_at}
+use Rattle.ir_meaning.specs.Stacks.{Frames}
 use Rattle.ir_meaning.specs.Machines.{rest_of, state_of, state_from, today}
 use Rattle.ir_meaning.proofs.WordLemmas.{operand_is}
 use Rattle.ir_meaning.proofs.MemoryLemmas.{started_is}

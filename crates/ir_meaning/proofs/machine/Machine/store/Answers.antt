@@ -1,11 +1,10 @@
-use Rattle.std.proofs.Common.{◌≡◌, List, map, ap, ◌∙◌}
+use Rattle.std.proofs.Common.{List, map, ap, ◌∙◌}
 use Rattle.ir_ast.specs.declared.ops.Operand.{Operand}
 use Rattle.ir_ast.specs.Objects.{Object}
 use Rattle.object_meaning.specs.Accesses.{cell_of}
 use Rattle.object_meaning.specs.Effects.{goes_on, ends}
 use Rattle.object_meaning.specs.Lines.{numbered}
 use Rattle.object_meaning.specs.Registers.{operand}
-use Rattle.object_meaning.specs.States.{State}
 use Rattle.object_meaning.specs.Steps.{accesses}
 use Rattle.sp_ids.specs.declared.ends.End.TheVariants.{Trap}
 use Rattle.object_store.specs.Stored.{stored_result}

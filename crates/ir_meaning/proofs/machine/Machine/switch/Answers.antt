@@ -1,4 +1,4 @@
-use Rattle.std.proofs.Common.{◌≡◌, List, set, sym, ap, ◌∙◌}
+use Rattle.std.proofs.Common.{List, set, sym, ap, ◌∙◌}
 use Rattle.std.specs.Prelude.{Option, Some, None, slice_get}
 use Rattle.ir_meaning.specs.Stacks.{Frames}
 use Rattle.ir_meaning.specs.Machines.{Whole, rest_of, seen_of, switched_so}
