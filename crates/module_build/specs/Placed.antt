@@ -1,5 +1,5 @@
 -- Lines in their places, as those of a text that was read are: what building a module relies on.
-use Rattle.std.specs.Prelude.{ℕ, ◌^◌, ◌<◌, List, [], map, length}
+use Rattle.std.specs.Prelude.{◌^◌, ◌<◌, List, [], map, length}
 use Rattle.std.specs.List.{All}
 use Rattle.ir_ast.specs.Blocks.{EndsAtTerminator}
 use Rattle.ir_ast.specs.Funcs.{IsSmall}
