@@ -7,7 +7,6 @@ use Rattle.std.proofs.lemmas.Bool.{cases_eq, cases_lt}
 use Rattle.std.proofs.lemmas.Bool.Decides.{nat_tests}
 use Rattle.std.proofs.lemmas.List.{append-nil, length_push, take_all}
 use Rattle.std.proofs.lemmas.Option.{none-some, same_Some, slice_get_within}
-use Rattle.sp_ids.specs.declared.limits.TheConstants.{PLAN_LINES}
 use Rattle.sp_text.specs.Lines.{NumberedLine, lines_of, numbered}
 use Rattle.move_plan.specs.declared.faults.PlanFault.{PlanFault}
 use Rattle.move_plan.specs.declared.faults.PlanFault.TheVariants as faults
@@ -43,7 +42,7 @@ pub record ReadsUpTo (text : List ℕ) (count : ℕ) (plan : List PlanLine) : Ty
   pub says : LinesSay ReadsAs (take count (lines text)) plan
   pub plan_is : IsPlan plan
   pub faultless : (number code : ℕ) → number ≤ count → ¬ HasFault text number code
-  pub within : count ≤ PLAN_LINES
+  pub within : count ≤ 262144
   pub short : length plan ≤ count
 
 earlier_line : (text : List ℕ) (count number : ℕ) (line : List ℕ) → HasLine text number line → number ≤ count → (place : ℕ) × (slice_get (take count (lines text)) place ≡ Some line)
@@ -101,7 +100,7 @@ says_this text count line reading what is said =
 pub data IsBehind (plan : List PlanLine) (reading : Option PlanLine) (number code : ℕ) : Type 0 where
   out_of_order : (what : PlanLine) → reading ≡ Some what → is_late plan what ≡ true → code ≡ order → IsBehind plan reading number code
   second : (what : PlanLine) → reading ≡ Some what → is_second_go plan what ≡ true → code ≡ two_go → IsBehind plan reading number code
-  over : number ≡ PLAN_LINES + 1 → code ≡ limit → IsBehind plan reading number code
+  over : number ≡ 262144 + 1 → code ≡ limit → IsBehind plan reading number code
 
 late-from : (plan : List PlanLine) (what : PlanLine) (event : ℕ) → at_event what ≡ Some event → event < last_event plan → is_late plan what ≡ true
 late-from plan (Every period) event at below = absurd (none-some event at)
@@ -139,7 +138,7 @@ classify text count plan line reading code so_far is (too_many other has over_li
 
 -- ---- the reader goes on
 
-follows-apart : (plan : List PlanLine) (reading : Option PlanLine) (number code : ℕ) → MayFollow plan reading → IsBehind plan reading number code → (number ≡ PLAN_LINES + 1) × (code ≡ limit)
+follows-apart : (plan : List PlanLine) (reading : Option PlanLine) (number code : ℕ) → MayFollow plan reading → IsBehind plan reading number code → (number ≡ 262144 + 1) × (code ≡ limit)
 follows-apart plan reading number code follows (out_of_order what is tardy coded) =
     (let this = subst (λ (one : Option PlanLine). MayFollow plan one) is follows in absurd (cc))
 follows-apart plan reading number code follows (second what is again coded) =
@@ -163,7 +162,7 @@ reads_none text = record {
 }
 
 plan_taken : (plan : List PlanLine) (count : ℕ) (line : List ℕ) (reading : Option PlanLine) → IsPlan plan → ReadsAs line reading → MayFollow plan reading → length plan ≤ count
-    → count + 1 ≤ PLAN_LINES → IsPlan (plan ++ option_to_list reading) × (length (plan ++ option_to_list reading) ≤ count + 1)
+    → count + 1 ≤ 262144 → IsPlan (plan ++ option_to_list reading) × (length (plan ++ option_to_list reading) ≤ count + 1)
 plan_taken plan count line None is reads follows short room = rw (append-nil plan) (is, omega arith)
 plan_taken plan count line (Some what) is reads follows short room =
     (plan_push plan what is reads.in_range follows (omega arith), omega (arith, length_push plan what))

@@ -10,7 +10,6 @@ use Rattle.std.proofs.lemmas.Int.{to_z-of_z}
 use Rattle.std.proofs.lemmas.Bool.{cases_eq, cases_lt}
 use Rattle.std.proofs.lemmas.List.{append-nil, length_push, take_all}
 use Rattle.std.proofs.lemmas.Option.{slice_get_within}
-use Rattle.sp_ids.specs.declared.limits.TheConstants.{INPUT_NUMBERS}
 use Rattle.sp_text.specs.Lines.{NumberedLine, lines_of, numbered}
 use Rattle.move_plan.specs.declared.faults.InputFault.{InputFault}
 use Rattle.move_plan.specs.declared.faults.InputFault.TheVariants as faults
@@ -61,7 +60,7 @@ no_number line word rest are none not = by
 pub record HeldUpTo (text : List ℕ) (count : ℕ) (numbers : List ℤ) : Type 0 where
   pub says : LinesSay Holds (take count (lines text)) numbers
   pub faultless : (number : ℕ) → number ≤ count → ¬ HasInputFault text number
-  pub few : length numbers ≤ INPUT_NUMBERS
+  pub few : length numbers ≤ 1048576
 
 next_line : (text : List ℕ) (count : ℕ) (line : List ℕ) → slice_get (lines text) count ≡ Some line → HasLine text (count + 1) line
 next_line text count line stands = record { place = count; counted = refl; stands = stands }
@@ -80,7 +79,7 @@ no_fault_here text count numbers line held so_far stands holds room (unread othe
 no_fault_here text count numbers line held so_far stands holds room (too_many other n others has also before full) =
     let same : other ≡ line = same_line text (count + 1) other line has (next_line text count line stands) in
     let tied : held ≡ Some n = one_number line held (Some n) holds (subst (λ (one : List ℕ). Holds one (Some n)) same also) in
-    let more : length numbers + 1 ≤ INPUT_NUMBERS = subst (λ (one : Option ℤ). HasRoom numbers one) tied room in
+    let more : length numbers + 1 ≤ 1048576 = subst (λ (one : Option ℤ). HasRoom numbers one) tied room in
     omega (arith, more, full, ap length (same_numbers text count numbers others so_far before))
 
 fault_line : (text : List ℕ) (number : ℕ) → HasInputFault text number → (line : List ℕ) × HasLine text number line
@@ -94,7 +93,7 @@ held_none text = record {
   few = omega arith;
 }
 
-room_for : (numbers : List ℤ) (held : Option ℤ) → length numbers ≤ INPUT_NUMBERS → HasRoom numbers held → length (numbers ++ option_to_list held) ≤ INPUT_NUMBERS
+room_for : (numbers : List ℤ) (held : Option ℤ) → length numbers ≤ 1048576 → HasRoom numbers held → length (numbers ++ option_to_list held) ≤ 1048576
 room_for numbers None few room = rw (append-nil numbers) few
 room_for numbers (Some n) few room = omega (arith, length_push numbers n, room)
 

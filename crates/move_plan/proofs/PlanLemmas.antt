@@ -10,7 +10,6 @@ use Rattle.std.proofs.lemmas.List.{length_push}
 use Rattle.std.proofs.lemmas.List.Elements.{All-push}
 use Rattle.std.proofs.lemmas.List.Sorted.{IsNonDecreasingBy-push, IsNonDecreasingBy-short}
 use Rattle.std.proofs.lemmas.Option.{none-some, same_Some, slice_get-get_or, slice_get_within, get_or_from_slice_get}
-use Rattle.sp_ids.specs.declared.limits.TheConstants.{PLAN_LINES}
 use Rattle.move_plan.specs.declared.plan_lines.PlanLine.{PlanLine}
 use Rattle.move_plan.specs.declared.plan_lines.PlanLine.TheVariants.{Every, Move, Flip, Go}
 use Rattle.move_plan.specs.PlanLines.{IsInRange}
@@ -101,7 +100,7 @@ every_alone : (plan : List PlanLine) (period : ℕ) → is_late plan (Every peri
 every_alone [] period late = refl
 every_alone (line ∷ rest) period late = absurd (cc)
 
-pub plan_push : (plan : List PlanLine) (what : PlanLine) → IsPlan plan → IsInRange what → MayFollow plan (Some what) → length plan < PLAN_LINES → IsPlan (plan ++ what ∷ [])
+pub plan_push : (plan : List PlanLine) (what : PlanLine) → IsPlan plan → IsInRange what → MayFollow plan (Some what) → length plan < 262144 → IsPlan (plan ++ what ∷ [])
 plan_push plan what is fits follows room = record {
   in_range = All-push IsInRange plan what is.in_range fits;
   rises = rises_push plan what is.rises (in_order plan what follows.0);

@@ -1,7 +1,6 @@
 -- One more line behind those that held some numbers.
 use Rattle.std.specs.Prelude.{◌≡◌, ◌⊎◌, ℕ, ℤ, ◌+◌, ◌≤◌, List, ◌++◌, length, Option, Some, None}
 use Rattle.std.specs.Option.{option_to_list}
-use Rattle.sp_ids.specs.declared.limits.TheConstants.{INPUT_NUMBERS}
 use Rattle.move_plan.specs.declared.faults.InputFault.{InputFault}
 use Rattle.move_plan.specs.declared.faults.InputFault.TheVariants as faults
 use Rattle.move_plan.specs.Texts.{HasNoReading}
@@ -10,7 +9,7 @@ use Rattle.move_plan.specs.InputNumbers.{Holds, HoldsNumber}
 -- there is room for what the line holds
 abbrev pub HasRoom : List ℤ → Option ℤ → Type 0
 HasRoom numbers None = Unit {0}
-HasRoom numbers (Some n) = length numbers + 1 ≤ INPUT_NUMBERS
+HasRoom numbers (Some n) = length numbers + 1 ≤ 1048576
 
 -- a line was taken
 pub record TakesNumber (numbers : List ℤ) (line : List ℕ) (next : List ℤ) : Type 0 where
@@ -23,7 +22,7 @@ pub record TakesNumber (numbers : List ℤ) (line : List ℕ) (next : List ℤ) 
 pub record IsOverLimit (numbers : List ℤ) (line : List ℕ) : Type 0 where
   pub number : ℤ
   pub holds : HoldsNumber line number
-  pub full : INPUT_NUMBERS ≤ length numbers
+  pub full : 1048576 ≤ length numbers
 
 -- a line can't be taken
 abbrev pub StopsAtNumber : List ℤ → ℕ → List ℕ → InputFault → Type 0

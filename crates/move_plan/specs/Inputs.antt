@@ -1,7 +1,6 @@
 -- The input that a text stands for, and its first fault.
 use Rattle.std.specs.Prelude.{◌≡◌, ℕ, ℤ, ◌≤◌, ◌-◌, List, length, take, Some}
 use Rattle.std.specs.Str.Lines.{lines}
-use Rattle.sp_ids.specs.declared.limits.TheConstants.{INPUT_NUMBERS}
 use Rattle.move_plan.specs.declared.faults.InputFault.{InputFault}
 use Rattle.move_plan.specs.declared.faults.InputFault.TheVariants as faults
 use Rattle.move_plan.specs.Texts.{HasLine, HasNoReading, LinesSay, TextSays}
@@ -19,7 +18,7 @@ pub data HasInputFault (text : List ℕ) (number : ℕ) : Type 0 where
   unread : (line : List ℕ) → HasLine text number line → HasNoReading Holds line → HasInputFault text number
   -- it holds the first number too many
   too_many : (line : List ℕ) (n : ℤ) (numbers : List ℤ) → HasLine text number line → Holds line (Some n)
-      → HeldBefore text number numbers → length numbers ≡ INPUT_NUMBERS → HasInputFault text number
+      → HeldBefore text number numbers → length numbers ≡ 1048576 → HasInputFault text number
 
 abbrev pub HasNoInputFault : List ℕ → Type 0
 HasNoInputFault text = (number : ℕ) → ¬ HasInputFault text number

@@ -1,6 +1,5 @@
 -- The faults of a plan's text, and the least of them.
 use Rattle.std.specs.Prelude.{◌≡◌, ℕ, ◌+◌, ◌<◌, ◌≤◌, ◌⊎◌, List, Option, Some, None}
-use Rattle.sp_ids.specs.declared.limits.TheConstants.{PLAN_LINES}
 use Rattle.move_plan.specs.declared.faults.PlanFault.{PlanFault}
 use Rattle.move_plan.specs.declared.faults.PlanFault.TheVariants as faults
 use Rattle.move_plan.specs.declared.plan_lines.PlanLine.{PlanLine}
@@ -48,7 +47,7 @@ pub data HasFault (text : List ℕ) (number code : ℕ) : Type 0 where
   second_go : (earlier event task other : ℕ) → earlier < number → LineSays text earlier (lines.Go event task)
       → LineSays text number (lines.Go event other) → code ≡ two_go → HasFault text number code
   -- the first line too many, blank lines counted
-  too_many : (line : List ℕ) → HasLine text number line → number ≡ PLAN_LINES + 1 → code ≡ limit → HasFault text number code
+  too_many : (line : List ℕ) → HasLine text number line → number ≡ 262144 + 1 → code ≡ limit → HasFault text number code
 
 abbrev pub HasNoFault : List ℕ → Type 0
 HasNoFault text = (number code : ℕ) → ¬ HasFault text number code

@@ -2,7 +2,6 @@
 use Rattle.std.specs.Prelude.{◌≡◌, ℕ, ◌≤◌, ◌%◌, Bool, false, ◌==◌, if◌then◌else◌, List, length, slice_get, Option, Some, None}
 use Rattle.std.specs.List.{All, list_any, filter_map}
 use Rattle.std.specs.List.Sorted.{IsNonDecreasingBy}
-use Rattle.sp_ids.specs.declared.limits.TheConstants.{PLAN_LINES}
 use Rattle.move_plan.specs.declared.plan_lines.Move.{Move}
 use Rattle.move_plan.specs.declared.plan_lines.PlanLine.{PlanLine}
 use Rattle.move_plan.specs.declared.plan_lines.PlanLine.TheVariants as lines
@@ -58,4 +57,4 @@ pub record IsPlan (plan : List PlanLine) : Type 0 where
   pub every_first : (place period : ℕ) → slice_get plan place ≡ Some (lines.Every period) → place ≡ 0
   pub one_go : (place other event task another : ℕ) → slice_get plan place ≡ Some (lines.Go event task)
       → slice_get plan other ≡ Some (lines.Go event another) → place ≡ other
-  pub few : length plan ≤ PLAN_LINES
+  pub few : length plan ≤ 262144

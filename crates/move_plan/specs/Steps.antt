@@ -1,7 +1,6 @@
 -- One more line behind those of a plan.
 use Rattle.std.specs.Prelude.{◌≡◌, ℕ, ◌-◌, ◌<◌, ◌≤◌, Bool, true, false, not, nat_lt, if◌then◌else◌, List, [], ◌∷◌, ◌++◌, length, slice_get, Option, Some, None}
 use Rattle.std.specs.Option.{is_some, option_map_or, option_to_list}
-use Rattle.sp_ids.specs.declared.limits.TheConstants.{PLAN_LINES}
 use Rattle.move_plan.specs.declared.faults.PlanFault.{PlanFault}
 use Rattle.move_plan.specs.declared.faults.PlanFault.TheVariants as faults
 use Rattle.move_plan.specs.declared.plan_lines.PlanLine.{PlanLine}
@@ -45,7 +44,7 @@ pub record TakesLine (plan : List PlanLine) (number : ℕ) (line : List ℕ) (ne
   pub reading : Option PlanLine
   pub reads : ReadsAs line reading
   pub follows : MayFollow plan reading
-  pub within : number ≤ PLAN_LINES
+  pub within : number ≤ 262144
   pub added : next ≡ plan ++ option_to_list reading
 
 -- a line can't be taken
@@ -64,7 +63,7 @@ pub record IsOverLimit (plan : List PlanLine) (number : ℕ) (line : List ℕ) :
   pub reading : Option PlanLine
   pub reads : ReadsAs line reading
   pub follows : MayFollow plan reading
-  pub over : PLAN_LINES < number
+  pub over : 262144 < number
 
 abbrev pub StopsAt : List PlanLine → ℕ → List ℕ → PlanFault → Type 0
 StopsAt plan number line (faults.Syntax at) = (at ≡ number) × HasNoReading ReadsAs line

@@ -18,7 +18,7 @@ use std::alloc::Global;
 pub fn read_input(alloc: Global, text: &[u8]) -> Result<Vec<i64>, InputFault>
     requires { length text.now ≤ FILE_BYTES }
     ensures input { IfOk result (λ numbers. IsInputOf text.now numbers.items) }
-    ensures few { IfOk result (λ numbers. length numbers.items ≤ INPUT_NUMBERS) }
+    ensures few { IfOk result (λ numbers. length numbers.items ≤ 1048576) }
     ensures faultless { OnOk result (HasNoInputFault text.now) }
     ensures fault { IfErr result (IsInputFaultOf text.now) }
 {
