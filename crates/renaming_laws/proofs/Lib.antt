@@ -1,0 +1,5 @@
+pub mod ListLaws
+pub mod RegisterLaws
+pub mod FrontLaws
+pub mod Related
+pub mod CallLaws
