@@ -51,7 +51,7 @@ regrouped_is frame entries rest answer =
     ∙ ap (λ members. record frame { rest = behind (tested is_member) rest; registers = put_all (map (member_write frame.registers entries answer) members) frame.registers })
     (take_before (tested is_member) rest)
 
-drop_map : {A B : Type 0} (f : A → B) (count : ℕ) (xs : List A) → drop count (map f xs) ≡ map f (drop count xs)
+pub drop_map : {A B : Type 0} (f : A → B) (count : ℕ) (xs : List A) → drop count (map f xs) ≡ map f (drop count xs)
 drop_map f zero xs = refl
 drop_map f (suc count) [] = refl
 drop_map f (suc count) (x ∷ xs) = drop_map f count xs

@@ -3,3 +3,5 @@ pub mod RegisterLaws
 pub mod FrontLaws
 pub mod Related
 pub mod CallLaws
+pub mod StepLaws
+pub mod ImageLaws
