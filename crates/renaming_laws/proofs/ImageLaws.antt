@@ -17,9 +17,10 @@ use Rattle.object_meaning.specs.Steps.{step, steps_at}
 use Rattle.object_meaning.specs.Texts.{bundle_line, bundle_lines, closing_lines, shown}
 use Rattle.object_meaning.specs.Traces.{Access, Event, accesses_at, done_at, events_at}
 use Rattle.object_meaning.proofs.SimulationLaws.{Follows, FollowsIn, LeadsOn, LeadsOut, Leads, SameLast, accessing, gives_here, gives_there, happens}
-use Rattle.renaming_laws.specs.Renamed.{InRoom, Renaming, renamed}
-use Rattle.renaming_laws.specs.Images.{HasImages}
-use Rattle.renaming_laws.specs.Statements.{ImagesGiveTheSame}
+use Rattle.renaming_laws.specs.Renamed.{InRoom, IsLineOf, Renaming, renamed}
+use Rattle.renaming_laws.specs.Inserted.{alone}
+use Rattle.renaming_laws.specs.Images.{CanRenumber, HasImages, Images, more_lines, no_lines, renumbered, renumbered_setting}
+use Rattle.renaming_laws.specs.Statements.{ImagesGiveTheSame, RenumberingGivesTheSame}
 use Rattle.renaming_laws.proofs.ListLaws.{all_first, all_rest}
 use Rattle.renaming_laws.proofs.RegisterLaws.{Kept, value_kept}
 use Rattle.renaming_laws.proofs.Related.{EffectKept, FramesKept, Goes, Lasts, at_line, both_end, both_go, both_print, goes, image, line_there, more_frames, more_tasks, no_frames, no_tasks}
@@ -224,3 +225,38 @@ images_give_the_same functions one other law input outcome =
       go = λ event. refl;
       bound = refl;
     }) input outcome)
+
+-- ---- numbers alone
+
+images_of : (functions : ℕ → Renaming) (func : ℕ) (lines : List Line) → All (IsLineOf functions func) lines → Images functions func lines (map (renumbered (functions func).number) lines)
+images_of functions func [] all = no_lines
+images_of functions func (line ∷ lines) all =
+    more_lines line (renumbered (functions func).number line ∷ []) lines (map (renumbered (functions func).number) lines) (all_first (IsLineOf functions func) line lines all) (alone line.inst.result)
+    (images_of functions func lines (all_rest (IsLineOf functions func) line lines all))
+
+images_after : (functions : ℕ → Renaming) (func : ℕ) (front lines images : List Line) → All (IsLineOf functions func) front → Images functions func lines images
+    → Images functions func (front ++ lines) (map (renumbered (functions func).number) front ++ images)
+images_after functions func [] lines images all further = further
+images_after functions func (line ∷ front) lines images all further =
+    more_lines line (renumbered (functions func).number line ∷ []) (front ++ lines) (map (renumbered (functions func).number) front ++ images)
+    (all_first (IsLineOf functions func) line front all) (alone line.inst.result)
+    (images_after functions func front lines images (all_rest (IsLineOf functions func) line front all) further)
+
+pub renumbering_gives_the_same : RenumberingGivesTheSame
+renumbering_gives_the_same functions setting can input outcome =
+    images_give_the_same functions setting (renumbered_setting functions setting)
+    (record {
+      renaming = can.renaming;
+      front = λ func. subst (λ (front : List Line). Images functions func (setting.front ++ setting.lines func 0) (front ++ map (renumbered (functions func).number) (setting.lines func 0)))
+          (can.front_stays func)
+          (images_after functions func setting.front (setting.lines func 0) (map (renumbered (functions func).number) (setting.lines func 0)) (can.front func)
+          (images_of functions func (setting.lines func 0) (can.lines func 0)));
+      blocks = λ func block entered. images_of functions func (setting.lines func block) (can.lines func block);
+      room = can.room;
+      now_room = λ func. refl;
+      names = λ func. refl;
+      layouts = refl;
+      main = refl;
+      go = λ event. refl;
+      bound = refl;
+    }) input outcome

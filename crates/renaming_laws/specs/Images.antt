@@ -1,8 +1,9 @@
 -- A run whose lines are the images of another run's lines.
-use Rattle.std.specs.Prelude.{◌≡◌, ℕ, true, List, [], ◌∷◌, ◌++◌}
+use Rattle.std.specs.Prelude.{◌≡◌, ℕ, true, List, [], ◌∷◌, ◌++◌, map}
+use Rattle.std.specs.List.{All}
 use Rattle.object_meaning.specs.Lines.{Line}
 use Rattle.object_meaning.specs.States.{Setting}
-use Rattle.renaming_laws.specs.Renamed.{Renaming, IsRenaming, IsLineOf}
+use Rattle.renaming_laws.specs.Renamed.{Renaming, IsRenaming, IsLineOf, renamed_line}
 use Rattle.renaming_laws.specs.Inserted.{Image}
 
 -- each line of a function has its image, in their order
@@ -24,3 +25,24 @@ pub record HasImages (functions : ℕ → Renaming) (one other : Setting) : Type
   pub main : other.main ≡ one.main
   pub go : (event : ℕ) → other.go event ≡ one.go event
   pub bound : other.bound ≡ one.bound
+
+-- ---- numbers alone
+
+-- a line under other numbers, with its name
+abbrev pub renumbered : (ℕ → ℕ) → Line → Line
+renumbered number line = renamed_line number line.inst.result line
+
+-- the setting whose registers have other numbers
+abbrev pub renumbered_setting : (ℕ → Renaming) → Setting → Setting
+renumbered_setting functions setting = record setting {
+  lines = λ func block. map (renumbered (functions func).number) (setting.lines func block);
+  registers = λ func. (functions func).now_room;
+}
+
+-- what a setting asks of the numbers: its lines name registers that exist, and those in front of a function name none
+pub record CanRenumber (functions : ℕ → Renaming) (setting : Setting) : Type 0 where
+  pub renaming : (func : ℕ) → IsRenaming (functions func)
+  pub room : (func : ℕ) → setting.registers func ≡ (functions func).room
+  pub lines : (func block : ℕ) → All (IsLineOf functions func) (setting.lines func block)
+  pub front : (func : ℕ) → All (IsLineOf functions func) setting.front
+  pub front_stays : (func : ℕ) → map (renumbered (functions func).number) setting.front ≡ setting.front
