@@ -26,7 +26,7 @@ use Rattle.object_meaning.specs.Registers.{nothing, number_in, operand, pointer_
 use Rattle.object_meaning.specs.States.{Frame, State, Setting}
 use Rattle.object_meaning.specs.Steps.{returned}
 use Rattle.object_meaning.specs.Tasks.{handed_over, polled, started, switched, switched_to, task_ended, with_event}
-use Rattle.renaming_laws.specs.Renamed.{CalleeTakes, InRoom, IsLineOf, IsRenaming, Renaming, renamed, renamed_line}
+use Rattle.renaming_laws.specs.Renamed.{CalleeTakes, InRoom, IsLineOf, IsRenaming, Renaming, Takes, renamed, renamed_line}
 use Rattle.renaming_laws.specs.Images.{HasImages, Images}
 use Rattle.renaming_laws.proofs.ListLaws.{all_dropped, before, behind, drop_behind, take_before}
 use Rattle.renaming_laws.proofs.RegisterLaws.{Kept, entered_kept, function_same, operand_kept, put_kept, values_kept}
@@ -66,11 +66,11 @@ module _ (functions : ℕ → Renaming) (one : Setting) (lines : ℕ → ℕ →
 
   -- ---- frames
 
-  pub entered_goes : (func : ℕ) (arguments : List Datum) → length arguments ≤ (functions func).arguments
+  pub entered_goes : (func : ℕ) (arguments : List Datum) → Takes (functions func) (length arguments)
       → FrameGoes functions (entered one func arguments) (entered other func arguments)
-  entered_goes func arguments few =
+  entered_goes func arguments takes =
       frame_goes (entered one func arguments) (entered other func arguments).rest (entered other func arguments).registers
-      (record { images = law.front func; kept = rw (law.room func, law.now_room func) (entered_kept arguments (law.renaming func) few) })
+      (record { images = law.front func takes.called; kept = rw (law.room func, law.now_room func) (entered_kept arguments (law.renaming func) takes.few) })
 
   pub regrouped_goes : (frame : Frame) (rest others lines_there : List Line) (now : List Datum) (entries : List Operand) (answer : Datum)
       → Images functions frame.func rest others → Kept (functions frame.func) frame.registers now → All (InRoom (functions frame.func).room) entries
@@ -227,7 +227,7 @@ module _ (functions : ℕ → Renaming) (one : Setting) (lines : ℕ → ℕ →
     event_lasts : Lasts functions (with_event here) (with_event there)
     event_lasts = record { func = refl; steps = refl; events = refl; objects = refl; below = frames }
 
-    entering_kept : (func : ℕ) (arguments : List Datum) → length arguments ≤ (functions func).arguments
+    entering_kept : (func : ℕ) (arguments : List Datum) → Takes (functions func) (length arguments)
         → EffectKept functions (entering one func arguments here) (entering other func arguments there)
     entering_kept func arguments few = rw (frames_length functions state.below below frames) (by (nat_lt (length state.below + 1) 4096))
       where
@@ -240,7 +240,7 @@ module _ (functions : ℕ → Renaming) (one : Setting) (lines : ℕ → ℕ →
             (entered_goes func arguments few) (more_frames state.running line name rest others now state.below below kept frames) all)
         by false = both_end (ended.Trap traps.Depth) here there lasts
 
-    started_kept : (func : ℕ) (argument : Datum) → 1 ≤ (functions func).arguments → EffectKept functions (started one here func argument) (started other there func argument)
+    started_kept : (func : ℕ) (argument : Datum) → Takes (functions func) 1 → EffectKept functions (started one here func argument) (started other there func argument)
     started_kept func argument few = rw (tasks_length functions state.tasks tasks all) (by (nat_lt (length state.tasks) 64))
       where
         by : (b : Bool) → EffectKept functions
@@ -316,7 +316,7 @@ module _ (functions : ℕ → Renaming) (one : Setting) (lines : ℕ → ℕ →
         (stepped_kept at_it (frame_there state line name rest others now below tasks kept frames all) below tasks refl frames all
         (entering one func.0 (map (value state.running.registers) operands)) (entering other func.0 (map (value state.running.registers) operands))
         (entering_kept (record state { steps = state.steps + 1 }) line name rest others now below tasks kept frames all func.0 (map (value state.running.registers) operands)
-        (let same = length-map operands (value state.running.registers) in omega arith)))
+        (record { called = few.called; few = let same = length-map operands (value state.running.registers) in let fits = few.few in omega arith })))
     called_kept operands inside (callees.New layout) few =
         rw (operand_kept operands 0 inside kept.kept) (allocating_kept layout (signed 64 (number_in (operand state.running.registers operands 0))))
     called_kept operands inside callees.Print few =

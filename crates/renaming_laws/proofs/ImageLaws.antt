@@ -184,7 +184,7 @@ module _ (functions : ℕ → Renaming) (one : Setting) (lines : ℕ → ℕ →
   opens input = record {
     printed = refl;
     states = goes (opening one input).state (opening other input).state.running [] ([] ∷ [])
-        (entered_goes functions one lines front registers names law one.main [] (omega arith)) no_frames (more_tasks [] [] [] [] no_frames no_tasks);
+        (entered_goes functions one lines front registers names law one.main [] (record { called = law.main_called; few = omega arith })) no_frames (more_tasks [] [] [] [] no_frames no_tasks);
   }
 
   pub same_outcome : (input : List ℤ) (outcome : Outcome) → Gives one input outcome ↔ Gives other input outcome
@@ -222,6 +222,7 @@ images_give_the_same functions one other law input outcome =
       names = law.names;
       layouts = refl;
       main = refl;
+      main_called = law.main_called;
       go = λ event. refl;
       bound = refl;
     }) input outcome)
@@ -247,7 +248,7 @@ renumbering_gives_the_same functions setting can input outcome =
     images_give_the_same functions setting (renumbered_setting functions setting)
     (record {
       renaming = can.renaming;
-      front = λ func. subst (λ (front : List Line). Images functions func (setting.front ++ setting.lines func 0) (front ++ map (renumbered (functions func).number) (setting.lines func 0)))
+      front = λ func called. subst (λ (front : List Line). Images functions func (setting.front ++ setting.lines func 0) (front ++ map (renumbered (functions func).number) (setting.lines func 0)))
           (can.front_stays func)
           (images_after functions func setting.front (setting.lines func 0) (map (renumbered (functions func).number) (setting.lines func 0)) (can.front func)
           (images_of functions func (setting.lines func 0) (can.lines func 0)));
@@ -257,6 +258,7 @@ renumbering_gives_the_same functions setting can input outcome =
       names = λ func. refl;
       layouts = refl;
       main = refl;
+      main_called = can.main;
       go = λ event. refl;
       bound = refl;
     }) input outcome

@@ -12,17 +12,18 @@ pub data Images (functions : ℕ → Renaming) (func : ℕ) : List Line → List
   more_lines : (line : Line) (group rest others : List Line) → IsLineOf functions func line → Image (functions func) line group
       → Images functions func rest others → Images functions func (line ∷ rest) (group ++ others)
 
--- the lines of the other setting are the images of the lines of this one, both from the front of a function on and in each
--- block that is entered by a jump; and the settings agree in all else but the registers
+-- the lines of the other setting are the images of the lines of this one, both from the front of each function that may be
+-- called on and in each block that is entered by a jump; and the settings agree in all else but the registers
 pub record HasImages (functions : ℕ → Renaming) (one other : Setting) : Type 0 where
   pub renaming : (func : ℕ) → IsRenaming (functions func)
-  pub front : (func : ℕ) → Images functions func (one.front ++ one.lines func 0) (other.front ++ other.lines func 0)
+  pub front : (func : ℕ) → (functions func).called ≡ true → Images functions func (one.front ++ one.lines func 0) (other.front ++ other.lines func 0)
   pub blocks : (func block : ℕ) → (functions func).entered block ≡ true → Images functions func (one.lines func block) (other.lines func block)
   pub room : (func : ℕ) → one.registers func ≡ (functions func).room
   pub now_room : (func : ℕ) → other.registers func ≡ (functions func).now_room
   pub names : (func : ℕ) → other.names func ≡ one.names func
   pub layouts : other.layouts ≡ one.layouts
   pub main : other.main ≡ one.main
+  pub main_called : (functions one.main).called ≡ true
   pub go : (event : ℕ) → other.go event ≡ one.go event
   pub bound : other.bound ≡ one.bound
 
@@ -45,4 +46,5 @@ pub record CanRenumber (functions : ℕ → Renaming) (setting : Setting) : Type
   pub room : (func : ℕ) → setting.registers func ≡ (functions func).room
   pub lines : (func block : ℕ) → All (IsLineOf functions func) (setting.lines func block)
   pub front : (func : ℕ) → All (IsLineOf functions func) setting.front
+  pub main : (functions setting.main).called ≡ true
   pub front_stays : (func : ℕ) → map (renumbered (functions func).number) setting.front ≡ setting.front

@@ -29,9 +29,10 @@ renamed_line number name line = record {
   };
 }
 
--- a function: how many arguments it has, how many registers it has before and now, the number that each register has
--- now, and the blocks to which its jumps lead
+-- a function: whether there is one to call, how many arguments it has, how many registers it has before and now, the number
+-- that each register has now, and the blocks to which its jumps lead
 pub record Renaming : Type 0 where
+  pub called : Bool
   pub arguments : ℕ
   pub room : ℕ
   pub now_room : ℕ
@@ -52,10 +53,15 @@ abbrev pub InRoom : ℕ → Operand → Type 0
 InRoom room (Value id) = id.0 < room
 InRoom room operand = ⊤
 
+-- the function is there, and has so many arguments or more
+pub record Takes (function : Renaming) (count : ℕ) : Type 0 where
+  pub called : function.called ≡ true
+  pub few : count ≤ function.arguments
+
 -- a call passes no more arguments than its callee has
 abbrev pub CalleeTakes : (ℕ → Renaming) → Callee → List Operand → Type 0
-CalleeTakes functions (Fun func) operands = length operands ≤ (functions func.0).arguments
-CalleeTakes functions TaskStart operands = 1 ≤ (functions (function_in (slice_get operands 0))).arguments
+CalleeTakes functions (Fun func) operands = Takes (functions func.0) (length operands)
+CalleeTakes functions TaskStart operands = Takes (functions (function_in (slice_get operands 0))) 1
 CalleeTakes functions callee operands = ⊤
 
 abbrev pub ArgumentsFit : (ℕ → Renaming) → Op → List Operand → Type 0
