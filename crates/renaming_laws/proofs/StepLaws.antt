@@ -98,7 +98,7 @@ negated : (same : Bool) → bit_xor (bit same) 1 ≡ bit (not same)
 negated true = refl
 negated false = refl
 
-merge_is : (op : Op) → is_merge op ≡ true → (op ≡ ops.Phi) ⊎ (op ≡ ops.Select)
+pub merge_is : (op : Op) → is_merge op ≡ true → (op ≡ ops.Phi) ⊎ (op ≡ ops.Select)
 merge_is ops.Phi is = inl refl
 merge_is ops.Select is = inr refl
 merge_is op is = absurd cc
