@@ -61,7 +61,7 @@ module _ {A : Type 0} (test : A → Bool) where
   pub number_within : (xs : List A) (place room : ℕ) → place < room → number_of xs place < room + count xs
   number_within xs place room below = let most = count_whole xs (suc place) in omega arith
 
-  count_next : (xs : List A) (place : ℕ) (x : A) → slice_get xs place ≡ Some x → test x ≡ true → count (take (suc place) xs) ≡ count (take place xs) + 1
+  pub count_next : (xs : List A) (place : ℕ) (x : A) → slice_get xs place ≡ Some x → test x ≡ true → count (take (suc place) xs) ≡ count (take place xs) + 1
   count_next [] place x is passes = absurd cc
   count_next (y ∷ xs) zero x is passes =
       let same : test y ≡ true = cc in
@@ -83,3 +83,15 @@ module _ {A : Type 0} (test : A → Bool) where
         let one = count_next xs place x is passes in
         omega arith)
   ]
+
+  pub count_next_not : (xs : List A) (place : ℕ) (x : A) → slice_get xs place ≡ Some x → test x ≡ false → count (take (suc place) xs) ≡ count (take place xs)
+  count_next_not [] place x is fails = absurd cc
+  count_next_not (y ∷ xs) zero x is fails =
+      let same : test y ≡ false = cc in
+      rw same refl
+  count_next_not (y ∷ xs) (suc place) x is fails = by (test y) (count_next_not xs place x is fails)
+    where
+      by : (b : Bool) → count (take (suc place) xs) ≡ count (take place xs)
+          → (if b then 1 + count (take (suc place) xs) else count (take (suc place) xs)) ≡ (if b then 1 + count (take place xs) else count (take place xs))
+      by true rest = omega arith
+      by false rest = rest

@@ -1,3 +1,5 @@
 pub mod CountLaws
 pub mod PlacedLaws
 pub mod TypeLaws
+pub mod NumberLaws
+pub mod LineLaws
