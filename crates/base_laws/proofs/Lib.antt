@@ -3,3 +3,4 @@ pub mod PlacedLaws
 pub mod TypeLaws
 pub mod NumberLaws
 pub mod LineLaws
+pub mod BlockLaws
