@@ -1,8 +1,8 @@
 -- The lines of a function with bases are the images of its lines, block by block; and how many registers it has.
-use Rattle.std.proofs.Common.{◌≡◌, ℕ, zero, suc, ◌+◌, ◌-◌, ◌<◌, ◌≤◌, Bool, true, false, if◌then◌else◌, List, [], ◌∷◌, ◌++◌, length, map, drop, refl, sym, ap, subst, ◌∙◌, append_assoc, append-nil, arith}
-use Rattle.std.specs.Prelude.{Option, Some, None, is_some, slice_get, slice_index, filter, count_by}
+use Rattle.std.proofs.Common.{◌≡◌, ℕ, zero, suc, ◌+◌, ◌-◌, ◌<◌, Bool, true, false, if◌then◌else◌, List, [], ◌∷◌, ◌++◌, length, map, drop, refl, sym, ap, subst, ◌∙◌, append_assoc, append-nil, arith}
+use Rattle.std.specs.Prelude.{Option, Some, is_some, slice_get, slice_index, filter, count_by}
 use Rattle.std.specs.List.{All}
-use Rattle.std.proofs.lemmas.List.{length-append, length-map, map-append}
+use Rattle.std.proofs.lemmas.List.{length-map, map-append}
 use Rattle.std.proofs.lemmas.List.Elements.{filter-append}
 use Rattle.std.proofs.Math.Seq.{drop-append_seam}
 use Rattle.list_laws.proofs.Contents.{all_back, all_front}
@@ -14,13 +14,13 @@ use Rattle.object_meaning.specs.Lines.{Line, after_all, first_registers, followi
 use Rattle.object_meaning.specs.TargetRuns.{plain_lines}
 use Rattle.base_forms.specs.DerivedMarks.{derived_marks}
 use Rattle.base_forms.specs.Inserted.{has_inserted, inserted_number}
-use Rattle.base_forms.specs.Based.{based, based_blocks, based_insts, lines_for}
+use Rattle.base_forms.specs.Based.{based_blocks, based_insts, lines_for}
 use Rattle.renaming_laws.specs.Renamed.{Renaming}
 use Rattle.renaming_laws.specs.Inserted.{Image}
 use Rattle.renaming_laws.specs.Images.{Images, more_lines, no_lines}
 use Rattle.renaming_laws.proofs.ListLaws.{all_first, all_rest}
 use Rattle.base_laws.proofs.PlacedLaws.{has_result}
-use Rattle.base_laws.proofs.TypeLaws.{IsTypedLine, MarksPointers}
+use Rattle.base_laws.proofs.TypeLaws.{MarksPointers}
 use Rattle.base_laws.proofs.NumberLaws.{definition_count, first_keeps, renaming_of, shift_last}
 use Rattle.base_laws.proofs.LineLaws.{IsReady, line_made, line_of}
 
@@ -183,7 +183,7 @@ module _ (functions : ℕ → Renaming) (number : ℕ) (func : Function) (called
             becomes = rest.becomes;
             found = rest.found;
             images = subst (λ (n : ℕ). Images functions number (plain_lines (slice_index (first_registers (after_all next first.insts) blocks) k) block.insts)
-            (plain_lines (slice_index (first_registers n (based_blocks func (derived_marks func) (after_all next first.insts) blocks)) k) rest.becomes.insts))
+                (plain_lines (slice_index (first_registers n (based_blocks func (derived_marks func) (after_all next first.insts) blocks)) k) rest.becomes.insts))
                 (sym next_is) rest.images;
           }
 

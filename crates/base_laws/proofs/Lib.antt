@@ -4,3 +4,5 @@ pub mod TypeLaws
 pub mod NumberLaws
 pub mod LineLaws
 pub mod BlockLaws
+pub mod ReadyLaws
+pub mod MeaningLaws

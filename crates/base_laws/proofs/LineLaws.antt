@@ -1,9 +1,8 @@
 -- The lines for an instruction are its image: its base, check or compare does what it does, and it has its new number.
-use Rattle.std.proofs.Common.{◌≡◌, ◌≢◌, ◌==◌, ℕ, zero, suc, ◌+◌, ◌-◌, ◌<◌, ◌≤◌, Bool, true, false, not, ◌&&◌, ◌||◌, if◌then◌else◌, List, [], ◌∷◌, ◌++◌, length, map, drop, refl, sym, ap, subst, ◌∙◌, arith}
+use Rattle.std.proofs.Common.{◌≡◌, ◌≢◌, ◌==◌, ℕ, zero, suc, ◌+◌, ◌<◌, Bool, true, false, not, ◌&&◌, ◌||◌, if◌then◌else◌, List, [], ◌∷◌, ◌++◌, length, map, refl, sym, ap, subst, ◌∙◌, arith}
 use Rattle.std.specs.Prelude.{Option, Some, None, is_some, slice_get, slice_index_or}
 use Rattle.std.specs.List.{All, filter_map}
 use Rattle.std.specs.Option.{option_map, IfSome}
-use Rattle.std.proofs.lemmas.Bool.{eq-eqb, eqb-true}
 use Rattle.std.proofs.lemmas.Bool.Decides.{nat_tests}
 use Rattle.std.proofs.lemmas.List.{length-drop}
 use Rattle.std.proofs.lemmas.List.Elements.{All-cons, All-nil}
@@ -20,10 +19,10 @@ use Rattle.ir_ast.specs.declared.ops.Operand.{Operand}
 use Rattle.ir_ast.specs.declared.ops.Operand.TheVariants as operands
 use Rattle.ir_ast.specs.Cells.{kind_of}
 use Rattle.ir_ast.specs.Insts.{Instruction}
-use Rattle.ir_ast.specs.Funcs.{Function, instructions_of}
+use Rattle.ir_ast.specs.Funcs.{Function}
 use Rattle.ir_ast.specs.Lines.{IsLine, LineOf}
 use Rattle.ir_ast.specs.Operands.{operands_of, value_in, values_used}
-use Rattle.ir_ast.specs.Values.{Definition, definitions_of, outcome}
+use Rattle.ir_ast.specs.Values.{definitions_of, outcome}
 use Rattle.ir_ast.specs.Derived.{is_merge}
 use Rattle.ir_ast.specs.Ops.{is_terminator}
 use Rattle.ir_ast.specs.Faults.EntryHasPred.{LeavesEntry}
@@ -38,7 +37,6 @@ use Rattle.base_forms.specs.Based.{base_line, check, compared, kept_line, lines_
 use Rattle.renaming_laws.specs.Renamed.{ArgumentsFit, InRoom, IsLineOf, Leads, Renaming, renamed, renamed_line}
 use Rattle.renaming_laws.specs.Inserted.{Image, alone, as_negated, as_same, behind_check, behind_merge, check_line, negated_line, pointer_place, same_line}
 use Rattle.renaming_laws.proofs.ListLaws.{all_first, all_rest}
-use Rattle.base_laws.proofs.PlacedLaws.{has_result}
 use Rattle.base_laws.proofs.TypeLaws.{IsTypedLine, MarksPointers, compares_pointers}
 use Rattle.base_laws.proofs.NumberLaws.{number_alone, number_behind, renaming_of, shift_is_fresh, shift_next, shift_within}
 

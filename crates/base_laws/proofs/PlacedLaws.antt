@@ -1,16 +1,16 @@
 -- The function with its polls: its lines are those that a source function runs, and its values are the same.
-use Rattle.std.proofs.Common.{◌≡◌, ℕ, zero, suc, ◌+◌, Bool, true, false, if◌then◌else◌, List, [], ◌∷◌, ◌++◌, length, map, refl, sym, ap, subst, ◌∙◌, append_assoc, arith}
-use Rattle.std.specs.Prelude.{Option, Some, None, is_some, slice_get, slice_index, slice_index_or, filter}
+use Rattle.std.proofs.Common.{◌≡◌, ℕ, zero, suc, ◌+◌, Bool, true, false, if◌then◌else◌, List, [], ◌∷◌, ◌++◌, map, refl, sym, ap, ◌∙◌, arith}
+use Rattle.std.specs.Prelude.{Some, is_some, slice_get, filter}
 use Rattle.std.specs.List.{All, flat_map}
-use Rattle.std.specs.Option.{option_map, option_map_or}
+use Rattle.std.specs.Option.{option_map}
 use Rattle.std.proofs.lemmas.List.Elements.{filter-append, All-cons, All-nil}
 use Rattle.ir_ast.specs.Insts.{Instruction}
 use Rattle.ir_ast.specs.Blocks.{BasicBlock}
 use Rattle.ir_ast.specs.Funcs.{Function, instructions_of}
 use Rattle.ir_ast.specs.Values.{definitions_of, outcome, argument}
-use Rattle.object_meaning.specs.Lines.{Line, after_all, first_registers, following, insts_in, lines_from, numbered, poll, retreats}
+use Rattle.object_meaning.specs.Lines.{after_all, first_registers, following, lines_from, numbered, poll, retreats}
 use Rattle.object_meaning.specs.TargetRuns.{plain_lines}
-use Rattle.base_forms.specs.Polls.{front_poll, placed, placed_block, placed_from, poll_call, polled}
+use Rattle.base_forms.specs.Polls.{placed, placed_block, placed_from, poll_call, polled}
 use Rattle.renaming_laws.proofs.ListLaws.{all_first, all_rest}
 
 abbrev pub has_result : Instruction → Bool

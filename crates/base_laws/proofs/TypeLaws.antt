@@ -1,6 +1,6 @@
 -- A value with a mark is a pointer.
-use Rattle.std.proofs.Common.{◌≡◌, ℕ, zero, suc, ◌+◌, ◌<◌, Bool, true, false, ◌||◌, ◌&&◌, if◌then◌else◌, List, [], ◌∷◌, ◌++◌, length, map, replicate, refl, sym, ap, subst, ◌∙◌, append-nil, ◌⊎◌, inl, inr, arith}
-use Rattle.std.specs.Prelude.{Option, Some, None, is_some, slice_get, slice_index_or, filter}
+use Rattle.std.proofs.Common.{◌≡◌, ℕ, zero, suc, Bool, true, false, ◌||◌, ◌&&◌, if◌then◌else◌, List, [], ◌∷◌, ◌++◌, length, map, refl, sym, ap, subst, ◌∙◌, append-nil, inl, inr}
+use Rattle.std.specs.Prelude.{Some, slice_get, slice_index_or, filter}
 use Rattle.std.specs.List.{All, AllZip, filter_map, list_any}
 use Rattle.list_laws.proofs.Places.{get_filled, get_map}
 use Rattle.renaming_laws.proofs.StepLaws.{merge_is}
@@ -17,7 +17,7 @@ use Rattle.ir_ast.specs.Insts.{Instruction}
 use Rattle.ir_ast.specs.Funcs.{Function, instructions_of}
 use Rattle.ir_ast.specs.Types.{is_pointer}
 use Rattle.ir_ast.specs.Lines.{IsLine, LineOf}
-use Rattle.ir_ast.specs.Operands.{value_in, values_used}
+use Rattle.ir_ast.specs.Operands.{value_in}
 use Rattle.ir_ast.specs.Values.{Definition, Gives, argument, definition_type, definitions_of, outcome, outcome_type, value_types}
 use Rattle.ir_ast.specs.Derived.{is_merge, is_step}
 use Rattle.ir_ast.specs.Faults.TypeClash.{Fits, asked}

@@ -1,5 +1,5 @@
 -- Frames that go on, tasks and calls: what a run does, the run of the images does.
-use Rattle.std.proofs.Common.{◌≡◌, ◌==◌, ℕ, zero, suc, ◌+◌, ◌≤◌, Bool, true, false, if◌then◌else◌, List, [], ◌∷◌, ◌++◌, length, map, take, drop, refl, sym, ap, subst, ◌∙◌, arith}
+use Rattle.std.proofs.Common.{◌≡◌, ◌==◌, ℕ, zero, suc, ◌+◌, Bool, true, false, if◌then◌else◌, List, [], ◌∷◌, ◌++◌, length, map, take, drop, refl, ap, ◌∙◌, arith}
 use Rattle.std.specs.Prelude.{Option, Some, None, slice_get, slice_set, ℤ, pos, nat_lt, int_lt, unsigned_abs, Result, Ok, Err}
 use Rattle.std.specs.Int.{w64, cast_unsigned}
 use Rattle.std.specs.List.{All, sum_by}
@@ -19,19 +19,19 @@ use Rattle.ir_ast.specs.Objects.{Datum, number, pointer, Object, footprint}
 use Rattle.object_meaning.specs.Accesses.{Place, accessed, cell_named}
 use Rattle.object_meaning.specs.Calls.{allocated, allocating, called, checked, entering, function_in, made, stepped, taking}
 use Rattle.object_meaning.specs.Comparisons.{bit, same_pointer}
-use Rattle.object_meaning.specs.Effects.{Effect, goes_on, prints, ends}
-use Rattle.object_meaning.specs.Frames.{answered_by, entered, group_length, grouped, is_member, member_write, regrouped, resumed}
+use Rattle.object_meaning.specs.Effects.{Effect, goes_on, ends}
+use Rattle.object_meaning.specs.Frames.{answered_by, entered, group_length, is_member, member_write, regrouped, resumed}
 use Rattle.object_meaning.specs.Lines.{Line}
 use Rattle.object_meaning.specs.Registers.{nothing, number_in, operand, pointer_in, put, put_all, value}
 use Rattle.object_meaning.specs.States.{Frame, State, Setting}
 use Rattle.object_meaning.specs.Steps.{returned}
 use Rattle.object_meaning.specs.Tasks.{handed_over, polled, started, switched, switched_to, task_ended, with_event}
-use Rattle.renaming_laws.specs.Renamed.{CalleeTakes, InRoom, IsLineOf, IsRenaming, Renaming, Takes, renamed, renamed_line}
+use Rattle.renaming_laws.specs.Renamed.{CalleeTakes, InRoom, Renaming, Takes, renamed}
 use Rattle.renaming_laws.specs.Images.{HasImages, Images}
 use Rattle.renaming_laws.proofs.ListLaws.{all_dropped, before, behind, drop_behind, take_before}
 use Rattle.renaming_laws.proofs.RegisterLaws.{Kept, entered_kept, function_same, operand_kept, put_kept, values_kept}
 use Rattle.renaming_laws.proofs.FrontLaws.{images_behind, members_class, members_kept, tested}
-use Rattle.renaming_laws.proofs.Related.{EffectKept, FrameGoes, FrameKept, FramesKept, Goes, Lasts, TaskKept, TasksKept, WaitKept, Waits, at_line, both_end, both_go, both_print, built, frame_goes, frames_length, goes, image, line_there, more_frames, no_frames, no_task, one_task, task_get, task_push, task_set, tasks_length, waits}
+use Rattle.renaming_laws.proofs.Related.{EffectKept, FrameGoes, FramesKept, Goes, Lasts, TaskKept, TasksKept, WaitKept, Waits, at_line, both_end, both_go, both_print, built, frame_goes, frames_length, goes, image, line_there, more_frames, no_frames, no_task, one_task, task_get, task_push, task_set, tasks_length, waits}
 
 -- the setting with other lines, other registers and other names for its functions
 abbrev pub with_lines : Setting → (ℕ → ℕ → List Line) → List Line → (ℕ → ℕ) → (ℕ → List ℕ) → Setting
@@ -279,6 +279,7 @@ module _ (functions : ℕ → Renaming) (one : Setting) (lines : ℕ → ℕ →
 
     abbrev at_image : State
     at_image = there state line name rest others now below tasks kept frames all
+
     allocated_kept : (object : Object) → EffectKept functions (allocated one at_it done object) (allocated other at_image done_there object)
     allocated_kept object = by (nat_lt 67108864 (sum_by (footprint one.layouts) (state.objects ++ object ∷ [])))
       where
@@ -311,7 +312,7 @@ module _ (functions : ℕ → Renaming) (one : Setting) (lines : ℕ → ℕ →
 
     pub called_kept : (operands : List Operand) → All (InRoom (functions state.running.func).room) operands → (callee : Callee) → CalleeTakes functions callee operands
         → EffectKept functions (called one at_it done callee operands) (called other at_image done_there callee (map (renamed (number_in_frame state.running)) operands))
-    called_kept operands inside (callees.Fun func) few = 
+    called_kept operands inside (callees.Fun func) few =
         rw (values_kept operands inside kept.kept)
         (stepped_kept at_it (frame_there state line name rest others now below tasks kept frames all) below tasks refl frames all
         (entering one func.0 (map (value state.running.registers) operands)) (entering other func.0 (map (value state.running.registers) operands))

@@ -1,7 +1,7 @@
 -- The phis that stand first in a block, and the members that stand first behind a statepoint: their images stand first too, and
 -- what they write together is the same.
-use Rattle.std.proofs.Common.{◌≡◌, ◌==◌, ℕ, Bool, true, false, if◌then◌else◌, List, [], ◌∷◌, ◌++◌, length, map, take, drop, refl, sym, ap, subst, ◌∙◌}
-use Rattle.std.specs.Prelude.{Option, Some, None, slice_get}
+use Rattle.std.proofs.Common.{◌≡◌, ◌==◌, ℕ, Bool, true, false, if◌then◌else◌, List, [], ◌∷◌, ◌++◌, map, refl, ap, ◌∙◌}
+use Rattle.std.specs.Prelude.{Option, Some, None}
 use Rattle.std.specs.List.{All, position}
 use Rattle.std.specs.Option.{option_map, option_map_or}
 use Rattle.ir_ast.specs.declared.types.Ty.{Ty}
@@ -11,7 +11,6 @@ use Rattle.ir_ast.specs.declared.ops.Op.{Op}
 use Rattle.ir_ast.specs.declared.ops.Op.TheVariants as ops
 use Rattle.ir_ast.specs.declared.ops.Operand.{Operand}
 use Rattle.ir_ast.specs.declared.ops.Pred.{Pred}
-use Rattle.ir_ast.specs.Insts.{Instruction}
 use Rattle.ir_ast.specs.Derived.{is_merge}
 use Rattle.ir_ast.specs.Faults.PhiEdges.{is_phi}
 use Rattle.ir_ast.specs.Objects.{Datum}
@@ -22,7 +21,7 @@ use Rattle.object_meaning.specs.Registers.{nothing, operand, put, put_all}
 use Rattle.renaming_laws.specs.Renamed.{InRoom, IsLineOf, IsRenaming, Renaming, renamed, renamed_line}
 use Rattle.renaming_laws.specs.Inserted.{Image, alone, as_negated, as_same, behind_check, behind_merge, pointer_place}
 use Rattle.renaming_laws.specs.Images.{Images, more_lines, no_lines}
-use Rattle.renaming_laws.proofs.ListLaws.{all_first, all_rest, before, behind}
+use Rattle.renaming_laws.proofs.ListLaws.{before, behind}
 use Rattle.renaming_laws.proofs.RegisterLaws.{Kept, index_same, operand_kept, put_fresh, put_kept}
 
 -- a class of lines of which no access, compare or call is one

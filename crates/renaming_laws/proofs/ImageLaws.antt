@@ -1,6 +1,6 @@
 -- A run of the images gives what the run gives.
-use Rattle.std.proofs.Common.{◌≡◌, ℕ, zero, suc, ◌+◌, ◌≤◌, List, [], ◌∷◌, ◌++◌, length, map, refl, sym, ap, subst, ◌∙◌, append-nil, arith}
-use Rattle.std.specs.Prelude.{ℤ, ◌↔◌, Option, codes, decimal}
+use Rattle.std.proofs.Common.{◌≡◌, ℕ, ◌+◌, List, [], ◌∷◌, ◌++◌, map, refl, sym, ap, subst, ◌∙◌, append-nil, arith}
+use Rattle.std.specs.Prelude.{ℤ, ◌↔◌, codes, decimal}
 use Rattle.std.specs.List.{All, flat_map}
 use Rattle.sp_ids.specs.declared.ends.End.{End}
 use Rattle.sp_ids.specs.declared.ends.End.TheVariants as ended
@@ -15,15 +15,15 @@ use Rattle.object_meaning.specs.Runs.{Next, Go, End as Over, advance}
 use Rattle.object_meaning.specs.States.{Frame, State, Setting}
 use Rattle.object_meaning.specs.Steps.{step, steps_at}
 use Rattle.object_meaning.specs.Texts.{bundle_line, bundle_lines, closing_lines, shown}
-use Rattle.object_meaning.specs.Traces.{Access, Event, accesses_at, done_at, events_at}
-use Rattle.object_meaning.proofs.SimulationLaws.{Follows, FollowsIn, LeadsOn, LeadsOut, Leads, SameLast, accessing, gives_here, gives_there, happens}
+use Rattle.object_meaning.specs.Traces.{Access, Event, done_at}
+use Rattle.object_meaning.proofs.SimulationLaws.{FollowsIn, LeadsOn, LeadsOut, Leads, SameLast, accessing, gives_here, gives_there, happens}
 use Rattle.renaming_laws.specs.Renamed.{InRoom, IsLineOf, Renaming, renamed}
 use Rattle.renaming_laws.specs.Inserted.{alone}
-use Rattle.renaming_laws.specs.Images.{CanRenumber, HasImages, Images, more_lines, no_lines, renumbered, renumbered_setting}
+use Rattle.renaming_laws.specs.Images.{HasImages, Images, more_lines, no_lines, renumbered, renumbered_setting}
 use Rattle.renaming_laws.specs.Statements.{ImagesGiveTheSame, RenumberingGivesTheSame}
 use Rattle.renaming_laws.proofs.ListLaws.{all_first, all_rest}
 use Rattle.renaming_laws.proofs.RegisterLaws.{Kept, value_kept}
-use Rattle.renaming_laws.proofs.Related.{EffectKept, FramesKept, Goes, Lasts, at_line, both_end, both_go, both_print, goes, image, line_there, more_frames, more_tasks, no_frames, no_tasks}
+use Rattle.renaming_laws.proofs.Related.{EffectKept, FramesKept, Goes, at_line, both_end, both_go, both_print, goes, image, line_there, more_frames, more_tasks, no_frames, no_tasks}
 use Rattle.renaming_laws.proofs.CallLaws.{entered_goes, with_lines}
 use Rattle.renaming_laws.proofs.StepLaws.{StepKept, after_one, at_once, state_kept}
 
@@ -102,11 +102,13 @@ module _ (functions : ℕ → Renaming) (one : Setting) (lines : ℕ → ℕ →
   out_from : (next there : Next End (Progress State)) → NextKept next there → (end : End) (progress : Progress State) → next ≡ Over end progress
       → (image : Progress State) × (there ≡ Over end image) × SameLast one other end progress image
   out_from _ _ (next_go from there related) end progress is = absurd cc
-  out_from _ _ (next_over its_end from there last) end progress is = 
+  out_from _ _ (next_over its_end from there last) end progress is =
       let same_end : its_end ≡ end = cc in
-      let same : from ≡ progress = cc in
-      (there, ap (λ (e : End). Over e there) same_end,
-      subst (λ (e : End). SameLast one other e progress there) same_end (subst (λ (p : Progress State). SameLast one other its_end p there) same last))
+      let same : from ≡ progress = cc in (
+        there,
+        ap (λ (e : End). Over e there) same_end,
+        subst (λ (e : End). SameLast one other e progress there) same_end (subst (λ (p : Progress State). SameLast one other its_end p there) same last),
+      )
 
   -- one step or two
   leads_once : {next : Next End (Progress State)} (does : List Event) (sees : List Access) (there : Progress State) → proceeds other there ≡ next
@@ -124,10 +126,10 @@ module _ (functions : ℕ → Renaming) (one : Setting) (lines : ℕ → ℕ →
   leads_twice does sees there between first none unseen second events seen = record {
     count = 2;
     by = ap (advance (proceeds other)) first ∙ second;
-    does_so = 
+    does_so =
         ap (λ head. head ++ (done_at happens (proceeds other there) ++ [])) none
         ∙ (ap (λ step. done_at happens step ++ []) first ∙ (append-nil (happens between) ∙ events));
-    sees_so = 
+    sees_so =
         ap (λ head. head ++ (done_at (accessing other) (proceeds other there) ++ [])) unseen
         ∙ (ap (λ step. done_at (accessing other) step ++ []) first ∙ (append-nil (accessing other between) ∙ seen));
   }

@@ -1,9 +1,9 @@
 -- Registers under other numbers, and what operands read.
-use Rattle.std.proofs.Common.{◌≡◌, ℕ, zero, suc, ◌+◌, ◌-◌, ◌<◌, ◌≤◌, List, [], ◌∷◌, ◌++◌, length, map, take, drop, replicate, refl, sym, ap, inl, inr, ◌∙◌, arith}
+use Rattle.std.proofs.Common.{◌≡◌, ℕ, zero, suc, ◌-◌, ◌<◌, ◌≤◌, List, [], ◌∷◌, ◌++◌, length, map, replicate, refl, sym, ap, inl, inr, ◌∙◌, arith}
 use Rattle.std.specs.Prelude.{Option, Some, None, slice_get, slice_index_or}
 use Rattle.std.specs.List.{All}
-use Rattle.std.specs.Option.{option_map, option_map_or, IfSome}
-use Rattle.std.proofs.lemmas.List.{get_or-set_same, get_or-set_other, length-set, get_or_past, get_or_append_left, length-append, length-replicate}
+use Rattle.std.specs.Option.{option_map, IfSome}
+use Rattle.std.proofs.lemmas.List.{get_or-set_same, get_or-set_other, length-set, get_or_append_left, length-append, length-replicate}
 use Rattle.std.proofs.lemmas.Bool.{cases_eq, cases_lt}
 use Rattle.std.proofs.Math.Seq.{get_or-append_right}
 use Rattle.ir_ast.specs.declared.ops.Operand.{Operand}
@@ -11,8 +11,7 @@ use Rattle.ir_ast.specs.declared.ops.Operand.TheVariants.{Value, Int, Null, Fun}
 use Rattle.ir_ast.specs.Objects.{Datum}
 use Rattle.object_meaning.specs.Frames.{index_in}
 use Rattle.object_meaning.specs.Calls.{function_in}
-use Rattle.object_meaning.specs.Jumps.{case_taken, is_case}
-use Rattle.object_meaning.specs.Registers.{nothing, operand, put, value, number_in}
+use Rattle.object_meaning.specs.Registers.{nothing, operand, put, value}
 use Rattle.renaming_laws.specs.Renamed.{InRoom, IsRenaming, Renaming, renamed}
 use Rattle.renaming_laws.specs.Inserted.{IsFresh}
 use Rattle.renaming_laws.proofs.ListLaws.{all_first, all_rest}

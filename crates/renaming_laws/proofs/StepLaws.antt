@@ -1,21 +1,18 @@
 -- One step of a run, and the one or two steps that the run of the images takes for it.
-use Rattle.std.proofs.Common.{◌≡◌, ◌==◌, ◌⊎◌, inl, inr, ℕ, zero, suc, ◌+◌, ◌<◌, ◌≤◌, Bool, true, false, not, if◌then◌else◌, List, [], ◌∷◌, ◌++◌, length, map, take, drop, refl, sym, ap, subst, ◌∙◌, arith}
-use Rattle.std.specs.Prelude.{Option, Some, None, slice_get, slice_set, nat_lt, Result, Ok, Err, bit_xor}
-use Rattle.std.specs.List.{All, position, prefix_len}
+use Rattle.std.proofs.Common.{◌≡◌, ◌⊎◌, inl, inr, ℕ, zero, suc, ◌+◌, ◌<◌, ◌≤◌, Bool, true, false, not, if◌then◌else◌, List, [], ◌∷◌, ◌++◌, length, map, take, drop, refl, sym, ap, subst, ◌∙◌, arith}
+use Rattle.std.specs.Prelude.{Option, Some, None, slice_get, nat_lt, Result, Ok, Err, bit_xor}
+use Rattle.std.specs.List.{All, prefix_len}
 use Rattle.std.specs.Option.{option_map, option_map_or}
 use Rattle.std.proofs.lemmas.Bool.Decides.{nat_tests}
 use Rattle.std.proofs.lemmas.List.{get_or-set_same, length-map}
 use Rattle.sp_ids.specs.declared.ends.End.TheVariants as ended
 use Rattle.sp_ids.specs.declared.ends.Trap.{Trap}
 use Rattle.sp_ids.specs.declared.ends.Trap.TheVariants as traps
-use Rattle.sp_ids.specs.declared.ids.BlockId.{BlockId}
 use Rattle.ir_ast.specs.declared.cells.Cell.{Cell}
 use Rattle.ir_ast.specs.declared.cells.Cell.TheVariants as cells
 use Rattle.ir_ast.specs.declared.types.Ty.{Ty}
 use Rattle.ir_ast.specs.declared.types.Ty.TheVariants as types
 use Rattle.ir_ast.specs.declared.ops.Pred.TheVariants as preds
-use Rattle.ir_ast.specs.declared.ops.Callee.{Callee}
-use Rattle.ir_ast.specs.declared.ops.Callee.TheVariants as callees
 use Rattle.ir_ast.specs.declared.ops.Op.{Op}
 use Rattle.ir_ast.specs.declared.ops.Op.TheVariants as ops
 use Rattle.ir_ast.specs.declared.ops.Operand.{Operand}
@@ -23,28 +20,28 @@ use Rattle.ir_ast.specs.declared.ops.Operand.TheVariants as operands
 use Rattle.ir_ast.specs.Cells.{kind_of}
 use Rattle.ir_ast.specs.Derived.{is_merge}
 use Rattle.ir_ast.specs.Faults.PhiEdges.{is_phi}
-use Rattle.ir_ast.specs.Objects.{Datum, number, Object}
+use Rattle.ir_ast.specs.Objects.{Datum, number}
 use Rattle.object_meaning.specs.Accesses.{Place, accessed, cell_named, cell_of, loaded, stored}
-use Rattle.object_meaning.specs.Calls.{called, checked, stepped}
+use Rattle.object_meaning.specs.Calls.{checked, stepped}
 use Rattle.object_meaning.specs.Comparisons.{bit, same_pointer}
 use Rattle.object_meaning.specs.Computing.{computed, value_of_line}
-use Rattle.object_meaning.specs.Effects.{Effect, goes_on, prints, ends}
+use Rattle.object_meaning.specs.Effects.{Effect, goes_on, ends}
 use Rattle.object_meaning.specs.Frames.{grouped, passed, regrouped}
 use Rattle.object_meaning.specs.Jumps.{arrived, branch_taken, case_taken, is_case, jumped, label_at, phi_count, phi_write}
 use Rattle.object_meaning.specs.Lines.{Line}
 use Rattle.object_meaning.specs.Numbers.{width_of}
 use Rattle.object_meaning.specs.Registers.{is_set, nothing, number_in, operand, pointer_in, put, put_all, value}
 use Rattle.object_meaning.specs.States.{Frame, State, Setting}
-use Rattle.object_meaning.specs.Steps.{accesses, acts, loading, returned, settled, skipped, step, steps_at, storing}
+use Rattle.object_meaning.specs.Steps.{accesses, acts, loading, returned, settled, steps_at, storing}
 use Rattle.object_meaning.specs.Traces.{access_of, accesses_at, event_of, events_at, reading, writing}
-use Rattle.renaming_laws.specs.Renamed.{ArgumentsFit, InRoom, IsLineOf, IsRenaming, Leads, Renaming, renamed, renamed_line}
+use Rattle.renaming_laws.specs.Renamed.{ArgumentsFit, InRoom, Leads, Renaming, renamed}
 use Rattle.renaming_laws.specs.Inserted.{Image, IsFresh, alone, as_negated, as_same, behind_check, behind_merge, check_line, negated_line, pointer_place, same_line}
 use Rattle.renaming_laws.specs.Images.{HasImages, Images, more_lines, no_lines}
 use Rattle.renaming_laws.proofs.ListLaws.{all_at, all_dropped, all_first, all_rest, all_taken, before, behind, drop_behind, take_before}
 use Rattle.renaming_laws.proofs.RegisterLaws.{Kept, operand_kept, put_fresh, put_kept, read, value_kept}
 use Rattle.renaming_laws.proofs.FrontLaws.{images_behind, phis_class, phis_kept, tested}
-use Rattle.renaming_laws.proofs.Related.{EffectKept, FrameGoes, FrameKept, FramesKept, Goes, Lasts, TasksKept, WaitKept, at_line, both_end, both_go, both_print, built, frame_goes, goes, image, line_there}
-use Rattle.renaming_laws.proofs.CallLaws.{called_kept, drop_map, number_in_frame, other, regrouped_goes, returned_kept, stepped_kept, stored_go, with_lines}
+use Rattle.renaming_laws.proofs.Related.{EffectKept, FrameGoes, FramesKept, Goes, Lasts, TasksKept, WaitKept, at_line, both_end, both_go, built, frame_goes, goes, image, line_there}
+use Rattle.renaming_laws.proofs.CallLaws.{called_kept, drop_map, regrouped_goes, returned_kept, stepped_kept, stored_go, with_lines}
 
 -- ---- jumps
 

@@ -1,5 +1,5 @@
 -- Lines under other numbers for their registers.
-use Rattle.std.specs.Prelude.{⊤, ℕ, ◌<◌, ◌≤◌, ◌≡◌, ◌≢◌, Bool, true, List, length, map, take, drop, Option, slice_get}
+use Rattle.std.specs.Prelude.{⊤, ℕ, ◌<◌, ◌≤◌, ◌≡◌, Bool, true, List, length, map, take, drop, Option, slice_get}
 use Rattle.std.specs.List.{All}
 use Rattle.std.specs.Option.{option_map, IfSome}
 use Rattle.ir_ast.specs.declared.ops.Operand.{Operand}
