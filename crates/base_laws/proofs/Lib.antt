@@ -6,3 +6,4 @@ pub mod LineLaws
 pub mod BlockLaws
 pub mod ReadyLaws
 pub mod MeaningLaws
+pub mod PollLaws
