@@ -1,0 +1,2 @@
+pub mod PollsPlaced
+pub mod Statements

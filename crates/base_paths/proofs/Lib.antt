@@ -1,0 +1,3 @@
+pub mod GivesLaws
+pub mod UndefinedLaws
+pub mod StayLaws

@@ -1,0 +1,4 @@
+pub mod Renamed
+pub mod Inserted
+pub mod Images
+pub mod Statements
