@@ -1,13 +1,10 @@
 -- The shape of the function with bases: phis first, terminators last, the edges of its source.
-use Rattle.std.proofs.Common.{◌≡◌, ◌≢◌, ◌==◌, ℕ, zero, suc, ◌+◌, ◌<◌, ◌≤◌, Bool, true, false, not, ◌&&◌, ◌||◌, if◌then◌else◌, List, [], ◌∷◌, ◌++◌, length, map, take, refl, sym, ap, subst, ◌∙◌, append_assoc, append-nil, ◌⊎◌, inl, inr, arith}
-use Rattle.std.specs.Prelude.{Option, Some, None, is_some, slice_get, nat_le}
-use Rattle.std.specs.List.{All, flat_map, list_all, list_any, prefix_len}
-use Rattle.std.specs.Option.{option_map, option_map_or}
+use Rattle.std.proofs.Common.{◌≡◌, ℕ, zero, suc, ◌+◌, ◌<◌, Bool, true, false, not, ◌&&◌, if◌then◌else◌, List, [], ◌∷◌, ◌++◌, map, refl, sym, ap, ◌∙◌, append_assoc, append-nil, arith}
+use Rattle.std.specs.Prelude.{Option, Some, slice_get, nat_le}
+use Rattle.std.specs.List.{All, flat_map, list_all, list_any}
 use Rattle.std.proofs.lemmas.Grind.{flat_map-append}
-use Rattle.std.proofs.lemmas.List.{length-append, length-map}
 use Rattle.std.proofs.lemmas.List.Elements.{All-cons, All-nil}
-use Rattle.list_laws.proofs.Places.{get_map, map_back}
-use Rattle.list_laws.proofs.Contents.{all_at, all_back, all_from_at, all_front}
+use Rattle.list_laws.proofs.Contents.{all_back, all_front}
 use Rattle.sp_ids.specs.declared.ids.BlockId.{BlockId}
 use Rattle.ir_ast.specs.declared.ops.Pred.{Pred}
 use Rattle.ir_ast.specs.declared.ops.Pred.TheVariants as preds
@@ -22,10 +19,10 @@ use Rattle.ir_ast.specs.Ops.{is_terminator}
 use Rattle.ir_ast.specs.Derived.{is_merge}
 use Rattle.ir_ast.specs.Faults.PhiEdges.{is_phi}
 use Rattle.object_meaning.specs.Lines.{after_all, following, retreats}
-use Rattle.base_forms.specs.Polls.{front_poll, placed, placed_block, placed_from, poll_call, polled}
+use Rattle.base_forms.specs.Polls.{front_poll, placed_block, poll_call, polled}
 use Rattle.base_forms.specs.DerivedMarks.{uses_marked}
 use Rattle.base_forms.specs.Inserted.{is_merged}
-use Rattle.base_forms.specs.Based.{base_line, based_blocks, based_by, based_insts, check, compared, kept_line, lines_for, merged, negation, same_call}
+use Rattle.base_forms.specs.Based.{base_line, based_blocks, based_insts, check, compared, kept_line, lines_for, merged, negation, same_call}
 use Rattle.renaming_laws.proofs.ListLaws.{all_first, all_rest}
 use Rattle.base_laws.specs.BeforeLiveness.{PhisStandFirst, begins_with_phi}
 
@@ -115,7 +112,7 @@ no_phi inst = not (is_phi inst.op)
 
 -- ---- with polls
 
-quiet_polled : (test : Instruction → Bool) → test poll_call ≡ true → (number : ℕ) (insts : List Instruction) → list_all test insts ≡ true → list_all test (flat_map (polled number) insts) ≡ true
+pub quiet_polled : (test : Instruction → Bool) → test poll_call ≡ true → (number : ℕ) (insts : List Instruction) → list_all test insts ≡ true → list_all test (flat_map (polled number) insts) ≡ true
 quiet_polled test poll_too number [] all = refl
 quiet_polled test poll_too number (inst ∷ insts) all =
     by (retreats number inst) (true_first (test inst) (list_all test insts) all) (quiet_polled test poll_too number insts (true_second (test inst) (list_all test insts) all))
@@ -157,7 +154,7 @@ ends_placed number block ended = record {
       (polls_quiet goes_on refl number ended.last));
 }
 
-lead_of_none : (insts : List Instruction) → list_all no_phi insts ≡ true → phis_lead insts ≡ true
+pub lead_of_none : (insts : List Instruction) → list_all no_phi insts ≡ true → phis_lead insts ≡ true
 lead_of_none [] none = refl
 lead_of_none (inst ∷ insts) none = rw (not_true (is_phi inst.op) (true_first (no_phi inst) (list_all no_phi insts) none)) (true_second (no_phi inst) (list_all no_phi insts) none)
 
@@ -165,7 +162,7 @@ phi_goes_on : (op : Op) → is_phi op ≡ true → is_terminator op ≡ false
 phi_goes_on ops.Phi phi = refl
 phi_goes_on op phi = absurd cc
 
-lead_polled : (number : ℕ) (insts : List Instruction) → phis_lead insts ≡ true → phis_lead (flat_map (polled number) insts) ≡ true
+pub lead_polled : (number : ℕ) (insts : List Instruction) → phis_lead insts ≡ true → phis_lead (flat_map (polled number) insts) ≡ true
 lead_polled number [] lead = refl
 lead_polled number (inst ∷ insts) lead = by (is_phi inst.op) refl lead (λ rest. lead_polled number insts rest)
   where
@@ -328,7 +325,7 @@ lead_first (first ∷ insts) lead = by (is_phi first.op) refl lead (λ rest. lea
     by false is rest further (suc place) inst at phi = absurd (none insts rest place inst at phi)
 
 -- where only phis stand before each phi
-phi_splits : (insts : List Instruction)
+pub phi_splits : (insts : List Instruction)
     → ((before after : List Instruction) (phi : Instruction) → insts ≡ before ++ phi ∷ after → is_phi phi.op ≡ true → list_all (λ inst. is_phi inst.op) before ≡ true)
     → phis_lead insts ≡ true
 phi_splits [] first = refl

@@ -8,3 +8,4 @@ pub mod ReadyLaws
 pub mod MeaningLaws
 pub mod PollLaws
 pub mod FormLaws
+pub mod ShapeLaws

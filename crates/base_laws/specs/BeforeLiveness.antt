@@ -1,5 +1,5 @@
 -- What liveness and the groups of statepoints ask of a function: its shape, without types.
-use Rattle.std.specs.Prelude.{◌≡◌, ⊤, ℕ, ◌<◌, ◌≤◌, Bool, true, false, List, length, Option, Some, None, slice_get}
+use Rattle.std.specs.Prelude.{◌≡◌, ⊤, ℕ, ◌<◌, true, false, List, length, Some, None, slice_get}
 use Rattle.std.specs.List.{All, prefix_len}
 use Rattle.std.specs.Option.{option_map_or}
 use Rattle.ir_ast.specs.declared.ops.Callee.{Callee}
