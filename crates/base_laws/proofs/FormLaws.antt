@@ -184,7 +184,7 @@ module _ (func : Function) (marks : List Bool) where
   abbrev lines_of_all : ℕ → List Instruction → List Instruction
   lines_of_all = based_insts func marks
 
-  based_append : (next : ℕ) (xs ys : List Instruction) → based_insts func marks next (xs ++ ys) ≡ based_insts func marks next xs ++ based_insts func marks (after_all next xs) ys
+  pub based_append : (next : ℕ) (xs ys : List Instruction) → based_insts func marks next (xs ++ ys) ≡ based_insts func marks next xs ++ based_insts func marks (after_all next xs) ys
   based_append next [] ys = refl
   based_append next (x ∷ xs) ys =
       ap (λ rest. lines_for func marks next x x.op ++ rest) (based_append (following next x) xs ys)
