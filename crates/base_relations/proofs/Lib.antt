@@ -1,2 +1,4 @@
 pub mod GroupLaws
 pub mod ValueLaws
+pub mod BaseLaws
+pub mod EndLaws

@@ -46,17 +46,17 @@ use Rattle.base_relations.proofs.GroupLaws.{given_at, group_of, line_number, lin
 -- ---- the lines for steps and merges
 
 module _ (func : Function) (marks : List Bool) (value : ℕ) (inst : Instruction) where
-  merged_true : (op : Op) → inst.op ≡ op → is_merge op ≡ true → is_merged marks inst ≡ true → lines_for func marks value inst op ≡ base_line func marks value inst ∷ kept_line func marks inst ∷ []
+  pub merged_true : (op : Op) → inst.op ≡ op → is_merge op ≡ true → is_merged marks inst ≡ true → lines_for func marks value inst op ≡ base_line func marks value inst ∷ kept_line func marks inst ∷ []
   merged_true ops.Phi is kind merges = ap (λ (b : Bool). (if b then base_line func marks value inst ∷ [] else []) ++ kept_line func marks inst ∷ []) merges
   merged_true ops.Select is kind merges = ap (λ (b : Bool). (if b then base_line func marks value inst ∷ [] else []) ++ kept_line func marks inst ∷ []) merges
   merged_true op is kind merges = absurd cc
 
-  merged_false : (op : Op) → inst.op ≡ op → is_merge op ≡ true → is_merged marks inst ≡ false → lines_for func marks value inst op ≡ kept_line func marks inst ∷ []
+  pub merged_false : (op : Op) → inst.op ≡ op → is_merge op ≡ true → is_merged marks inst ≡ false → lines_for func marks value inst op ≡ kept_line func marks inst ∷ []
   merged_false ops.Phi is kind merges = ap (λ (b : Bool). (if b then base_line func marks value inst ∷ [] else []) ++ kept_line func marks inst ∷ []) merges
   merged_false ops.Select is kind merges = ap (λ (b : Bool). (if b then base_line func marks value inst ∷ [] else []) ++ kept_line func marks inst ∷ []) merges
   merged_false op is kind merges = absurd cc
 
-  step_alone : (op : Op) → is_step op ≡ true → lines_for func marks value inst op ≡ kept_line func marks inst ∷ []
+  pub step_alone : (op : Op) → is_step op ≡ true → lines_for func marks value inst op ≡ kept_line func marks inst ∷ []
   step_alone (ops.Gep elem width place) step = refl
   step_alone op step = absurd cc
 
@@ -129,7 +129,7 @@ used_now func marks inst =
 -- ---- origins
 
 -- an origin is no step
-origin_ends : (func : Function) (bound : ℕ) (operand : Operand) (value : ValueId) → origin_by (stepped_from func) bound operand ≡ operands.Value value → stepped_from func (operands.Value value) ≡ None
+pub origin_ends : (func : Function) (bound : ℕ) (operand : Operand) (value : ValueId) → origin_by (stepped_from func) bound operand ≡ operands.Value value → stepped_from func (operands.Value value) ≡ None
 origin_ends func zero operand value is = absurd cc
 origin_ends func (suc bound) operand value is = by (stepped_from func operand) refl is (λ before at. origin_ends func bound before value at)
   where
@@ -161,7 +161,7 @@ module _ (func : Function) where
       mapped_mark (derives (derived_marks func)) (definitions_of func) value (subst (λ (marks : List Bool). has_mark marks value ≡ true) (sym (derived_again func)) marked)
 
   -- a value with a mark, that isn't merged, has a step
-  no_mark_own : (value : ℕ) (given : Definition) → slice_get (definitions_of func) value ≡ Some given → derives (derived_marks func) given ≡ true
+  pub no_mark_own : (value : ℕ) (given : Definition) → slice_get (definitions_of func) value ≡ Some given → derives (derived_marks func) given ≡ true
       → by_line (is_merged (derived_marks func)) given ≡ false → (inst : Instruction) × (slice_get (definitions_of func) value ≡ Some (outcome inst)) × (is_step inst.op ≡ true)
   no_mark_own value (argument arg) at derived unmerged = absurd cc
   no_mark_own value (outcome inst) at derived unmerged = by (is_step inst.op) refl derived
@@ -173,7 +173,7 @@ module _ (func : Function) where
 
 -- ---- bases are no values with a mark
 
-given_there : (func : Function) (marks : List Bool) (kind : Instruction → Bool) (value : ℕ) → gives_by func marks kind value ≡ true
+pub given_there : (func : Function) (marks : List Bool) (kind : Instruction → Bool) (value : ℕ) → gives_by func marks kind value ≡ true
     → (given : Definition) × (slice_get (definitions_of func) value ≡ Some given) × (by_line kind given ≡ true)
 given_there func marks kind value is = by (slice_get (definitions_of func) value) refl is
   where
@@ -182,10 +182,10 @@ given_there func marks kind value is = by (slice_get (definitions_of func) value
     by None none is = absurd cc
     by (Some given) found is = (given, found, is)
 
-gives_as : (func : Function) (marks : List Bool) (kind : Instruction → Bool) (value : ℕ) (given : Definition) → slice_get (definitions_of func) value ≡ Some given → gives_by func marks kind value ≡ by_line kind given
+pub gives_as : (func : Function) (marks : List Bool) (kind : Instruction → Bool) (value : ℕ) (given : Definition) → slice_get (definitions_of func) value ≡ Some given → gives_by func marks kind value ≡ by_line kind given
 gives_as func marks kind value given at = ap (λ (found : Option Definition). option_map_or (by_line kind) found false) at
 
-inserts : (marks : List Bool) (given : Definition) → by_line (is_merged marks) given ≡ true → has_inserted marks given ≡ true
+pub inserts : (marks : List Bool) (given : Definition) → by_line (is_merged marks) given ≡ true → has_inserted marks given ≡ true
 inserts marks (argument arg) is = absurd cc
 inserts marks (outcome inst) is = ap (λ b. b || is_negated marks inst) is
 
