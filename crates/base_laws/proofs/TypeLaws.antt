@@ -112,12 +112,12 @@ module _ (func : Function) (marks : List Bool) (pointers : MarksPointers func ma
       let found = asked_of (ops.Icmp pred) is (line_as (ops.Icmp pred) is).no_bundle in
       sym (get_filled (length inst.operands) inst.ty found.0 types.Ptr found.1)
 
-  phi_of_pointers : inst.op ≡ ops.Phi → inst.ty ≡ types.Ptr
+  pub phi_of_pointers : inst.op ≡ ops.Phi → inst.ty ≡ types.Ptr
   phi_of_pointers is =
       let found = asked_of ops.Phi is ((line_as ops.Phi is).0).no_bundle in
       sym (get_filled (length inst.operands) inst.ty found.0 types.Ptr found.1)
 
-  select_of_pointers : inst.op ≡ ops.Select → inst.ty ≡ types.Ptr
+  pub select_of_pointers : inst.op ≡ ops.Select → inst.ty ≡ types.Ptr
   select_of_pointers is =
       let found = asked_of ops.Select is (line_as ops.Select is).no_bundle in
       by found.0 found.1
@@ -128,7 +128,7 @@ module _ (func : Function) (marks : List Bool) (pointers : MarksPointers func ma
       by (suc (suc zero)) is = cc
       by (suc (suc (suc place))) is = absurd cc
 
-  merges_pointers : is_merge inst.op ≡ true → outcome_type inst.op inst.ty ≡ types.Ptr
+  pub merges_pointers : is_merge inst.op ≡ true → outcome_type inst.op inst.ty ≡ types.Ptr
   merges_pointers kind = elim (merge_is inst.op kind) [
     | inl is ↦ ap (λ op. outcome_type op inst.ty) is ∙ phi_of_pointers is
     | inr is ↦ ap (λ op. outcome_type op inst.ty) is ∙ select_of_pointers is

@@ -1,4 +1,4 @@
 pub mod GroupLaws
 pub mod ValueLaws
-pub mod BaseLaws
 pub mod EndLaws
+pub mod BaseLaws
