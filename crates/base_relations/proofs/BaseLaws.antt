@@ -1,9 +1,8 @@
 -- The bases of the function with bases, by the manual's relation.
-use Rattle.std.proofs.Common.{◌≡◌, ◌≢◌, ℕ, zero, suc, ◌+◌, ◌-◌, ◌<◌, ◌≤◌, Bool, true, false, not, ◌&&◌, ◌||◌, if◌then◌else◌, List, [], ◌∷◌, ◌++◌, length, map, replicate, take, drop, refl, sym, ap, subst, ◌∙◌, append_assoc, append-nil, ◌⊎◌, inl, inr, arith}
-use Rattle.std.specs.Prelude.{Option, Some, None, is_some, slice_get, slice_index_or, filter}
-use Rattle.std.specs.List.{All, AllZip, Contains, filter_map, list_any}
-use Rattle.std.specs.Option.{option_and_then, option_map_or}
-use Rattle.std.proofs.lemmas.List.{length-map}
+use Rattle.std.proofs.Common.{◌≡◌, ℕ, zero, suc, ◌+◌, ◌-◌, ◌≤◌, Bool, true, false, ◌&&◌, ◌||◌, if◌then◌else◌, List, [], ◌∷◌, ◌++◌, length, map, replicate, take, refl, sym, ap, subst, ◌∙◌, arith}
+use Rattle.std.specs.Prelude.{Option, Some, None, is_some, slice_get, filter}
+use Rattle.std.specs.List.{All, AllZip, Contains}
+use Rattle.std.specs.Option.{option_and_then}
 use Rattle.list_laws.proofs.Contents.{all_at, all_from_at, contains_image, contains_map}
 use Rattle.list_laws.proofs.Places.{get_map}
 use Rattle.sp_ids.specs.declared.ids.ValueId.{ValueId}
@@ -24,22 +23,21 @@ use Rattle.ir_ast.specs.Faults.GroupShape.{number_at}
 use Rattle.ir_ast.specs.Faults.TypeClash.{Fits, asked}
 use Rattle.base_forms.specs.DerivedMarks.{derived_marks, derives, has_mark, uses_marked}
 use Rattle.base_forms.specs.Inserted.{by_line, has_inserted, inserted_number, is_merged, is_negated, is_unequal, new_number, renumbered}
-use Rattle.base_forms.specs.Bases.{base_of, gives_by, origin, own_base, source_of, stepped_from}
+use Rattle.base_forms.specs.Bases.{base_of, gives_by, own_base, source_of, stepped_from}
 use Rattle.base_forms.specs.Polls.{poll_call}
 use Rattle.base_forms.specs.Lines.{merged_bases}
-use Rattle.base_forms.specs.Based.{base_line, based, insertion, kept_line, lines_for}
+use Rattle.base_forms.specs.Based.{base_line, based, insertion, kept_line}
 use Rattle.base_forms.proofs.DerivedLaws.{any_found, derived_marked, found_any, marked_derived}
 use Rattle.base_forms.proofs.OriginLaws.{origin-own, origin-step}
 use Rattle.base_paths.proofs.GivesLaws.{gives_at}
 use Rattle.renaming_laws.specs.Renamed.{Renaming}
 use Rattle.base_laws.proofs.TypeLaws.{IsTypedLine, MarksPointers, all_given, phi_of_pointers, select_of_pointers}
-use Rattle.renaming_laws.proofs.StepLaws.{merge_is}
 use Rattle.base_laws.proofs.NumberLaws.{number_alone, number_behind, renaming_of}
 use Rattle.base_laws.proofs.LineLaws.{IsReady}
 use Rattle.base_relations.specs.Statements.{before}
 use Rattle.base_relations.proofs.EndLaws.{Ends, no_step, one_step}
 use Rattle.base_relations.proofs.GroupLaws.{after_group, before_group, given_at, group_of, line_number, line_stands, located, start_at, text_split, value_at, value_is}
-use Rattle.base_relations.proofs.ValueLaws.{MergeLine, alone_one, base_line_unmarked, behind_inserted, given_there, gives_as, inserted_apart, inserted_one, inserts, mark_gives, merge_of_line, merged_false, merged_true, no_mark_own, one_number, step_alone, step_before, step_of_line, used_now}
+use Rattle.base_relations.proofs.ValueLaws.{MergeLine, alone_one, base_line_unmarked, behind_inserted, given_there, gives_as, inserted_apart, inserted_one, mark_gives, merge_of_line, merged_false, merged_true, no_mark_own, one_number, step_alone, step_before, step_of_line, used_now}
 
 module _ (functions : ℕ → Renaming) (number : ℕ) (func : Function) (called : Bool) (is : functions number ≡ renaming_of called func) (pointers : MarksPointers func (derived_marks func))
     (ready : All (IsReady functions func) (instructions_of func.blocks)) where

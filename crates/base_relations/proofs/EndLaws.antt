@@ -1,6 +1,6 @@
 -- The way back from each value ends, where every block is reached and uses are definite.
-use Rattle.std.proofs.Common.{◌≡◌, ◌≢◌, ℕ, zero, suc, ◌+◌, ◌<◌, ◌≤◌, Bool, true, false, if◌then◌else◌, List, [], ◌∷◌, ◌++◌, length, map, take, refl, sym, ap, subst, ◌∙◌, ◌⊎◌, inl, inr, arith}
-use Rattle.std.specs.Prelude.{Option, Some, None, is_some, slice_get}
+use Rattle.std.proofs.Common.{◌≡◌, ℕ, zero, suc, ◌+◌, ◌<◌, ◌≤◌, Bool, true, false, if◌then◌else◌, List, [], ◌∷◌, ◌++◌, length, map, take, refl, sym, ap, ◌∙◌, ◌⊎◌, inl, inr, arith}
+use Rattle.std.specs.Prelude.{Option, Some, None, slice_get}
 use Rattle.std.specs.List.{Contains}
 use Rattle.std.specs.Option.{option_and_then}
 use Rattle.std.proofs.lemmas.Bool.{cases_lt}
@@ -23,9 +23,9 @@ use Rattle.ir_ast.specs.Values.{Definition, Gives, argument, definitions_of, out
 use Rattle.ir_ast.specs.Derived.{is_step}
 use Rattle.ir_ast.specs.Faults.GroupShape.{number_at}
 use Rattle.ir_ast.specs.Faults.PhiEdges.{is_phi}
-use Rattle.ir_cfg.specs.DefiniteUses.{Defines, Stands, UsesAreDefinite, by_line, text_place}
-use Rattle.ir_cfg.specs.Graphs.{Edge, graph_of}
-use Rattle.ir_cfg.specs.Paths.{Path, Reached, along, at_entry}
+use Rattle.ir_cfg.specs.DefiniteUses.{Defines, UsesAreDefinite, by_line, text_place}
+use Rattle.ir_cfg.specs.Graphs.{graph_of}
+use Rattle.ir_cfg.specs.Paths.{Path, along, at_entry}
 use Rattle.ir_cfg.proofs.PathLemmas.{edge_within}
 use Rattle.base_forms.specs.Bases.{source_of, stepped_from}
 use Rattle.base_forms.specs.Polls.{placed}

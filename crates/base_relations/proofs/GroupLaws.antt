@@ -1,18 +1,13 @@
 -- Where the lines for an instruction stand in the text of the function with bases, and which values they give.
-use Rattle.std.proofs.Common.{◌≡◌, ◌≢◌, ℕ, zero, suc, ◌+◌, ◌-◌, ◌<◌, ◌≤◌, Bool, true, false, not, ◌&&◌, ◌||◌, if◌then◌else◌, List, [], ◌∷◌, ◌++◌, length, map, take, drop, refl, sym, ap, subst, ◌∙◌, append_assoc, ◌⊎◌, inl, inr, arith}
-use Rattle.std.specs.Prelude.{Option, Some, None, is_some, slice_get, filter}
+use Rattle.std.proofs.Common.{◌≡◌, ℕ, zero, suc, ◌+◌, ◌≤◌, Bool, true, false, if◌then◌else◌, List, [], ◌∷◌, ◌++◌, length, map, take, drop, refl, sym, ap, subst, ◌∙◌, append_assoc, ◌⊎◌, inl, inr, arith}
+use Rattle.std.specs.Prelude.{Some, is_some, slice_get, filter}
 use Rattle.std.specs.List.{All}
-use Rattle.std.proofs.lemmas.List.{length-append, length-map, take-append-le}
+use Rattle.std.proofs.lemmas.List.{length-append, take-append-le}
 use Rattle.std.proofs.lemmas.List.Elements.{filter-append}
-use Rattle.std.proofs.lemmas.Bool.{cases_lt}
-use Rattle.std.proofs.Math.Seq.{take-append-add, take-append_seam}
-use Rattle.list_laws.proofs.Contents.{all_back, all_front}
+use Rattle.std.proofs.Math.Seq.{take-append-add}
+use Rattle.list_laws.proofs.Contents.{all_front}
 use Rattle.list_laws.proofs.Places.{get_past, split_at}
 use Rattle.ir_ast.specs.declared.funcs.Arg.{Arg}
-use Rattle.ir_ast.specs.declared.ops.Pred.{Pred}
-use Rattle.ir_ast.specs.declared.ops.Pred.TheVariants as preds
-use Rattle.ir_ast.specs.declared.ops.Op.{Op}
-use Rattle.ir_ast.specs.declared.ops.Op.TheVariants as ops
 use Rattle.ir_ast.specs.Insts.{Instruction}
 use Rattle.ir_ast.specs.Blocks.{BasicBlock}
 use Rattle.ir_ast.specs.Funcs.{Function, instructions_of}
@@ -57,8 +52,7 @@ filtered_back (first ∷ insts) index inst at = by (has_result first) refl index
         let same : first ≡ inst = cc in
         (0, ap (λ i. Some i) same, refl, ap has_result (sym same) ∙ named)
     by true named (suc index) at further =
-        let found = further index at in
-        (
+        let found = further index at in (
           suc found.0,
           found.1,
           ap (λ (b : Bool). length (if b then first ∷ filter has_result (take found.0 insts) else filter has_result (take found.0 insts))) named ∙ ap suc found.2,

@@ -1,16 +1,13 @@
 -- Which values of the function with bases are derived: those whose numbers before were derived, and no inserted one.
-use Rattle.std.proofs.Common.{◌≡◌, ◌≢◌, ℕ, zero, suc, ◌+◌, ◌-◌, ◌<◌, ◌≤◌, Bool, true, false, not, ◌&&◌, ◌||◌, if◌then◌else◌, List, [], ◌∷◌, ◌++◌, length, map, take, drop, refl, sym, ap, subst, ◌∙◌, append_assoc, append-nil, ◌⊎◌, inl, inr, arith}
-use Rattle.std.specs.Prelude.{Option, Some, None, is_some, slice_get, slice_index_or, filter}
-use Rattle.std.specs.List.{All, AllZip, Contains, filter_map, list_any}
+use Rattle.std.proofs.Common.{◌≡◌, ℕ, zero, suc, Bool, true, false, ◌||◌, if◌then◌else◌, List, [], ◌∷◌, ◌++◌, length, map, refl, sym, ap, subst, ◌∙◌, append-nil, inl, inr, arith}
+use Rattle.std.specs.Prelude.{Option, Some, None, slice_get}
+use Rattle.std.specs.List.{All, AllZip, Contains, filter_map}
 use Rattle.std.specs.Option.{option_and_then, option_map_or}
-use Rattle.std.proofs.lemmas.List.{length-map, map-append}
-use Rattle.std.proofs.lemmas.List.Elements.{filter_map-append}
-use Rattle.list_laws.proofs.Contents.{all_at, contains_image, contains_map, contains_cons, contains_none}
+use Rattle.std.proofs.lemmas.List.{map-append}
+use Rattle.list_laws.proofs.Contents.{all_at, contains_cons, contains_none}
 use Rattle.sp_ids.specs.declared.ids.ValueId.{ValueId}
 use Rattle.ir_ast.specs.declared.types.Ty.{Ty}
 use Rattle.ir_ast.specs.declared.types.Ty.TheVariants as types
-use Rattle.ir_ast.specs.declared.ops.Pred.{Pred}
-use Rattle.ir_ast.specs.declared.ops.Pred.TheVariants as preds
 use Rattle.ir_ast.specs.declared.ops.Callee.{Callee}
 use Rattle.ir_ast.specs.declared.ops.Callee.TheVariants as callees
 use Rattle.ir_ast.specs.declared.ops.Op.{Op}
@@ -22,26 +19,18 @@ use Rattle.ir_ast.specs.Funcs.{Function, instructions_of}
 use Rattle.ir_ast.specs.Lines.{IsLine, LineOf}
 use Rattle.ir_ast.specs.Operands.{operands_of, value_in, values_used}
 use Rattle.ir_ast.specs.Values.{Definition, Gives, argument, definitions_of, outcome, value_types}
-use Rattle.ir_ast.specs.Derived.{Derived, by_merge, by_step, is_merge, is_step}
-use Rattle.ir_ast.specs.Faults.GroupShape.{number_at}
+use Rattle.ir_ast.specs.Derived.{is_merge, is_step}
 use Rattle.ir_ast.specs.Faults.TypeClash.{Fits, asked}
-use Rattle.base_forms.specs.DerivedMarks.{derived_marks, derives, has_mark, uses_marked}
-use Rattle.base_forms.specs.Inserted.{by_line, has_inserted, inserted_number, is_merged, is_negated, is_unequal, new_number, renumbered}
+use Rattle.base_forms.specs.DerivedMarks.{derived_marks, derives, has_mark}
+use Rattle.base_forms.specs.Inserted.{by_line, has_inserted, inserted_number, is_merged, is_negated, new_number, renumbered}
 use Rattle.base_forms.specs.Bases.{base_of, gives_by, origin, origin_by, own_base, source_of, stepped_from}
 use Rattle.base_forms.specs.Lines.{merged_bases}
-use Rattle.base_forms.specs.Based.{base_line, based, insertion, kept_line, lines_for}
+use Rattle.base_forms.specs.Based.{base_line, insertion, kept_line, lines_for}
 use Rattle.base_forms.proofs.MarkLaws.{derived_again}
-use Rattle.base_forms.proofs.DerivedLaws.{derived_marked, found_any, marked_derived}
-use Rattle.base_paths.proofs.GivesLaws.{gives_at}
-use Rattle.renaming_laws.specs.Renamed.{Renaming}
-use Rattle.renaming_laws.proofs.ListLaws.{all_first, all_rest}
 use Rattle.base_laws.proofs.CountLaws.{before_is_fresh, numbers_apart}
-use Rattle.base_laws.proofs.PlacedLaws.{has_result}
 use Rattle.base_laws.proofs.TypeLaws.{IsTypedLine, MarksPointers, all_given, mapped_mark}
-use Rattle.base_laws.proofs.NumberLaws.{number_alone, number_as, number_behind, renaming_of, shift_as}
-use Rattle.base_laws.proofs.LineLaws.{IsReady}
+use Rattle.base_laws.proofs.NumberLaws.{number_as, shift_as}
 use Rattle.base_laws.proofs.FormLaws.{each_line}
-use Rattle.base_relations.proofs.GroupLaws.{given_at, group_of, line_number, line_stands, located, start_at, value_at, value_is}
 
 -- ---- the lines for steps and merges
 
@@ -203,8 +192,7 @@ module _ (func : Function) (pointers : MarksPointers func (derived_marks func)) 
       → (before : Operand) × (slice_get inst.operands 0 ≡ Some before) × (stepped_from func (operands.Value (record { 0 = value })) ≡ Some before)
   step_before value inst given step =
       let line = (all_given (IsTypedLine func) func typed value inst given).line in
-      let has = step_has inst line inst.op refl step in
-      (
+      let has = step_has inst line inst.op refl step in (
         has.0,
         has.1,
         ap (λ (found : Option Definition). option_and_then source_of found) given ∙ (ap (λ (b : Bool). if b then slice_get inst.operands 0 else None) step ∙ has.1),
