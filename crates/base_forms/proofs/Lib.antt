@@ -1,1 +1,4 @@
+pub mod MarkLaws
+pub mod OriginLaws
+pub mod DerivedLaws
 mod Samples

@@ -16,16 +16,19 @@ abbrev pub source_of : Definition → Option Operand
 source_of (argument arg) = None
 source_of (outcome inst) = if is_step inst.op then slice_get inst.operands 0 else None
 
+-- the first on the way back from an operand by these steps that has no step, or `null` where so many don't lead to one
+abbrev pub origin_by : (Operand → Option Operand) → ℕ → Operand → Operand
+origin_by step zero operand = Null
+origin_by step (suc more) operand = option_map_or (origin_by step more) (step operand) operand
+
 module _ (func : Function) where
   -- the pointer from which an operand steps, where it is a `getelementptr`
   abbrev pub stepped_from : Operand → Option Operand
   stepped_from (Value value) = option_and_then source_of (slice_get (definitions_of func) value.0)
   stepped_from operand = None
 
-  -- the first on the way back from an operand that is no `getelementptr`, or `null` where so many don't lead to one
   abbrev pub origin_within : ℕ → Operand → Operand
-  origin_within zero operand = Null
-  origin_within (suc more) operand = option_map_or (origin_within more) (stepped_from operand) operand
+  origin_within = origin_by stepped_from
 
   -- the way back is no longer than the function has values, unless it never ends
   abbrev pub origin : Operand → Operand

@@ -64,10 +64,10 @@ last_register next (block ∷ blocks) =
 
 -- ---- which definitions come next
 
-abbrev given_by : List Instruction → List Definition
+abbrev pub given_by : List Instruction → List Definition
 given_by insts = map outcome (filter has_result insts)
 
-given_append : (xs ys : List Instruction) → given_by (xs ++ ys) ≡ given_by xs ++ given_by ys
+pub given_append : (xs ys : List Instruction) → given_by (xs ++ ys) ≡ given_by xs ++ given_by ys
 given_append xs ys = ap (map outcome) (filter-append has_result xs ys) ∙ map-append outcome (filter has_result xs) (filter has_result ys)
 
 drop_first : {A : Type 0} (all : List A) (place : ℕ) (x : A) (rest : List A) → drop place all ≡ x ∷ rest → (slice_get all place ≡ Some x) × (drop (place + 1) all ≡ rest)
@@ -107,7 +107,7 @@ module _ (functions : ℕ → Renaming) (number : ℕ) (func : Function) (called
   abbrev Ready : List Instruction → Type 0
   Ready insts = All (IsReady functions func) insts
 
-  after_based : (next : ℕ) (insts : List Instruction) (after : List Definition) → drop next (definitions_of func) ≡ given_by insts ++ after → Ready insts
+  pub after_based : (next : ℕ) (insts : List Instruction) (after : List Definition) → drop next (definitions_of func) ≡ given_by insts ++ after → Ready insts
       → after_all (shift next) (based_from next insts) ≡ shift (after_all next insts)
   after_based next [] after given ready = refl
   after_based next (inst ∷ insts) after given ready =
@@ -187,7 +187,7 @@ module _ (functions : ℕ → Renaming) (number : ℕ) (func : Function) (called
                 (sym next_is) rest.images;
           }
 
-  start : drop (length func.args) (definitions_of func) ≡ given_by (instructions_of func.blocks) ++ []
+  pub start : drop (length func.args) (definitions_of func) ≡ given_by (instructions_of func.blocks) ++ []
   start =
       ap (λ n. drop n (definitions_of func)) (sym (length-map func.args argument))
       ∙ (drop-append_seam (map argument func.args) (given_by (instructions_of func.blocks)) ∙ sym (append-nil (given_by (instructions_of func.blocks))))

@@ -7,3 +7,5 @@ pub mod BlockLaws
 pub mod ReadyLaws
 pub mod MeaningLaws
 pub mod PollLaws
+pub mod FormLaws
+pub mod ShapeLaws

@@ -33,7 +33,8 @@ use Rattle.object_meaning.specs.TargetRuns.{plain_lines}
 use Rattle.base_forms.specs.DerivedMarks.{derived_marks, uses_marked}
 use Rattle.base_forms.specs.Inserted.{has_inserted, inserted_number, is_merged, is_unequal, new_number, renumbered}
 use Rattle.base_forms.specs.Bases.{base_of}
-use Rattle.base_forms.specs.Based.{base_line, check, compared, kept_line, lines_for, negation, operand_at, same_call}
+use Rattle.base_forms.specs.Lines.{operand_at}
+use Rattle.base_forms.specs.Based.{base_line, check, compared, kept_line, lines_for, negation, same_call}
 use Rattle.renaming_laws.specs.Renamed.{ArgumentsFit, InRoom, IsLineOf, Leads, Renaming, renamed, renamed_line}
 use Rattle.renaming_laws.specs.Inserted.{Image, alone, as_negated, as_same, behind_check, behind_merge, check_line, negated_line, pointer_place, same_line}
 use Rattle.renaming_laws.proofs.ListLaws.{all_first, all_rest}

@@ -36,7 +36,7 @@ use Rattle.base_laws.proofs.ReadyLaws.{has_block, ready, renaming_found, renamin
 abbrev now_function : Function → Function
 now_function func = based (placed func)
 
-found_now : (content : ModuleContent) (number : ℕ) (found : Option Function) → slice_get content.funcs number ≡ found
+pub found_now : (content : ModuleContent) (number : ℕ) (found : Option Function) → slice_get content.funcs number ≡ found
     → slice_get (based_module content).funcs number ≡ option_map now_function found
 found_now content number None is = missing content.funcs number is
   where

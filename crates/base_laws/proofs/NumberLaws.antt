@@ -34,10 +34,10 @@ module _ (func : Function) where
   abbrev shift : ℕ → ℕ
   shift = inserted_number func (derived_marks func)
 
-  number_as : (value : ℕ) → number value ≡ number_of test (definitions_of func) value
+  pub number_as : (value : ℕ) → number value ≡ number_of test (definitions_of func) value
   number_as value = ap (λ n. value + n) (count_is test (take (suc value) (definitions_of func)))
 
-  shift_as : (value : ℕ) → shift value ≡ number_before test (definitions_of func) value
+  pub shift_as : (value : ℕ) → shift value ≡ number_before test (definitions_of func) value
   shift_as value = ap (λ n. value + n) (count_is test (take value (definitions_of func)))
 
   none_in_arguments : (args : List Arg) (rest : List Definition) (k : ℕ) → k ≤ length args → count test (take k (map argument args ++ rest)) ≡ 0

@@ -61,7 +61,7 @@ all_given P func all value inst given =
     let found = past_arguments func.args (map outcome (filter has_result (instructions_of func.blocks))) value inst given in
     given_in P (instructions_of func.blocks) found.0 inst found.1 all
 
-type_of_given : (func : Function) (value : ℕ) (given : Definition) → slice_get (definitions_of func) value ≡ Some given → slice_get (value_types func) value ≡ Some (definition_type given)
+pub type_of_given : (func : Function) (value : ℕ) (given : Definition) → slice_get (definitions_of func) value ≡ Some given → slice_get (value_types func) value ≡ Some (definition_type given)
 type_of_given func value given is = get_map definition_type (definitions_of func) value given is
 
 -- ---- an operand with a mark
@@ -91,7 +91,7 @@ some_is : {A : Type 0} (x y : A) → Some x ≡ Some y → x ≡ y
 some_is x y is = cc
 
 -- an instruction without a bundle uses its operands
-uses_operands : (marks : List Bool) (inst : Instruction) → inst.bundle ≡ [] → uses_marked marks inst ≡ list_any (has_mark marks) (filter_map value_in inst.operands)
+pub uses_operands : (marks : List Bool) (inst : Instruction) → inst.bundle ≡ [] → uses_marked marks inst ≡ list_any (has_mark marks) (filter_map value_in inst.operands)
 uses_operands marks inst bare =
     ap (λ bundle. list_any (has_mark marks) (filter_map value_in (inst.operands ++ map (λ (entry : Ty × Operand). entry.1) bundle))) bare
     ∙ ap (λ all. list_any (has_mark marks) (filter_map value_in all)) (append-nil inst.operands)
@@ -112,12 +112,12 @@ module _ (func : Function) (marks : List Bool) (pointers : MarksPointers func ma
       let found = asked_of (ops.Icmp pred) is (line_as (ops.Icmp pred) is).no_bundle in
       sym (get_filled (length inst.operands) inst.ty found.0 types.Ptr found.1)
 
-  phi_of_pointers : inst.op ≡ ops.Phi → inst.ty ≡ types.Ptr
+  pub phi_of_pointers : inst.op ≡ ops.Phi → inst.ty ≡ types.Ptr
   phi_of_pointers is =
       let found = asked_of ops.Phi is ((line_as ops.Phi is).0).no_bundle in
       sym (get_filled (length inst.operands) inst.ty found.0 types.Ptr found.1)
 
-  select_of_pointers : inst.op ≡ ops.Select → inst.ty ≡ types.Ptr
+  pub select_of_pointers : inst.op ≡ ops.Select → inst.ty ≡ types.Ptr
   select_of_pointers is =
       let found = asked_of ops.Select is (line_as ops.Select is).no_bundle in
       by found.0 found.1
@@ -128,7 +128,7 @@ module _ (func : Function) (marks : List Bool) (pointers : MarksPointers func ma
       by (suc (suc zero)) is = cc
       by (suc (suc (suc place))) is = absurd cc
 
-  merges_pointers : is_merge inst.op ≡ true → outcome_type inst.op inst.ty ≡ types.Ptr
+  pub merges_pointers : is_merge inst.op ≡ true → outcome_type inst.op inst.ty ≡ types.Ptr
   merges_pointers kind = elim (merge_is inst.op kind) [
     | inl is ↦ ap (λ op. outcome_type op inst.ty) is ∙ phi_of_pointers is
     | inr is ↦ ap (λ op. outcome_type op inst.ty) is ∙ select_of_pointers is
@@ -140,7 +140,7 @@ step_gives : (inst : Instruction) → IsLine inst → (op : Op) → inst.op ≡ 
 step_gives inst line (ops.Gep elem width place) is step = pointer_is inst.ty ((subst (λ (op : Op). LineOf op inst) is line).0).type
 step_gives inst line op is step = absurd cc
 
-mapped_mark : (derived : Definition → Bool) (all : List Definition) (value : ℕ) → slice_index_or (map derived all) value false ≡ true
+pub mapped_mark : (derived : Definition → Bool) (all : List Definition) (value : ℕ) → slice_index_or (map derived all) value false ≡ true
     → (given : Definition) × (slice_get all value ≡ Some given) × (derived given ≡ true)
 mapped_mark derived [] value is = absurd cc
 mapped_mark derived (given ∷ all) zero is = (given, refl, is)

@@ -1,2 +1,3 @@
 pub mod PollsPlaced
+pub mod BeforeLiveness
 pub mod Statements

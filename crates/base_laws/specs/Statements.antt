@@ -11,7 +11,8 @@ use Rattle.object_meaning.specs.Outcomes.{Outcome}
 use Rattle.object_meaning.specs.SourceRuns.{SourceGives}
 use Rattle.object_meaning.specs.TargetRuns.{TargetGives}
 use Rattle.base_forms.specs.Polls.{placed}
-use Rattle.base_forms.specs.Based.{based_module}
+use Rattle.base_forms.specs.Based.{based, based_module}
+use Rattle.base_laws.specs.BeforeLiveness.{IsBeforeLiveness}
 use Rattle.base_laws.specs.PollsPlaced.{EndsWithPoll}
 
 -- the module with bases, checks and polls gives, by the target meaning, what its source gives by the source meaning: lines,
@@ -27,3 +28,9 @@ PlacedCyclesPoll = (func : Function) → All (λ block. EndsAtTerminator block.i
     → (graph_of (placed func) ≡ graph_of func)
     × ((block : ℕ) (blocks : List ℕ) → Reached (graph_of (placed func)) block → Way (graph_of (placed func)) block blocks block
     → (polling : ℕ) × Contains blocks polling × EndsWithPoll (placed func) polling)
+
+-- the functions of the module with bases are in shape for liveness, and have the edges of their sources
+abbrev pub BasedIsInShape : Type 0
+BasedIsInShape = (content : ModuleContent) → IsSourceModule content
+    → All (IsBeforeLiveness (based_module content)) (based_module content).funcs
+    × All (λ func. graph_of (based (placed func)) ≡ graph_of func) content.funcs
