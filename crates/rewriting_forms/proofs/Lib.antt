@@ -1,0 +1,3 @@
+mod ExampleOne
+pub mod ExampleTwo
+mod ExampleThree

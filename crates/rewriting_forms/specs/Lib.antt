@@ -1,0 +1,4 @@
+pub mod Numbered
+pub mod Liveness
+pub mod Names
+pub mod Rewritten

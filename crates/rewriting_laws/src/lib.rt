@@ -1,0 +1,11 @@
+//! The laws of the rewriting: the rewritten module does what the module before liveness does.
+#![tactic(auto)]
+
+ghost use Rattle.rewriting_laws.specs.Statements.{RewritingKeeps, RewritingAdds};
+
+/// The law that the rewritten module gives exactly what the module before liveness gives: printed lines, end, function, steps, events,
+/// accesses and objects.
+pub fn rewriting_keeps()
+    ensures keeps { RewritingKeeps }
+    ensures adds { RewritingAdds }
+{}
