@@ -1,6 +1,5 @@
 -- Frames that waited and go on with an answer, in the two runs.
-use Rattle.std.proofs.Common.{◌≡◌, ℕ, suc, ◌≤◌, true, false, List, [], ◌∷◌, ◌++◌, map, drop, refl, ap, arith, ◌∙◌}
-use Rattle.std.specs.Prelude.{Option, Some, slice_get}
+use Rattle.std.proofs.Common.{◌≡◌, ℕ, suc, false, List, [], ◌∷◌, ◌++◌, map, drop, refl, ap, arith, ◌∙◌}
 use Rattle.std.specs.Option.{option_map}
 use Rattle.std.proofs.lemmas.Bool.{true≢false}
 use Rattle.ir_ast.specs.declared.ops.Op.{Op}
@@ -11,7 +10,6 @@ use Rattle.object_meaning.specs.Lines.{Line}
 use Rattle.object_meaning.specs.Registers.{put}
 use Rattle.object_meaning.specs.States.{Frame, State}
 use Rattle.object_meaning.specs.Frames.{regrouped, answered, answered_at, answered_by, resumed}
-use Rattle.object_meaning.specs.Jumps.{phi_count}
 use Rattle.rewriting_forms.specs.Numbered.{lines_at}
 use Rattle.rewriting_forms.specs.Names.{own}
 use Rattle.rewriting_forms.specs.Rewritten.{Piece, plain as plain_piece, expanded}

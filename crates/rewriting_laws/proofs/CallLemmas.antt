@@ -15,14 +15,13 @@ use Rattle.ir_ast.specs.declared.ops.Callee.TheVariants.{Fun, New, Print, Read, 
 use Rattle.ir_ast.specs.declared.ops.Operand.{Operand}
 use Rattle.ir_ast.specs.Layouts.{ObjectLayout}
 use Rattle.ir_ast.specs.Modules.{ModuleContent}
-use Rattle.ir_ast.specs.Objects.{Datum, number, pointer, Object, new_object, footprint}
+use Rattle.ir_ast.specs.Objects.{Datum, number, pointer, Object, footprint}
 use Rattle.object_meaning.specs.Comparisons.{bit, same_pointer}
 use Rattle.object_meaning.specs.Lines.{Line, register_count}
 use Rattle.object_meaning.specs.Registers.{nothing, value, operand, number_in, pointer_in}
 use Rattle.object_meaning.specs.States.{Frame, State, Setting}
 use Rattle.object_meaning.specs.Effects.{Effect}
 use Rattle.object_meaning.specs.Frames.{entered}
-use Rattle.object_meaning.specs.Frames.{resumed}
 use Rattle.object_meaning.specs.Tasks.{with_event, switched, polled, started}
 use Rattle.object_meaning.specs.Calls.{stepped, entering, made, allocated, allocating, taking, function_in, checked, called}
 use Rattle.object_meaning.specs.Accesses.{Place, accessed, cell_named}

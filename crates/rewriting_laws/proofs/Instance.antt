@@ -1,12 +1,12 @@
 -- A module before liveness that `IsBefore` holds of: a pointer that is live around a loop with a poll.
-use Rattle.std.proofs.Common.{◌≡◌, ◌==◌, take, ℕ, zero, suc, ◌<◌, ◌≤◌, true, false, List, [], ◌∷◌, length, refl, ap, sym, arith, Option, Some, None, subst, slice_get, inl, inr, ◌∙◌}
+use Rattle.std.proofs.Common.{◌≡◌, ℕ, zero, suc, ◌<◌, ◌≤◌, true, false, List, [], ◌∷◌, length, refl, ap, sym, arith, Option, Some, None, subst, slice_get, inl, inr, ◌∙◌}
 use Rattle.object_meaning.specs.Jumps.{phi_count, label_at, branch_taken}
 use Rattle.object_meaning.specs.Registers.{is_set}
 use Rattle.object_meaning.specs.Frames.{is_member}
 use Rattle.ir_ast.specs.Faults.GroupShape.{is_statepoint}
 use Rattle.ir_ast.specs.Faults.PhiEdges.{is_phi}
 use Rattle.ir_ast.specs.Ops.{is_terminator}
-use Rattle.std.proofs.lemmas.Bool.{cases_Bool, cases_eq, ne_eqb, false≢true}
+use Rattle.std.proofs.lemmas.Bool.{cases_Bool, false≢true}
 use Rattle.std.specs.Prelude.{codes}
 use Rattle.sp_ids.specs.declared.ids.BlockId.{BlockId}
 use Rattle.ir_ast.specs.declared.types.Ty.{Ty}
@@ -23,9 +23,8 @@ use Rattle.ir_ast.specs.Funcs.{Function}
 use Rattle.ir_ast.specs.Modules.{ModuleContent}
 use Rattle.ir_ast.specs.Objects.{Datum}
 use Rattle.object_meaning.specs.Lines.{Line, register_count}
-use Rattle.rewriting_forms.specs.Numbered.{named, among, lines_at, line_at, gives, pointers, base_at}
+use Rattle.rewriting_forms.specs.Numbered.{lines_at, line_at}
 use Rattle.rewriting_forms.specs.Names.{joins_of}
-use Rattle.rewriting_forms.specs.Rewritten.{rewritten}
 use Rattle.rewriting_laws.specs.Laws.{IsPlain, IsReached, Reached, at_first, over, Edge, LeadsByEdges}
 use Rattle.rewriting_laws.specs.Related.{ArgumentsFit}
 use Rattle.rewriting_laws.specs.Statements.{IsBefore, no_function, func_of, rewritings}
@@ -46,18 +45,27 @@ loop = record {
   answer = (I 64);
   args = [];
   blocks =
-      record { name = codes "entry"; insts =
-      i (Some (codes "o")) (Call (New 0) ((I 64) ∷ [])) Ptr (Literal 1 ∷ []) []
-      ∷ i None Br Void [] (b 1 ∷ [])
-      ∷ [] }
-      ∷ record { name = codes "l"; insts =
-      i None (Call Poll []) Void [] []
-      ∷ i None (Call Check (Ptr ∷ Ptr ∷ (I 64) ∷ [])) Void (v 0 ∷ v 0 ∷ Literal 0 ∷ []) []
-      ∷ i None CondBr (I 1) (Literal 1 ∷ []) (b 1 ∷ b 2 ∷ [])
-      ∷ [] }
-      ∷ record { name = codes "j"; insts =
-      i None Ret (I 64) (Literal 3 ∷ []) []
-      ∷ [] }
+      record {
+        name = codes "entry";
+        insts =
+            i (Some (codes "o")) (Call (New 0) ((I 64) ∷ [])) Ptr (Literal 1 ∷ []) []
+            ∷ i None Br Void [] (b 1 ∷ [])
+            ∷ [];
+      }
+      ∷ record {
+        name = codes "l";
+        insts =
+            i None (Call Poll []) Void [] []
+            ∷ i None (Call Check (Ptr ∷ Ptr ∷ (I 64) ∷ [])) Void (v 0 ∷ v 0 ∷ Literal 0 ∷ []) []
+            ∷ i None CondBr (I 1) (Literal 1 ∷ []) (b 1 ∷ b 2 ∷ [])
+            ∷ [];
+      }
+      ∷ record {
+        name = codes "j";
+        insts =
+            i None Ret (I 64) (Literal 3 ∷ []) []
+            ∷ [];
+      }
       ∷ [];
 }
 
@@ -161,12 +169,15 @@ looping_before = record { plain = plain; graph = graph; few_arguments = few; arg
     plain : (g : ℕ) → IsPlain (func_of looping g) (register_count looping g)
     plain zero = loop_plain
     plain (suc g) = nothing_plain
+
     graph : (g : ℕ) → IsReached (func_of looping g)
     graph zero = loop_reached
     graph (suc g) = nothing_reached
+
     few : (g : ℕ) → length (func_of looping g).args ≤ register_count looping g
     few zero = omega arith
     few (suc g) = omega arith
+
     arguments : (g n k : ℕ) (line : Line) (callee : Callee) (types : List Ty) → slice_get (lines_at (func_of looping g) n) k ≡ Some line
         → line.inst.op ≡ Call callee types → ArgumentsFit (rewritings looping bases) callee line.inst.operands
     arguments zero n k line callee types stands = each_line (λ n k line. line.inst.op ≡ Call callee types → ArgumentsFit (rewritings looping bases) callee line.inst.operands)

@@ -33,7 +33,7 @@ use Rattle.object_meaning.specs.Texts.{shown, function_name, bundle_line, bundle
 use Rattle.object_meaning.specs.Registers.{nothing, value, operand, put, put_all, number_in, pointer_in}
 use Rattle.object_meaning.specs.States.{Frame, State, Setting}
 use Rattle.object_meaning.specs.Effects.{Effect, Progress, after, printed_line, newline, goes_on, ends}
-use Rattle.object_meaning.specs.Frames.{passed, is_member, regrouped, grouped, answered, answered_at, answered_by, resumed, entered}
+use Rattle.object_meaning.specs.Frames.{passed, is_member, regrouped, grouped, answered, resumed, entered}
 use Rattle.object_meaning.specs.Tasks.{task_ended, handed_over}
 use Rattle.object_meaning.specs.Computing.{value_of_line, computed}
 use Rattle.object_meaning.specs.Accesses.{Place, accessed, cell_of, loaded, stored}
@@ -455,9 +455,9 @@ module _ (all : ℕ → Rewriting) (content now_content : ModuleContent) (module
         ∙ ap (λ (ls : List Line). bundle_of (rest_now r frame.block kept.k ls)) at ∙ line_bundle r frame.block kept.k line rest in
         ap (λ (es : List (Ty × Operand)). bundle_line (function_name now_content) place waiting es) now_rest
         ∙ shown_same place frame.func frame.registers kept.registers frame waiting line.inst.bundle bundle refl (ap (λ (f : Frame). f.func) kept.is) refl
-          (ap (λ (f : Frame). f.registers) kept.is) (length-map line.inst.bundle (λ (entry : Ty × Operand). (entry.0, renamed r.number names entry.1)))
-          (entries_kept r.number names (r.live frame.block kept.k) frame.registers kept.registers (kept.kept).each line.inst.bundle
-            (λ place v is. ((modules.each frame.func).closed).held frame.block kept.k place v line stands is))
+        (ap (λ (f : Frame). f.registers) kept.is) (length-map line.inst.bundle (λ (entry : Ty × Operand). (entry.0, renamed r.number names entry.1)))
+        (entries_kept r.number names (r.live frame.block kept.k) frame.registers kept.registers (kept.kept).each line.inst.bundle
+        (λ place v is. ((modules.each frame.func).closed).held frame.block kept.k place v line stands is))
         ∙ sym (ap (λ (ls : List Line). bundle_line (function_name content) place frame (bundle_of ls)) at)
 
     frames_show : (place : ℕ) (frames others : List Frame) → FramesKept all frames others → bundle_lines (function_name now_content) place others ≡ bundle_lines (function_name content) place frames

@@ -1,6 +1,6 @@
 -- The rewritten module ends as the module before liveness does.
-use Rattle.std.proofs.Common.{◌≡◌, ℕ, suc, ◌+◌, Bool, not, if◌then◌else◌, List, [], ◌∷◌, ◌++◌, length, refl, ap, sym, Option, ◌∙◌, subst}
-use Rattle.std.specs.Prelude.{codes, Some, None, slice_get}
+use Rattle.std.proofs.Common.{◌≡◌, ℕ, suc, ◌+◌, Bool, not, if◌then◌else◌, List, [], ◌∷◌, length, refl, ap, sym, Option, ◌∙◌, subst}
+use Rattle.std.specs.Prelude.{codes, Some, None, slice_get, ℤ}
 use Rattle.std.specs.Option.{option_map, option_map_or}
 use Rattle.std.specs.List.{prefix_len}
 use Rattle.std.specs.Str.{bytes_eq}
