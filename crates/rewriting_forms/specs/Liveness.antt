@@ -20,6 +20,11 @@ pub record IsEntry (phi : Instruction) (from : ℕ) (operand : Operand) : Type 0
   pub label : option_map_or (λ l. l.0 == from) (slice_get phi.labels place) false ≡ true
   pub operand_is : slice_get phi.operands place ≡ Some operand
 
+-- the entries of a phi for one label are the same
+abbrev pub PhisAgree : Function → Type 0
+PhisAgree func = (b place : ℕ) (phi : Line) → slice_get (lines_at func b) place ≡ Some phi → is_phi phi.inst.op ≡ true
+    → (j k : ℕ) → slice_get phi.inst.labels j ≡ slice_get phi.inst.labels k → slice_get phi.inst.operands j ≡ slice_get phi.inst.operands k
+
 -- some walk along edges from a place reaches a use of the value, or of a pointer derived from it, before a definition of it.
 -- A place is that before an instruction, or the end of the block
 pub data Live (func : Function) (table : List Operand) (v : ℕ) : ℕ → ℕ → Type 0 where

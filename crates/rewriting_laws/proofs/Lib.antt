@@ -12,6 +12,7 @@ pub mod PlaceLaws
 pub mod ApartLaws
 pub mod NumberLaws
 pub mod LiveLaws
+pub mod LiveExact
 pub mod Whole
 pub mod Rewritings
 mod Instance

@@ -29,7 +29,7 @@ any_more f g (x ∷ xs) more is = elim (or_cases (f x) (list_any f xs) is) [
   | inr there ↦ or_right (g x) (list_any g xs) (any_more f g xs more there)
 ]
 
-any_at : {A : Type 0} (f : A → Bool) (xs : List A) (k : ℕ) (x : A) → slice_get xs k ≡ Some x → f x ≡ true → list_any f xs ≡ true
+pub any_at : {A : Type 0} (f : A → Bool) (xs : List A) (k : ℕ) (x : A) → slice_get xs k ≡ Some x → f x ≡ true → list_any f xs ≡ true
 any_at f [] k x is passes = absurd (cc)
 any_at f (y ∷ xs) zero x is passes = let e : y ≡ x = cc in or_left (f y) (list_any f xs) (ap f e ∙ passes)
 any_at f (y ∷ xs) (suc k) x is passes = or_right (f y) (list_any f xs) (any_at f xs k x is passes)
@@ -192,12 +192,12 @@ module _ (func : Function) (table : List Operand) (v : ℕ) where
     | inr none ↦ front_le (suc bound) (length func.blocks) b (fresh_short bound b (record { now = is; before = none })) is
   ]
 
-drop_from : {A : Type 0} (xs : List A) (k : ℕ) (x : A) → slice_get xs k ≡ Some x → drop k xs ≡ x ∷ drop (suc k) xs
+pub drop_from : {A : Type 0} (xs : List A) (k : ℕ) (x : A) → slice_get xs k ≡ Some x → drop k xs ≡ x ∷ drop (suc k) xs
 drop_from [] k x is = absurd (cc)
 drop_from (y ∷ xs) zero x is = ap (λ (z : _). z ∷ xs) (cc)
 drop_from (y ∷ xs) (suc k) x is = drop_from xs k x is
 
-drop_all : {A : Type 0} (xs : List A) → drop (length xs) xs ≡ []
+pub drop_all : {A : Type 0} (xs : List A) → drop (length xs) xs ≡ []
 drop_all [] = refl
 drop_all (x ∷ xs) = drop_all xs
 

@@ -1,5 +1,5 @@
 -- What is proved of the rewritten module.
-use Rattle.std.specs.Prelude.{◌≡◌, ℕ, ℤ, ◌≤◌, List, [], length, Option, Some, slice_get, slice_index_or}
+use Rattle.std.specs.Prelude.{true, ◌≡◌, ℕ, ℤ, ◌≤◌, List, [], length, Option, Some, slice_get, slice_index_or}
 use Rattle.ir_ast.specs.declared.types.Ty.{Ty}
 use Rattle.ir_ast.specs.declared.types.Ty.TheVariants.{Void}
 use Rattle.ir_ast.specs.declared.ops.Callee.{Callee}
@@ -11,7 +11,7 @@ use Rattle.object_meaning.specs.Lines.{Line, register_count}
 use Rattle.object_meaning.specs.Outcomes.{Outcome}
 use Rattle.object_meaning.specs.TargetRuns.{TargetGives}
 use Rattle.rewriting_forms.specs.Numbered.{lines_at}
-use Rattle.rewriting_forms.specs.Liveness.{live_table}
+use Rattle.rewriting_forms.specs.Liveness.{PhisAgree, Live, is_live, live_table}
 use Rattle.rewriting_forms.specs.Names.{naming_of}
 use Rattle.rewriting_forms.specs.Rewritten.{names_of, place_in, spelled, rewritten_module}
 use Rattle.rewriting_laws.specs.Laws.{IsPlain, IsReached}
@@ -57,3 +57,11 @@ abbrev pub RewritingAdds : Type 0
 RewritingAdds = (content : ModuleContent) (tables : ℕ → List Operand) → IsBefore content tables
     → (input : List ℤ) (go : ℕ → Option ℕ) (bound : ℕ) (outcome : Outcome)
     → TargetGives (rewritten_module content tables) input go bound outcome → TargetGives content input go bound outcome
+
+-- the test of liveness is exact
+pub record IsExact (func : Function) (table : List Operand) (b k v : ℕ) : Type 0 where
+  pub sound : is_live func table b k v ≡ true → Live func table v b k
+  pub complete : Live func table v b k → is_live func table b k v ≡ true
+
+abbrev pub LiveIsExact : Type 0
+LiveIsExact = (func : Function) (table : List Operand) → PhisAgree func → (b k v : ℕ) → IsExact func table b k v
