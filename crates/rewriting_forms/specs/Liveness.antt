@@ -1,6 +1,6 @@
 -- Live pointers.
-use Rattle.std.specs.Prelude.{◌≡◌, ℕ, zero, suc, ◌==◌, ◌&&◌, ◌||◌, nat_le, Bool, true, false, not, List, [], ◌∷◌, length, drop, map, filter, Option, Some, None, slice_get, ◌⊎◌}
-use Rattle.std.specs.List.{list_any, Contains, position}
+use Rattle.std.specs.Prelude.{◌≡◌, ℕ, zero, suc, ◌==◌, ◌&&◌, ◌||◌, ◌++◌, if◌then◌else◌, nat_le, Bool, true, false, not, List, [], ◌∷◌, length, drop, map, filter, Option, Some, None, slice_get, ◌⊎◌}
+use Rattle.std.specs.List.{list_any, Contains, position, flat_map, range_with_len}
 use Rattle.std.specs.Option.{option_map_or}
 use Rattle.ir_ast.specs.declared.ops.Operand.{Operand}
 use Rattle.ir_ast.specs.declared.ops.Operand.TheVariants.{Value}
@@ -8,7 +8,7 @@ use Rattle.ir_ast.specs.Insts.{Instruction}
 use Rattle.ir_ast.specs.Funcs.{Function}
 use Rattle.ir_ast.specs.Faults.PhiEdges.{is_phi}
 use Rattle.object_meaning.specs.Lines.{Line}
-use Rattle.rewriting_forms.specs.Numbered.{named, among, lines_at, line_at, gives, pointers, base_at, succs}
+use Rattle.rewriting_forms.specs.Numbered.{named, among, lines_at, line_at, gives, calls, pointers, base_at, succs}
 
 -- a use of a derived pointer is a use of its base too
 abbrev pub IsUse : Function → List Operand → ℕ → Operand → Type 0
@@ -98,3 +98,13 @@ live_list func table b k =
 abbrev pub live_table : Function → List Operand → ℕ → ℕ → ℕ → Bool
 live_table func table b zero v = not (among v (pointers func)) || is_live func table b 0 v
 live_table func table b (suc k) v = not (among v (pointers func)) || is_live_after func table b k v
+
+-- the lists of the calls among these lines of a block, the first of which has this place
+abbrev pub lists_from : Function → List Operand → ℕ → ℕ → List Line → List (List ℕ)
+lists_from func table b k [] = []
+lists_from func table b k (line ∷ lines) =
+    (if calls line then live_list func table b k ∷ [] else []) ++ lists_from func table b (suc k) lines
+
+-- the lists of all calls of functions that aren't leaves, in text order
+abbrev pub live_lists : Function → List Operand → List (List ℕ)
+live_lists func table = flat_map (λ b. lists_from func table b 0 (lines_at func b)) (range_with_len 0 (length func.blocks))

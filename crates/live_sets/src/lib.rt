@@ -1,0 +1,8 @@
+//! Which pointers are live across each call that isn't of a leaf (Garbage Collection Safepoints in LLVM, "RewriteStatepointsForGC").
+#![tactic(auto)]
+
+mod numbers;
+mod starts;
+mod uses;
+mod values;
+
