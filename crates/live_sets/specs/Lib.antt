@@ -2,3 +2,4 @@ pub mod Values
 pub mod Rows
 pub mod Uses
 pub mod Starts
+pub mod Ends

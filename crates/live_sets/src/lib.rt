@@ -1,6 +1,7 @@
 //! Which pointers are live across each call that isn't of a leaf (Garbage Collection Safepoints in LLVM, "RewriteStatepointsForGC").
 #![tactic(auto)]
 
+mod ends;
 mod numbers;
 mod starts;
 mod uses;
