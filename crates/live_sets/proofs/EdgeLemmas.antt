@@ -22,7 +22,7 @@ use Rattle.rewriting_laws.proofs.LiveExact.{any_found}
 same_block : (one other : BlockId) → one.0 ≡ other.0 → one ≡ other
 same_block one other e = ap (λ (n : ℕ). let l : BlockId = record { 0 = n } in l) e
 
-among_has : (xs : List ℕ) (x : ℕ) → Contains xs x → among x xs ≡ true
+pub among_has : (xs : List ℕ) (x : ℕ) → Contains xs x → among x xs ≡ true
 among_has xs x has = let at = get_contained xs x has in any_at (λ (y : ℕ). eqb y x) xs at.0 x at.1 (eq-eqb x x refl)
 
 has_among : (xs : List ℕ) (x : ℕ) → among x xs ≡ true → Contains xs x

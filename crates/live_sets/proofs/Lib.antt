@@ -6,3 +6,4 @@ pub mod UseLemmas
 pub mod Walks
 pub mod EdgeLemmas
 pub mod Reaches
+pub mod EndsLaws

@@ -42,7 +42,7 @@ module _ (func : Function) (marks : List Bool) (right : marks ≡ map is_pointer
       go (ty ∷ types) zero = refl
       go (ty ∷ types) (suc x) = go types x
 
-  marked_within : (x : ℕ) → has_mark marks x ≡ true → x < length (value_types func)
+  pub marked_within : (x : ℕ) → has_mark marks x ≡ true → x < length (value_types func)
   marked_within x is = go (slice_get (value_types func) x) refl (pointer_at x ∙ is)
     where
       go : (o : Option Ty) → slice_get (value_types func) x ≡ o → option_map_or is_pointer o false ≡ true → x < length (value_types func)
