@@ -3,3 +3,4 @@ pub mod Rows
 pub mod Uses
 pub mod Starts
 pub mod Ends
+pub mod Lists

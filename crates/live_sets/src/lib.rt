@@ -2,8 +2,10 @@
 #![tactic(auto)]
 
 mod ends;
+mod lists;
 mod numbers;
 mod starts;
 mod uses;
 mod values;
 
+pub use lists::live;

@@ -20,8 +20,8 @@ pub(crate) fn first_numbers(alloc: Global, func: &Func) -> Result<Vec<usize>, Me
     Ok(numbers)
 }
 
-// The number behind the results of these instructions.
-fn after(first: usize, insts: &[Inst]) -> usize
+/// The number behind the results of these instructions.
+pub(crate) fn after(first: usize, insts: &[Inst]) -> usize
     requires { first + length insts.now ≤ 18446744073709551615 }
     ensures { result ≡ after_all first insts.now }
 {
