@@ -7,3 +7,4 @@ pub mod Walks
 pub mod EdgeLemmas
 pub mod Reaches
 pub mod EndsLaws
+pub mod ListLaws

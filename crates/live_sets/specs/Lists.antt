@@ -1,5 +1,5 @@
 -- The lists of calls, the last one first.
-use Rattle.std.specs.Prelude.{◌≡◌, ℕ, Bool, false, not, ◌&&◌, ◌||◌, if◌then◌else◌, List, [], ◌∷◌, ◌++◌, map, filter, reverse, Option, slice_index_or}
+use Rattle.std.specs.Prelude.{◌≡◌, ℕ, Bool, true, false, not, ◌&&◌, ◌||◌, if◌then◌else◌, List, [], ◌∷◌, ◌++◌, map, filter, drop, reverse, Option, slice_index_or}
 use Rattle.std.specs.List.{list_any}
 use Rattle.std.specs.Global.{Vec}
 use Rattle.sp_ids.specs.declared.ids.ValueId.{ValueId}
@@ -7,8 +7,9 @@ use Rattle.ir_ast.specs.declared.ops.Operand.{Operand}
 use Rattle.ir_ast.specs.Insts.{Instruction}
 use Rattle.ir_ast.specs.Funcs.{Function}
 use Rattle.rewriting_forms.specs.Numbered.{is_call, lines_at}
-use Rattle.rewriting_forms.specs.Liveness.{lists_from}
-use Rattle.live_sets.specs.Values.{valued}
+use Rattle.rewriting_forms.specs.Liveness.{live_lines, lists_from}
+use Rattle.live_sets.specs.Values.{has_mark, valued}
+use Rattle.live_sets.specs.Ends.{lives_at_end}
 use Rattle.live_sets.specs.Rows.{Changed}
 use Rattle.live_sets.specs.Uses.{names, uses}
 
@@ -30,3 +31,9 @@ pub record AddsList (marks : List Bool) (table : List Operand) (values : List Va
 abbrev pub AddsBlock : Function → List Operand → ℕ → List (Vec ValueId) → List (Vec ValueId) → Type 0
 AddsBlock func table b old new =
     items_of new ≡ items_of old ++ reverse (map (map valued) (lists_from func table b 0 (lines_at func b)))
+
+-- at a place of a block, coming from its end: the row has the pointers that are live there, and the lists of the calls behind it were added
+pub record AtPlace (func : Function) (table : List Operand) (marks : List Bool) (b place : ℕ) (row : List Bool) (old now : List (Vec ValueId)) : Type 0 where
+  pub marked : (v : ℕ) → has_mark marks v ≡ true
+      → slice_index_or row v false ≡ live_lines func table v (lives_at_end func table b v) (drop place (lines_at func b))
+  pub listed : items_of now ≡ items_of old ++ reverse (map (map valued) (lists_from func table b place (drop place (lines_at func b))))
