@@ -1,11 +1,10 @@
 -- Edges into blocks and out of them.
-use Rattle.std.proofs.Common.{◌≡◌, ℕ, zero, suc, ◌+◌, ◌<◌, ◌≤◌, Bool, true, false, eqb, if◌then◌else◌, List, [], ◌∷◌, ◌++◌, length, map, replicate, get_or, refl, ap, sym, arith, inl, inr, Some, None, Option, slice_get, ◌∙◌, subst}
-use Rattle.std.specs.List.{range_with_len, flat_map, Contains}
+use Rattle.std.proofs.Common.{◌≡◌, ℕ, zero, suc, ◌+◌, ◌<◌, ◌≤◌, Bool, true, eqb, if◌then◌else◌, List, [], ◌∷◌, length, map, replicate, get_or, refl, ap, sym, arith, inl, inr, Some, None, Option, slice_get, ◌∙◌, subst}
+use Rattle.std.specs.List.{range_with_len, Contains}
 use Rattle.std.specs.Option.{option_map_or}
 use Rattle.std.proofs.lemmas.Bool.{cases_eq, cases_lt, eq-eqb, ne_eqb, false≢true}
 use Rattle.std.proofs.lemmas.List.{get_or_past, length-map}
 use Rattle.std.proofs.lemmas.List.Sums.{sum_by-cons}
-use Rattle.std.proofs.lemmas.Option.{slice_get_within}
 use Rattle.sp_ids.specs.declared.ids.BlockId.{BlockId}
 use Rattle.ir_ast.specs.Insts.{Instruction}
 use Rattle.ir_ast.specs.Blocks.{BasicBlock}
@@ -14,7 +13,7 @@ use Rattle.ir_ast.specs.Edges.{targets, count_of, edges}
 use Rattle.ir_ast.specs.Faults.PhiEdges.{is_phi, PhisAreRight}
 use Rattle.ir_cfg.specs.Graphs.{graph_of, succs_of, preds_of, block_at}
 use Rattle.list_laws.proofs.Places.{split_at}
-use Rattle.list_laws.proofs.Contents.{contains_get, get_contained, contains_none, contains_first, contains_later, contains_cons, contains_map, contains_image, contains_joined, joined_contains}
+use Rattle.list_laws.proofs.Contents.{contains_get, get_contained, contains_none, contains_first, contains_later, contains_cons, contains_map, joined_contains}
 use Rattle.rewriting_forms.specs.Numbered.{among, succs, preds}
 use Rattle.rewriting_laws.proofs.LiveLaws.{any_at, edge_succs}
 use Rattle.rewriting_laws.proofs.LiveExact.{any_found}

@@ -1,9 +1,9 @@
 -- The graph of places, row by row.
-use Rattle.std.proofs.Common.{◌≡◌, ℕ, zero, suc, ◌+◌, ◌-◌, ◌<◌, ◌≤◌, Bool, true, false, if◌then◌else◌, List, [], ◌∷◌, ◌++◌, length, map, get_or, replicate, ◌&&◌, ◌==◌, nat_lt, append-nil, inl, inr, refl, ap, sym, arith, Some, None, Option, slice_get, ◌∙◌}
+use Rattle.std.proofs.Common.{◌≡◌, ℕ, zero, suc, ◌+◌, ◌-◌, ◌<◌, ◌≤◌, Bool, true, false, if◌then◌else◌, List, [], ◌∷◌, ◌++◌, length, map, get_or, replicate, ◌&&◌, ◌==◌, nat_lt, append-nil, inl, inr, refl, ap, sym, arith, Some, Option, slice_get, ◌∙◌}
 use Rattle.std.specs.Prelude.{unwrap_or}
 use Rattle.std.specs.List.{range_with_len}
 use Rattle.std.specs.Global.{Vec}
-use Rattle.std.proofs.lemmas.Option.{slice_get-get_or, get_or_from_slice_get, unwrap_or-slice_get}
+use Rattle.std.proofs.lemmas.Option.{get_or_from_slice_get, unwrap_or-slice_get}
 use Rattle.std.proofs.lemmas.List.{length-append, length-map, length-replicate}
 use Rattle.std.proofs.lemmas.List.FromFn.{length-range_with_len}
 use Rattle.std.proofs.lemmas.Bool.{cases_eq, eq-eqb, ne_eqb}
@@ -15,7 +15,7 @@ use Rattle.list_laws.proofs.Contents.{contains_none}
 use Rattle.live_sets.specs.Values.{has_mark}
 use Rattle.list_laws.proofs.Places.{get_front, get_past, get_map}
 use Rattle.live_sets.specs.Starts.{list_at}
-use Rattle.live_sets.specs.Ends.{numbers_of, gives_in, end_row, backward_rows, AddsEnds}
+use Rattle.live_sets.specs.Ends.{numbers_of, end_row, backward_rows, AddsEnds}
 use Rattle.live_sets.proofs.NumberLemmas.{get_read}
 
 range_get : (from count k : ℕ) → k < count → slice_get (range_with_len from count) k ≡ Some (from + k)
@@ -116,6 +116,7 @@ added_more marks value place b old mid new first second = elim (cases_eq place b
     and_comm : (t : Bool) → (t && true) ≡ t
     and_comm true = refl
     and_comm false = refl
+
     and_none : (t : Bool) → (t && false) ≡ false
     and_none true = refl
     and_none false = refl

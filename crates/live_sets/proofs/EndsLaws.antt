@@ -1,22 +1,20 @@
 -- The lists of live pointers at the ends of blocks, a pointer at a time.
-use Rattle.std.proofs.Common.{◌≡◌, ℕ, zero, suc, ◌+◌, ◌<◌, ◌≤◌, Bool, true, false, if◌then◌else◌, List, [], ◌∷◌, ◌++◌, length, map, filter, take, get_or, refl, ap, sym, arith, inl, inr, Some, None, Option, slice_get, ◌∙◌, append-nil}
+use Rattle.std.proofs.Common.{◌≡◌, ℕ, zero, suc, ◌+◌, ◌<◌, ◌≤◌, Bool, true, false, if◌then◌else◌, List, [], ◌∷◌, ◌++◌, length, map, filter, take, get_or, refl, ap, sym, arith, Some, None, Option, slice_get, ◌∙◌}
 use Rattle.std.specs.List.{All, range_with_len}
 use Rattle.std.specs.Option.{option_map_or}
 use Rattle.std.specs.Global.{Vec}
-use Rattle.std.proofs.lemmas.Bool.{cases_Bool}
 use Rattle.std.proofs.lemmas.List.{map-append, length-map, take_all}
 use Rattle.std.proofs.lemmas.List.FromFn.{length-range_with_len}
 use Rattle.std.proofs.lemmas.List.Elements.{filter-append}
-use Rattle.std.proofs.lemmas.Option.{slice_get-get_or, slice_get_past, get_or_from_slice_get}
+use Rattle.std.proofs.lemmas.Option.{get_or_from_slice_get}
 use Rattle.std.proofs.Math.Seq.{take-suc}
 use Rattle.sp_ids.specs.declared.ids.ValueId.{ValueId}
 use Rattle.ir_ast.specs.declared.ops.Operand.{Operand}
 use Rattle.ir_ast.specs.Funcs.{Function}
 use Rattle.ir_ast.specs.Types.{is_pointer}
 use Rattle.ir_ast.specs.Values.{value_types}
-use Rattle.list_laws.proofs.Places.{get_some}
 use Rattle.list_laws.proofs.Contents.{contains_get, all_at}
-use Rattle.rewriting_forms.specs.Numbered.{among, pointers, preds}
+use Rattle.rewriting_forms.specs.Numbered.{pointers, preds}
 use Rattle.live_sets.specs.Values.{has_mark, valued}
 use Rattle.live_sets.specs.Starts.{list_at}
 use Rattle.live_sets.specs.Ends.{numbers_of, AreFronts, lives_at_end}
@@ -76,6 +74,7 @@ ends_more func table b i value old new found at so_far mark added =
     within [] k x is = absurd (cc)
     within (y ∷ xs) zero x is = omega arith
     within (y ∷ xs) (suc k) x is = (let w = within xs k x is in omega (arith, w))
+
     one : (t : Bool) → lives_at_end func table b value.0 ≡ t → map valued (filter (lives_at_end func table b) (value.0 ∷ [])) ≡ (if lives_at_end func table b value.0 then value ∷ [] else [])
     one true is = rw is refl
     one false is = rw is refl

@@ -8,3 +8,4 @@ pub mod EdgeLemmas
 pub mod Reaches
 pub mod EndsLaws
 pub mod ListLaws
+pub mod WholeLaws

@@ -1,12 +1,12 @@
 -- The lists of a block's calls, from its end to its front.
-use Rattle.std.proofs.Common.{◌≡◌, ℕ, zero, suc, ◌+◌, ◌-◌, ◌<◌, ◌≤◌, Bool, true, false, not, eqb, leb, ◌&&◌, ◌||◌, if◌then◌else◌, List, [], ◌∷◌, ◌++◌, length, map, filter, take, drop, get_or, replicate, refl, ap, sym, arith, inl, inr, Some, None, Option, slice_get, ◌∙◌, append-nil, append_assoc}
+use Rattle.std.proofs.Common.{◌≡◌, ℕ, zero, suc, ◌+◌, ◌-◌, ◌<◌, Bool, true, false, not, eqb, leb, ◌&&◌, ◌||◌, if◌then◌else◌, List, [], ◌∷◌, ◌++◌, length, map, filter, take, drop, get_or, refl, ap, sym, arith, inl, inr, Some, None, Option, slice_get, ◌∙◌, append-nil, append_assoc}
 use Rattle.std.specs.Prelude.{is_some, slice_index_or, reverse}
 use Rattle.std.specs.List.{list_any, range_with_len, flat_map, Contains}
 use Rattle.std.specs.Option.{option_map_or, option_map}
 use Rattle.std.specs.Global.{Vec}
-use Rattle.std.proofs.lemmas.Bool.{cases_Bool, cases_eq, eqb-true, eq-eqb, true≢false, false≢true, le-leb, or_cases}
-use Rattle.std.proofs.lemmas.List.{map-append, length-map, reverse-append}
-use Rattle.std.proofs.lemmas.Option.{slice_get_within, slice_get-get_or}
+use Rattle.std.proofs.lemmas.Bool.{cases_Bool, true≢false, le-leb}
+use Rattle.std.proofs.lemmas.List.{map-append, reverse-append}
+use Rattle.std.proofs.lemmas.Option.{slice_get_within}
 use Rattle.sp_ids.specs.declared.ids.ValueId.{ValueId}
 use Rattle.ir_ast.specs.declared.types.Ty.{Ty}
 use Rattle.ir_ast.specs.declared.ops.Operand.{Operand}
@@ -15,11 +15,11 @@ use Rattle.ir_ast.specs.Funcs.{Function}
 use Rattle.ir_ast.specs.Types.{is_pointer}
 use Rattle.ir_ast.specs.Values.{value_types}
 use Rattle.ir_ast.specs.Faults.PhiEdges.{is_phi}
-use Rattle.list_laws.proofs.Contents.{contains_get, contains_first, contains_later}
+use Rattle.list_laws.proofs.Contents.{contains_first, contains_later}
 use Rattle.object_meaning.specs.Lines.{Line, following, after_all, numbered, insts_in}
 use Rattle.object_meaning.specs.TargetRuns.{plain_lines}
-use Rattle.rewriting_forms.specs.Numbered.{among, lines_at, line_at, is_given, gives, is_call, calls, pointers}
-use Rattle.rewriting_forms.specs.Liveness.{is_use, any_use, any_held, uses_here, live_lines, is_live, is_live_after, live_list, lists_from}
+use Rattle.rewriting_forms.specs.Numbered.{among, lines_at, line_at, is_given, gives, is_call, pointers}
+use Rattle.rewriting_forms.specs.Liveness.{is_use, any_held, uses_here, live_lines, is_live, is_live_after, live_list, lists_from}
 use Rattle.rewriting_laws.proofs.NameLemmas.{line_is, among_filter, filter_among}
 use Rattle.live_sets.specs.Values.{has_mark, valued}
 use Rattle.live_sets.specs.Rows.{Changed, HasMarks}

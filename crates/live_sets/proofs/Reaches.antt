@@ -1,9 +1,9 @@
 -- The marks that a search backwards leaves on the ends of blocks are those of the blocks at whose ends the pointer is live.
-use Rattle.std.proofs.Common.{◌≡◌, ℕ, zero, suc, ◌+◌, ◌-◌, ◌<◌, ◌≤◌, Bool, true, false, not, eqb, leb, nat_lt, nat_le, ◌&&◌, if◌then◌else◌, List, [], ◌∷◌, length, map, take, drop, get_or, refl, ap, sym, arith, inl, inr, ◌⊎◌, Some, None, Option, slice_get, ◌∙◌, subst}
+use Rattle.std.proofs.Common.{◌≡◌, ℕ, zero, suc, ◌+◌, ◌-◌, ◌<◌, ◌≤◌, Bool, true, false, eqb, leb, nat_lt, nat_le, ◌&&◌, if◌then◌else◌, List, [], ◌∷◌, length, map, take, drop, get_or, refl, ap, sym, arith, inl, inr, ◌⊎◌, Some, None, Option, slice_get, ◌∙◌, subst}
 use Rattle.std.specs.Prelude.{slice_index}
-use Rattle.std.specs.List.{list_any, range_with_len, flat_map, Contains}
+use Rattle.std.specs.List.{range_with_len, Contains}
 use Rattle.std.specs.Option.{option_map_or}
-use Rattle.std.proofs.lemmas.Bool.{cases_Bool, cases_eq, cases_lt, eqb-true, eq-eqb, true≢false, false≢true, and_from, and_parts}
+use Rattle.std.proofs.lemmas.Bool.{cases_Bool, cases_eq, cases_lt, eqb-true, eq-eqb, false≢true, and_from, and_parts}
 use Rattle.std.proofs.lemmas.Bool.Decides.{nat_tests}
 use Rattle.std.proofs.lemmas.Option.{slice_get_within, get_or_from_slice_get, slice_get-get_or}
 use Rattle.std.proofs.lemmas.List.{length-map, get_or_past}
@@ -20,23 +20,22 @@ use Rattle.ir_ast.specs.Types.{is_pointer}
 use Rattle.ir_ast.specs.Values.{value_types}
 use Rattle.ir_ast.specs.Faults.PhiEdges.{is_phi, PhisAreRight}
 use Rattle.list_laws.proofs.Places.{split_at, get_map}
-use Rattle.list_laws.proofs.Contents.{contains_get, get_contained, contains_none, contains_one, contains_map, contains_joined, joined_contains, contains_image}
+use Rattle.list_laws.proofs.Contents.{contains_get, get_contained, contains_one, contains_map, contains_joined, joined_contains, contains_image}
 use Rattle.object_meaning.specs.Lines.{Line, after_all, numbered, first_registers, registers_of, insts_in}
-use Rattle.object_meaning.specs.TargetRuns.{plain_lines}
 use Rattle.graph_search.specs.Edges.{Edge, targets_of, AreInside}
 use Rattle.graph_search.specs.Paths.{ReachedFrom, at_start, along, MarksReached}
-use Rattle.rewriting_forms.specs.Numbered.{lines_at, gives, pointers, succs, preds}
-use Rattle.rewriting_forms.specs.Liveness.{IsUse, IsEntry, PhisAgree, Live, used, held, later, entry, crosses, live_over, live_front, live_lines, is_live}
+use Rattle.rewriting_forms.specs.Numbered.{lines_at, gives, preds}
+use Rattle.rewriting_forms.specs.Liveness.{IsUse, PhisAgree, Live, used, held, later, entry, crosses, live_front, live_lines}
 use Rattle.rewriting_laws.proofs.LiveLaws.{drop_all}
 use Rattle.rewriting_laws.proofs.LiveExact.{use_is, use_from, over_sound, front_sound, live_complete}
 use Rattle.live_sets.specs.Values.{has_mark}
 use Rattle.live_sets.specs.Uses.{uses}
 use Rattle.live_sets.specs.declared.starts.Spot.{Spot}
-use Rattle.live_sets.specs.Starts.{is_given, line_adds, first_of, starts_in, starts_of}
-use Rattle.live_sets.specs.Ends.{gives_in, end_row, backward_rows, lives_at_end}
+use Rattle.live_sets.specs.Starts.{is_given, first_of, starts_in, starts_of}
+use Rattle.live_sets.specs.Ends.{gives_in, backward_rows, lives_at_end}
 use Rattle.live_sets.proofs.UseLemmas.{uses_same, same_test, line_get, line_back, lines_length, given_between, between_given}
 use Rattle.live_sets.proofs.EndLemmas.{rows_length, row_of_end, row_of_front, row_behind}
-use Rattle.live_sets.proofs.Walks.{UsesAt, by_operand, by_bundle, EntryAt, LineOf, line_back_adds, line_forth_entry, line_forth_use, block_back, block_forth}
+use Rattle.live_sets.proofs.Walks.{UsesAt, by_operand, by_bundle, EntryAt, line_back_adds, line_forth_entry, line_forth_use, block_back, block_forth}
 use Rattle.live_sets.proofs.EdgeLemmas.{pred_succ, succ_pred, succ_within, range_has, label_edge}
 
 -- the number behind a block is the first of the next
@@ -143,6 +142,7 @@ module _ (func : Function) (table : List Operand) (marks : List Bool) (right : m
     where
       le_is : (a b : ℕ) → a ≤ b → nat_le a b ≡ true
       le_is a b le = grind (arith, nat_tests)
+
       lt_is : (a b : ℕ) → a < b → nat_lt a b ≡ true
       lt_is a b lt = grind (arith, nat_tests)
 
@@ -189,7 +189,7 @@ module _ (func : Function) (table : List Operand) (marks : List Bool) (right : m
         | inr far ↦
             let live = uses_live b line.place line.inst line.at far.0 in
             let here = walk_up b line.place live (let w = slice_get_within (insts_in func b) line.place line.inst line.at in omega (arith, w))
-                (λ j other before at. none_before b line.place j other (not_given spot far.1) before at) in
+            (λ j other before at. none_before b line.place j other (not_given spot far.1) before at) in
             let node_is = far.2 in
             record {
               at_end = λ inside. absurd (omega (arith, inside, node_is));
@@ -220,8 +220,8 @@ module _ (func : Function) (table : List Operand) (marks : List Bool) (right : m
               let lines = lines_length (first_of func from) (insts_in func from) in
               let all : take (length (lines_at func from)) (insts_in func from) ≡ insts_in func from = ap (λ (n : ℕ). take n (insts_in func from)) lines ∙ taken_all (insts_in func from) in
               let here = walk_up from (length (lines_at func from)) (sound.at_end below) (omega (arith, lines))
-                  (λ j other before at. none_before from (length (lines_at func from)) j other
-                  (λ low high. free_block from below free low (subst (λ (is : List Instruction). v < after_all (first_of func from) is) all high)) before at) in
+              (λ j other before at. none_before from (length (lines_at func from)) j other
+              (λ low high. free_block from below free low (subst (λ (is : List Instruction). v < after_all (first_of func from) is) all high)) before at) in
               record {
                 at_end = λ inside. absurd (omega (arith, inside, to_is, l));
                 at_front = λ b is. let same : from ≡ b = omega (arith, is, to_is, l) in subst (λ (n : ℕ). Live func table v n 0) same here;
@@ -345,16 +345,23 @@ module _ (func : Function) (table : List Operand) (marks : List Bool) (right : m
       inl (exposed_here b k line at (by_bundle from.of from.inside (ap (uses marks table v) from.is ∙ of_use o used_so)))
   complete _ _ (later b k line at none walk) = elim (complete b (suc k) walk) [
     | inl is ↦ inl (record {
-        place = is.place; inst = is.inst; at = is.at; from = (let f = is.from in omega (arith, f)); uses_it = is.uses_it;
-        free = λ j other low high stands. elim (cases_eq k j) [
-          | inl e ↦ same_line k j line other e at stands none
-          | inr ne ↦ is.free j other (omega (arith, ne, low)) high stands
-        ];
-      })
-    | inr both ↦ inr (λ j other low stands. elim (cases_eq k j) [
+      place = is.place;
+      inst = is.inst;
+      at = is.at;
+      from = (let f = is.from in omega (arith, f));
+      uses_it = is.uses_it;
+      free = λ j other low high stands. elim (cases_eq k j) [
+        | inl e ↦ same_line k j line other e at stands none
+        | inr ne ↦ is.free j other (omega (arith, ne, low)) high stands
+      ];
+    })
+    | inr both ↦ inr (
+      λ j other low stands. elim (cases_eq k j) [
         | inl e ↦ same_line k j line other e at stands none
         | inr ne ↦ both.0 j other (omega (arith, ne, low)) stands
-      ], both.1)
+      ],
+      both.1,
+    )
   ]
     where
       same_line : (k j : ℕ) (line other : Line) → k ≡ j → slice_get (lines_at func b) k ≡ Some line → slice_get (lines_at func b) j ≡ Some other → gives line v ≡ false → gives other v ≡ false
@@ -370,10 +377,12 @@ module _ (func : Function) (table : List Operand) (marks : List Bool) (right : m
       let entry_at : EntryAt marks table v phi.inst b =
       record { phi = is_one; place = one.place; label = label.0; operand = o; label_is = label.1; operand_is = one.operand_is; uses_it = of_use o used_so; at = sym b_is } in
       let spot : Spot = record { node = count + to; first = first_of func to; next = after_all (first_of func to) (take place (insts_in func to)) } in
-      inr (λ j other low stands. (let w = slice_get_within (lines_at func b) j other stands in absurd (omega (arith, w, low, last))),
-      at_start b (joined_contains (starts_in func marks table v) (range_with_len 0 count) to b (range_has count to below)
-      (block_forth marks table v pointer (count + to) (first_of func to) (first_of func to) (insts_in func to) place b inst.0 inst.1
-      (line_forth_entry marks table v pointer spot inst.0 b (subst (λ (i : Instruction). EntryAt marks table v i b) inst.2 entry_at)))))
+      inr (
+        λ j other low stands. (let w = slice_get_within (lines_at func b) j other stands in absurd (omega (arith, w, low, last))),
+        at_start b (joined_contains (starts_in func marks table v) (range_with_len 0 count) to b (range_has count to below)
+            (block_forth marks table v pointer (count + to) (first_of func to) (first_of func to) (insts_in func to) place b inst.0 inst.1
+            (line_forth_entry marks table v pointer spot inst.0 b (subst (λ (i : Instruction). EntryAt marks table v i b) inst.2 entry_at)))),
+      )
     where
       label_of : (l : Option BlockId) (from : ℕ) → option_map_or (λ (l : BlockId). eqb l.0 from) l false ≡ true → (label : BlockId) × (l ≡ Some label) × (eqb label.0 from ≡ true)
       label_of None from is = absurd (false≢true is)
@@ -381,8 +390,10 @@ module _ (func : Function) (table : List Operand) (marks : List Bool) (right : m
   complete _ _ (crosses b k to last edge walk) =
       let has = succ_pred func b to edge in
       let below = live_within to 0 walk in
-      inr (λ j other low stands. (let w = slice_get_within (lines_at func b) j other stands in absurd (omega (arith, w, low, last))),
-      before_reached to b below has (front_reached to below (complete to 0 walk)))
+      inr (
+        λ j other low stands. (let w = slice_get_within (lines_at func b) j other stands in absurd (omega (arith, w, low, last))),
+        before_reached to b below has (front_reached to below (complete to 0 walk)),
+      )
 
   pub ends_reached : (b : ℕ) → Live func table v b (length (lines_at func b)) → ReachedFrom rows starts b
   ends_reached b walk = elim (complete b (length (lines_at func b)) walk) [

@@ -1,10 +1,10 @@
 -- What a line uses and gives, by the marks of pointers and the numbers of values.
-use Rattle.std.proofs.Common.{◌≡◌, ℕ, zero, suc, ◌+◌, ◌-◌, ◌<◌, ◌≤◌, Bool, true, false, not, eqb, nat_lt, nat_le, ◌&&◌, ◌||◌, if◌then◌else◌, List, [], ◌∷◌, length, map, filter, take, get_or, refl, ap, sym, arith, inl, inr, Some, None, Option, slice_get, ◌∙◌}
-use Rattle.std.specs.Prelude.{is_some, unwrap_or}
-use Rattle.std.specs.List.{list_any, range_with_len}
+use Rattle.std.proofs.Common.{◌≡◌, ℕ, zero, suc, ◌+◌, ◌<◌, ◌≤◌, Bool, true, false, not, eqb, ◌&&◌, ◌||◌, if◌then◌else◌, List, [], ◌∷◌, length, map, take, refl, ap, sym, arith, inl, inr, Some, None, Option, slice_get, ◌∙◌}
+use Rattle.std.specs.Prelude.{is_some}
+use Rattle.std.specs.List.{range_with_len}
 use Rattle.std.specs.Option.{option_map_or}
-use Rattle.std.proofs.lemmas.Bool.{cases_Bool, cases_eq, cases_lt, eqb-true, eq-eqb, ne_eqb, true≢false, false≢true, or_left, or_right, or_cases, and_from, and_parts}
-use Rattle.std.proofs.lemmas.Option.{slice_get_within, unwrap_or-slice_get}
+use Rattle.std.proofs.lemmas.Bool.{cases_Bool, cases_eq, cases_lt, eqb-true, eq-eqb, ne_eqb, false≢true, or_left, or_right}
+use Rattle.std.proofs.lemmas.Option.{slice_get_within}
 use Rattle.sp_ids.specs.declared.ids.ValueId.{ValueId}
 use Rattle.ir_ast.specs.declared.types.Ty.{Ty}
 use Rattle.ir_ast.specs.declared.ops.Operand.{Operand}
@@ -19,7 +19,7 @@ use Rattle.rewriting_forms.specs.Numbered.{among, gives, pointers, base_at}
 use Rattle.rewriting_forms.specs.Liveness.{is_use, is_value}
 use Rattle.rewriting_laws.proofs.NameLemmas.{among_filter, filter_among}
 use Rattle.live_sets.specs.Values.{has_mark}
-use Rattle.live_sets.specs.Uses.{value_named, other_than, base_named, names, uses}
+use Rattle.live_sets.specs.Uses.{value_named, other_than, names, uses}
 
 pub same_test : (a b : Bool) → (a ≡ true → b ≡ true) → (b ≡ true → a ≡ true) → a ≡ b
 same_test true b forth back = sym (forth refl)
@@ -34,7 +34,7 @@ among_range a (suc n) x low high = elim (cases_eq a x) [
 ]
 
 module _ (func : Function) (marks : List Bool) (right : marks ≡ map is_pointer (value_types func)) where
-  pointer_at : (x : ℕ) → option_map_or is_pointer (slice_get (value_types func) x) false ≡ has_mark marks x
+  pub pointer_at : (x : ℕ) → option_map_or is_pointer (slice_get (value_types func) x) false ≡ has_mark marks x
   pointer_at x = go (value_types func) x ∙ ap (λ (ms : List Bool). has_mark ms x) (sym right)
     where
       go : (types : List Ty) (x : ℕ) → option_map_or is_pointer (slice_get types x) false ≡ has_mark (map is_pointer types) x

@@ -1,35 +1,19 @@
 -- Walks backwards from the starts of a pointer lead to the places where it is live, and to no others.
-use Rattle.std.proofs.Common.{◌≡◌, ◌≢◌, ℕ, zero, suc, ◌+◌, ◌-◌, ◌<◌, ◌≤◌, Bool, true, false, not, eqb, nat_lt, nat_le, ◌&&◌, ◌||◌, if◌then◌else◌, List, [], ◌∷◌, ◌++◌, length, map, take, drop, get_or, refl, ap, sym, arith, inl, inr, ◌⊎◌, Some, None, Option, slice_get, ◌∙◌, subst}
-use Rattle.std.specs.List.{list_any, range_with_len, flat_map, Contains}
-use Rattle.std.specs.Option.{option_map_or}
-use Rattle.std.proofs.lemmas.Bool.{cases_Bool, cases_eq, cases_lt, true≢false, false≢true, and_from, and_parts}
+use Rattle.std.proofs.Common.{◌≡◌, ℕ, zero, suc, Bool, true, false, not, ◌&&◌, if◌then◌else◌, List, [], ◌∷◌, take, refl, ap, sym, arith, inl, inr, ◌⊎◌, Some, slice_get, ◌∙◌, subst}
+use Rattle.std.specs.List.{flat_map, Contains}
 use Rattle.std.proofs.lemmas.Bool.Decides.{nat_tests}
 use Rattle.std.proofs.lemmas.List.Elements.{Contains-append_left, Contains-append_right, Contains-append_cases}
-use Rattle.std.proofs.lemmas.Option.{slice_get_within, get_or_from_slice_get}
 use Rattle.sp_ids.specs.declared.ids.BlockId.{BlockId}
 use Rattle.ir_ast.specs.declared.types.Ty.{Ty}
 use Rattle.ir_ast.specs.declared.ops.Operand.{Operand}
 use Rattle.ir_ast.specs.Insts.{Instruction}
-use Rattle.ir_ast.specs.Blocks.{BasicBlock}
-use Rattle.ir_ast.specs.Funcs.{Function}
-use Rattle.ir_ast.specs.Types.{is_pointer}
-use Rattle.ir_ast.specs.Values.{value_types}
 use Rattle.ir_ast.specs.Faults.PhiEdges.{is_phi}
-use Rattle.list_laws.proofs.Contents.{contains_get, get_contained, contains_none, contains_first, contains_cons, contains_one, contains_joined, joined_contains}
-use Rattle.object_meaning.specs.Lines.{Line, following, after_all, numbered, registers_of, insts_in}
-use Rattle.object_meaning.specs.TargetRuns.{plain_lines}
-use Rattle.graph_search.specs.Edges.{Edge, targets_of}
-use Rattle.graph_search.specs.Paths.{ReachedFrom, at_start, along}
-use Rattle.rewriting_forms.specs.Numbered.{named, among, lines_at, gives, pointers, succs, preds}
-use Rattle.rewriting_forms.specs.Liveness.{IsUse, IsEntry, Live, used, held, later, entry, crosses, is_use}
-use Rattle.rewriting_laws.proofs.LiveExact.{use_is, use_from}
+use Rattle.list_laws.proofs.Contents.{contains_none, contains_first, contains_one, contains_joined, joined_contains}
+use Rattle.object_meaning.specs.Lines.{following, after_all}
 use Rattle.live_sets.specs.Values.{has_mark}
 use Rattle.live_sets.specs.Uses.{uses}
 use Rattle.live_sets.specs.declared.starts.Spot.{Spot}
-use Rattle.live_sets.specs.Starts.{is_given, adds, at_end, entries_add, own_adds, line_adds, block_adds, first_of, starts_in, starts_of}
-use Rattle.live_sets.specs.Ends.{gives_in, end_row, backward_rows}
-use Rattle.live_sets.proofs.UseLemmas.{uses_same, line_get, FromInst, line_back, given_between, GivenBefore, between_given}
-use Rattle.live_sets.proofs.EndLemmas.{rows_length, row_of_end, row_of_front}
+use Rattle.live_sets.specs.Starts.{is_given, adds, at_end, entries_add, own_adds, line_adds, block_adds}
 
 -- ---- what a start stands for
 
@@ -135,9 +119,9 @@ module _ (marks : List Bool) (table : List Operand) (v : ℕ) (pointer : has_mar
   block_back node first next [] found has = absurd (contains_none found has)
   block_back node first next (inst ∷ insts) found has = elim (Contains-append_cases (line_adds marks table (record { node = node; first = first; next = next }) v inst)
       (block_adds marks table node first (following next inst) v insts) found has) [
-    | inl here ↦ record { place = 0; inst = inst; at = refl; has = here }
-    | inr there ↦ let rest = block_back node first (following next inst) insts found there in record { place = suc rest.place; inst = rest.inst; at = rest.at; has = rest.has }
-  ]
+        | inl here ↦ record { place = 0; inst = inst; at = refl; has = here }
+        | inr there ↦ let rest = block_back node first (following next inst) insts found there in record { place = suc rest.place; inst = rest.inst; at = rest.at; has = rest.has }
+      ]
 
   pub block_forth : (node first next : ℕ) (insts : List Instruction) (place found : ℕ) (inst : Instruction) → slice_get insts place ≡ Some inst
       → Contains (line_adds marks table (record { node = node; first = first; next = after_all next (take place insts) }) v inst) found

@@ -1,5 +1,5 @@
 -- Where pointers are live, by walks backwards along edges.
-use Rattle.std.specs.Prelude.{◌≡◌, ℕ, ◌<◌, ◌+◌, ◌==◌, ◌&&◌, nat_le, nat_lt, Bool, false, if◌then◌else◌, List, [], ◌∷◌, ◌++◌, length, map, filter, slice_index_or}
+use Rattle.std.specs.Prelude.{◌≡◌, ℕ, ◌<◌, ◌+◌, ◌==◌, ◌&&◌, nat_le, nat_lt, Bool, if◌then◌else◌, List, [], ◌∷◌, ◌++◌, length, map, filter, slice_index_or}
 use Rattle.std.specs.List.{list_any, range_with_len}
 use Rattle.std.specs.Global.{Vec}
 use Rattle.sp_ids.specs.declared.ids.ValueId.{ValueId}
@@ -9,7 +9,7 @@ use Rattle.graph_search.specs.Paths.{MarksReached}
 use Rattle.rewriting_forms.specs.Numbered.{pointers, preds, succs}
 use Rattle.rewriting_forms.specs.Liveness.{live_over, live_front}
 use Rattle.live_sets.specs.Values.{has_mark, valued}
-use Rattle.live_sets.specs.Starts.{list_at, GrownAt}
+use Rattle.live_sets.specs.Starts.{list_at}
 
 -- ---- the graph of places
 

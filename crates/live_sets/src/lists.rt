@@ -36,6 +36,7 @@ pub fn live(alloc: Global, func: &Func, cfg: &Cfg, bases: &BaseTable) -> Result<
     requires cfg { cfg.now ≡ graph_of func.now.content }
     ensures { IfOk result (λ live. live ≡ map (map valued) (live_lists func.now.content bases.now)) }
 {
+    let mut number = func.blocks().len();
     let table = bases.bases();
     let marks = pointer_marks(alloc, func)?;
     let values = marked(alloc, marks.as_slice())?;
@@ -53,7 +54,6 @@ pub fn live(alloc: Global, func: &Func, cfg: &Cfg, bases: &BaseTable) -> Result<
         table,
     )?;
     let mut lists = Vec::new(alloc);
-    let mut number = func.blocks().len();
     while number > 0 {
         number -= 1;
         add_block(

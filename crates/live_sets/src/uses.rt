@@ -59,12 +59,7 @@ pub(crate) fn put(row: &mut Vec<bool>, value: Option<ValueId>, mark: bool)
 }
 
 /// Marks what an operand uses.
-pub(crate) fn mark_operand(
-    marks: &[bool],
-    bases: &[Operand],
-    operand: Operand,
-    row: &mut Vec<bool>,
-)
+pub(crate) fn mark_operand(marks: &[bool], bases: &[Operand], operand: Operand, row: &mut Vec<bool>)
     ensures { Changed row.old.items row.new.items (λ v old. uses marks.now bases.now v operand || old) }
 {
     let used = uses_of(marks, bases, operand);

@@ -1,4 +1,4 @@
-use Rattle.std.proofs.Common.{arith, length}
+use Rattle.std.proofs.Common.{arith}
 use Rattle.std.proofs.lemmas.Bool.Decides.{nat_tests}
 use Rattle.live_sets.proofs.EndLemmas.{adds_none}
 use Rattle.live_sets.proofs.ends.add_ends.Goals as goal

@@ -1,12 +1,8 @@
-use Rattle.std.proofs.Common.{◌≡◌, ◌∙◌, ◌<◌, ap, sym, arith, length, get_or, ℕ, List, map, subst, refl}
-use Rattle.std.specs.List.{range_with_len}
+use Rattle.std.proofs.Common.{◌≡◌, ◌∙◌, ap, sym, arith, length, get_or}
 use Rattle.std.proofs.lemmas.List.{length-map}
-use Rattle.graph_search.specs.Edges.{AreInside}
-use Rattle.graph_search.specs.Paths.{MarksReached}
-use Rattle.rewriting_forms.specs.Numbered.{pointers, preds}
+use Rattle.rewriting_forms.specs.Numbered.{pointers}
 use Rattle.live_sets.specs.Values.{valued}
 use Rattle.live_sets.specs.Starts.{starts_of, list_at}
-use Rattle.live_sets.specs.Ends.{numbers_of, backward_rows}
 use Rattle.live_sets.proofs.StartLemmas.{list_is}
 use Rattle.live_sets.proofs.Reaches.{all_inside, marks_are}
 use Rattle.live_sets.proofs.EndsLaws.{fronts_count, empty_at, value_at, pointer_marked, marked_below, ends_more, ends_all}

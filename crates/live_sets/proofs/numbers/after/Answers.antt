@@ -1,5 +1,4 @@
-use Rattle.std.proofs.Common.{◌≡◌, ◌∙◌, ◌+◌, suc, ap, arith, length, take, get_or, sym, List, ◌++◌, ◌∷◌, []}
-use Rattle.ir_ast.specs.Insts.{Instruction}
+use Rattle.std.proofs.Common.{◌∙◌, ap, arith, take, sym}
 use Rattle.object_meaning.specs.Lines.{after_all, following}
 use Rattle.live_sets.proofs.NumberLemmas.{after_push, following_small, take_more}
 use Rattle.live_sets.proofs.numbers.after.Goals as goal

@@ -1,5 +1,4 @@
-use Rattle.std.proofs.Common.{◌≡◌, ◌∙◌, ◌+◌, ◌≤◌, ◌<◌, suc, ap, arith, length, take, drop, get_or, sym, List, ◌++◌, ◌∷◌, [], ℕ}
-use Rattle.std.proofs.lemmas.List.{length-append}
+use Rattle.std.proofs.Common.{◌≡◌, ◌∙◌, ◌+◌, ap, arith, length, drop, sym, List, ◌++◌, ◌∷◌, [], ℕ}
 use Rattle.list_laws.proofs.Places.{drop_at}
 use Rattle.ir_ast.specs.Blocks.{BasicBlock}
 use Rattle.ir_ast.specs.Funcs.{instructions_of}

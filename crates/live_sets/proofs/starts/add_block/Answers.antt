@@ -1,5 +1,4 @@
-use Rattle.std.proofs.Common.{◌≡◌, ◌∙◌, ap, sym, ℕ, ◌+◌, List, ◌++◌, ◌∷◌, [], take, arith}
-use Rattle.ir_ast.specs.Insts.{Instruction}
+use Rattle.std.proofs.Common.{◌∙◌, ap, sym, ℕ, ◌++◌, take, arith}
 use Rattle.object_meaning.specs.Lines.{following, after_all}
 use Rattle.live_sets.specs.Starts.{line_adds, block_adds}
 use Rattle.live_sets.proofs.NumberLemmas.{take_more, after_push, following_small}

@@ -1,4 +1,4 @@
-use Rattle.std.proofs.Common.{◌≡◌, ap, sym, List, ℕ, ◌++◌}
+use Rattle.std.proofs.Common.{ap, sym, List, ℕ, ◌++◌}
 use Rattle.std.specs.List.{flat_map}
 use Rattle.std.proofs.lemmas.Result.{IfOk-weaker}
 use Rattle.ir_ast.specs.declared.types.Ty.{Ty}

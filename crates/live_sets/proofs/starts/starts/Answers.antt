@@ -1,10 +1,9 @@
-use Rattle.std.proofs.Common.{◌≡◌, ◌∙◌, ap, sym, ℕ, ◌+◌, ◌<◌, List, ◌++◌, length, get_or, take, arith}
+use Rattle.std.proofs.Common.{◌≡◌, ◌∙◌, ap, sym, ℕ, ◌+◌, List, ◌++◌, length, get_or, take, arith}
 use Rattle.std.specs.Prelude.{slice_get, Some}
 use Rattle.std.specs.List.{flat_map, range_with_len}
 use Rattle.ir_ast.specs.Blocks.{BasicBlock}
-use Rattle.ir_ast.specs.Insts.{Instruction}
 use Rattle.ir_ast.specs.Funcs.{instructions_of}
-use Rattle.live_sets.specs.Starts.{block_adds, starts_in, list_at}
+use Rattle.live_sets.specs.Starts.{block_adds, starts_in}
 use Rattle.live_sets.proofs.NumberLemmas.{firsts_length, first_small, block_room, get_read}
 use Rattle.live_sets.proofs.StartLemmas.{starts_more, block_starts}
 use Rattle.live_sets.proofs.starts.starts.Goals as goal

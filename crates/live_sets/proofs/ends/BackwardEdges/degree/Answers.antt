@@ -1,6 +1,5 @@
-use Rattle.std.proofs.Common.{◌≡◌, ◌∙◌, ◌<◌, ◌-◌, ap, sym, arith, length, get_or, ℕ, List, Bool, if◌then◌else◌, [], ◌∷◌, ◌+◌}
-use Rattle.graph_search.specs.Edges.{targets_of}
-use Rattle.live_sets.specs.Ends.{numbers_of, backward_rows, end_row, gives_in}
+use Rattle.std.proofs.Common.{◌≡◌, ◌∙◌, ◌-◌, ap, sym, arith, length, get_or, ℕ, List, Bool, if◌then◌else◌, [], ◌∷◌, ◌+◌}
+use Rattle.live_sets.specs.Ends.{numbers_of, end_row, gives_in}
 use Rattle.live_sets.proofs.EndLemmas.{rows_length, row_of_end, row_behind, numbers_length, numbers_get}
 use Rattle.live_sets.proofs.ends.BackwardEdges.degree.Goals as goal
 

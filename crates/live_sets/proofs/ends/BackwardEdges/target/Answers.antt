@@ -1,7 +1,6 @@
-use Rattle.std.proofs.Common.{◌≡◌, ◌∙◌, ◌<◌, ◌-◌, ap, sym, arith, length, get_or, ℕ, List, Bool, if◌then◌else◌, [], ◌∷◌, ◌+◌, Some}
+use Rattle.std.proofs.Common.{◌≡◌, ◌∙◌, ◌-◌, ap, arith, length, get_or, ℕ, List, [], ◌+◌, Some}
 use Rattle.std.specs.Prelude.{slice_get}
-use Rattle.graph_search.specs.Edges.{targets_of}
-use Rattle.live_sets.specs.Ends.{numbers_of, backward_rows, end_row, gives_in}
+use Rattle.live_sets.specs.Ends.{numbers_of, gives_in}
 use Rattle.live_sets.proofs.EndLemmas.{rows_length, row_of_end, row_behind, numbers_length, numbers_get, only_target}
 use Rattle.live_sets.proofs.NumberLemmas.{get_read}
 use Rattle.live_sets.proofs.ends.BackwardEdges.target.Goals as goal
