@@ -245,7 +245,7 @@ counted_among to (l ∷ labels) some = elim (cases_Bool (eqb l.0 to)) [
       or_right (eqb l.0 to) (among to (map (λ (x : BlockId). x.0) labels)) (counted_among to labels (omega (arith, split, none, some)))
 ]
 
-edge_succs : (func : Function) (from to : ℕ) → Edge func from to → among to (succs func from) ≡ true
+pub edge_succs : (func : Function) (from to : ℕ) → Edge func from to → among to (succs func from) ≡ true
 edge_succs func from to edge =
     counted_among to (succs_of (graph_of func) from) (counts_from (λ p. count_of to (succs_of (graph_of func) p)) 0 (length (graph_of func)) from edge)
 

@@ -1,0 +1,64 @@
+-- The lists of all calls.
+use Rattle.std.proofs.Common.{◌≡◌, ℕ, ◌+◌, ◌-◌, ◌≤◌, Bool, List, [], ◌∷◌, ◌++◌, length, map, filter, refl, ap, sym, arith, inl, inr, ◌∙◌}
+use Rattle.std.specs.Prelude.{is_some, reverse}
+use Rattle.std.specs.List.{range_with_len, flat_map}
+use Rattle.std.specs.Global.{Vec}
+use Rattle.std.proofs.lemmas.Bool.{cases_Bool}
+use Rattle.std.proofs.lemmas.List.{map-append, length-map, length-append, reverse-append, reverse-reverse}
+use Rattle.sp_ids.specs.declared.ids.ValueId.{ValueId}
+use Rattle.ir_ast.specs.declared.ops.Operand.{Operand}
+use Rattle.ir_ast.specs.Insts.{Instruction}
+use Rattle.ir_ast.specs.Funcs.{Function, instructions_of}
+use Rattle.ir_ast.specs.Types.{is_pointer}
+use Rattle.ir_ast.specs.Values.{argument, outcome, definition_type, definitions_of, value_types}
+use Rattle.rewriting_forms.specs.Numbered.{lines_at, pointers}
+use Rattle.rewriting_forms.specs.Liveness.{lists_from, live_lists}
+use Rattle.live_sets.specs.Values.{has_mark, valued}
+use Rattle.live_sets.specs.Lists.{items_of}
+use Rattle.live_sets.proofs.UseLemmas.{pointer_at}
+
+few_results : (insts : List Instruction) → length (filter (λ (inst : Instruction). is_some inst.result) insts) ≤ length insts
+few_results [] = omega arith
+few_results (inst ∷ insts) = elim (cases_Bool (is_some inst.result)) [
+  | inl some ↦ (let rest = few_results insts in rw some (omega (arith, rest)))
+  | inr none ↦ (let rest = few_results insts in rw none (omega (arith, rest)))
+]
+
+pub few_values : (func : Function) → length (value_types func) ≤ length func.args + length (instructions_of func.blocks)
+few_values func =
+    let results = filter (λ (inst : Instruction). is_some inst.result) (instructions_of func.blocks) in
+    let all = length-map (definitions_of func) definition_type in
+    let split = length-append (map argument func.args) (map outcome results) in
+    let args = length-map func.args argument in
+    let outcomes = length-map results outcome in
+    let few = few_results (instructions_of func.blocks) in
+    omega (arith, all, split, args, outcomes, few)
+
+same_filter : (p q : ℕ → Bool) (xs : List ℕ) → ((x : ℕ) → p x ≡ q x) → filter p xs ≡ filter q xs
+same_filter p q [] same = refl
+same_filter p q (x ∷ xs) same =
+    let here = same x in
+    let rest = same_filter p q xs same in
+    rw (here, rest) refl
+
+pub values_are : (func : Function) (marks : List Bool) → marks ≡ map is_pointer (value_types func)
+    → map valued (filter (has_mark marks) (range_with_len 0 (length marks))) ≡ map valued (pointers func)
+values_are func marks right =
+    let long = ap length right ∙ length-map (value_types func) is_pointer in
+    ap (λ (n : ℕ). map valued (filter (has_mark marks) (range_with_len 0 n))) long
+    ∙ ap (map valued) (same_filter (has_mark marks) _ (range_with_len 0 (length (value_types func))) (λ x. sym (pointer_at func marks right x)))
+
+items_reverse : (lists : List (Vec ValueId)) → items_of (reverse lists) ≡ reverse (items_of lists)
+items_reverse [] = refl
+items_reverse (x ∷ lists) =
+    ap items_of (reverse-append (x ∷ []) lists) ∙ map-append (λ (list : Vec ValueId). list.items) (reverse lists) (x ∷ [])
+    ∙ ap (λ (xs : List (List ValueId)). xs ++ x.items ∷ []) (items_reverse lists) ∙ sym (reverse-append (x.items ∷ []) (items_of lists))
+
+pub whole : (func : Function) (table : List Operand) (number : ℕ) (lists turned : List (Vec ValueId)) → number ≡ 0
+    → items_of lists ≡ reverse (map (map valued) (flat_map (λ (b : ℕ). lists_from func table b 0 (lines_at func b)) (range_with_len number (length func.blocks - number))))
+    → turned ≡ reverse lists → items_of turned ≡ map (map valued) (live_lists func table)
+whole func table number lists turned at_front are turn =
+    let each = λ (n : ℕ). map (map valued) (flat_map (λ (b : ℕ). lists_from func table b 0 (lines_at func b)) (range_with_len n (length func.blocks - n))) in
+    let all : length func.blocks - 0 ≡ length func.blocks = omega arith in
+    ap items_of turn ∙ items_reverse lists ∙ ap reverse are ∙ reverse-reverse (each number) ∙ ap each at_front
+    ∙ ap (λ (n : ℕ). map (map valued) (flat_map (λ (b : ℕ). lists_from func table b 0 (lines_at func b)) (range_with_len 0 n))) all

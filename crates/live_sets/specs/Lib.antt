@@ -1,0 +1,6 @@
+pub mod Values
+pub mod Rows
+pub mod Uses
+pub mod Starts
+pub mod Ends
+pub mod Lists

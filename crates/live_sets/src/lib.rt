@@ -1,0 +1,11 @@
+//! Which pointers are live across each call that isn't of a leaf (Garbage Collection Safepoints in LLVM, "RewriteStatepointsForGC").
+#![tactic(auto)]
+
+mod ends;
+mod lists;
+mod numbers;
+mod starts;
+mod uses;
+mod values;
+
+pub use lists::live;

@@ -1,0 +1,251 @@
+ghost use Rattle.std.specs.Prelude.{◌≡◌, ◌<◌, ◌≤◌, ◌+◌, ◌^◌, ◌++◌, [], ◌∷◌, ◌&&◌, ◌||◌, not, if◌then◌else◌, length, map, filter, take, IfOk, is_some, Some, slice_index_or, false, true};
+ghost use Rattle.std.specs.List.{list_any};
+ghost use Rattle.std.specs.Option.{option_map};
+ghost use Rattle.ir_ast.specs.Formed.{IsFormed};
+ghost use Rattle.ir_ast.specs.Callees.{is_leaf};
+ghost use Rattle.ir_ast.specs.Types.{is_pointer};
+ghost use Rattle.ir_ast.specs.Values.{value_types};
+ghost use Rattle.ir_cfg.specs.Graphs.{graph_of};
+ghost use Rattle.object_meaning.specs.Lines.{following, numbered};
+ghost use Rattle.rewriting_forms.specs.Numbered.{is_call, pointers, lines_at};
+ghost use Rattle.rewriting_forms.specs.Liveness.{lists_from, live_lists};
+ghost use Rattle.live_sets.specs.Values.{valued};
+ghost use Rattle.live_sets.specs.Rows.{Changed, HasMarks};
+ghost use Rattle.live_sets.specs.Uses.{names, uses};
+ghost use Rattle.live_sets.specs.Starts.{first_of, list_at};
+ghost use Rattle.live_sets.specs.Ends.{AreEnds, lives_at_end};
+ghost use Rattle.live_sets.specs.Lists.{items_of, is_held, AddsList, AddsBlock};
+
+use crate::ends::ends;
+use crate::numbers::{after, first_numbers};
+use crate::starts::starts;
+use crate::uses::{go_back, mark_bundle, put};
+use crate::values::{marked, pointer_marks};
+use ir_ast::{BaseTable, Callee, Func, Inst, LiveTable, Op, Operand};
+use ir_cfg::Cfg;
+use sp_ids::{Memory, ValueId};
+use std::alloc::Global;
+
+/// The pointers that are live across each call of a function that isn't a leaf, in text order: some path from behind the call
+/// reaches a use of the pointer, or of one derived from it, before a definition. Each list has arguments first and then results in
+/// text order, without the call's own result (Garbage Collection Safepoints in LLVM, "gc-live" operand bundle).
+///
+/// It takes a formed function, the graph of its edges, and the base of each of its values.
+pub fn live(alloc: Global, func: &Func, cfg: &Cfg, bases: &BaseTable) -> Result<LiveTable, Memory>
+    requires formed { IsFormed func.now.content }
+    requires cfg { cfg.now ≡ graph_of func.now.content }
+    ensures { IfOk result (λ live. live ≡ map (map valued) (live_lists func.now.content bases.now)) }
+{
+    let mut number = func.blocks().len();
+    let table = bases.bases();
+    let marks = pointer_marks(alloc, func)?;
+    let values = marked(alloc, marks.as_slice())?;
+    let firsts = first_numbers(alloc, func)?;
+    let starts = starts(alloc, func, marks.as_slice(), table, firsts.as_slice())?;
+    let numbers = Vec::from_slice(alloc, firsts.as_slice())?;
+    let ends = ends(
+        alloc,
+        func,
+        cfg,
+        marks.as_slice(),
+        numbers,
+        values.as_slice(),
+        starts.as_slice(),
+        table,
+    )?;
+    let mut lists = Vec::new(alloc);
+    while number > 0 {
+        number -= 1;
+        add_block(
+            alloc,
+            func,
+            number,
+            firsts[number],
+            marks.as_slice(),
+            table,
+            values.as_slice(),
+            ends[number].as_slice(),
+            &mut lists,
+        )?;
+    }
+    lists.reverse();
+    Ok(LiveTable::of(lists))
+}
+
+// Adds the lists of a block's calls, the last one first.
+fn add_block(
+    alloc: Global,
+    func: &Func,
+    number: usize,
+    first: usize,
+    marks: &[bool],
+    bases: &[Operand],
+    values: &[ValueId],
+    ends: &[ValueId],
+    lists: &mut Vec<Vec<ValueId>>,
+) -> Result<(), Memory>
+    requires number { number < length func.now.content.blocks }
+    requires first { first ≡ first_of func.now.content number }
+    requires marks { marks.now ≡ map is_pointer (value_types func.now.content) }
+    requires values { values.now ≡ map valued (pointers func.now.content) }
+    requires ends { ends.now ≡ map valued (filter (lives_at_end func.now.content bases.now number) (pointers func.now.content)) }
+    ensures { IfOk result (λ _. AddsBlock func.now.content bases.now number lists.old.items lists.new.items) }
+{
+    let insts = func.blocks()[number].insts();
+    if !has_call(insts) {
+        return Ok(());
+    }
+    let mut row = row_of(alloc, marks.len(), ends)?;
+    let mut next = after(first, insts);
+    let mut place = insts.len();
+    while place > 0 {
+        place -= 1;
+        let inst = &insts[place];
+        next = before(inst, next);
+        let to = result_of(inst, next);
+        add_list(alloc, marks, bases, values, inst, to, &mut row, lists)?;
+        go_back(marks, bases, inst, to, &mut row);
+    }
+    Ok(())
+}
+
+// Whether some instruction calls a function that isn't a leaf.
+fn has_call(insts: &[Inst]) -> bool
+    ensures { result ≡ list_any (λ inst. is_call inst.op) insts.now }
+{
+    insts.iter().any(|inst| is_call(inst.op()))
+}
+
+// Whether the operator calls a function that isn't a leaf.
+fn is_call(op: &Op) -> bool
+    ensures { result ≡ is_call op.now }
+{
+    match op {
+        Op::Call { callee, .. } => !is_leaf(*callee),
+        Op::Add
+        | Op::Sub
+        | Op::Mul
+        | Op::Udiv
+        | Op::Sdiv
+        | Op::Urem
+        | Op::Srem
+        | Op::And
+        | Op::Or
+        | Op::Xor
+        | Op::Shl
+        | Op::Lshr
+        | Op::Ashr
+        | Op::Icmp(_)
+        | Op::Trunc(_)
+        | Op::Zext(_)
+        | Op::Sext(_)
+        | Op::Select
+        | Op::Phi
+        | Op::Gep { .. }
+        | Op::Load
+        | Op::Store
+        | Op::Statepoint { .. }
+        | Op::GcResult
+        | Op::GcRelocate
+        | Op::Br
+        | Op::CondBr
+        | Op::Switch
+        | Op::Ret
+        | Op::Unreachable => false,
+    }
+}
+
+fn is_leaf(callee: Callee) -> bool
+    ensures { result ≡ is_leaf callee }
+{
+    match callee {
+        Callee::Print | Callee::Read | Callee::Check | Callee::Same => true,
+        Callee::Fun(_) | Callee::New(_) | Callee::TaskStart | Callee::Poll => false,
+    }
+}
+
+// A row with marks for these values.
+fn row_of(alloc: Global, count: usize, values: &[ValueId]) -> Result<Vec<bool>, Memory>
+    ensures whole { IfOk result (λ row. length row.items ≡ count) }
+    ensures marks { IfOk result (λ row. HasMarks count values.now row.items) }
+{
+    let mut row = vec![in alloc; false; count]?;
+    for value in values {
+        put(&mut row, Some(*value), true);
+    }
+    Ok(row)
+}
+
+// The number of the first result from an instruction on, given the number behind it.
+fn before(inst: &Inst, next: usize) -> usize
+    requires { is_some inst.now.result ≡ true → 0 < next }
+    ensures { following result inst.now ≡ next }
+{
+    match inst.result() {
+        Some(_) => next - 1,
+        None => next,
+    }
+}
+
+// What an instruction gives.
+fn result_of(inst: &Inst, number: usize) -> Option<ValueId>
+    requires { number < 2 ^ 32 }
+    ensures { result ≡ option_map valued (numbered number inst.now).to }
+{
+    match inst.result() {
+        Some(_) => Some(ValueId(number as u32)),
+        None => None,
+    }
+}
+
+// Adds the list of a call, of what is live behind it and what its bundle uses.
+fn add_list(
+    alloc: Global,
+    marks: &[bool],
+    bases: &[Operand],
+    values: &[ValueId],
+    inst: &Inst,
+    to: Option<ValueId>,
+    row: &mut Vec<bool>,
+    lists: &mut Vec<Vec<ValueId>>,
+) -> Result<(), Memory>
+    ensures { IfOk result (λ _. AddsList marks.now bases.now values.now inst.now to row.old.items row.new.items lists.old.items lists.new.items) }
+{
+    if is_call(inst.op()) {
+        mark_bundle(marks, bases, inst.bundle(), row);
+        lists.push(list_of(alloc, values, row.as_slice(), to)?)?;
+    }
+    Ok(())
+}
+
+fn list_of(
+    alloc: Global,
+    values: &[ValueId],
+    row: &[bool],
+    to: Option<ValueId>,
+) -> Result<Vec<ValueId>, Memory>
+    ensures { IfOk result (λ list. list.items ≡ filter (λ value. slice_index_or row.now value.0 false && not (names to value.0)) values.now) }
+{
+    let mut list = Vec::new(alloc);
+    for value in values {
+        if is_marked(row, *value) && !is_named(to, *value) {
+            list.push(*value)?;
+        }
+    }
+    Ok(list)
+}
+
+fn is_marked(row: &[bool], value: ValueId) -> bool
+    ensures { result ≡ slice_index_or row.now value.0 false }
+{
+    row.get(value.0 as usize).copied().unwrap_or(false)
+}
+
+fn is_named(named: Option<ValueId>, value: ValueId) -> bool
+    ensures { result ≡ names named value.0 }
+{
+    match named {
+        Some(other) => other.0 == value.0,
+        None => false,
+    }
+}
