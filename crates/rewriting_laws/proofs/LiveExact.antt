@@ -30,11 +30,7 @@ at_end [] (suc k) none within = absurd (omega arith)
 at_end (x ∷ xs) zero none within = absurd (cc)
 at_end (x ∷ xs) (suc k) none within = ap suc (at_end xs k none (omega arith))
 
-<<<<<<< HEAD
-any_found : {A : Type 0} (p : A → Bool) (xs : List A) → list_any p xs ≡ true → (k : ℕ) × (x : A) × (slice_get xs k ≡ Some x) × (p x ≡ true)
-=======
 pub any_found : {A : Type 0} (p : A → Bool) (xs : List A) → list_any p xs ≡ true → (k : ℕ) × (x : A) × (slice_get xs k ≡ Some x) × (p x ≡ true)
->>>>>>> 9ecafa41672ddd3921a4e9410f0ad36f96d93dc4
 any_found p [] is = absurd (false≢true is)
 any_found p (x ∷ xs) is = elim (or_cases (p x) (list_any p xs) is) [
   | inl here ↦ (0, x, refl, here)
@@ -99,11 +95,7 @@ module _ (func : Function) (table : List Operand) (v : ℕ) where
   value_is Null is = absurd (false≢true is)
   value_is (Fun g) is = absurd (false≢true is)
 
-<<<<<<< HEAD
-  use_is : (o : Operand) → is_use func table v o ≡ true → IsUse func table v o
-=======
   pub use_is : (o : Operand) → is_use func table v o ≡ true → IsUse func table v o
->>>>>>> 9ecafa41672ddd3921a4e9410f0ad36f96d93dc4
   use_is (Value id) is = elim (or_cases (eqb id.0 v) (among id.0 (pointers func) && is_value v (base_at table id.0)) is) [
     | inl itself ↦ inl (ap named (eqb-true id.0 v itself))
     | inr derived ↦
@@ -114,11 +106,7 @@ module _ (func : Function) (table : List Operand) (v : ℕ) where
   use_is Null is = absurd (false≢true is)
   use_is (Fun g) is = absurd (false≢true is)
 
-<<<<<<< HEAD
-  use_from : (o : Operand) → IsUse func table v o → is_use func table v o ≡ true
-=======
   pub use_from : (o : Operand) → IsUse func table v o → is_use func table v o ≡ true
->>>>>>> 9ecafa41672ddd3921a4e9410f0ad36f96d93dc4
   use_from o (inl itself) = rw itself (or_left (eqb v v) (among v (pointers func) && is_value v (base_at table v)) (eq-eqb v v refl))
   use_from o (inr derived) =
       let base : is_value v (base_at table derived.0) ≡ true = rw derived.3 (eq-eqb v v refl) in
@@ -169,11 +157,7 @@ module _ (func : Function) (table : List Operand) (v : ℕ) where
       go None none is = absurd (false≢true is)
       go (Some o) some is = (o, incoming_is b line.inst o some, use_is o is)
 
-<<<<<<< HEAD
-  over_sound : (at_front : ℕ → Bool) → ((to : ℕ) → at_front to ≡ true → Live func table v to 0) → (b : ℕ) → over at_front b ≡ true
-=======
   pub over_sound : (at_front : ℕ → Bool) → ((to : ℕ) → at_front to ≡ true → Live func table v to 0) → (b : ℕ) → over at_front b ≡ true
->>>>>>> 9ecafa41672ddd3921a4e9410f0ad36f96d93dc4
       → Live func table v b (length (lines_at func b))
   over_sound at_front walk b is =
       let edge = any_found (live_over func table v at_front b) (succs func b) is in
@@ -187,11 +171,7 @@ module _ (func : Function) (table : List Operand) (v : ℕ) where
         | inr on ↦ crosses b (length (lines_at func b)) edge.1 refl has (walk edge.1 on)
       ]
 
-<<<<<<< HEAD
-  front_sound : (bound b : ℕ) → live_front func table v bound b ≡ true → Live func table v b 0
-=======
   pub front_sound : (bound b : ℕ) → live_front func table v bound b ≡ true → Live func table v b 0
->>>>>>> 9ecafa41672ddd3921a4e9410f0ad36f96d93dc4
   front_sound zero b is = absurd (false≢true is)
   front_sound (suc bound) b is =
       lines_sound b (over (live_front func table v bound) b) (over_sound (live_front func table v bound) (front_sound bound) b) (lines_at func b) 0 refl (omega arith) is
