@@ -1,1 +1,4 @@
+pub mod NumberLaws
+pub mod FormatLaws
+pub mod PartLaws
 mod Examples

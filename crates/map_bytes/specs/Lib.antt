@@ -3,3 +3,4 @@ pub mod Formats
 pub mod Tables
 pub mod Maps
 pub mod Faults
+pub mod Reads
