@@ -4,3 +4,4 @@ pub mod Tables
 pub mod Maps
 pub mod Faults
 pub mod Reads
+pub mod Fits
