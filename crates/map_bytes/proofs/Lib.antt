@@ -3,4 +3,6 @@ pub mod FormatLaws
 pub mod PartLaws
 pub mod FilledLaws
 pub mod FitsLaws
+pub mod ReadLaws
+pub mod MapLaws
 mod Examples
