@@ -1,0 +1,8 @@
+//! Stack maps (LLVM, "Stack maps and patch points", "Stack Map Format", version 3), read in place: bytes are validated once, and
+//! everything that is read of them is lent. Nothing here takes memory but an index.
+#![tactic(auto)]
+
+mod fields;
+mod parts;
+
+pub use map_bytes::{FuncEntry, MapFault, MapRule, Place};
