@@ -3,6 +3,9 @@
 #![tactic(auto)]
 
 mod fields;
+mod owners;
 mod parts;
+mod records;
 
 pub use map_bytes::{FuncEntry, MapFault, MapRule, Place};
+pub use records::RecordRef;
