@@ -1,7 +1,7 @@
 -- What is read of a record's bytes, and of the entries of functions.
 use Rattle.std.proofs.Common.{◌≡◌, ℕ, zero, suc, ◌+◌, ◌-◌, ◌*◌, ◌<◌, ◌≤◌, List, ◌∷◌, length, drop, refl, sym, ap, ◌∙◌, arith}
 use Rattle.map_bytes.specs.declared.values.FuncEntry.{FuncEntry}
-use Rattle.map_bytes.specs.Maps.{record_bytes}
+use Rattle.map_bytes.specs.Maps.{record_bytes, counted_records}
 use Rattle.map_bytes.specs.Reads.{function_read, functions_read, places_count, places_end, record_read, size_read}
 use Rattle.map_bytes.proofs.SmallLaws.{length-places_read, size-read}
 
@@ -22,3 +22,9 @@ functions-step zero bytes entry rest lt e r = absurd (omega arith)
 functions-step (suc n) bytes entry rest lt e r =
     let k : suc n - 1 ≡ n = omega arith in
     ap (λ (x : FuncEntry). x ∷ functions_read (suc n - 1) rest) e ∙ ap (λ (m : ℕ). function_read bytes ∷ functions_read m rest) k ∙ ap (λ (x : List ℕ). function_read bytes ∷ functions_read n x) r
+
+-- no function is left that could count a record
+pub counted-none : (n : ℕ) (bytes : List ℕ) → n ≤ 0 → counted_records (functions_read n bytes) ≡ 0
+unfolding functions_read
+counted-none zero bytes le = refl
+counted-none (suc n) bytes le = absurd (omega arith)

@@ -6,6 +6,10 @@ mod fields;
 mod owners;
 mod parts;
 mod records;
+mod view;
+mod walk;
 
 pub use map_bytes::{FuncEntry, MapFault, MapRule, Place};
 pub use records::RecordRef;
+pub use view::MapView;
+pub use walk::Records;
