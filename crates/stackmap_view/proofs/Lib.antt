@@ -4,3 +4,4 @@ pub mod RecordLaws
 pub mod WalkLaws
 pub mod ViewLaws
 pub mod LookLaws
+pub mod IndexLaws

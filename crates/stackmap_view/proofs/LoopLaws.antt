@@ -1,5 +1,5 @@
 -- Looking at parts one after the other, as a loop does.
-use Rattle.std.proofs.Common.{◌≡◌, ℕ, zero, suc, ◌-◌, ◌+◌, ◌≤◌, ◌<◌, List, Result, Ok, Err, refl, sym, ap, ◌∙◌, arith}
+use Rattle.std.proofs.Common.{◌≡◌, ℕ, suc, ◌-◌, ◌+◌, ◌≤◌, ◌<◌, List, Result, Ok, Err, sym, ap, ◌∙◌, arith}
 use Rattle.map_bytes.specs.declared.rules.MapFault.{MapFault}
 use Rattle.stackmap_view.specs.Steps.{◌>>=◌, repeated, function_at, functions_at, more_counted}
 

@@ -255,8 +255,8 @@ functions-linked (suc n) exact stopped constants records whole bs is small =
     let k : ℕ × List ℕ → Option MapFault = λ (x : ℕ × List ℕ). first_fault (behind_functions constants records x.0) whole x.1 in
     function-linked n exact whole bs (behind_functions constants records)
     ∙ step (function_at whole bs) _ _ k (λ one.
-        let more : more_counted stopped one.0 ≡ min (exact + one.0) 18446744073709551615 = omega arith in
-        functions-linked n (exact + one.0) (more_counted stopped one.0) constants records whole one.1 more small)
+    let more : more_counted stopped one.0 ≡ min (exact + one.0) 18446744073709551615 = omega arith in
+    functions-linked n (exact + one.0) (more_counted stopped one.0) constants records whole one.1 more small)
 
 -- ---- maps
 
@@ -298,6 +298,7 @@ fixed-step {B} size number rule whole bs g f k are h = by_test (ltb (length bs) 
   by_value : (holds : Bool) → then_found (cond holds (Ok (drop size bs)) (Err (fault_in whole bs rule))) g ≡ then_found (cond holds (Ok (drop size bs)) (Err (fault_in whole bs rule)) >>= f) k
   by_value true = h (drop size bs) (AreBytes-drop size bs are)
   by_value false = refl
+
   by_test : (short : Bool) → then_found (taken short (fault_in whole bs Short) (little_number size bs) (drop size bs) >>= λ x. cond (eqb x.0 number) (Ok x.1) (Err (fault_in whole bs rule))) g
       ≡ then_found ((taken short (fault_in whole bs Short) (little_number size bs) (drop size bs) >>= λ x. cond (eqb x.0 number) (Ok x.1) (Err (fault_in whole bs rule))) >>= f) k
   by_test true = refl
@@ -325,14 +326,14 @@ unfolding map_format header_at
 header-linked {B} whole bs f k are h =
     let found : Header → Option MapFault = λ (header : Header). then_found (f header) k in
     fixed-linked 1 3 BadVersion whole bs (field (reserved 1) (λ _. field (reserved 2) (λ _. field (any 4) (λ functions. field (any 4) (λ constants. field (any 4) (λ records.
-        functions_then functions 0 (behind_functions constants records)))))))
+    functions_then functions 0 (behind_functions constants records)))))))
     ∙ fixed-step 1 3 BadVersion whole bs _ _ found are (λ v v-are. fixed-linked 1 0 BadReserved whole v _
     ∙ fixed-step 1 0 BadReserved whole v _ _ found v-are (λ a a-are. fixed-linked 2 0 BadReserved whole a _
     ∙ fixed-step 2 0 BadReserved whole a _ _ found a-are (λ b b-are. any-linked 4 whole b _
     ∙ number-step 4 whole b _ _ found b-are (λ functions f-small f-are. any-linked 4 whole functions.1 _
     ∙ number-step 4 whole functions.1 _ _ found f-are (λ constants c-small c-are. any-linked 4 whole constants.1 _
     ∙ number-step 4 whole constants.1 _ _ found c-are (λ records r-small r-are.
-        h (record { functions = functions.0; constants = constants.0; records = records.0; rest = records.1 }) r-small))))))
+    h (record { functions = functions.0; constants = constants.0; records = records.0; rest = records.1 }) r-small))))))
     ∙ then-bind (header_at whole bs) f k
 
 pub map-linked : (bytes : List ℕ) → AreBytes bytes → first_fault map_format (length bytes) bytes ≡ then_found (map_at bytes) none_behind

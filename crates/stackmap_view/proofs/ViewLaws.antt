@@ -1,5 +1,5 @@
 -- What a view keeps of its bytes.
-use Rattle.std.proofs.Common.{◌≡◌, ℕ, zero, suc, ◌+◌, ◌-◌, ◌*◌, ◌<◌, ◌≤◌, Bool, true, IsTrue, List, [], ◌∷◌, ◌++◌, length, drop, Option, Some, None, Result, Ok, Err, refl, sym, ap, subst, ◌∙◌, arith}
+use Rattle.std.proofs.Common.{◌≡◌, ℕ, ◌+◌, ◌*◌, ◌≤◌, IsTrue, List, ◌++◌, length, drop, Some, None, Result, Ok, Err, refl, sym, ap, ◌∙◌, arith}
 use Rattle.std.specs.Prelude.{is_none}
 use Rattle.std.specs.List.{flat_map}
 use Rattle.std.proofs.lemmas.List.{length-append}
@@ -7,7 +7,7 @@ use Rattle.byteorder.specs.Endian.{little_bytes, little_number}
 use Rattle.map_bytes.specs.declared.rules.MapFault.{MapFault}
 use Rattle.map_bytes.specs.Formats.{AreBytes}
 use Rattle.map_bytes.specs.Tables.{map_format}
-use Rattle.map_bytes.specs.Maps.{StackMap, counted_records, function_bytes, header_bytes, record_bytes, map_bytes, IsMapOf}
+use Rattle.map_bytes.specs.Maps.{StackMap, counted_records, function_bytes, header_bytes, record_bytes, IsMapOf}
 use Rattle.map_bytes.specs.Faults.{first_fault, IsFirstFault}
 use Rattle.map_bytes.specs.Reads.{functions_read, records_read, constants_at, records_at, map_read}
 use Rattle.map_bytes.proofs.PartLaws.{map_bytes-parts}
@@ -52,8 +52,15 @@ keeps bytes rest are e =
     let constants : List ℕ = flat_map (little_bytes 8) map.constants ++ records in
     let whole : bytes ≡ header_bytes map ++ (flat_map function_bytes map.functions ++ constants) = is.spelled ∙ map_bytes-parts map in
     let len : length bytes ≡ 16 + (24 * f + (8 * c + length records))
-        = ap length whole ∙ omega (arith, length-append (header_bytes map) (flat_map function_bytes map.functions ++ constants), header-length map, length-append (flat_map function_bytes map.functions) constants,
-            length-append (flat_map (little_bytes 8) map.constants) records, length-functions map.functions, length-constants map.constants) in
+    = ap length whole ∙ omega (
+      arith,
+      length-append (header_bytes map) (flat_map function_bytes map.functions ++ constants),
+      header-length map,
+      length-append (flat_map function_bytes map.functions) constants,
+      length-append (flat_map (little_bytes 8) map.constants) records,
+      length-functions map.functions,
+      length-constants map.constants,
+    ) in
     record {
       is = is;
       faultless = ap is_none none;

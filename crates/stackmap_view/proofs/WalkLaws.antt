@@ -1,10 +1,10 @@
 -- The records of a map, one after the other.
-use Rattle.std.proofs.Common.{◌≡◌, ℕ, zero, suc, ◌+◌, ◌-◌, ◌<◌, ◌≤◌, List, [], ◌∷◌, ◌++◌, take, drop, refl, sym, ap, ◌∙◌, arith}
+use Rattle.std.proofs.Common.{◌≡◌, ℕ, zero, suc, ◌+◌, ◌-◌, ◌<◌, List, [], ◌∷◌, ◌++◌, take, drop, refl, sym, ap, ◌∙◌, arith}
 use Rattle.std.specs.Prelude.{map}
 use Rattle.map_bytes.specs.declared.values.FuncEntry.{FuncEntry}
 use Rattle.std.specs.List.{flat_map}
 use Rattle.map_bytes.specs.Formats.{AreBytes}
-use Rattle.map_bytes.specs.Maps.{MapRecord, counted_records, record_bytes}
+use Rattle.map_bytes.specs.Maps.{MapRecord, record_bytes}
 use Rattle.map_bytes.specs.Reads.{record_read, records_read, size_read}
 use Rattle.map_bytes.specs.Entries.{Entry, entry_of, entries_of}
 use Rattle.map_bytes.proofs.EntryLaws.{entries-first}

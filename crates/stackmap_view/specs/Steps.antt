@@ -1,6 +1,6 @@
 -- Looking at the parts of a map one after the other: what stands behind a part, or the first fault. Of the map's bytes,
 -- `whole` in number, some are left.
-use Rattle.std.specs.Prelude.{◌≡◌, ℕ, zero, suc, ◌+◌, ◌-◌, ◌*◌, ◌%◌, ◌^◌, ◌==◌, ◌&&◌, nat_lt, nat_le, min, if◌then◌else◌, List, [], ◌∷◌, length, drop, Result, Ok, Err}
+use Rattle.std.specs.Prelude.{◌≡◌, ℕ, zero, suc, ◌+◌, ◌-◌, ◌*◌, ◌%◌, ◌==◌, ◌&&◌, nat_lt, nat_le, min, if◌then◌else◌, List, [], ◌∷◌, length, drop, Result, Ok, Err}
 use Rattle.byteorder.specs.Endian.{little_number}
 use Rattle.map_bytes.specs.declared.rules.MapRule.{MapRule}
 use Rattle.map_bytes.specs.declared.rules.MapRule.TheVariants.{Short, BadVersion, BadReserved, BadCount, BadKind, Trailing}

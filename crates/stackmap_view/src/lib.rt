@@ -3,12 +3,15 @@
 #![tactic(auto)]
 
 mod fields;
+mod index;
+mod numbered;
 mod owners;
 mod parts;
 mod records;
 mod view;
 mod walk;
 
+pub use index::MapIndex;
 pub use map_bytes::{FuncEntry, MapFault, MapRule, Place};
 pub use records::RecordRef;
 pub use view::MapView;

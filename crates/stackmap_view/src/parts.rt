@@ -236,11 +236,5 @@ pub(crate) fn look_through(bytes: &[u8]) -> Result<(), MapFault>
 {
     let counts = header(bytes.len(), bytes)?;
     let (counted, rest) = functions(bytes.len(), counts.functions, counts.rest)?;
-    behind_functions(
-        bytes.len(),
-        counts.constants,
-        counts.records,
-        counted,
-        rest,
-    )
+    behind_functions(bytes.len(), counts.constants, counts.records, counted, rest)
 }

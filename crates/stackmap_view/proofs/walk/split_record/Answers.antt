@@ -1,7 +1,7 @@
-use Rattle.std.proofs.Common.{◌≡◌, ◌-◌, ◌+◌, ◌∷◌, drop, take, length, sym, ap, ◌∙◌, arith}
+use Rattle.std.proofs.Common.{◌-◌, drop, take, sym, ap, ◌∙◌, arith}
 use Rattle.std.specs.List.{flat_map}
 use Rattle.map_bytes.specs.Maps.{record_bytes}
-use Rattle.map_bytes.specs.Reads.{record_read, records_read, size_read}
+use Rattle.map_bytes.specs.Reads.{record_read, records_read}
 use Rattle.stackmap_view.proofs.WalkLaws.{first-of}
 use Rattle.stackmap_view.proofs.walk.split_record.Goals as goal
 

@@ -10,10 +10,9 @@ use Rattle.stackmap_view.proofs.owners.Owner.with_record.Goals as goal
 pub skipping-preserved : goal.skipping-preserved
 skipping-preserved c =
     let now = c.skipping.current in
-    let next = c.next_function-current.ensures.entry in
-    (
+    let next = c.next_function-current.ensures.entry in (
       (λ records. ap (λ functions. entries_of functions records) next
-        ∙ sym (entries-none (owner_entry now) (functions_read now.functions_left now.functions.now) records c.skipping-test.true) ∙ c.skipping.invariant.0 records),
+          ∙ sym (entries-none (owner_entry now) (functions_read now.functions_left now.functions.now) records c.skipping-test.true) ∙ c.skipping.invariant.0 records),
       omega (arith, ap counted_records next, c.skipping.invariant.1, c.skipping-test.true),
     )
 

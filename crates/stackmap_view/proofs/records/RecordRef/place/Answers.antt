@@ -1,4 +1,4 @@
-use Rattle.std.proofs.Common.{Some, drop, ◌*◌, ◌<◌, length, sym, ap, ◌∙◌, arith}
+use Rattle.std.proofs.Common.{Some, drop, ◌*◌, ◌<◌, sym, ap, ◌∙◌, arith}
 use Rattle.map_bytes.specs.Reads.{place_read, places_count, record_read}
 use Rattle.map_bytes.proofs.SmallLaws.{place-get}
 use Rattle.stackmap_view.proofs.RecordLaws.{places_are}

@@ -1,4 +1,4 @@
-use Rattle.std.proofs.Common.{sym, ap, ◌∙◌}
+use Rattle.std.proofs.Common.{ap}
 use Rattle.byteorder.specs.Endian.{little_number}
 use Rattle.stackmap_view.proofs.RecordLaws.{places_are}
 use Rattle.stackmap_view.proofs.records.RecordRef.places.Goals as goal

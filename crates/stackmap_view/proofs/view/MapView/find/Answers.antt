@@ -1,4 +1,4 @@
-use Rattle.std.proofs.Common.{◌==◌, ap, ◌∙◌}
+use Rattle.std.proofs.Common.{◌==◌, ◌∙◌}
 use Rattle.std.proofs.lemmas.Bool.{ne_eqb}
 use Rattle.map_bytes.specs.Entries.{Entry, entry_at}
 use Rattle.stackmap_view.specs.Maps.{stack_map}

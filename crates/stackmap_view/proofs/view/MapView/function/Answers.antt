@@ -1,7 +1,7 @@
-use Rattle.std.proofs.Common.{◌*◌, ◌<◌, Some, drop, length, sym, ap, ◌∙◌, arith}
+use Rattle.std.proofs.Common.{◌*◌, ◌<◌, Some, drop, sym, ap, ◌∙◌, arith}
 use Rattle.byteorder.specs.Endian.{little_number}
 use Rattle.map_bytes.specs.Reads.{function_read, map_read}
-use Rattle.map_bytes.proofs.SmallLaws.{length-functions_read, function-get}
+use Rattle.map_bytes.proofs.SmallLaws.{function-get}
 use Rattle.stackmap_view.proofs.ViewLaws.{functions_are}
 use Rattle.stackmap_view.proofs.view.MapView.function.Goals as goal
 

@@ -1,4 +1,4 @@
-use Rattle.std.proofs.Common.{drop, length, sym, ap, ◌∙◌, arith}
+use Rattle.std.proofs.Common.{drop, sym, ap, ◌∙◌, arith}
 use Rattle.byteorder.specs.Endian.{little_number}
 use Rattle.map_bytes.specs.Reads.{map_read}
 use Rattle.map_bytes.proofs.SmallLaws.{length-functions_read}

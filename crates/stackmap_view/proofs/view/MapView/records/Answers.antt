@@ -1,8 +1,8 @@
-use Rattle.std.proofs.Common.{◌≡◌, ◌+◌, ◌*◌, drop, length, sym, ap, ◌∙◌, arith}
+use Rattle.std.proofs.Common.{◌≡◌, drop, sym, ap, ◌∙◌, arith}
 use Rattle.std.specs.List.{flat_map}
 use Rattle.byteorder.specs.Endian.{little_number}
 use Rattle.map_bytes.specs.Maps.{counted_records, record_bytes}
-use Rattle.map_bytes.specs.Reads.{functions_read, map_read, records_at, records_read}
+use Rattle.map_bytes.specs.Reads.{functions_read, map_read, records_read}
 use Rattle.map_bytes.specs.Entries.{entries_of}
 use Rattle.map_bytes.proofs.EntryLaws.{entries-none}
 use Rattle.stackmap_view.specs.Owners.{owner_entry}
