@@ -1,7 +1,9 @@
 //! Cases, one on a line: a map's name with what is changed in it, what is asked, and what must be found, with `|` between.
 
 use crate::bases::Bases;
-use crate::found::{found_at, found_entry, shown_functions, shown_records, shown_view};
+use crate::found::{
+    found_at, found_entry, lent_and_changed, shown_functions, shown_records, shown_view,
+};
 use crate::words::{cut, hexadecimal, number};
 use std::alloc::{AllocError, Global};
 
@@ -13,6 +15,7 @@ pub(crate) enum Asked {
     Records,
     Entry(u64),
     Find(u64),
+    Lend(u64),
 }
 
 /// A case.
@@ -41,13 +44,14 @@ impl<'a> Case<'a> {
 
     // What is found in the map.
     pub(crate) fn found(&self, alloc: Global, bases: &Bases) -> Result<String, AllocError> {
-        let bytes = spelled_map(alloc, bases, self.spelled)?;
+        let mut bytes = spelled_map(alloc, bases, self.spelled)?;
         match self.asked {
             Asked::View => shown_view(alloc, &bytes),
             Asked::Functions => shown_functions(alloc, &bytes),
             Asked::Records => shown_records(alloc, &bytes),
             Asked::Entry(index) => found_entry(alloc, &bytes, index),
             Asked::Find(address) => found_at(alloc, &bytes, address),
+            Asked::Lend(address) => lent_and_changed(alloc, &mut bytes, address),
         }
     }
 }
@@ -68,6 +72,8 @@ fn asked_by(words: &[u8]) -> Option<Asked> {
         Some(Asked::Entry(place))
     } else if word == b"find".as_slice() {
         Some(Asked::Find(place))
+    } else if word == b"lend".as_slice() {
+        Some(Asked::Lend(place))
     } else {
         None
     }

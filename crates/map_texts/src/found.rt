@@ -95,6 +95,25 @@ fn bytes_of(record: Option<RecordRef<'_>>) -> &[u8] {
     }
 }
 
+// How many bytes the record with a return address has; once none of them is lent, the input may change.
+pub(crate) fn lent_and_changed(
+    alloc: Global,
+    bytes: &mut [u8],
+    address: u64,
+) -> Result<String, AllocError> {
+    let lent = bytes_at(bytes, address);
+    let length = lent.len();
+    clear(bytes);
+    let after = shown_view(alloc, bytes)?;
+    format!(in alloc; "{length}, then {after}")
+}
+
+fn clear(bytes: &mut [u8]) {
+    for b in bytes.iter_mut() {
+        *b = 0;
+    }
+}
+
 // A record's return address, id and frame size, then each location.
 fn shown_record(alloc: Global, record: Option<RecordRef<'_>>) -> Result<String, AllocError> {
     let Some(record) = record else {
