@@ -1,0 +1,5 @@
+pub mod Codes
+pub mod Formats
+pub mod Tables
+pub mod Maps
+pub mod Faults
