@@ -1,5 +1,6 @@
 -- What is laid out for each function of a module.
-use Rattle.std.specs.Prelude.{ℕ, List, [], ◌∷◌, count_by}
+use Rattle.std.specs.Prelude.{ℕ, List, [], ◌∷◌, count_by, slice_get}
+use Rattle.std.specs.Option.{option_map_or}
 use Rattle.ir_ast.specs.Funcs.{Function, instructions_of}
 use Rattle.ir_ast.specs.Modules.{ModuleContent}
 use Rattle.ir_ast.specs.Faults.GroupShape.{is_statepoint}
@@ -32,3 +33,17 @@ laid_from start (func ∷ funcs) = laid_at start func ∷ laid_from (next_start 
 
 abbrev pub layout_of : ModuleContent → List FunctionLayout
 layout_of content = laid_from first_start content.funcs
+
+-- ---- by the number of a function; 0 and nothing where there is none
+
+abbrev pub address_in : List FunctionLayout → ℕ → ℕ
+address_in laid func = option_map_or (λ one. one.address) (slice_get laid func) 0
+
+abbrev pub frame_bytes_in : List FunctionLayout → ℕ → ℕ
+frame_bytes_in laid func = option_map_or (λ one. one.frame_bytes) (slice_get laid func) 0
+
+abbrev pub statepoints_in : List FunctionLayout → ℕ → ℕ
+statepoints_in laid func = option_map_or (λ one. one.statepoints) (slice_get laid func) 0
+
+abbrev pub returns_in : List FunctionLayout → ℕ → List ℕ
+returns_in laid func = option_map_or (λ one. one.returns) (slice_get laid func) []

@@ -2,7 +2,7 @@
 use Rattle.std.specs.Prelude.{ℕ, ◌+◌, ◌≤◌, List, length, take, drop, map}
 use Rattle.std.specs.List.{All}
 use Rattle.frame_forms.specs.ModuleLayouts.{FunctionLayout}
-use Rattle.frame_slots.specs.declared.layouts.Entry.{Entry}
+use Rattle.frame_slots.specs.declared.entries.Entry.{Entry}
 
 -- the return offsets that an entry speaks of
 abbrev pub returns_in : List ℕ → Entry → List ℕ

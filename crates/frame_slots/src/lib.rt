@@ -1,6 +1,7 @@
 //! Code addresses, return offsets, frame sizes and slots of a rewritten module.
 #![tactic(auto)]
 
+mod entries;
 mod frames;
 mod layouts;
 mod returns;

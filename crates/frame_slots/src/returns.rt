@@ -17,8 +17,9 @@ pub(crate) fn add_returns(returns: &mut Vec<u32>, func: &Func) -> Result<(), Mem
 {
     let mut place = 0;
     for block in func.blocks() {
-        add_block(returns, place, block.insts())?;
-        place += block.insts().len();
+        let insts = block.insts();
+        add_block(returns, place, insts)?;
+        place += insts.len();
     }
     Ok(())
 }
@@ -29,40 +30,56 @@ fn add_block(returns: &mut Vec<u32>, first: usize, insts: &[Inst]) -> Result<(),
     ensures { OnOk result (returns.new.items ≡ returns.old.items ++ returns_from first insts.now) }
 {
     for (index, inst) in insts.iter().enumerate() {
-        let behind = first + index + 1 + group_size(inst.op(), &insts[index + 1..]);
+        let behind = first + index + 1 + group_size(inst, &insts[index + 1..]);
         returns.push(4 * behind as u32)?;
     }
     Ok(())
 }
 
-/// How many of the instructions that follow an operator belong to it.
-pub(crate) fn group_size(op: &Op, rest: &[Inst]) -> usize
-    ensures value { result ≡ group_size op.now rest.now }
+/// How many of the instructions that follow a statepoint belong to it; 0 for any other instruction.
+pub(crate) fn group_size(inst: &Inst, rest: &[Inst]) -> usize
+    ensures value { result ≡ group_size inst.now.op rest.now }
     ensures bound { result ≤ length rest.now }
 {
-    if !is_statepoint(op) {
-        return 0;
+    if is_statepoint(inst) {
+        members(rest)
+    } else {
+        0
     }
-    rest.iter().take_while(|inst| is_member(inst.op())).count()
 }
 
-fn is_statepoint(op: &Op) -> bool
-    ensures { result ≡ is_statepoint op.now }
+// How many results and relocates stand first.
+fn members(insts: &[Inst]) -> usize
+    ensures value { result ≡ prefix_len (λ inst. is_member inst.op) insts.now }
+    ensures bound { result ≤ length insts.now }
 {
-    matches!(op, Op::Statepoint { .. })
+    let mut found = 0;
+    for inst in insts {
+        if !is_member(inst) {
+            return found;
+        }
+        found += 1;
+    }
+    found
+}
+
+fn is_statepoint(inst: &Inst) -> bool
+    ensures { result ≡ is_statepoint inst.now.op }
+{
+    matches!(inst.op(), Op::Statepoint { .. })
 }
 
 // A result or a relocate.
-fn is_member(op: &Op) -> bool
-    ensures { result ≡ is_member op.now }
+fn is_member(inst: &Inst) -> bool
+    ensures { result ≡ is_member inst.now.op }
 {
-    matches!(op, Op::GcResult | Op::GcRelocate)
+    matches!(inst.op(), Op::GcResult | Op::GcRelocate)
 }
 
 /// How many statepoints the blocks have.
 pub(crate) fn statepoints_of(blocks: &[Block]) -> usize
-    ensures value { result ≡ count_by (λ inst. is_statepoint inst.op) (instructions_of blocks.now) }
-    ensures bound { result ≤ length (instructions_of blocks.now) }
+    requires { length (instructions_of blocks.now) < 2 ^ 30 }
+    ensures { result ≡ count_by (λ inst. is_statepoint inst.op) (instructions_of blocks.now) }
 {
     let mut found = 0;
     for block in blocks {
@@ -72,7 +89,26 @@ pub(crate) fn statepoints_of(blocks: &[Block]) -> usize
 }
 
 fn statepoints_in(insts: &[Inst]) -> usize
-    ensures { result ≡ count_by (λ inst. is_statepoint inst.op) insts.now }
+    ensures value { result ≡ count_by (λ inst. is_statepoint inst.op) insts.now }
+    ensures bound { result ≤ length insts.now }
 {
-    insts.iter().filter(|inst| is_statepoint(inst.op())).count()
+    let mut found = 0;
+    for inst in insts {
+        if is_statepoint(inst) {
+            found += 1;
+        }
+    }
+    found
+}
+
+/// How many instructions the blocks have.
+pub(crate) fn count_of(blocks: &[Block]) -> usize
+    requires { length (instructions_of blocks.now) < 2 ^ 30 }
+    ensures { result ≡ length (instructions_of blocks.now) }
+{
+    let mut count = 0;
+    for block in blocks {
+        count += block.insts().len();
+    }
+    count
 }
