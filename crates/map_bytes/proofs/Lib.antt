@@ -1,1 +1,6 @@
+pub mod NumberLaws
+pub mod FormatLaws
+pub mod PartLaws
+pub mod FilledLaws
+pub mod FitsLaws
 mod Examples

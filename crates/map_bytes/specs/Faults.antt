@@ -1,5 +1,5 @@
 -- Where bytes that are no map go wrong: behind the longest list of allowed numbers whose fields are a front of them.
-use Rattle.std.specs.Prelude.{◌≡◌, ℕ, ◌<◌, ◌-◌, Bool, IsTrue, if◌then◌else◌, nat_lt, List, [], ◌∷◌, ◌++◌, length, Option, Some, None}
+use Rattle.std.specs.Prelude.{◌≡◌, ℕ, ◌<◌, ◌-◌, Bool, IsTrue, if◌then◌else◌, nat_lt, List, [], ◌∷◌, ◌++◌, length, drop, Option, Some, None}
 use Rattle.byteorder.specs.Endian.{little_number}
 use Rattle.map_bytes.specs.declared.rules.MapRule.{MapRule}
 use Rattle.map_bytes.specs.declared.rules.MapRule.TheVariants.{Short, Trailing}
@@ -45,3 +45,17 @@ pub record IsFirstFault (bytes : List ℕ) (fault : MapFault) : Type 0 where
   pub begins : Begins map_format numbers
   pub front : bytes ≡ laid map_format numbers ++ rest
   pub next_breaks : broken (behind map_format numbers) (length (laid map_format numbers)) rest ≡ Some fault
+
+-- ---- the same by looking at the fields in order
+
+-- the fault so far, or what is found behind it for a number
+abbrev pub found_or : Option MapFault → (ℕ → Option MapFault) → ℕ → Option MapFault
+found_or None behind number = behind number
+found_or (Some fault) behind number = Some fault
+
+-- the first fault in the bytes that are left of a map of so many bytes
+unfoldable pub first_fault : Format → ℕ → List ℕ → Option MapFault
+first_fault ends whole bytes = broken ends (whole - length bytes) bytes
+first_fault (field one next) whole bytes =
+    found_or (broken (field one next) (whole - length bytes) bytes) (λ n. first_fault (next n) whole (drop one.bytes bytes)) (little_number one.bytes bytes)
+first_fault (asks holds fault next) whole bytes = found_or (if holds then None else Some fault) (λ _. first_fault next whole bytes) 0

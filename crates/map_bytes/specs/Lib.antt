@@ -3,3 +3,5 @@ pub mod Formats
 pub mod Tables
 pub mod Maps
 pub mod Faults
+pub mod Reads
+pub mod Fits

@@ -2,6 +2,7 @@
 use Rattle.std.specs.Prelude.{◌≡◌, ℕ, ◌+◌, ◌*◌, ◌%◌, ◌==◌, if◌then◌else◌, List, [], ◌∷◌, ◌++◌, length, FitsSigned}
 use Rattle.std.specs.List.{flat_map, AllByRecursion}
 use Rattle.std.specs.Int.{w32, cast_unsigned}
+use Rattle.byteorder.specs.Endian.{little_bytes}
 use Rattle.map_bytes.specs.declared.values.FuncEntry.{FuncEntry}
 use Rattle.map_bytes.specs.declared.values.Place.{Place}
 use Rattle.map_bytes.specs.Formats.{laid, Fills, ends}
@@ -51,11 +52,47 @@ map_numbers map =
 
 -- ---- bytes
 
+-- a record by itself; its bytes don't depend on how many constants the map has
 unfoldable pub record_bytes : MapRecord → List ℕ
 record_bytes one = laid (record_then 0 ends) (record_numbers one)
 
 unfoldable pub map_bytes : StackMap → List ℕ
 map_bytes map = laid map_format (map_numbers map)
+
+-- ---- the bytes of parts
+
+unfoldable pub function_bytes : FuncEntry → List ℕ
+function_bytes function = little_bytes 8 function.address ++ (little_bytes 8 function.frame_bytes ++ little_bytes 8 function.records)
+
+unfoldable pub place_bytes : Place → List ℕ
+place_bytes place =
+    little_bytes 1 place.kind ++ (little_bytes 1 0 ++ (little_bytes 2 place.size
+    ++ (little_bytes 2 place.register ++ (little_bytes 2 0 ++ little_bytes 4 (cast_unsigned w32 place.offset)))))
+
+unfoldable pub live_out_bytes : LiveOut → List ℕ
+live_out_bytes live = little_bytes 2 live.register ++ (little_bytes 1 0 ++ little_bytes 1 live.size)
+
+abbrev pub padding_bytes : ℕ → List ℕ
+padding_bytes bytes = if bytes % 8 == 0 then [] else little_bytes 4 0
+
+-- a record and what stands behind it
+unfoldable pub record_bytes_then : MapRecord → List ℕ → List ℕ
+record_bytes_then one rest =
+    little_bytes 8 one.id ++ (little_bytes 4 one.offset ++ (little_bytes 2 0 ++ (little_bytes 2 (length one.places)
+    ++ (flat_map place_bytes one.places ++ (padding_bytes (16 + 12 * length one.places) ++ (little_bytes 2 0
+    ++ (little_bytes 2 (length one.live_outs) ++ (flat_map live_out_bytes one.live_outs ++ (padding_bytes (4 + 4 * length one.live_outs) ++ rest)))))))))
+
+unfoldable pub header_bytes : StackMap → List ℕ
+header_bytes map =
+    little_bytes 1 3 ++ (little_bytes 1 0 ++ (little_bytes 2 0 ++ (little_bytes 4 (length map.functions)
+    ++ (little_bytes 4 (length map.constants) ++ little_bytes 4 (length map.records)))))
+
+-- ---- maps
+
+-- how many records the functions count together
+abbrev pub counted_records : List FuncEntry → ℕ
+counted_records [] = 0
+counted_records (function ∷ functions) = function.records + counted_records functions
 
 -- every number of the map is allowed in its field, and every offset of a location is a number of 32 bits with a sign
 pub record IsMap (map : StackMap) : Type 0 where
