@@ -49,6 +49,13 @@ impl Layouts {
         Ok(Layouts { entries, returns })
     }
 
+    /// How many functions there are.
+    pub fn function_count(&self) -> usize
+        ensures { result ≡ length self.now }
+    {
+        self.entries.len()
+    }
+
     /// The address of the first instruction of a function.
     pub fn address(&self, func: FuncId) -> u64
         requires { func.0 < length self.now }

@@ -7,3 +7,4 @@ mod layouts;
 mod returns;
 
 pub use layouts::Layouts;
+pub use returns::group_size;

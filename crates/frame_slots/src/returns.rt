@@ -37,7 +37,7 @@ fn add_block(returns: &mut Vec<u32>, first: usize, insts: &[Inst]) -> Result<(),
 }
 
 /// How many of the instructions that follow a statepoint belong to it; 0 for any other instruction.
-pub(crate) fn group_size(inst: &Inst, rest: &[Inst]) -> usize
+pub fn group_size(inst: &Inst, rest: &[Inst]) -> usize
     ensures value { result ≡ group_size inst.now.op rest.now }
     ensures bound { result ≤ length rest.now }
 {
