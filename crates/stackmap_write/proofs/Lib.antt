@@ -2,3 +2,5 @@ pub mod AppendLemmas
 pub mod EntryLemmas
 pub mod RecordLemmas
 pub mod MapLemmas
+pub mod PlaceFitLaws
+pub mod GroupLaws

@@ -1,6 +1,7 @@
 //! The header and the entries of the functions.
-ghost use Rattle.std.specs.Prelude.{◌≡◌, ◌<◌, ◌^◌, ◌+◌, ◌++◌, length, OnOk};
+ghost use Rattle.std.specs.Prelude.{◌≡◌, ◌<◌, ◌^◌, ◌+◌, ◌++◌, length, nat_lt, OnOk};
 ghost use Rattle.std.specs.List.{flat_map};
+ghost use Rattle.frame_forms.specs.ModuleLayouts.{statepoints_in};
 ghost use Rattle.map_bytes.specs.Maps.{counted_records, function_bytes};
 ghost use Rattle.stackmap_write.specs.ModuleMaps.{entries_of, entry_in};
 ghost use Rattle.stackmap_write.specs.Writing.{header_of};
@@ -43,7 +44,7 @@ fn entry_count(layouts: &Layouts) -> u32
 {
     let mut count = 0;
     for func in 0..layouts.function_count() as u32 {
-        if layouts.statepoints(FuncId(func)) > 0 {
+        if has_statepoint(layouts, FuncId(func)) {
             count += 1;
         }
     }
@@ -68,11 +69,18 @@ fn put_entries(bytes: &mut Vec<u8>, layouts: &Layouts) -> Result<(), Memory>
     ensures { OnOk result (bytes.new.items ≡ bytes.old.items ++ flat_map function_bytes (entries_of layouts.now)) }
 {
     for func in 0..layouts.function_count() as u32 {
-        if layouts.statepoints(FuncId(func)) > 0 {
+        if has_statepoint(layouts, FuncId(func)) {
             put_entry(bytes, entry(layouts, FuncId(func)))?;
         }
     }
     Ok(())
+}
+
+fn has_statepoint(layouts: &Layouts, func: FuncId) -> bool
+    requires { func.0 < length layouts.now }
+    ensures { result ≡ nat_lt 0 (statepoints_in layouts.now func.0) }
+{
+    layouts.statepoints(func) > 0
 }
 
 fn entry(layouts: &Layouts, func: FuncId) -> FuncEntry
