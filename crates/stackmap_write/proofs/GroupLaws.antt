@@ -43,18 +43,21 @@ compared zero zero = inr (inl refl)
 compared zero (suc n) = inl (omega arith)
 compared (suc m) zero = inr (inr (omega arith))
 compared (suc m) (suc n) = elim (compared m n) [
-    inl less ↦ inl (omega arith)
-  | inr rest ↦ elim rest [ inl same ↦ inr (inl (ap suc same)) | inr more ↦ inr (inr (omega arith)) ] ]
+  | inl less ↦ inl (omega arith)
+  | inr rest ↦ elim rest [ inl same ↦ inr (inl (ap suc same)) | inr more ↦ inr (inr (omega arith)) ]
+]
 
 -- the group of a part that stands there is that of this statepoint
 same_head : (func : Function) (head : ℕ) → Head func head → (place token : ℕ) → head < place → PartsTo func head place
     → (group : Group func token place) → group.head ≡ head
 same_head func head at place token before parts group =
     elim (compared group.head head) [
-        inl less ↦ absurd (not_part func token head at.statepoint at.stands at.op (group.between head less before))
+      | inl less ↦ absurd (not_part func token head at.statepoint at.stands at.op (group.between head less before))
       | inr rest ↦ elim rest [
-            inl same ↦ same
-          | inr more ↦ absurd (not_part func (number_at func head) group.head group.statepoint group.stands group.op (parts group.head more group.before)) ] ]
+        | inl same ↦ same
+        | inr more ↦ absurd (not_part func (number_at func head) group.head group.statepoint group.stands group.op (parts group.head more group.before))
+      ]
+    ]
 
 is_token : (func : Function) (head : ℕ) → Head func head → (place token : ℕ) → head < place → PartsTo func head place
     → Group func token place → token ≡ number_at func head
@@ -86,11 +89,11 @@ counted_by : (relocate : Bool) (one rest found : ℕ) (token : ℕ) (inst : Inst
     → one + rest ≤ 2 * length (filter (IsRelocateOf token) (inst ∷ insts))
 counted_by true one rest found token inst insts pair more is =
     let longer : length (filter (IsRelocateOf token) (inst ∷ insts)) ≡ suc (length (filter (IsRelocateOf token) insts))
-        = ap (λ b. length (cond b (inst ∷ filter (IsRelocateOf token) insts) (filter (IsRelocateOf token) insts))) is in
+    = ap (λ b. length (cond b (inst ∷ filter (IsRelocateOf token) insts) (filter (IsRelocateOf token) insts))) is in
     omega arith
 counted_by false one rest found token inst insts pair more is =
     let same : length (filter (IsRelocateOf token) (inst ∷ insts)) ≡ length (filter (IsRelocateOf token) insts)
-        = ap (λ b. length (cond b (inst ∷ filter (IsRelocateOf token) insts) (filter (IsRelocateOf token) insts))) is in
+    = ap (λ b. length (cond b (inst ∷ filter (IsRelocateOf token) insts) (filter (IsRelocateOf token) insts))) is in
     omega arith
 
 abbrev group_count : ℕ → List Instruction → ℕ
@@ -106,7 +109,7 @@ part_counts token inst rest part more =
     let n = run_of rest in
     let next : 1 + n ≡ suc n = omega arith in
     let split : group_count (1 + n) (inst ∷ rest) ≡ length (member_places inst) + group_count n rest
-        = ap (λ m. group_count m (inst ∷ rest)) next ∙ length-append (member_places inst) (flat_map member_places (take n rest)) in
+    = ap (λ m. group_count m (inst ∷ rest)) next ∙ length-append (member_places inst) (flat_map member_places (take n rest)) in
     let found : IsRelocateOf token inst ≡ is_relocate inst.op = ap (λ b. is_relocate inst.op && b) part ∙ and-true (is_relocate inst.op) in
     let bound = counted_by (is_relocate inst.op) (length (member_places inst)) (group_count n rest) 0 token inst rest (pair_count inst.op inst.operands) more found in
     omega (arith, split, bound)
@@ -128,8 +131,9 @@ parts_on : (func : Function) (head place : ℕ) (inst : Instruction) → slice_g
 parts_on func head place inst stands parts part k after below =
     let P : Option Instruction → Type 0 = λ o. IfSome o (λ one. is_part (number_at func head) one ≡ true) in
     elim (cases_below k place below) [
-        inl less ↦ parts k after less
-      | inr same ↦ subst P (sym (ap (slice_get (instructions_of func.blocks)) same ∙ stands)) part ]
+      | inl less ↦ parts k after less
+      | inr same ↦ subst P (sym (ap (slice_get (instructions_of func.blocks)) same ∙ stands)) part
+    ]
 
 -- a group has at most two locations for each relocate of its statepoint
 pub run_count : (func : Function) → GroupsInShape func → (head : ℕ) → Head func head → (front rest : List Instruction) → instructions_of func.blocks ≡ front ++ rest
@@ -143,6 +147,8 @@ run_count func shape head at front (inst ∷ rest) whole before parts =
     let further : length (front ++ inst ∷ []) ≡ place + 1 = length-append front (inst ∷ []) in
     run_by (is_member inst.op) token inst rest refl
     (λ member.
-        let part = part_here func head at place before parts inst inst.op refl member (shape place inst stands) in
-        (part, run_count func shape head at (front ++ inst ∷ []) rest (whole ∙ sym (append_assoc front (inst ∷ []) rest)) (omega arith)
-            (subst (PartsTo func head) (sym further) (parts_on func head place inst stands parts part))))
+    let part = part_here func head at place before parts inst inst.op refl member (shape place inst stands) in (
+      part,
+      run_count func shape head at (front ++ inst ∷ []) rest (whole ∙ sym (append_assoc front (inst ∷ []) rest)) (omega arith)
+          (subst (PartsTo func head) (sym further) (parts_on func head place inst stands parts part)),
+    ))

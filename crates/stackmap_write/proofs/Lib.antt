@@ -4,3 +4,4 @@ pub mod RecordLemmas
 pub mod MapLemmas
 pub mod PlaceFitLaws
 pub mod GroupLaws
+pub mod FitLaws

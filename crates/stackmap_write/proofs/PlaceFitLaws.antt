@@ -60,9 +60,10 @@ pub members_fit : (func : Function) → GroupsInShape func → StatepointsAreSma
     → instructions_of func.blocks ≡ front ++ rest → AllByRecursion FitsInMap rest
 members_fit func shape small front [] whole = tt
 members_fit func shape small front (inst ∷ rest) whole =
-    let stands : slice_get (instructions_of func.blocks) (length front) ≡ Some inst = ap (λ (xs : List Instruction). slice_get xs (length front)) whole ∙ get_middle front inst rest in
-    (by_op func small (length front) inst inst.op (shape (length front) inst stands),
-    members_fit func shape small (front ++ inst ∷ []) rest (whole ∙ sym (append_assoc front (inst ∷ []) rest)))
+    let stands : slice_get (instructions_of func.blocks) (length front) ≡ Some inst = ap (λ (xs : List Instruction). slice_get xs (length front)) whole ∙ get_middle front inst rest in (
+      by_op func small (length front) inst inst.op (shape (length front) inst stands),
+      members_fit func shape small (front ++ inst ∷ []) rest (whole ∙ sym (append_assoc front (inst ∷ []) rest)),
+    )
 
 pub all_taken : {A : Type 0} (P : A → Type 0) (n : ℕ) (xs : List A) → AllByRecursion P xs → AllByRecursion P (take n xs)
 all_taken P zero xs all = tt

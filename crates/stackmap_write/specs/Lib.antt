@@ -1,2 +1,3 @@
 pub mod ModuleMaps
 pub mod Writing
+pub mod TargetMaps

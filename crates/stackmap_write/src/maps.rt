@@ -1,9 +1,13 @@
 //! The whole map.
 ghost use Rattle.std.specs.Prelude.{◌≡◌, IfOk};
+ghost use Rattle.std.specs.List.{All};
+ghost use Rattle.ir_ast.specs.Bundles.{HasNoBundle};
+ghost use Rattle.ir_cfg.specs.TargetModules.{IsTargetModule};
 ghost use Rattle.frame_forms.specs.ModuleLayouts.{layout_of};
-ghost use Rattle.map_bytes.specs.Maps.{map_bytes};
+ghost use Rattle.map_bytes.specs.Maps.{map_bytes, IsMapOf};
 ghost use Rattle.map_bytes.specs.Fits.{MapFits};
 ghost use Rattle.stackmap_write.specs.ModuleMaps.{map_of};
+ghost use Rattle.stackmap_write.specs.TargetMaps.{EachHasMap};
 
 use crate::heads::put_heads;
 use crate::records::put_records;
@@ -12,9 +16,21 @@ use ir_ast::Module;
 use sp_ids::Memory;
 use std::alloc::Global;
 
-/// The bytes of a module's stack map.
+/// The bytes of the stack map of a target module without "deopt" bundles (LLVM, "Stack maps and patch points",
+/// "Stack Map Format", version 3). The layouts are those of the module.
 pub fn write(alloc: Global, module: &Module, layouts: &Layouts) -> Result<Vec<u8>, Memory>
-    requires layouts_of_module { layouts.now ≡ layout_of module.now.content }
+    requires target { IsTargetModule module.now.content }
+    requires no_bundle { All HasNoBundle module.now.content.funcs }
+    requires of_module { layouts.now ≡ layout_of module.now.content }
+    ensures value { IfOk result (λ bytes. bytes.items ≡ map_bytes (map_of module.now.content)) }
+    ensures is_map { IfOk result (λ bytes. IsMapOf bytes.items (map_of module.now.content)) }
+{
+    write_fitting(alloc, module, layouts)
+}
+
+// The bytes of a map whose numbers fit in their fields.
+fn write_fitting(alloc: Global, module: &Module, layouts: &Layouts) -> Result<Vec<u8>, Memory>
+    requires of_module { layouts.now ≡ layout_of module.now.content }
     requires fits { MapFits (map_of module.now.content) }
     ensures { IfOk result (λ bytes. bytes.items ≡ map_bytes (map_of module.now.content)) }
 {
@@ -26,3 +42,8 @@ pub fn write(alloc: Global, module: &Module, layouts: &Layouts) -> Result<Vec<u8
     }
     Ok(bytes)
 }
+
+/// Every target module has a stack map.
+pub fn target_has_map()
+    ensures { EachHasMap }
+{}

@@ -17,9 +17,10 @@ loop-func-preserved c =
     let laid = c.args.layouts.now in
     let func = c.loop-func.func in
     elim c.if-has_statepoint.branch [
-        then-has_statepoint w ↦
-            let some = ltb-true 0 (statepoints_in laid func) (sym c.has_statepoint.ensures ∙ w.if-has_statepoint.true) in
-            omega (arith, c.loop-func.invariant, w.count-is, ap length (entries_taken laid func (omega arith) some))
+      | then-has_statepoint w ↦
+          let some = ltb-true 0 (statepoints_in laid func) (sym c.has_statepoint.ensures ∙ w.if-has_statepoint.true) in
+          omega (arith, c.loop-func.invariant, w.count-is, ap length (entries_taken laid func (omega arith) some))
       | else-has_statepoint w ↦
-            let none = ltb-false 0 (statepoints_in laid func) (sym c.has_statepoint.ensures ∙ w.if-has_statepoint.false) in
-            omega (arith, c.loop-func.invariant, w.count-is, ap length (entries_skipped laid func (omega arith) none)) ]
+          let none = ltb-false 0 (statepoints_in laid func) (sym c.has_statepoint.ensures ∙ w.if-has_statepoint.false) in
+          omega (arith, c.loop-func.invariant, w.count-is, ap length (entries_skipped laid func (omega arith) none))
+    ]

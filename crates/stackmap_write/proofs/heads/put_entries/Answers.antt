@@ -10,11 +10,12 @@ loop-func-preserved c =
     let laid = c.args.layouts.now in
     let func = c.loop-func.func in
     elim c.if-has_statepoint.branch [
-        then-has_statepoint+in_ok-put_entry w ↦
-            entry_put c.loop-func.bytes.items _ _ laid func w.entry.result (omega arith)
-            (ltb-true 0 (statepoints_in laid func) (sym c.has_statepoint.ensures ∙ w.if-has_statepoint.true))
-            w.entry.ensures (ap (λ (v : Vec ℕ Global). v.items) w.bytes-is ∙ w.in_ok-put_entry.ensures) c.loop-func.invariant
+      | then-has_statepoint+in_ok-put_entry w ↦
+          entry_put c.loop-func.bytes.items _ _ laid func w.entry.result (omega arith)
+          (ltb-true 0 (statepoints_in laid func) (sym c.has_statepoint.ensures ∙ w.if-has_statepoint.true))
+          w.entry.ensures (ap (λ (v : Vec ℕ Global). v.items) w.bytes-is ∙ w.in_ok-put_entry.ensures) c.loop-func.invariant
       | else-has_statepoint w ↦
-            entry_left c.loop-func.bytes.items _ _ laid func (omega arith)
-            (ltb-false 0 (statepoints_in laid func) (sym c.has_statepoint.ensures ∙ w.if-has_statepoint.false))
-            (ap (λ (v : Vec ℕ Global). v.items) w.bytes-is) c.loop-func.invariant ]
+          entry_left c.loop-func.bytes.items _ _ laid func (omega arith)
+          (ltb-false 0 (statepoints_in laid func) (sym c.has_statepoint.ensures ∙ w.if-has_statepoint.false))
+          (ap (λ (v : Vec ℕ Global). v.items) w.bytes-is) c.loop-func.invariant
+    ]

@@ -3,7 +3,7 @@ use Rattle.std.specs.List.{flat_map, AllByRecursion}
 use Rattle.map_bytes.specs.Maps.{record_bytes}
 use Rattle.map_bytes.specs.Fits.{RecordFits}
 use Rattle.stackmap_write.specs.ModuleMaps.{records_of}
-use Rattle.stackmap_write.proofs.maps.write.Given as goal
+use Rattle.stackmap_write.proofs.maps.write_fitting.Given as goal
 
 abbrev pub invariant-loop-func : goal.invariant-loop-func
 invariant-loop-func l =
