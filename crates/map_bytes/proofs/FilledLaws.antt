@@ -11,7 +11,7 @@ use Rattle.map_bytes.specs.declared.rules.MapRule.{MapRule}
 use Rattle.map_bytes.specs.declared.rules.MapRule.TheVariants.{BadReserved, BadVersion}
 use Rattle.map_bytes.specs.declared.values.FuncEntry.{FuncEntry}
 use Rattle.map_bytes.specs.declared.values.Place.{Place}
-use Rattle.map_bytes.specs.Formats.{Format, ends, field, asks, IsAllowed, Fills}
+use Rattle.map_bytes.specs.Formats.{Format, ends, field, IsAllowed, Fills}
 use Rattle.map_bytes.specs.Tables.{any, fixed, reserved, padded, functions_then, constants_then, places_then, live_outs_then, record_then, records_then, behind_functions, map_format}
 use Rattle.map_bytes.specs.Maps.{LiveOut, MapRecord, StackMap, function_numbers, place_numbers, live_out_numbers, padding_numbers, record_numbers, map_numbers, counted_records}
 
@@ -101,7 +101,7 @@ places-filled constants (suc n) next (kind ∷ a ∷ size ∷ register ∷ b ∷
       rest = later.rest;
       many = ap suc later.many;
       numbers = ap (λ (x : ℕ). kind ∷ x ∷ size ∷ register ∷ b ∷ offset ∷ ns) first ∙ ap (λ (x : ℕ). kind ∷ 0 ∷ size ∷ register ∷ x ∷ offset ∷ ns) second
-      ∙ ap (λ (x : ℕ). kind ∷ 0 ∷ size ∷ register ∷ 0 ∷ x ∷ ns) (sym back) ∙ ap (λ (x : List ℕ). kind ∷ 0 ∷ size ∷ register ∷ 0 ∷ cast_unsigned w32 (cast_signed w32 offset) ∷ x) later.numbers;
+          ∙ ap (λ (x : ℕ). kind ∷ 0 ∷ size ∷ register ∷ 0 ∷ x ∷ ns) (sym back) ∙ ap (λ (x : List ℕ). kind ∷ 0 ∷ size ∷ register ∷ 0 ∷ cast_unsigned w32 (cast_signed w32 offset) ∷ x) later.numbers;
       signed = (sfits_to_z fits, later.signed);
       fills = later.fills;
     }
@@ -173,7 +173,7 @@ live-half next (a ∷ l ∷ ns) fills =
       live_outs = lives.live_outs;
       rest = last.rest;
       numbers = ap (λ (x : ℕ). x ∷ l ∷ ns) zero_first ∙ ap (λ (x : List ℕ). 0 ∷ l ∷ x) (lives.numbers ∙ ap (λ (x : List ℕ). flat_map live_out_numbers lives.live_outs ++ x) last.numbers)
-      ∙ ap (λ (k : ℕ). 0 ∷ k ∷ (flat_map live_out_numbers lives.live_outs ++ (padding_numbers (4 + 4 * k) ++ last.rest))) (sym lives.many);
+          ∙ ap (λ (k : ℕ). 0 ∷ k ∷ (flat_map live_out_numbers lives.live_outs ++ (padding_numbers (4 + 4 * k) ++ last.rest))) (sym lives.many);
       fills = last.fills;
     }
 
@@ -197,10 +197,10 @@ record-filled constants next (id ∷ offset ∷ a ∷ n ∷ ns) fills =
       one = record { id = id; offset = offset; places = places.places; live_outs = lives.live_outs };
       rest = lives.rest;
       numbers = ap (λ (x : ℕ). id ∷ offset ∷ x ∷ n ∷ ns) zero_third
-      ∙ ap (λ (x : List ℕ). id ∷ offset ∷ 0 ∷ n ∷ x)
-      (places.numbers ∙ ap (λ (x : List ℕ). behind ++ x) (first.numbers ∙ ap (λ (x : List ℕ). padding_numbers (16 + 12 * n) ++ x) lives.numbers)
-      ∙ regroup behind (padding_numbers (16 + 12 * n)) (flat_map live_out_numbers lives.live_outs) (padding_numbers (4 + 4 * l)) lives.rest l)
-      ∙ ap (λ (k : ℕ). id ∷ offset ∷ 0 ∷ k ∷ ((behind ++ (padding_numbers (16 + 12 * k) ++ (0 ∷ l ∷ (flat_map live_out_numbers lives.live_outs ++ padding_numbers (4 + 4 * l))))) ++ lives.rest)) (sym places.many);
+          ∙ ap (λ (x : List ℕ). id ∷ offset ∷ 0 ∷ n ∷ x)
+          (places.numbers ∙ ap (λ (x : List ℕ). behind ++ x) (first.numbers ∙ ap (λ (x : List ℕ). padding_numbers (16 + 12 * n) ++ x) lives.numbers)
+          ∙ regroup behind (padding_numbers (16 + 12 * n)) (flat_map live_out_numbers lives.live_outs) (padding_numbers (4 + 4 * l)) lives.rest l)
+          ∙ ap (λ (k : ℕ). id ∷ offset ∷ 0 ∷ k ∷ ((behind ++ (padding_numbers (16 + 12 * k) ++ (0 ∷ l ∷ (flat_map live_out_numbers lives.live_outs ++ padding_numbers (4 + 4 * l))))) ++ lives.rest)) (sym places.many);
       signed = places.signed;
       fills = lives.fills;
     }
@@ -259,13 +259,13 @@ map-filled (v ∷ a ∷ b ∷ f ∷ c ∷ r ∷ ns) fills =
     let first : a ≡ 0 = fixed-is 1 0 BadReserved a fills.1.0 in
     let second : b ≡ 0 = fixed-is 2 0 BadReserved b fills.1.1.0 in
     let tail : ns ≡ flat_map function_numbers functions.functions ++ (constants.constants ++ flat_map record_numbers records.records)
-        = functions.numbers ∙ ap (λ (x : List ℕ). flat_map function_numbers functions.functions ++ x)
-        (constants.numbers ∙ ap (λ (x : List ℕ). constants.constants ++ x) (records.numbers ∙ ap (λ (x : List ℕ). flat_map record_numbers records.records ++ x) nothing ∙ append-nil (flat_map record_numbers records.records))) in
+    = functions.numbers ∙ ap (λ (x : List ℕ). flat_map function_numbers functions.functions ++ x)
+    (constants.numbers ∙ ap (λ (x : List ℕ). constants.constants ++ x) (records.numbers ∙ ap (λ (x : List ℕ). flat_map record_numbers records.records ++ x) nothing ∙ append-nil (flat_map record_numbers records.records))) in
     record {
       map = record { functions = functions.functions; constants = constants.constants; records = records.records };
       numbers = ap (λ (x : ℕ). x ∷ a ∷ b ∷ f ∷ c ∷ r ∷ ns) version ∙ ap (λ (x : ℕ). 3 ∷ x ∷ b ∷ f ∷ c ∷ r ∷ ns) first ∙ ap (λ (x : ℕ). 3 ∷ 0 ∷ x ∷ f ∷ c ∷ r ∷ ns) second
-      ∙ ap (λ (x : ℕ). 3 ∷ 0 ∷ 0 ∷ x ∷ c ∷ r ∷ ns) (sym functions.many) ∙ ap (λ (x : ℕ). 3 ∷ 0 ∷ 0 ∷ length functions.functions ∷ x ∷ r ∷ ns) (sym constants.many)
-      ∙ ap (λ (x : ℕ). 3 ∷ 0 ∷ 0 ∷ length functions.functions ∷ length constants.constants ∷ x ∷ ns) (sym records.many)
-      ∙ ap (λ (x : List ℕ). 3 ∷ 0 ∷ 0 ∷ length functions.functions ∷ length constants.constants ∷ length records.records ∷ x) tail;
+          ∙ ap (λ (x : ℕ). 3 ∷ 0 ∷ 0 ∷ x ∷ c ∷ r ∷ ns) (sym functions.many) ∙ ap (λ (x : ℕ). 3 ∷ 0 ∷ 0 ∷ length functions.functions ∷ x ∷ r ∷ ns) (sym constants.many)
+          ∙ ap (λ (x : ℕ). 3 ∷ 0 ∷ 0 ∷ length functions.functions ∷ length constants.constants ∷ x ∷ ns) (sym records.many)
+          ∙ ap (λ (x : List ℕ). 3 ∷ 0 ∷ 0 ∷ length functions.functions ∷ length constants.constants ∷ length records.records ∷ x) tail;
       signed = records.signed;
     }

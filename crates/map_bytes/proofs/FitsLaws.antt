@@ -1,5 +1,5 @@
 -- The numbers of a map fill the table of fields exactly where each of them fits.
-use Rattle.std.proofs.Common.{◌≡◌, ℕ, zero, suc, ◌+◌, ◌*◌, ◌%◌, ◌^◌, ◌<◌, ◌≤◌, Bool, true, false, cond, eqb, leb, ◌&&◌, List, [], ◌∷◌, ◌++◌, length, Option, Some, None, Fits, refl, sym, ap, subst, ◌∙◌, append_assoc, arith, lit<}
+use Rattle.std.proofs.Common.{◌≡◌, ℕ, ◌+◌, ◌*◌, ◌%◌, ◌^◌, ◌<◌, ◌≤◌, Bool, true, false, cond, eqb, leb, ◌&&◌, List, [], ◌∷◌, ◌++◌, length, Some, None, refl, sym, ap, subst, ◌∙◌, append_assoc, arith, lit<}
 use Rattle.std.specs.Prelude.{FitsSigned, ℤ, pos, negsuc}
 use Rattle.std.proofs.lemmas.Bool.{eqb-true, eq-eqb, leb-true, leb-false, le-leb, lt-leb, and_parts, and_from}
 use Rattle.std.proofs.lemmas.List.{append-nil}
@@ -9,7 +9,7 @@ use Rattle.map_bytes.specs.declared.rules.MapRule.{MapRule}
 use Rattle.map_bytes.specs.declared.rules.MapRule.TheVariants.{BadReserved, BadVersion, BadCount, BadKind}
 use Rattle.map_bytes.specs.declared.values.FuncEntry.{FuncEntry}
 use Rattle.map_bytes.specs.declared.values.Place.{Place}
-use Rattle.map_bytes.specs.Formats.{Format, ends, field, asks, IsAllowed, Fills}
+use Rattle.map_bytes.specs.Formats.{Format, ends, field, IsAllowed, Fills}
 use Rattle.map_bytes.specs.Tables.{any, fixed, reserved, a_kind, an_offset, padded, functions_then, constants_then, places_then, live_outs_then, record_then, records_then, behind_functions, map_format}
 use Rattle.map_bytes.specs.Maps.{LiveOut, MapRecord, StackMap, function_numbers, place_numbers, live_out_numbers, padding_numbers, record_numbers, map_numbers, counted_records, IsMap}
 use Rattle.map_bytes.specs.Fits.{FunctionFits, PlaceFits, LiveOutFits, RecordFits, MapFits}
@@ -144,11 +144,10 @@ record-fit constants one next ns fills signed =
     let first : List ℕ = padding_numbers (16 + 12 * n) in
     let last : List ℕ = padding_numbers (4 + 4 * l) in
     let behind : Fills (places_then constants n (padded (16 + 12 * n) (middle next))) (places ++ (first ++ (0 ∷ l ∷ (lives ++ (last ++ ns)))))
-        = subst (Fills (places_then constants n (padded (16 + 12 * n) (middle next)))) (regroup places first lives last ns l) fills.1.1.1.1 in
+    = subst (Fills (places_then constants n (padded (16 + 12 * n) (middle next)))) (regroup places first lives last ns l) fills.1.1.1.1 in
     let a = places-fit constants one.places (padded (16 + 12 * n) (middle next)) (first ++ (0 ∷ l ∷ (lives ++ (last ++ ns)))) behind signed in
     let b : Fills (middle next) (0 ∷ l ∷ (lives ++ (last ++ ns))) = padded-fit (16 + 12 * n) (middle next) (0 ∷ l ∷ (lives ++ (last ++ ns))) a.1 in
-    let c = live_outs-fit one.live_outs (padded (4 + 4 * l) next) (last ++ ns) b.1.1 in
-    (
+    let c = live_outs-fit one.live_outs (padded (4 + 4 * l) next) (last ++ ns) b.1.1 in (
       record { id = fills.0.fits; offset = fills.1.0.fits; few_places = fills.1.1.1.0.fits; few_live_outs = b.1.0.fits; places = a.0; live_outs = c.0 },
       padded-fit (4 + 4 * l) next ns c.1,
     )
@@ -209,8 +208,7 @@ unfolding places_then
 places-fill constants [] next ns fit fills = fills
 places-fill constants (p ∷ ps) next ns fit fills =
     let later = places-fill constants ps next ns fit.1 fills in
-    let one = fit.0 in
-    (
+    let one = fit.0 in (
       kind-allowed p.kind one.kind_low one.kind_high,
       (zero-allowed-1, (allowed-any 2 p.size one.size, (allowed-any 2 p.register one.register, (zero-allowed-2, (offset-allowed constants p.kind (cast_unsigned w32 p.offset) (unsigned-fits p.offset one.offset) one.index, later))))),
     )

@@ -1,7 +1,7 @@
 -- Looking at the fields in order finds the first fault, or nothing where the bytes are those of numbers that fill the format.
-use Rattle.std.proofs.Common.{◌≡◌, ℕ, zero, suc, ◌+◌, ◌-◌, ◌^◌, ◌<◌, ◌≤◌, Bool, true, false, cond, ltb, IsTrue, List, [], ◌∷◌, ◌++◌, length, take, drop, Option, Some, None, ◌⊎◌, inl, inr, refl, sym, ap, subst, ◌∙◌, append_assoc, arith}
+use Rattle.std.proofs.Common.{◌≡◌, ℕ, ◌-◌, Bool, true, false, cond, ltb, List, [], ◌∷◌, ◌++◌, length, drop, Option, Some, None, ◌⊎◌, inl, inr, refl, sym, ap, ◌∙◌, append_assoc, arith}
 use Rattle.std.proofs.lemmas.Bool.{ltb-false, le-ltb}
-use Rattle.std.proofs.lemmas.List.{drop_at, take-append-drop, length-append, length-drop}
+use Rattle.std.proofs.lemmas.List.{drop_at, take-append-drop, length-append}
 use Rattle.byteorder.specs.Endian.{little_bytes, little_number}
 use Rattle.byteorder.specs.Numbers.{little_from-lt, little_number-reads_back, length-bytes_low_first}
 use Rattle.map_bytes.specs.declared.rules.MapRule.{MapRule}
@@ -48,8 +48,7 @@ field_filled : (one : Field) (next : ℕ → Format) (bs : List ℕ) → AreByte
 unfolding laid
 field_filled one next bs bytes long breaks rest =
     let n = little_number one.bytes bs in
-    let front = little_bytes-number one.bytes bs (ltb-false _ _ long) bytes in
-    (
+    let front = little_bytes-number one.bytes bs (ltb-false _ _ long) bytes in (
       n ∷ rest.0,
       (record { fits = little_from-lt 0 one.bytes bs bytes; breaks_none = breaks }, rest.1),
       sym (take-append-drop one.bytes bs) ∙ ap (λ (x : List ℕ). x ++ drop one.bytes bs) (sym front) ∙ ap (λ (x : List ℕ). little_bytes one.bytes n ++ x) rest.2,
@@ -129,7 +128,7 @@ field_breaks one next whole bs fault bytes long breaks later =
       rest = later.rest;
       begins = (record { fits = little_from-lt 0 one.bytes bs bytes; breaks_none = breaks }, later.begins);
       front = sym (take-append-drop one.bytes bs) ∙ ap (λ (x : List ℕ). x ++ drop one.bytes bs) (sym front) ∙ ap (λ (x : List ℕ). little_bytes one.bytes n ++ x) later.front
-      ∙ sym (append_assoc (little_bytes one.bytes n) (laid (next n) later.numbers) later.rest);
+          ∙ sym (append_assoc (little_bytes one.bytes n) (laid (next n) later.numbers) later.rest);
       next_breaks = later.next_breaks;
     }
 

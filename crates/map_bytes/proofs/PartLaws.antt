@@ -1,12 +1,11 @@
 -- The bytes of a map, part by part.
-use Rattle.std.proofs.Common.{◌≡◌, ℕ, zero, suc, ◌+◌, ◌*◌, ◌%◌, Bool, true, false, cond, eqb, List, [], ◌∷◌, ◌++◌, length, refl, sym, ap, ◌∙◌, append_assoc, arith}
+use Rattle.std.proofs.Common.{◌≡◌, ℕ, ◌+◌, ◌*◌, ◌%◌, Bool, true, false, cond, eqb, List, [], ◌∷◌, ◌++◌, length, refl, sym, ap, ◌∙◌, append_assoc, arith}
 use Rattle.std.proofs.lemmas.List.{append-nil}
 use Rattle.std.specs.List.{flat_map}
-use Rattle.std.specs.Int.{w32, cast_unsigned}
 use Rattle.byteorder.specs.Endian.{little_bytes}
 use Rattle.map_bytes.specs.declared.values.FuncEntry.{FuncEntry}
 use Rattle.map_bytes.specs.declared.values.Place.{Place}
-use Rattle.map_bytes.specs.Formats.{Format, ends, field, asks, laid}
+use Rattle.map_bytes.specs.Formats.{Format, ends, field, laid}
 use Rattle.map_bytes.specs.Tables.{any, reserved, padded, functions_then, constants_then, places_then, live_outs_then, record_then, records_then, behind_functions, map_format}
 use Rattle.map_bytes.specs.Maps.{LiveOut, MapRecord, StackMap, function_numbers, place_numbers, live_out_numbers, padding_numbers, record_numbers, map_numbers, record_bytes, map_bytes, function_bytes, place_bytes, live_out_bytes, padding_bytes, record_bytes_then, header_bytes, counted_records}
 
@@ -47,7 +46,7 @@ laid-padded bytes next ns = laid-padding (eqb (bytes % 8) 0) next ns
 -- the numbers of a record in front of others
 record_numbers-then : (one : MapRecord) (ns : List ℕ)
     → record_numbers one ++ ns ≡ one.id ∷ one.offset ∷ 0 ∷ length one.places ∷ (flat_map place_numbers one.places ++ (padding_numbers (16 + 12 * length one.places)
-        ++ (0 ∷ length one.live_outs ∷ (flat_map live_out_numbers one.live_outs ++ (padding_numbers (4 + 4 * length one.live_outs) ++ ns)))))
+    ++ (0 ∷ length one.live_outs ∷ (flat_map live_out_numbers one.live_outs ++ (padding_numbers (4 + 4 * length one.live_outs) ++ ns)))))
 unfolding record_numbers
 record_numbers-then one ns =
     let lives : List ℕ = flat_map live_out_numbers one.live_outs in
@@ -67,13 +66,13 @@ laid-record constants one next ns =
     let last : List ℕ = padding_numbers (4 + 4 * k) ++ ns in
     let lives : Format = live_outs_then k (padded (4 + 4 * k) next) in
     let live : laid lives (flat_map live_out_numbers one.live_outs ++ last) ≡ flat_map live_out_bytes one.live_outs ++ (padding_bytes (4 + 4 * k) ++ laid next ns)
-        = laid-live_outs one.live_outs (padded (4 + 4 * k) next) last ∙ ap (λ (x : List ℕ). flat_map live_out_bytes one.live_outs ++ x) (laid-padded (4 + 4 * k) next ns) in
+    = laid-live_outs one.live_outs (padded (4 + 4 * k) next) last ∙ ap (λ (x : List ℕ). flat_map live_out_bytes one.live_outs ++ x) (laid-padded (4 + 4 * k) next ns) in
     let middle : Format = field (reserved 2) (λ _. field (any 2) (λ l. live_outs_then l (padded (4 + 4 * l) next))) in
     let counts : List ℕ = 0 ∷ k ∷ (flat_map live_out_numbers one.live_outs ++ last) in
     let places : laid (places_then constants n (padded (16 + 12 * n) middle)) (flat_map place_numbers one.places ++ (padding_numbers (16 + 12 * n) ++ counts))
-        ≡ flat_map place_bytes one.places ++ (padding_bytes (16 + 12 * n) ++ laid middle counts)
-        = laid-places constants one.places (padded (16 + 12 * n) middle) (padding_numbers (16 + 12 * n) ++ counts)
-        ∙ ap (λ (x : List ℕ). flat_map place_bytes one.places ++ x) (laid-padded (16 + 12 * n) middle counts) in
+    ≡ flat_map place_bytes one.places ++ (padding_bytes (16 + 12 * n) ++ laid middle counts)
+    = laid-places constants one.places (padded (16 + 12 * n) middle) (padding_numbers (16 + 12 * n) ++ counts)
+    ∙ ap (λ (x : List ℕ). flat_map place_bytes one.places ++ x) (laid-padded (16 + 12 * n) middle counts) in
     let front : List ℕ → List ℕ = λ (x : List ℕ). little_bytes 8 one.id ++ (little_bytes 4 one.offset ++ (little_bytes 2 0 ++ (little_bytes 2 n ++ x))) in
     ap (laid (record_then constants next)) (record_numbers-then one ns)
     ∙ ap front places
@@ -116,7 +115,7 @@ map_bytes-parts map =
     let records = length map.records in
     let numbers : List ℕ = flat_map record_numbers map.records in
     let record_part : laid (records_then constants records ends) numbers ≡ flat_map record_bytes map.records
-        = ap (laid (records_then constants records ends)) (sym (append-nil numbers)) ∙ laid-records constants map.records ends [] ∙ append-nil (flat_map record_bytes map.records) in
+    = ap (laid (records_then constants records ends)) (sym (append-nil numbers)) ∙ laid-records constants map.records ends [] ∙ append-nil (flat_map record_bytes map.records) in
     ap (λ (x : List ℕ). header_bytes map ++ x)
     (laid-functions map.functions 0 (behind_functions constants records) (map.constants ++ numbers)
     ∙ ap (λ (x : List ℕ). flat_map function_bytes map.functions ++ x)

@@ -1,5 +1,5 @@
 -- A format is a table of fields: which field stands next, and for each number in it what stands behind it.
-use Rattle.std.specs.Prelude.{◌≡◌, ℕ, ◌<◌, ◌^◌, Bool, IsTrue, List, [], ◌∷◌, ◌++◌, Option, Some, None, slice_index}
+use Rattle.std.specs.Prelude.{◌≡◌, ℕ, ◌<◌, ◌^◌, Bool, IsTrue, List, [], ◌∷◌, ◌++◌, Option, None, slice_index}
 use Rattle.byteorder.specs.Endian.{little_bytes}
 use Rattle.map_bytes.specs.declared.rules.MapRule.{MapRule}
 use Rattle.map_bytes.specs.declared.rules.MapFault.{MapFault}

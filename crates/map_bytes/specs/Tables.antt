@@ -1,8 +1,7 @@
 -- The fields of a stack map in their order (Stack maps and patch points, "Stack Map Format", version 3).
-use Rattle.std.specs.Prelude.{ℕ, zero, suc, ◌+◌, ◌*◌, ◌%◌, ◌==◌, ◌&&◌, nat_le, if◌then◌else◌, Option, Some, None}
+use Rattle.std.specs.Prelude.{ℕ, zero, suc, ◌+◌, ◌*◌, ◌%◌, ◌==◌, ◌&&◌, nat_le, if◌then◌else◌, Some, None}
 use Rattle.map_bytes.specs.declared.rules.MapRule.{MapRule}
 use Rattle.map_bytes.specs.declared.rules.MapRule.TheVariants.{BadVersion, BadReserved, BadCount, BadKind}
-use Rattle.map_bytes.specs.declared.rules.MapFault.{MapFault}
 use Rattle.map_bytes.specs.Formats.{Field, Format, ends, field, asks, ◌>>=◌}
 
 -- ---- fields

@@ -2,8 +2,10 @@
 //! table, the map that bytes are, and the first fault of bytes that are no map.
 #![tactic(auto)]
 
+mod laws;
 mod rules;
 mod values;
 
+pub use laws::{aligned_records, longest_front, map_or_fault, numbers_fit, one_fault, one_map};
 pub use rules::{MapFault, MapRule};
 pub use values::{FuncEntry, Place};
