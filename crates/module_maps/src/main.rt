@@ -7,20 +7,24 @@ mod showing;
 ghost use Rattle.std.specs.Prelude.{◌≤◌, IfOk, vec_len};
 ghost use Rattle.sp_ids.specs.declared.limits.TheConstants.{FILE_BYTES};
 
-use making::{Refusal, made_of};
+use making::{Refusal, made_of, made_often};
 use showing::{put_raw, show};
 use sp_ids::limits::FILE_BYTES;
 use std::process::ExitCode;
 use std::{env, io};
 use tool_io::{DiskFiles, Files, TakeFault};
 
-const USAGE: &str = "usage: module_maps raw FILE, or module_maps show FILE..";
+const USAGE: &str =
+    "usage: module_maps raw FILE, module_maps often FILE ROUNDS, or module_maps show FILE..";
 
 fn main(rt: HostRuntime) -> io::Result<ExitCode> {
     let words: Vec<String> = env::args(&rt)?.collect(rt.alloc())?;
     let words: Vec<&str> = words.iter().map(|word| word.as_str()).collect(rt.alloc())?;
     match words.as_slice() {
         [_, command, name] if *command == "raw" => raw(&rt, name),
+        [_, command, name, rounds] if *command == "often" => {
+            often(&rt, name, rounds.parse::<u32>().unwrap_or(1))
+        }
         [_, command, names @ ..] if *command == "show" => show_all(&rt, names),
         _ => {
             println!(rt; "{USAGE}")?;
@@ -34,6 +38,23 @@ fn raw(rt: &HostRuntime, name: &str) -> io::Result<ExitCode> {
     match taken(rt, name) {
         Ok(text) => match made_of(rt.alloc(), &text) {
             Ok(made) => put_raw(rt, made.bytes.as_slice()),
+            Err(refusal) => refused(rt, name, refusal),
+        },
+        Err(fault) => {
+            println!(rt; "{name}: {fault}")?;
+            Ok(ExitCode::FAILURE)
+        }
+    }
+}
+
+// Makes the map of this file's module so many times.
+fn often(rt: &HostRuntime, name: &str, rounds: u32) -> io::Result<ExitCode> {
+    match taken(rt, name) {
+        Ok(text) => match made_often(rt.alloc(), &text, rounds) {
+            Ok(count) => {
+                println!(rt; "bytes {count}")?;
+                Ok(ExitCode::SUCCESS)
+            }
             Err(refusal) => refused(rt, name, refusal),
         },
         Err(fault) => {

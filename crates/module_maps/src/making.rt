@@ -1,8 +1,12 @@
 //! The layouts and the map of a text's module.
 ghost use Rattle.std.specs.Prelude.{◌≤◌, length};
+ghost use Rattle.std.specs.List.{All};
 ghost use Rattle.sp_ids.specs.declared.limits.TheConstants.{FILE_BYTES};
+ghost use Rattle.ir_ast.specs.Bundles.{HasNoBundle};
+ghost use Rattle.ir_cfg.specs.TargetModules.{IsTargetModule};
 
 use frame_slots::Layouts;
+use ir_ast::Module;
 use ir_reader::{ReadFault, read_rewritten};
 use ir_types::{Fault, TypeFault, typed_rewritten};
 use sp_ids::Memory;
@@ -64,7 +68,27 @@ pub(crate) fn made_of(alloc: Global, text: &[u8]) -> Result<Made, Refusal>
 {
     let raw = read_rewritten(alloc, text)?;
     let whole = typed_rewritten(alloc, raw)?;
-    let layouts = Layouts::of(alloc, &whole)?;
-    let bytes = write(alloc, &whole, &layouts)?;
+    made(alloc, &whole)
+}
+
+/// Makes them of a text so many times, and gives how many bytes the map has.
+pub(crate) fn made_often(alloc: Global, text: &[u8], rounds: u32) -> Result<usize, Refusal>
+    requires { length text.now ≤ FILE_BYTES }
+{
+    let raw = read_rewritten(alloc, text)?;
+    let whole = typed_rewritten(alloc, raw)?;
+    let mut count = 0;
+    for _ in 0..rounds {
+        count = made(alloc, &whole)?.bytes.len();
+    }
+    Ok(count)
+}
+
+fn made(alloc: Global, whole: &Module) -> Result<Made, Refusal>
+    requires target { IsTargetModule whole.now.content }
+    requires no_bundle { All HasNoBundle whole.now.content.funcs }
+{
+    let layouts = Layouts::of(alloc, whole)?;
+    let bytes = write(alloc, whole, &layouts)?;
     Ok(Made { layouts, bytes })
 }

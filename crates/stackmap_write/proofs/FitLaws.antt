@@ -115,7 +115,7 @@ filtered_more : (b : Bool) (inst : Instruction) (insts : List Instruction) → l
 filtered_more true inst insts = omega arith
 filtered_more false inst insts = omega arith
 
-length-records : (place : ℕ) (insts : List Instruction) → length (records_from place insts) ≡ length (filter HasRecord insts)
+pub length-records : (place : ℕ) (insts : List Instruction) → length (records_from place insts) ≡ length (filter HasRecord insts)
 length-records place [] = refl
 length-records place (inst ∷ insts) =
     length-append (records_at place inst.op insts) (records_from (place + 1) insts)
@@ -194,7 +194,7 @@ entries_fit start (func ∷ funcs) room targets =
 
 -- ---- the map
 
-targets_of : (content : ModuleContent) → IsTargetModule content → All IsTarget content.funcs
+pub targets_of : (content : ModuleContent) → IsTargetModule content → All IsTarget content.funcs
 targets_of content target k d below =
     let func : Function = get_or content.funcs k d in
     let typed : IsTypedFunction Rewritten func = target.typed.functions k d below in

@@ -6,3 +6,4 @@ pub mod MapLemmas
 pub mod PlaceFitLaws
 pub mod GroupLaws
 pub mod FitLaws
+pub mod AddressLaws

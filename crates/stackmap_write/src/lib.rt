@@ -6,4 +6,4 @@ mod heads;
 mod maps;
 mod records;
 
-pub use maps::write;
+pub use maps::{addresses_rise, target_has_map, write};

@@ -7,7 +7,7 @@ ghost use Rattle.frame_forms.specs.ModuleLayouts.{layout_of};
 ghost use Rattle.map_bytes.specs.Maps.{map_bytes, IsMapOf};
 ghost use Rattle.map_bytes.specs.Fits.{MapFits};
 ghost use Rattle.stackmap_write.specs.ModuleMaps.{map_of};
-ghost use Rattle.stackmap_write.specs.TargetMaps.{EachHasMap};
+ghost use Rattle.stackmap_write.specs.TargetMaps.{AddressesRise, EachHasMap};
 
 use crate::heads::put_heads;
 use crate::records::put_records;
@@ -46,4 +46,9 @@ fn write_fitting(alloc: Global, module: &Module, layouts: &Layouts) -> Result<Ve
 /// Every target module has a stack map.
 pub fn target_has_map()
     ensures { EachHasMap }
+{}
+
+/// The records of a target module's map have rising return addresses, so that no two have the same.
+pub fn addresses_rise()
+    ensures { AddressesRise }
 {}
