@@ -54,7 +54,9 @@ rises_at : (low high : ℕ) (xs : List ℕ) → Rises low high xs → (k : ℕ) 
 rises_at low high [] rises k within = absurd (omega arith)
 rises_at low high (x ∷ []) rises k within = absurd (omega arith)
 rises_at low high (x ∷ y ∷ xs) rises zero within = rises.1.0
-rises_at low high (x ∷ y ∷ xs) rises (suc k) within = rises_at x high (y ∷ xs) rises.1 k (omega arith)
+rises_at low high (x ∷ y ∷ xs) rises (suc k) within =
+    let next : suc k + 1 ≡ suc (k + 1) = omega arith in
+    rw next (rises_at x high (y ∷ xs) rises.1 k (omega arith))
 
 -- ---- offsets of a function's records
 
@@ -101,8 +103,8 @@ plain_addresses function high [] low rises room = refl
 plain_addresses function high (one ∷ records) low rises room =
     let within : one.offset ≤ high = rises_within one.offset high (offsets_of records) rises.1 in
     let small : (function.address + one.offset) % 2 ^ 64 ≡ function.address + one.offset = omega arith in
-    ap (λ n. n ∷ addresses_of (map (entry_of function) records)) small
-    ∙ ap (λ ns. function.address + one.offset ∷ ns) (plain_addresses function high records one.offset rises.1 room)
+    ap (λ (n : ℕ). n ∷ addresses_of (map (entry_of function) records)) small
+    ∙ ap (λ (ns : List ℕ). (function.address + one.offset) ∷ ns) (plain_addresses function high records one.offset rises.1 room)
 
 none_left : (records : List MapRecord) → length records ≡ 0 → records ≡ []
 none_left [] none = refl
@@ -111,7 +113,7 @@ none_left (one ∷ records) none = absurd (omega arith)
 -- the records of a function and of those behind it
 split_by : (has : Bool) (start : ℕ) (func : Function) (laid : List FunctionLayout) (rest : List MapRecord) → nat_lt 0 (statepoints_of func) ≡ has
     → entries_of (map function_entry (cond has (laid_at start func ∷ filter (λ other. nat_lt 0 other.statepoints) laid) (filter (λ other. nat_lt 0 other.statepoints) laid)))
-        (records_of func ++ rest)
+    (records_of func ++ rest)
     ≡ map (entry_of (function_entry (laid_at start func))) (records_of func) ++ entries_of (function_entries laid) rest
 unfolding entries_of
 split_by true start func laid rest has =
@@ -146,18 +148,18 @@ addresses_rise start (func ∷ funcs) room targets =
     let one = function_entry (laid_at start func) in
     let high = 4 * (0 + length (instructions_of func.blocks)) in
     let offsets : Rises 0 high (offsets_of (records_of func)) =
-        rises_lower 0 (4 * (0 + run_of (instructions_of func.blocks))) high (offsets_of (records_of func)) (omega arith) (offsets_rise 0 (instructions_of func.blocks)) in
+    rises_lower 0 (4 * (0 + run_of (instructions_of func.blocks))) high (offsets_of (records_of func)) (omega arith) (offsets_rise 0 (instructions_of func.blocks)) in
     let split = ap addresses_of (split_by (nat_lt 0 (statepoints_of func)) start func laid rest refl)
-        ∙ map-append (λ (e : Entry). e.return_address) (map (entry_of one) (records_of func)) (entries_of (function_entries laid) rest)
-        ∙ ap (λ front. front ++ addresses_of (entries_of (function_entries laid) rest)) (plain_addresses one high (records_of func) 0 offsets (omega arith)) in
+    ∙ map-append (λ (e : Entry). e.return_address) (map (entry_of one) (records_of func)) (entries_of (function_entries laid) rest)
+    ∙ ap (λ front. front ++ addresses_of (entries_of (function_entries laid) rest)) (plain_addresses one high (records_of func) 0 offsets (omega arith)) in
     let front : Rises start (start + high) (map (λ x. start + x) (offsets_of (records_of func))) =
-        rises_lower start (start + 0) (start + high) (map (λ x. start + x) (offsets_of (records_of func))) (omega arith) (rises_shifted start 0 high (offsets_of (records_of func)) offsets) in
+    rises_lower start (start + 0) (start + high) (map (λ x. start + x) (offsets_of (records_of func))) (omega arith) (rises_shifted start 0 high (offsets_of (records_of func)) offsets) in
     let later : Rises (start + high) (next + length funcs * 4294967312) (addresses_of (entries_of (function_entries laid) rest)) =
-        rises_lower (start + high) next (next + length funcs * 4294967312) (addresses_of (entries_of (function_entries laid) rest)) behind
-        (addresses_rise next funcs left (All-tail IsTarget func funcs targets)) in
+    rises_lower (start + high) next (next + length funcs * 4294967312) (addresses_of (entries_of (function_entries laid) rest)) behind
+    (addresses_rise next funcs left (All-tail IsTarget func funcs targets)) in
     let whole = rises_upper start (next + length funcs * 4294967312) (start + suc (length funcs) * 4294967312)
-        (map (λ x. start + x) (offsets_of (records_of func)) ++ addresses_of (entries_of (function_entries laid) rest)) (omega arith)
-        (rises_joined start (start + high) (next + length funcs * 4294967312) (map (λ x. start + x) (offsets_of (records_of func))) (addresses_of (entries_of (function_entries laid) rest)) front later) in
+    (map (λ x. start + x) (offsets_of (records_of func)) ++ addresses_of (entries_of (function_entries laid) rest)) (omega arith)
+    (rises_joined start (start + high) (next + length funcs * 4294967312) (map (λ x. start + x) (offsets_of (records_of func))) (addresses_of (entries_of (function_entries laid) rest)) front later) in
     subst (Rises start (start + suc (length funcs) * 4294967312)) (sym split) whole
 
 -- each return address of a target module's map is above the one before it

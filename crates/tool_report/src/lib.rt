@@ -2,9 +2,11 @@
 #![tactic(auto)]
 
 mod closings;
+mod maps;
 mod names;
 mod notes;
 mod numbers;
 
 pub use closings::closing;
+pub use maps::map_text;
 pub use notes::{Note, note_line};
