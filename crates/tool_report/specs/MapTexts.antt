@@ -7,15 +7,15 @@ use Rattle.map_bytes.specs.declared.values.Place.{Place}
 use Rattle.map_bytes.specs.Entries.{Entry, entries}
 use Rattle.map_bytes.specs.Maps.{StackMap}
 
-abbrev pub function_line : FuncEntry → List ℕ
+unfoldable pub function_line : FuncEntry → List ℕ
 function_line function =
     codes "function " ++ (decimal function.address ++ (codes " stack " ++ (decimal function.frame_bytes ++ (codes " records " ++ (decimal function.records ++ codes "\n")))))
 
-abbrev pub record_line : Entry → List ℕ
+unfoldable pub record_line : Entry → List ℕ
 record_line entry = codes "record " ++ (decimal entry.return_address ++ (codes " id " ++ (decimal entry.one.id ++ codes "\n")))
 
 -- the slots of a base and of what is derived from it
-abbrev pub pair_line : Place → Place → List ℕ
+unfoldable pub pair_line : Place → Place → List ℕ
 pair_line base derived = codes "pair " ++ (signed_decimal base.offset ++ (codes " " ++ (signed_decimal derived.offset ++ codes "\n")))
 
 abbrev pub pair_lines : List Place → List ℕ

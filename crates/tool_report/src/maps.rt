@@ -1,5 +1,5 @@
 //! A stack map as text.
-ghost use Rattle.std.specs.Prelude.{◌≡◌, ◌≤◌, ◌<◌, ◌+◌, ◌*◌, ◌++◌, codes, decimal, drop, length, take, OnOk, OnErr};
+ghost use Rattle.std.specs.Prelude.{◌≡◌, ◌≤◌, ◌<◌, ◌+◌, ◌*◌, ◌++◌, drop, length, take, OnOk, OnErr};
 ghost use Rattle.std.specs.List.{flat_map};
 ghost use Rattle.tool_io.specs.Counts.{Rose};
 ghost use Rattle.tool_io.specs.Sink.{append_known, AppendsFront};
@@ -44,7 +44,8 @@ fn put_functions<W: PieceSink>(view: &MapView<'_>, out: &mut W) -> Result<(), Fa
 {
     let mut records = view.records();
     for index in 0..view.functions() {
-        put_function(view.function(index), &mut records, out)?;
+        let function = view.function(index);
+        put_function(function, &mut records, out)?;
     }
     Ok(())
 }
@@ -73,7 +74,7 @@ fn put_records<W: PieceSink>(
     ensures rest { OnOk result (records_left records.new ≡ drop count (records_left records.old)) }
     ensures err { OnErr result (W.failed_within out.old out.new (flat_map record_text (take count (records_left records.old)))) }
 {
-    for _number in 0..count {
+    'putting: for _ in 0..count {
         let Some(record) = records.next() else {
             return Ok(());
         };
@@ -89,6 +90,7 @@ struct FunctionLine(FuncEntry);
 impl Piece for FunctionLine {
     ghost text = { λ piece. function_line piece.0 };
 
+    #[tactic(auto, unfolding(crate::specs::MapTexts::function_line))]
     fn put_into<W: PieceSink>(&self, out: &mut W) -> Result<(), Failed> {
         (
             Bytes(b"function "),
@@ -111,24 +113,26 @@ impl Piece for RecordText<'_> {
     ghost text = { λ piece. record_text (seen piece.0) };
 
     fn put_into<W: PieceSink>(&self, out: &mut W) -> Result<(), Failed> {
-        RecordLine(self.0.return_address(), self.0.id()).put_into(out)?;
+        RecordLine(self.0).put_into(out)?;
         put_pairs(&self.0, out)
     }
 }
 
-// The line of a record with this return address and id.
+// The line of a record.
 #[derive(Clone, Copy)]
-struct RecordLine(u64, u64);
+struct RecordLine<'a>(RecordRef<'a>);
 
-impl Piece for RecordLine {
-    ghost text = { λ piece. codes "record " ++ (decimal piece.0 ++ (codes " id " ++ (decimal piece.1 ++ codes "\n"))) };
+impl Piece for RecordLine<'_> {
+    ghost text = { λ piece. record_line (seen piece.0) };
 
     fn put_into<W: PieceSink>(&self, out: &mut W) -> Result<(), Failed> {
+        let address = self.0.return_address();
+        let id = self.0.id();
         (
             Bytes(b"record "),
-            Decimal(self.0),
+            Decimal(address),
             Bytes(b" id "),
-            Decimal(self.1),
+            Decimal(id),
             Bytes(b"\n"),
         )
             .put_into(out)
@@ -141,7 +145,9 @@ fn put_pairs<W: PieceSink>(record: &RecordRef<'_>, out: &mut W) -> Result<(), Fa
     ensures err { OnErr result (W.failed_within out.old out.new (pair_lines (drop 3 (seen record.now).one.places))) }
 {
     for pair in 0..record.places().saturating_sub(3) / 2 {
-        PairLine(record.place(3 + 2 * pair), record.place(4 + 2 * pair)).put_into(out)?;
+        let base = record.place(3 + 2 * pair);
+        let derived = record.place(4 + 2 * pair);
+        PairLine(base, derived).put_into(out)?;
     }
     Ok(())
 }
@@ -153,6 +159,7 @@ struct PairLine(Place, Place);
 impl Piece for PairLine {
     ghost text = { λ piece. pair_line piece.0 piece.1 };
 
+    #[tactic(auto, unfolding(crate::specs::MapTexts::pair_line))]
     fn put_into<W: PieceSink>(&self, out: &mut W) -> Result<(), Failed> {
         (
             Bytes(b"pair "),
