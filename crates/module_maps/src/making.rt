@@ -10,6 +10,7 @@ use ir_ast::Module;
 use ir_reader::{ReadFault, read_rewritten};
 use ir_types::{Fault, TypeFault, typed_rewritten};
 use sp_ids::Memory;
+use stackmap_view::MapView;
 use stackmap_write::write;
 use std::alloc::Global;
 use std::fmt;
@@ -68,7 +69,7 @@ pub(crate) fn made_of(alloc: Global, text: &[u8]) -> Result<Made, Refusal>
 {
     let raw = read_rewritten(alloc, text)?;
     let whole = typed_rewritten(alloc, raw)?;
-    made(alloc, &whole)
+    make(alloc, &whole)
 }
 
 /// Makes them of a text so many times, and gives how many bytes the map has.
@@ -79,16 +80,20 @@ pub(crate) fn made_often(alloc: Global, text: &[u8], rounds: u32) -> Result<usiz
     let whole = typed_rewritten(alloc, raw)?;
     let mut count = 0;
     for _ in 0..rounds {
-        count = made(alloc, &whole)?.bytes.len();
+        count = make(alloc, &whole)?.bytes.len();
     }
     Ok(count)
 }
 
-fn made(alloc: Global, whole: &Module) -> Result<Made, Refusal>
+fn make(alloc: Global, whole: &Module) -> Result<Made, Refusal>
     requires target { IsTargetModule whole.now.content }
     requires no_bundle { All HasNoBundle whole.now.content.funcs }
 {
     let layouts = Layouts::of(alloc, whole)?;
     let bytes = write(alloc, whole, &layouts)?;
-    Ok(Made { layouts, bytes })
+    match MapView::of(bytes.as_slice()) {
+        Ok(_) => Ok(Made { layouts, bytes }),
+        // it is proved that what is written is a map
+        Err(_) => unreachable!(),
+    }
 }

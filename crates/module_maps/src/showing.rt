@@ -4,14 +4,16 @@ ghost use Rattle.std.specs.Prelude.{◌<◌, ◌^◌, length};
 use crate::making::Made;
 use frame_slots::Layouts;
 use sp_ids::FuncId;
+use stackmap_view::MapView;
 use std::io;
 use std::process::ExitCode;
 use tool_io::{OutSink, Sink};
+use tool_report::map_text;
 
 /// How many bytes stand on a line.
 const ON_A_LINE: usize = 16;
 
-/// Writes a line for each function and the bytes of the map in hexadecimal.
+/// Writes a line for each function, the bytes of the map in hexadecimal, and its text.
 pub(crate) fn show(rt: &HostRuntime, made: &Made) -> io::Result<()> {
     show_layouts(rt, &made.layouts)?;
     let count = made.bytes.len();
@@ -20,7 +22,17 @@ pub(crate) fn show(rt: &HostRuntime, made: &Made) -> io::Result<()> {
         let text = hex::encode(rt.alloc(), line)?;
         println!(rt; "{text}")?;
     }
-    Ok(())
+    show_text(rt, made.bytes.as_slice())
+}
+
+fn show_text(rt: &HostRuntime, bytes: &[u8]) -> io::Result<()> {
+    match MapView::of(bytes) {
+        Ok(view) => match map_text(&view, &mut OutSink::new(rt)) {
+            Ok(()) => Ok(()),
+            Err(_) => println!(rt; "a failed write"),
+        },
+        Err(_) => println!(rt; "no map"),
+    }
 }
 
 fn show_layouts(rt: &HostRuntime, layouts: &Layouts) -> io::Result<()> {
