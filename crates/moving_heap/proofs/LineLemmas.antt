@@ -5,7 +5,7 @@ use Rattle.std.proofs.lemmas.Bool.{and_parts, and_from, and_cases, and_left, and
 use Rattle.std.proofs.lemmas.List.{take_more, take-append-drop, drop_more, get_or-set_same, get_or-set_other, get_or-map, length-map, same_lists, get_or_default}
 use Rattle.std.proofs.lemmas.List.Folds.{list_all-append, list_all_more}
 use Rattle.move_plan.specs.declared.plan_lines.Move.{Move}
-use Rattle.moving_heap.specs.declared.places.Stand.{Stand}
+use Rattle.moving_heap.specs.declared.stands.Stand.{Stand}
 use Rattle.moving_heap.specs.Places.{line_target, line_targets, exist, unnamed, differ}
 use Rattle.moving_heap.specs.Settled.{IsNumbered}
 

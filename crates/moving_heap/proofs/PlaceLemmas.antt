@@ -1,18 +1,22 @@
 -- Tables of places: before and after a move, and with a further object.
 use Rattle.std.proofs.Common.{◌≡◌, ℕ, zero, suc, ◌+◌, ◌-◌, ◌*◌, ◌<◌, ◌≤◌, ◌≢◌, ◌^◌, ◌%◌, Bool, true, false, ◌⊎◌, inl, inr, List, [], ◌∷◌, ◌++◌, length, get_or, map, refl, sym, ap, ◌∙◌, subst, arith, cond, eqb, ltb, leb, ◌&&◌, Option, Some, None}
-use Rattle.std.specs.List.{sum_by, insert, All}
+use Rattle.std.specs.List.{sum_by, All, filter_map}
+use Rattle.std.specs.Prelude.{slice_get}
 use Rattle.std.specs.Option.{option_map, option_map_or, unwrap_or}
-use Rattle.std.specs.List.Sorted.{IsPermutation}
+use Rattle.std.proofs.lemmas.Option.{get_or_from_slice_get}
+use Rattle.std.specs.List.Sorted.{IsPermutation, IsNonDecreasingBy}
 use Rattle.std.proofs.lemmas.Bool.{and_parts, and_from, and_left, and_right, eqb-true, eq-eqb, ne_eqb, ltb-true, leb-true, lt-ltb, le-leb, le-ltb, lt-leb, cases_lt, cases_Bool, false_from_ne_true}
 use Rattle.std.proofs.lemmas.List.{same_lists, length-map, get_or-map, get_or_append_left, get_or_push, length_push}
 use Rattle.std.proofs.lemmas.List.Sums.{sum_by-cons, sum_by_push}
-use Rattle.std.proofs.lemmas.List.Sorted.{IsPermutation-sym, IsPermutation-trans, IsPermutation-cons, IsPermutation-to_front, IsPermutation-insert, All-permutation, IsNonDecreasingBy-insert}
+use Rattle.std.proofs.lemmas.List.Sorted.{IsPermutation-sym, IsPermutation-trans, IsPermutation-cons, IsPermutation-to_front, IsPermutation-map, All-permutation}
 use Rattle.move_plan.specs.declared.plan_lines.Move.{Move}
-use Rattle.moving_heap.specs.declared.places.Verdict.TheVariants.{Empty, Legal, Illegal}
-use Rattle.moving_heap.specs.declared.places.Stand.{Stand}
-use Rattle.moving_heap.specs.declared.places.Moved.{Moved}
+use Rattle.moving_heap.specs.declared.stands.Verdict.TheVariants.{Empty, Legal, Illegal}
+use Rattle.moving_heap.specs.declared.stands.Stand.{Stand}
+use Rattle.moving_heap.specs.declared.stands.Moved.{Moved}
 use Rattle.moving_heap.specs.Places.{new_address, owner, stands_at, holds, apart, clear, moves_of, moved, sent, fits, all_fit, new_word, carried, new_stand, first_place, due_moves, group_moves, group_targets, is_legal, no_lines, moves_none, exist, differ}
 use Rattle.moving_heap.specs.Settled.{Pairs, Clear, IsSettled, AreSettled, IsOrder, IsTable, Group, DifferentPlaces}
+use Rattle.moving_heap.specs.Orders.{target_of, leaver, sent_by, IsLow, IsHigh}
+use Rattle.moving_heap.proofs.OrderLemmas.{leavers_high, moved_by_number}
 use Rattle.moving_heap.proofs.ApartLemmas.{apart_pairs, pairs_apart, pairs_permutation}
 use Rattle.moving_heap.proofs.FindLemmas.{pairs_tail, old_of, find_nothing, find_at_index, find_in_order, find_not_in_order, AtMostOne, found_by, none_passes}
 
@@ -200,14 +204,40 @@ settled_added stands size are low whole room =
           (λ k d l. swapped _ _ (new_clear (sizes stands) size (first_place stands) (get_or stands k d) (are.each k d l) room refl)));
     }
 
-pub order_added : (stands order : List Stand) (new : Stand) (rank : ℕ) → IsOrder stands order → rank ≤ length order
-    → ((k : ℕ) (d : Stand) → k < rank → (get_or order k d).address ≤ new.address) → ((k : ℕ) (d : Stand) → rank ≤ k → k < length order → new.address < (get_or order k d).address)
-    → IsOrder (stands ++ new ∷ []) (insert order rank new)
-order_added stands order new rank is within low high = record {
-  same = IsPermutation-trans (stands ++ new ∷ []) (new ∷ stands) (insert order rank new) (IsPermutation-to_front stands new)
-      (IsPermutation-trans (new ∷ stands) (new ∷ order) (insert order rank new) (IsPermutation-cons new stands order is.same) (IsPermutation-insert order rank new));
-  sorted = IsNonDecreasingBy-insert (λ (s : Stand). s.address) order rank new is.sorted within low (λ k d a b. let h = high k d a b in omega arith);
+pub order_added : (stands order new_order : List Stand) (new : Stand) → IsOrder stands order → IsPermutation (new ∷ order) new_order → IsNonDecreasingBy (λ stand. stand.address) new_order
+    → IsOrder (stands ++ new ∷ []) new_order
+order_added stands order new_order new is same sorted = record {
+  same = IsPermutation-trans (stands ++ new ∷ []) (new ∷ stands) new_order (IsPermutation-to_front stands new)
+      (IsPermutation-trans (new ∷ stands) (new ∷ order) new_order (IsPermutation-cons new stands order is.same) same);
+  sorted = sorted;
 }
+
+-- a new object stands behind all that never moved
+behind_low : (used : ℕ) (stand : Stand) → IsSettled used stand → IsLow stand → stand.address ≤ 65536 + used
+behind_low used stand s low = elim s.place [ inl a ↦ (let size = s.size in omega arith) | inr b ↦ (let size = s.size in let no : ⊥ = omega arith in absurd no) ]
+
+pub last_low : (stands order : List Stand) (address : ℕ) → AreSettled stands → IsOrder stands order → address ≡ 65536 + sizes stands → All (λ other. IsLow other → other.address ≤ address) order
+last_low stands order address are is at =
+    All-permutation (λ (other : Stand). IsLow other → other.address ≤ address) stands order is.same
+    (λ k d l low. subst (λ (n : ℕ). (get_or stands k d).address ≤ n) (sym at) (behind_low (sizes stands) (get_or stands k d) (are.each k d l) low))
+
+-- those that leave land in the upper half
+lands : (stands : List Stand) (targets : List (Option ℕ)) (k to : ℕ) (d : Stand) → AreSettled stands → all_fit stands targets ≡ true → k < length stands → target_of targets (get_or stands k d) ≡ Some to → 2 ^ 40 ≤ to
+lands stands targets k to d are fit l e =
+    let number = are.numbered.at k d l in
+    let place : (get_or stands k d).number - 1 ≡ k = omega arith in
+    let f = and_parts (eqb (to % 8) 0) (leb (2 ^ 40) to && leb (to + (get_or stands k d).size) (2 ^ 46)) (fits_at stands targets k to d fit l (ap (λ (n : ℕ). get_or targets n None) (sym place) ∙ e)) in
+    leb-true (2 ^ 40) to (and_parts (leb (2 ^ 40) to) (leb (to + (get_or stands k d).size) (2 ^ 46)) f.1).0
+
+pub land_high : (stands order : List Stand) (targets : List (Option ℕ)) → AreSettled stands → IsOrder stands order → all_fit stands targets ≡ true → All IsHigh (filter_map (leaver targets) order)
+land_high stands order targets are is fit =
+    leavers_high targets order
+    (All-permutation (λ (stand : Stand). (to : ℕ) → target_of targets stand ≡ Some to → 2 ^ 40 ≤ to) stands order is.same (λ k d l to e. lands stands targets k to d are fit l e))
+
+pub next_same : (stands order next : List Stand) (targets : List (Option ℕ)) → AreSettled stands → IsOrder stands order → IsPermutation (map (sent_by targets) order) next → IsPermutation (moved stands targets) next
+next_same stands order next targets are is p =
+    subst (λ (l : List Stand). IsPermutation l next) (sym (moved_by_number stands targets are.numbered (moved-length stands targets) (λ k d l. moved-get stands targets k d l)))
+    (IsPermutation-trans (map (sent_by targets) stands) (map (sent_by targets) order) next (IsPermutation-map (sent_by targets) stands order is.same) p)
 
 both_hold : (word : ℕ) (one other : Stand) → Clear one other → holds word one ≡ true → holds word other ≡ true → ⊥
 both_hold word one other clear a b =
@@ -258,17 +288,16 @@ owner_not_found stands order word count are is within low high last =
       | inr b ↦ and_left (leb (get_or order k d).address word) (ltb word ((get_or order k d).address + (get_or order k d).size)) (lt-leb (get_or order k d).address word (high k d b l))
     ]))
 
-pub table_applied : (stands order next : List Stand) (targets : List (Option ℕ)) (used : ℕ) (group : Group) (new_stands new_order : List Stand) (room : ℕ)
-    → IsTable stands order next targets used group → (group.moves ≡ [] → ⊥) → new_stands ≡ moved stands targets → new_order ≡ next → room ≡ group.room
-    → IsTable new_stands new_order next targets used (record { moves = []; room = room })
-table_applied stands order next targets used group new_stands new_order room is some stands_are order_is room_is =
+pub table_applied : (stands order next : List Stand) (targets : List (Option ℕ)) (used : ℕ) (group : Group) (new_stands : List Stand) (room : ℕ)
+    → IsTable stands order next targets used group → (group.moves ≡ [] → ⊥) → new_stands ≡ moved stands targets → room ≡ group.room
+    → IsTable new_stands next order targets used (record { moves = []; room = room })
+table_applied stands order next targets used group new_stands room is some stands_are room_is =
     elim is.due [
       | inl none ↦ absurd (some none)
       | inr due ↦ (
-          rw (stands_are, order_is) (record {
+          rw stands_are (record {
             settled = due.settled;
             sorted = due.sorted;
-            next_size = is.next_size ∙ sym (moved-length stands targets);
             targets_size = is.targets_size ∙ sym (moved-length stands targets);
             used_is = is.used_is ∙ sym (moved-sum stands targets);
             room = rw (room_is, moved-length stands targets) is.room;
@@ -290,25 +319,20 @@ new_is : (stands : List Stand) (number size address : ℕ) → number ≡ length
 new_is stands number size address n a = cc
 
 pub table_added : (stands order next : List Stand) (targets : List (Option ℕ)) (used : ℕ) (group : Group)
-    (new_stands new_order new_next : List Stand) (new_targets : List (Option ℕ)) (new_used room number size address rank : ℕ)
+    (new_stands new_order new_next : List Stand) (new_targets : List (Option ℕ)) (new_used room number size address : ℕ)
     → IsTable stands order next targets used group → 8 ≤ size → size % 8 ≡ 0 → sizes stands + size ≤ 67108864 → number ≡ length stands + 1 → address ≡ 65536 + used
     → new_stands ≡ stands ++ record { number = number; size = size; address = address } ∷ []
-    → new_order ≡ insert order rank (record { number = number; size = size; address = address })
-    → length new_next ≡ length next + 1 → length new_targets ≡ length targets + 1 → new_used ≡ used + size → length stands + 1 ≤ room → rank ≤ length order
-    → ((k : ℕ) (d : Stand) → k < rank → (get_or order k d).address ≤ address) → ((k : ℕ) (d : Stand) → rank ≤ k → k < length order → address < (get_or order k d).address)
+    → IsPermutation (record { number = number; size = size; address = address } ∷ order) new_order → IsNonDecreasingBy (λ stand. stand.address) new_order
+    → length new_targets ≡ length targets + 1 → new_used ≡ used + size → length stands + 1 ≤ room
     → IsTable new_stands new_order new_next new_targets new_used (record { moves = []; room = room })
-table_added stands order next targets used group new_stands new_order new_next new_targets new_used room number size address rank is low whole fits n a stands_are order_is next_is targets_are used_is room_is within before behind =
+table_added stands order next targets used group new_stands new_order new_next new_targets new_used room number size address is low whole fits n a stands_are order_same order_sorted targets_are used_is room_is =
     let new : ◌≡◌ {A = Stand} (record { number = number; size = size; address = address }) (new_stand stands size) = new_is stands number size address n (a ∙ ap (λ u. 65536 + u) is.used_is) in
     let stands_are' : new_stands ≡ stands ++ new_stand stands size ∷ [] = stands_are ∙ ap (λ (s : Stand). stands ++ s ∷ []) new in
-    let order_is' : new_order ≡ insert order rank (new_stand stands size) = order_is ∙ ap (insert order rank) new in
-    let at : address ≡ first_place stands = a ∙ ap (λ u. 65536 + u) is.used_is in
     let count = length_push stands (new_stand stands size) in
     let sum = sum_by_push (λ (s : Stand). s.size) stands (new_stand stands size) in
-    rw (stands_are', order_is') (record {
+    rw stands_are' (record {
       settled = settled_added stands size is.settled low whole fits;
-      sorted = order_added stands order (new_stand stands size) rank is.sorted within
-          (λ k d l. subst (λ (w : ℕ). (get_or order k d).address ≤ w) at (before k d l)) (λ k d b l. subst (λ (w : ℕ). w < (get_or order k d).address) at (behind k d b l));
-      next_size = next_is ∙ ap (λ m. m + 1) is.next_size ∙ sym count;
+      sorted = order_added stands order new_order (new_stand stands size) is.sorted (subst (λ (s : Stand). IsPermutation (s ∷ order) new_order) new order_same) order_sorted;
       targets_size = targets_are ∙ ap (λ m. m + 1) is.targets_size ∙ sym count;
       used_is = used_is ∙ ap (λ m. m + size) is.used_is ∙ sym sum;
       room = rw count room_is;
@@ -322,7 +346,6 @@ table_kept stands order next targets used group new_stands new_order new_next ne
     rw (s, o, n, t) (record {
       settled = is.settled;
       sorted = is.sorted;
-      next_size = is.next_size;
       targets_size = is.targets_size;
       used_is = is.used_is;
       room = omega (arith, is.room);
@@ -459,3 +482,17 @@ pub stands_not_found : (stands order : List Stand) (base count : ℕ) → AreSet
 stands_not_found stands order base count are is within low high last =
     sym (find_not_in_order (λ (s : Stand). eqb s.address base) stands order is.same
     (λ k d l. ne_eqb (get_or order k d).address base (λ e. not_there stands order base count k d are is within l low high (last d) e)))
+
+-- the same by what stands at a place of the order
+pub stands_at_place : (stands order : List Stand) (base k : ℕ) (stand : Stand) → AreSettled stands → IsOrder stands order → k < length order → slice_get order k ≡ Some stand → stand.address ≡ base
+    → Some stand ≡ stands_at stands base
+stands_at_place stands order base k stand are is l e at =
+    let here : get_or order k stand ≡ stand = get_or_from_slice_get order k stand stand e in
+    subst (λ (s : Stand). Some s ≡ stands_at stands base) here (stands_found stands order base k stand are is l (ap (λ (s : Stand). s.address) here ∙ at))
+
+pub owner_at_place : (stands order : List Stand) (word k : ℕ) (stand : Stand) → AreSettled stands → IsOrder stands order → k < length order → slice_get order k ≡ Some stand
+    → stand.address ≤ word → word < stand.address + stand.size → Some stand ≡ owner stands word
+owner_at_place stands order word k stand are is l e low high =
+    let here : get_or order k stand ≡ stand = get_or_from_slice_get order k stand stand e in
+    subst (λ (s : Stand). Some s ≡ owner stands word) here
+    (owner_found stands order word k stand are is l (subst (λ (s : Stand). s.address ≤ word) (sym here) low) (subst (λ (s : Stand). word < s.address + s.size) (sym here) high))

@@ -2,8 +2,8 @@
 use Rattle.std.proofs.Common.{◌≡◌, ℕ, Bool, true, false, ◌&&◌, List, [], ◌∷◌, Option, Some, None, refl, ap, cond, eqb, length, suc, arith}
 use Rattle.std.proofs.lemmas.Bool.{ne_eqb, eqb-true}
 use Rattle.move_plan.specs.declared.plan_lines.Move.{Move}
-use Rattle.moving_heap.specs.declared.places.Stand.{Stand}
-use Rattle.moving_heap.specs.declared.places.Verdict.TheVariants.{Empty, Legal, Illegal}
+use Rattle.moving_heap.specs.declared.stands.Stand.{Stand}
+use Rattle.moving_heap.specs.declared.stands.Verdict.TheVariants.{Empty, Legal, Illegal}
 use Rattle.moving_heap.specs.Places.{apart, moved, no_lines, moves_none, exist, differ, all_fit, verdict_of, is_legal, line_targets, verdict, group_moves, due_moves, moves_of, group_targets}
 use Rattle.std.specs.Option.{is_some}
 

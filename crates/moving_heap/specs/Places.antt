@@ -1,12 +1,12 @@
 -- Where objects stand: the first place of each, what a group of moves changes, and which groups are legal.
 use Rattle.std.specs.Prelude.{ℕ, ◌+◌, ◌%◌, ◌^◌, ◌==◌, ◌&&◌, ◌||◌, nat_lt, nat_le, Bool, true, false, if◌then◌else◌, List, [], ◌∷◌, length, map, Option, Some, None}
-use Rattle.std.specs.List.{sum_by, list_all, find}
+use Rattle.std.specs.List.{sum_by, count_by, list_all, find}
 use Rattle.std.specs.Option.{option_map, option_map_or, is_some, unwrap_or}
 use Rattle.move_plan.specs.declared.plan_lines.Move.{Move}
-use Rattle.moving_heap.specs.declared.places.Stand.{Stand}
-use Rattle.moving_heap.specs.declared.places.Moved.{Moved}
-use Rattle.moving_heap.specs.declared.places.Verdict.{Verdict}
-use Rattle.moving_heap.specs.declared.places.Verdict.TheVariants.{Empty, Legal, Illegal}
+use Rattle.moving_heap.specs.declared.stands.Stand.{Stand}
+use Rattle.moving_heap.specs.declared.stands.Moved.{Moved}
+use Rattle.moving_heap.specs.declared.stands.Verdict.{Verdict}
+use Rattle.moving_heap.specs.declared.stands.Verdict.TheVariants.{Empty, Legal, Illegal}
 
 -- a new object stands behind the footprints of all before it
 abbrev pub first_place : List Stand → ℕ
@@ -127,3 +127,11 @@ carried moves stand = record stand { address = new_word moves stand.address }
 -- the object that stands at an address
 abbrev pub stands_at : List Stand → ℕ → Option Stand
 stands_at stands base = find (λ stand. stand.address == base) stands
+
+-- how many objects stand below an address
+abbrev pub count_below : List Stand → ℕ → ℕ
+count_below stands address = count_by (λ stand. nat_lt stand.address address) stands
+
+-- the object with a place in the order of addresses, from 0: so many stand below it
+abbrev pub at_rank : List Stand → ℕ → Option Stand
+at_rank stands rank = find (λ stand. count_below stands stand.address == rank) stands
