@@ -1,14 +1,14 @@
 -- Objects in the order of their addresses: two parts, a merge, and what a group does to the order.
-use Rattle.std.proofs.Common.{◌≡◌, ℕ, zero, suc, ◌+◌, ◌-◌, ◌<◌, ◌≤◌, ◌^◌, Bool, true, false, not, ◌&&◌, cond, leb, inl, inr, List, [], ◌∷◌, ◌++◌, length, take, drop, map, get_or, refl, sym, ap, ◌∙◌, subst, arith, Option, Some, None}
+use Rattle.std.proofs.Common.{◌≡◌, ℕ, zero, suc, ◌+◌, ◌-◌, ◌<◌, ◌≤◌, ◌^◌, Bool, true, false, not, ◌&&◌, cond, inl, inr, List, [], ◌∷◌, ◌++◌, length, take, drop, map, get_or, refl, sym, ap, ◌∙◌, subst, arith, Option, Some, None}
 use Rattle.std.specs.Prelude.{is_some, filter}
 use Rattle.std.specs.List.{All, filter_map, list_all, insert}
 use Rattle.std.specs.List.Sorted.{IsPermutation, IsNonDecreasingBy}
-use Rattle.std.proofs.lemmas.Bool.{or_left, le-leb, cases_lt}
-use Rattle.std.proofs.lemmas.List.{drop_more, drop_all, append_assoc, append-nil, length-append, length_push, get_or_push, get_or_append_left, get_or-append_right, get_or-map, length-map, same_lists, take-append-le, drop-append-le, length-take, length-drop, get_or_default, get_or-take, get_or-drop}
+use Rattle.std.proofs.lemmas.Bool.{cases_lt}
+use Rattle.std.proofs.lemmas.List.{drop_more, drop_all, append_assoc, append-nil, length-append, length_push, get_or_push, get_or_append_left, get_or-append_right, get_or-map, length-map, same_lists, take-append-le, drop-append-le, length-drop, get_or_default}
 use Rattle.std.proofs.lemmas.List.Folds.{list_all-append}
-use Rattle.std.proofs.lemmas.List.Elements.{filter-append, filter_map-append}
+use Rattle.std.proofs.lemmas.List.Elements.{filter-append}
 use Rattle.std.proofs.lemmas.List.Sums.{list_all-from_AllPass}
-use Rattle.std.proofs.lemmas.List.Sorted.{IsPermutation-refl, IsPermutation-sym, IsPermutation-trans, IsPermutation-cons, IsPermutation-middle, IsPermutation-map, IsPermutation-append_right, All-permutation, length_permutation, IsNonDecreasingBy-push, IsNonDecreasingBy-insert, IsNonDecreasingBy-take, IsNonDecreasingBy-drop}
+use Rattle.std.proofs.lemmas.List.Sorted.{IsPermutation-refl, IsPermutation-sym, IsPermutation-trans, IsPermutation-cons, IsPermutation-middle, IsPermutation-append_right, All-permutation, length_permutation, IsNonDecreasingBy-push, IsNonDecreasingBy-insert, IsNonDecreasingBy-take, IsNonDecreasingBy-drop}
 use Rattle.std.proofs.Math.Seq.{take-append_seam, drop-append_seam}
 use Rattle.moving_heap.specs.declared.stands.Stand.{Stand}
 use Rattle.moving_heap.specs.Places.{apart, clear, moved, sent}

@@ -1,15 +1,14 @@
 -- Ranks: how many objects stand below one in the order of addresses.
-use Rattle.std.proofs.Common.{◌≡◌, ℕ, zero, suc, ◌+◌, ◌<◌, ◌≤◌, ◌≢◌, Bool, true, false, List, [], ◌∷◌, length, get_or, refl, sym, ap, ◌∙◌, subst, arith, cond, eqb, ltb, Option, Some, None}
+use Rattle.std.proofs.Common.{◌≡◌, ℕ, zero, suc, ◌+◌, ◌<◌, ◌≤◌, ◌≢◌, Bool, true, false, List, [], ◌∷◌, length, get_or, refl, sym, ap, ◌∙◌, arith, cond, eqb, ltb, Some, None}
 use Rattle.std.specs.Prelude.{slice_get}
-use Rattle.std.specs.List.{sum_by, count_by}
 use Rattle.std.specs.List.Sorted.{IsPermutation, IsNonDecreasingBy}
 use Rattle.std.proofs.lemmas.Bool.{eqb-true, eq-eqb, ne_eqb, lt-ltb, le-ltb}
 use Rattle.std.proofs.lemmas.List.Sums.{sum_by-cons}
-use Rattle.std.proofs.lemmas.List.Sorted.{IsPermutation-sym, sum_by-IsPermutation, length_permutation}
+use Rattle.std.proofs.lemmas.List.Sorted.{IsPermutation-sym, sum_by-IsPermutation}
 use Rattle.std.proofs.lemmas.Option.{get_or_from_slice_get}
 use Rattle.moving_heap.specs.declared.stands.Stand.{Stand}
 use Rattle.moving_heap.specs.Places.{count_below, at_rank}
-use Rattle.moving_heap.specs.Settled.{Pairs, AreSettled, IsOrder, DifferentPlaces}
+use Rattle.moving_heap.specs.Settled.{AreSettled, IsOrder, DifferentPlaces}
 use Rattle.moving_heap.proofs.ApartLemmas.{pairs_permutation}
 use Rattle.moving_heap.proofs.FindLemmas.{AtMostOne, pairs_tail, find_in_order, find_not_in_order}
 use Rattle.moving_heap.proofs.PlaceLemmas.{different}

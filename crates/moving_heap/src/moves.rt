@@ -143,4 +143,3 @@ fn first_from(moves: &[Moved], old: u64) -> usize
     }
     low
 }
-

@@ -1,4 +1,4 @@
-use Rattle.std.proofs.Common.{◌≡◌, ◌&&◌, ◌<◌, ap, sym, ◌∙◌}
+use Rattle.std.proofs.Common.{◌&&◌, ◌<◌, ap, sym, ◌∙◌}
 use Rattle.moving_heap.specs.declared.stands.Stand.{Stand}
 use Rattle.moving_heap.specs.Places.{apart}
 use Rattle.moving_heap.proofs.OrderLemmas.{sorted_right, all_right, apart_parts}

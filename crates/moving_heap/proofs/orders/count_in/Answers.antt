@@ -1,4 +1,3 @@
-use Rattle.std.proofs.Common.{arith}
 use Rattle.moving_heap.proofs.OrderLemmas.{sorted_right, high_above}
 use Rattle.moving_heap.proofs.orders.count_in.Goals as goal
 

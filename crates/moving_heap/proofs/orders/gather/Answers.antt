@@ -1,9 +1,9 @@
-use Rattle.std.proofs.Common.{◌≡◌, ◌+◌, ◌++◌, ◌∷◌, [], List, Some, None, true, drop, get_or, sym, ap, ◌∙◌, arith, length, append_assoc}
+use Rattle.std.proofs.Common.{◌≡◌, ◌+◌, ◌++◌, ◌∷◌, [], List, true, drop, get_or, sym, ap, ◌∙◌, arith, length, append_assoc}
 use Rattle.std.specs.Result.{is_ok}
 use Rattle.std.specs.List.{filter_map}
 use Rattle.std.proofs.lemmas.List.{length-append}
 use Rattle.moving_heap.specs.declared.stands.Stand.{Stand}
-use Rattle.moving_heap.specs.Orders.{leaver, target_of}
+use Rattle.moving_heap.specs.Orders.{leaver}
 use Rattle.moving_heap.proofs.OrderLemmas.{leave_step, leave_skip, blank}
 use Rattle.moving_heap.proofs.orders.gather.Goals as goal
 use Rattle.moving_heap.proofs.orders.gather.Goals.{in-Some, in_default}

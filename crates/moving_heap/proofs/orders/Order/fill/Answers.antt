@@ -1,4 +1,4 @@
-use Rattle.std.proofs.Common.{◌≡◌, ◌+◌, ◌≤◌, ◌++◌, List, sym, ap, ◌∙◌, subst, arith, take, drop, length}
+use Rattle.std.proofs.Common.{◌≡◌, ◌+◌, ◌≤◌, ◌++◌, List, sym, ap, ◌∙◌, subst, arith, length}
 use Rattle.std.specs.Prelude.{filter}
 use Rattle.std.specs.List.Sorted.{IsPermutation, IsNonDecreasingBy}
 use Rattle.std.proofs.lemmas.List.{length-append}
@@ -6,7 +6,7 @@ use Rattle.std.proofs.lemmas.List.Elements.{filter-append}
 use Rattle.std.proofs.lemmas.List.Kept.{IsNonDecreasingBy-filter}
 use Rattle.std.proofs.lemmas.List.Sorted.{length_permutation}
 use Rattle.moving_heap.specs.declared.stands.Stand.{Stand}
-use Rattle.moving_heap.specs.Orders.{Ordered, AreHalves, stays}
+use Rattle.moving_heap.specs.Orders.{Ordered, stays}
 use Rattle.moving_heap.proofs.OrderLemmas.{sorted_left, sorted_right, sorted_parts, halves_of, turned, filled_same, low_stays, merged_high}
 use Rattle.moving_heap.proofs.orders.Order.fill.Goals as goal
 
