@@ -1,0 +1,8 @@
+pub mod NumberLaws
+pub mod FormatLaws
+pub mod PartLaws
+pub mod FilledLaws
+pub mod FitsLaws
+pub mod ReadLaws
+pub mod MapLaws
+mod Examples
