@@ -1,0 +1,4 @@
+pub mod AppendLemmas
+pub mod EntryLemmas
+pub mod RecordLemmas
+pub mod MapLemmas

@@ -1,0 +1,2 @@
+pub mod ModuleMaps
+pub mod Writing
