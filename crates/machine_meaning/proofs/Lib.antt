@@ -1,2 +1,4 @@
+pub mod AddressLaws
+pub mod SlotLaws
 pub mod OutcomeLaws
-pub mod Samples
+mod Samples

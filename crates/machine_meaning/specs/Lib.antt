@@ -6,3 +6,4 @@ pub mod MachineSteps
 pub mod Happenings
 pub mod Code
 pub mod MachineRuns
+pub mod Relations
