@@ -6,6 +6,7 @@ mod maps;
 mod stacks;
 mod tried;
 mod words;
+mod work;
 
 ghost use Rattle.std.specs.Prelude.{◌≤◌, length};
 ghost use Rattle.sp_ids.specs.declared.limits.TheConstants.{FILE_BYTES};
@@ -19,9 +20,19 @@ use tried::Tried;
 use words::{Words, cut};
 
 fn main(rt: HostRuntime) -> io::Result<()> {
-    let Some(name) = env::args(&rt)?.nth(1) else {
-        return println!(rt; "usage: heap_texts FILE");
+    let mut words = env::args(&rt)?;
+    let _ = words.next();
+    let Some(name) = words.next() else {
+        return println!(rt; "usage: heap_texts FILE, or heap_texts WORK OBJECTS TURNS");
     };
+    if let Some(objects) = words.next() {
+        let objects = objects.parse().unwrap_or(0u64);
+        let turns = words.next().map_or(0u64, |turns| turns.parse().unwrap_or(0u64));
+        return match work::done(rt.alloc(), name.as_str(), objects, turns) {
+            Ok(number) => println!(rt; "{number}"),
+            Err(fault) => println!(rt; "{fault}"),
+        };
+    }
     let mut files = DiskFiles::new(&rt);
     match files.take(rt.alloc(), name.as_str(), FILE_BYTES) {
         Ok(text) => report(&rt, rt.alloc(), &text),
