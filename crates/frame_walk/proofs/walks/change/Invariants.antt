@@ -1,4 +1,4 @@
-use Rattle.std.proofs.Common.{◌≡◌, ◌-◌, ◌≤◌, ℕ, drop, map, length}
+use Rattle.std.proofs.Common.{◌≡◌, ◌-◌, ◌≤◌, drop, map}
 use Rattle.frame_walk.specs.Maps.{pairs_in, pairs_of}
 use Rattle.frame_walk.specs.Walks.{write_slots, slot_write}
 use Rattle.frame_walk.proofs.walks.change.Given as goal
