@@ -1,4 +1,5 @@
 pub mod AddressLaws
 pub mod SlotLaws
+pub mod CheckLaws
 pub mod OutcomeLaws
 mod Samples

@@ -1,14 +1,20 @@
 -- What the machine's words are of the target meaning's values: an address is that of the object and the offset.
-use Rattle.std.specs.Prelude.{◌≡◌, ℕ, ◌+◌, ◌<◌, ◌≤◌, ◌%◌, ◌^◌, Bool, true, List, length, map, Option, Some, slice_get, slice_index, slice_index_or, ◌⊎◌}
+use Rattle.std.specs.Prelude.{◌≡◌, ℕ, ◌+◌, ◌<◌, ◌≤◌, ◌%◌, ◌^◌, Bool, true, List, length, map, Option, Some, slice_get, slice_index, slice_index_or, ◌⊎◌, Result, Ok, Err}
 use Rattle.std.specs.List.{AllZip}
 use Rattle.std.specs.Option.{option_map_or}
 use Rattle.ir_ast.specs.declared.ops.Operand.{Operand}
 use Rattle.ir_ast.specs.Layouts.{ObjectLayout}
+use Rattle.ir_ast.specs.Sizes.{fields_in}
 use Rattle.ir_ast.specs.Objects.{Pointer, Datum, number, pointer, Object, footprint}
+use Rattle.sp_ids.specs.declared.ends.Trap.{Trap}
+use Rattle.sp_ids.specs.declared.ends.Trap.TheVariants as traps
+use Rattle.moving_heap.specs.declared.heap.Deny.{Deny}
+use Rattle.moving_heap.specs.declared.heap.Deny.TheVariants as denies
 use Rattle.moving_heap.specs.declared.stands.Stand.{Stand}
-use Rattle.moving_heap.specs.Contents.{Content}
+use Rattle.moving_heap.specs.Contents.{Content, repeated}
 use Rattle.moving_heap.specs.Settled.{AreSettled}
 use Rattle.moving_heap.specs.Heaps.{of_number}
+use Rattle.object_meaning.specs.Accesses.{Place}
 use Rattle.object_meaning.specs.Registers.{value, pointer_in, number_in}
 use Rattle.object_meaning.specs.States.{Frame, State}
 use Rattle.machine_meaning.specs.Words.{worded_operand}
@@ -36,9 +42,10 @@ abbrev pub IsCell : List Stand → Datum → ℕ → Type 0
 IsCell stands (number word) held = held ≡ word
 IsCell stands (pointer to) held = IsInHeap stands to × (to.offset ≡ 0) × (held ≡ addr stands to)
 
-pub record IsObject (stands : List Stand) (object : Object) (content : Content) : Type 0 where
+pub record IsObject (layouts : List ObjectLayout) (stands : List Stand) (object : Object) (content : Content) : Type 0 where
   pub layout : content.layout ≡ object.layout
   pub count : content.count ≡ object.count
+  pub kinds : content.kinds ≡ repeated (fields_in layouts object.layout) object.count
   pub cells : AllZip (IsCell stands) object.cells content.words
 
 abbrev pub HasSize : List ObjectLayout → Object → Stand → Type 0
@@ -48,7 +55,7 @@ HasSize layouts object stand = stand.size ≡ footprint layouts object
 pub record AreObjects (layouts : List ObjectLayout) (objects : List Object) (stands : List Stand) (contents : List Content) : Type 0 where
   pub settled : AreSettled stands
   pub sizes : AllZip (HasSize layouts) objects stands
-  pub contents_are : AllZip (IsObject stands) objects contents
+  pub contents_are : AllZip (IsObject layouts stands) objects contents
 
 -- what an operand is of a frame with these words
 abbrev pub word_in : List ℕ → Operand → ℕ
@@ -75,3 +82,13 @@ pub record AreClosed (entries : List Pointer) (pairs : List Pair) (count : ℕ) 
   pub bases : (k : ℕ) (pair : Pair) → slice_get pairs k ≡ Some pair
       → ((m : ℕ) × (slice_get pairs m ≡ Some (record { base = pair.base; derived = pair.base }))) ⊎ ((slice_index_or entries pair.base (record { object = 0; offset = 0 })).object ≡ 0)
   pub within : (k : ℕ) (pair : Pair) → slice_get pairs k ≡ Some pair → (pair.derived < count) × (pair.base < count)
+
+-- what a check of the machine answers where an access of the target meaning finds this
+abbrev pub deny_of : Trap → Deny
+deny_of traps.Null = denies.Null
+deny_of traps.Kind = denies.Kind
+deny_of trap = denies.Bounds
+
+abbrev pub check_of : Result Place Trap → Result (Unit {0}) Deny
+check_of (Ok place) = Ok tt
+check_of (Err trap) = Err (deny_of trap)
