@@ -21,6 +21,7 @@ pub(crate) fn done(alloc: Global, name: &str, objects: u64, turns: u64) -> Resul
         "near" => Ok(near_loads(&heap, objects, turns)),
         "allocs" => Ok(allocs(&mut heap, turns)),
         "events" => events(alloc, &mut heap, turns),
+        "wide" => Ok(wide(&mut heap, turns)),
         _ => Ok(0),
     }
 }
@@ -126,6 +127,17 @@ fn allocs(heap: &mut Heap, turns: u64) -> u64 {
     let mut made = event(heap, &[], Some(1));
     for _ in 0..turns {
         if heap.alloc(0, &[Cell::I64], 1).is_ok() {
+            made = made.wrapping_add(1);
+        }
+    }
+    made
+}
+
+// New objects of a thousand cells.
+fn wide(heap: &mut Heap, turns: u64) -> u64 {
+    let mut made = 0u64;
+    for _ in 0..turns {
+        if heap.alloc(0, &[Cell::I64, Cell::Ptr], 500).is_ok() {
             made = made.wrapping_add(1);
         }
     }

@@ -1,5 +1,6 @@
 pub mod AddressLaws
 pub mod SlotLaws
 pub mod CheckLaws
+pub mod SettledLaws
 pub mod OutcomeLaws
 mod Samples

@@ -21,6 +21,7 @@ use Rattle.map_bytes.specs.declared.values.Place.{Place}
 use Rattle.map_bytes.specs.Maps.{MapRecord}
 pub mod Moves
 pub mod Tasks
+pub mod Places
 
 -- %N = type { i64, ptr addrspace(1) }
 abbrev pub node : ObjectLayout

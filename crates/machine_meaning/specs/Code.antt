@@ -33,6 +33,5 @@ machinery_of content map plan bound = record {
   address = code_address content;
   frame_words = words_in content;
   found = found_in map;
-  group = group plan;
-  flips = flips plan;
+  plan = record { group = group plan; flips = flips plan };
 }

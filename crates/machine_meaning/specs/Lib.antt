@@ -1,4 +1,5 @@
 pub mod Words
+pub mod EventPlaces
 pub mod Machines
 pub mod Moving
 pub mod MachineTasks

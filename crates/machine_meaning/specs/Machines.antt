@@ -7,7 +7,6 @@ use Rattle.ir_ast.specs.declared.ops.Op.{Op}
 use Rattle.ir_ast.specs.declared.ops.Op.TheVariants.{Statepoint, GcRelocate}
 use Rattle.ir_ast.specs.Insts.{Instruction}
 use Rattle.ir_ast.specs.Objects.{Datum, number}
-use Rattle.move_plan.specs.declared.plan_lines.Move.{Move}
 use Rattle.moving_heap.specs.Heaps.{HeapView}
 use Rattle.frame_walk.specs.Maps.{FrameEntry}
 use Rattle.frame_forms.specs.FrameSizes.{is_named_integer}
@@ -17,6 +16,7 @@ use Rattle.object_meaning.specs.Registers.{value, number_in, Write, put, put_all
 use Rattle.object_meaning.specs.States.{Frame, State, Setting}
 use Rattle.object_meaning.specs.Effects.{Effect, goes_on, prints, ends}
 use Rattle.object_meaning.specs.Frames.{group_length, index_in}
+use Rattle.machine_meaning.specs.EventPlaces.{MovePlan}
 
 -- the stack of the running task; those of the others by number, where the running one and those that ended have none. The
 -- state's list of objects is empty: the heap has them
@@ -27,14 +27,13 @@ pub record Machine : Type 0 where
   pub heap : HeapView
 
 -- what a run is of: lines on words, code addresses by function, block and place in the block, the words of each function's
--- frames, the record that the map has at a return address, and the moves and flips of the plan by events
+-- frames, the record that the map has at a return address, and the plan's moves
 pub record Machinery : Type 0 where
   pub setting : Setting
   pub address : ℕ → ℕ → ℕ → ℕ
   pub frame_words : ℕ → ℕ
   pub found : ℕ → Option FrameEntry
-  pub group : ℕ → List Move
-  pub flips : ℕ → Bool
+  pub plan : MovePlan
 
 -- what a line does that touches no pointer and no frame
 abbrev pub lifted : Machine → Effect State → Effect Machine

@@ -1,5 +1,5 @@
 -- An event of the address machine: its group of moves, with the walk over all stacks.
-use Rattle.std.specs.Prelude.{ℕ, if◌then◌else◌, List, [], ◌∷◌, map, Option, Some, None, slice_set, slice_index_or, Result, Ok, Err}
+use Rattle.std.specs.Prelude.{ℕ, List, [], ◌∷◌, map, slice_set, slice_index_or, Result, Ok, Err}
 use Rattle.sp_ids.specs.declared.ends.End.TheVariants.{LostFrame}
 use Rattle.moving_heap.specs.declared.stands.Moved.{Moved}
 use Rattle.moving_heap.specs.declared.stands.Verdict.{Verdict}
@@ -10,18 +10,15 @@ use Rattle.frame_walk.specs.Walks.{walked}
 use Rattle.object_meaning.specs.States.{Frame}
 use Rattle.object_meaning.specs.Effects.{Effect, ends}
 use Rattle.object_meaning.specs.Tasks.{with_event}
+use Rattle.machine_meaning.specs.EventPlaces.{flip_of}
 use Rattle.machine_meaning.specs.Machines.{Machine, Machinery, return_address, all_frames, all_stacks}
 
--- the event's number, where it flips
-abbrev pub flip_at : Machinery → ℕ → Option ℕ
-flip_at machinery event = if machinery.flips event then Some event else None
-
 abbrev pub verdict_at : Machinery → HeapView → ℕ → Verdict
-verdict_at machinery heap event = verdict heap.stands (machinery.group event) (flip_at machinery event)
+verdict_at machinery heap event = verdict heap.stands (machinery.plan.group event) (flip_of machinery.plan event)
 
 -- the moves that are made at an event
 abbrev pub moves_due : Machinery → HeapView → ℕ → List Moved
-moves_due machinery heap event = group_moves heap.stands (machinery.group event) (flip_at machinery event)
+moves_due machinery heap event = group_moves heap.stands (machinery.plan.group event) (flip_of machinery.plan event)
 
 -- all objects move at once, and each pointer cell that holds the old address of a moved one
 abbrev pub moved_heap : List Moved → HeapView → HeapView
