@@ -1,0 +1,116 @@
+//! What is found in a map, as a line of text.
+
+use stackmap_view::{MapIndex, MapView, RecordRef};
+use std::alloc::{AllocError, Global};
+
+pub(crate) fn shown_view(alloc: Global, bytes: &[u8]) -> Result<String, AllocError> {
+    match MapView::of(bytes) {
+        Ok(_view) => String::from_str(alloc, "ok"),
+        Err(fault) => format!(in alloc; "{fault}"),
+    }
+}
+
+// Each function's address, frame size and record count.
+pub(crate) fn shown_functions(alloc: Global, bytes: &[u8]) -> Result<String, AllocError> {
+    let mut shown = String::new(alloc);
+    if let Ok(view) = MapView::of(bytes) {
+        for index in 0..view.functions() {
+            let entry = view.function(index);
+            let address = entry.address;
+            let frame_bytes = entry.frame_bytes;
+            let records = entry.records;
+            separate(&mut shown)?;
+            write!(shown, "{address} {frame_bytes} {records}")?;
+        }
+    }
+    Ok(shown)
+}
+
+// Each record's return address, id, frame size, number of locations and number of bytes.
+pub(crate) fn shown_records(alloc: Global, bytes: &[u8]) -> Result<String, AllocError> {
+    let mut shown = String::new(alloc);
+    if let Ok(view) = MapView::of(bytes) {
+        for record in view.records() {
+            let address = record.return_address();
+            let id = record.id();
+            let frame_bytes = record.frame_bytes();
+            let places = record.places();
+            let length = record.bytes().len();
+            separate(&mut shown)?;
+            write!(shown, "{address} {id} {frame_bytes} {places} {length}")?;
+        }
+    }
+    Ok(shown)
+}
+
+fn separate(shown: &mut String) -> Result<(), AllocError> {
+    if !shown.is_empty() {
+        shown.push_str(", ")?;
+    }
+    Ok(())
+}
+
+// A record by its number.
+pub(crate) fn found_entry(alloc: Global, bytes: &[u8], index: u64) -> Result<String, AllocError> {
+    match MapView::of(bytes) {
+        Ok(view) => shown_record(alloc, view.entry(u32::try_from(index).unwrap_or(u32::MAX))),
+        Err(fault) => format!(in alloc; "{fault}"),
+    }
+}
+
+// The first record with a return address, by the view and by an index, and what is lent outlives the view.
+pub(crate) fn found_at(alloc: Global, bytes: &[u8], address: u64) -> Result<String, AllocError> {
+    let found = record_at(bytes, address);
+    let shown = shown_record(alloc, found)?;
+    let Ok(view) = MapView::of(bytes) else {
+        return Ok(shown);
+    };
+    let Ok(index) = MapIndex::of(alloc, &view) else {
+        return String::from_str(alloc, "out of memory");
+    };
+    if shown_record(alloc, index.find(address))?.as_str() == shown.as_str()
+        && bytes_of(index.find(address)) == bytes_at(bytes, address)
+    {
+        Ok(shown)
+    } else {
+        String::from_str(alloc, "another one by the index")
+    }
+}
+
+// The view is gone when the record is looked at.
+fn record_at(bytes: &[u8], address: u64) -> Option<RecordRef<'_>> {
+    let view = MapView::of(bytes).ok()?;
+    view.find(address)
+}
+
+// The view and the record are gone when the bytes are looked at.
+fn bytes_at(bytes: &[u8], address: u64) -> &[u8] {
+    bytes_of(record_at(bytes, address))
+}
+
+fn bytes_of(record: Option<RecordRef<'_>>) -> &[u8] {
+    match record {
+        Some(record) => record.bytes(),
+        None => &[],
+    }
+}
+
+// A record's return address, id and frame size, then each location.
+fn shown_record(alloc: Global, record: Option<RecordRef<'_>>) -> Result<String, AllocError> {
+    let Some(record) = record else {
+        return String::from_str(alloc, "none");
+    };
+    let address = record.return_address();
+    let id = record.id();
+    let frame_bytes = record.frame_bytes();
+    let mut shown = format!(in alloc; "{address} {id} {frame_bytes}")?;
+    for index in 0..record.places() {
+        let place = record.place(index);
+        let kind = place.kind;
+        let size = place.size;
+        let register = place.register;
+        let offset = place.offset;
+        write!(shown, ", {kind} {size} {register} {offset}")?;
+    }
+    Ok(shown)
+}
