@@ -1,10 +1,9 @@
 -- A check asks of an object's cells what an access of the target meaning asks of its fields.
-use Rattle.std.proofs.Common.{◌≡◌, ℕ, zero, suc, ◌+◌, ◌-◌, ◌*◌, ◌/◌, ◌%◌, ◌<◌, ◌≤◌, Bool, true, false, not, ◌||◌, inl, inr, List, [], ◌∷◌, ◌++◌, length, get_or, refl, sym, ap, ◌∙◌, subst, arith, cond, eqb, ltb, Option, Some, None, Result, Ok, Err}
+use Rattle.std.proofs.Common.{◌≡◌, ℕ, zero, suc, ◌+◌, ◌-◌, ◌*◌, ◌/◌, ◌%◌, ◌<◌, ◌≤◌, Bool, true, false, not, ◌||◌, inl, inr, List, [], ◌∷◌, ◌++◌, length, get_or, refl, sym, ap, ◌∙◌, subst, arith, cond, eqb, ltb, Some, Result, Ok, Err}
 use Rattle.std.specs.Prelude.{slice_get}
-use Rattle.std.proofs.lemmas.Bool.{cases_lt, cases_Bool, eqb-true, lt-ltb, le-ltb}
+use Rattle.std.proofs.lemmas.Bool.{cases_lt, eqb-true, lt-ltb, le-ltb}
 use Rattle.std.proofs.lemmas.Option.{slice_get-get_or, slice_get_past}
 use Rattle.std.proofs.Math.Nat.{add-mod_left, mod-eq_of_lt}
-use Rattle.sp_ids.specs.declared.ends.Trap.{Trap}
 use Rattle.sp_ids.specs.declared.ends.Trap.TheVariants.{Bounds, Kind}
 use Rattle.ir_ast.specs.declared.cells.Cell.{Cell}
 use Rattle.ir_ast.specs.declared.cells.Cell.TheVariants.{I64}
@@ -13,9 +12,9 @@ use Rattle.ir_ast.specs.Objects.{Pointer}
 use Rattle.moving_heap.specs.declared.heap.Deny.{Deny}
 use Rattle.moving_heap.specs.declared.heap.Deny.TheVariants as denies
 use Rattle.moving_heap.specs.Contents.{repeated}
-use Rattle.moving_heap.specs.Heaps.{kind_asked, same_kind}
+use Rattle.moving_heap.specs.Heaps.{kind_asked}
 use Rattle.moving_heap.proofs.CellLemmas.{repeated-length}
-use Rattle.object_meaning.specs.Accesses.{Place, within}
+use Rattle.object_meaning.specs.Accesses.{within}
 use Rattle.object_meaning.proofs.AccessLaws.{within_is}
 use Rattle.machine_meaning.specs.Relations.{check_of}
 

@@ -1,5 +1,5 @@
 -- A step changes no place but at an event, and there as the definition of places by events says.
-use Rattle.std.proofs.Common.{◌≡◌, ℕ, zero, suc, Bool, true, false, List, [], ◌∷◌, ◌++◌, length, map, refl, sym, ap, ◌∙◌, cond, Option, Some, None, Result, Ok, Err, ℤ, ◌⊎◌, inl, inr}
+use Rattle.std.proofs.Common.{◌≡◌, ℕ, Bool, true, false, List, [], ◌∷◌, map, refl, sym, ap, ◌∙◌, cond, Option, Some, None, Result, Ok, Err, ℤ, ◌⊎◌, inl, inr}
 use Rattle.std.specs.Prelude.{unsigned_abs, slice_get}
 use Rattle.sp_ids.specs.declared.ends.End.{End}
 use Rattle.sp_ids.specs.Numbers.{signed}
@@ -18,7 +18,7 @@ use Rattle.moving_heap.specs.declared.heap.Deny.TheVariants as denies
 use Rattle.moving_heap.specs.declared.stands.Moved.{Moved}
 use Rattle.moving_heap.specs.declared.stands.Stand.{Stand}
 use Rattle.moving_heap.specs.Places.{carried}
-use Rattle.moving_heap.specs.Heaps.{HeapView, alloc_answer, footprint}
+use Rattle.moving_heap.specs.Heaps.{alloc_answer, footprint}
 use Rattle.object_meaning.specs.Effects.{Effect, goes_on, prints, ends}
 use Rattle.object_meaning.specs.Lines.{Line}
 use Rattle.object_meaning.specs.States.{Frame, State}
@@ -31,7 +31,7 @@ use Rattle.machine_meaning.specs.EventPlaces.{Occasion, made_at, makes, moved_at
 use Rattle.tool_io.specs.Counts.{raised}
 use Rattle.machine_meaning.specs.Machines.{Machine, Machinery, gone_on, lifted, then_on}
 use Rattle.machine_meaning.specs.Moving.{after_walk, eventful, moved_by, moves_due, walked_all}
-use Rattle.machine_meaning.specs.MachineTasks.{allocated_machine, allocating_machine, ended_machine, handed_machine, polled_machine, switched_machine}
+use Rattle.machine_meaning.specs.MachineTasks.{allocated_machine, allocating_machine, handed_machine, polled_machine, switched_machine}
 use Rattle.machine_meaning.specs.MachineSteps.{behind_step, calls, checking, denied, loading_word, machine_acts, machine_at, machine_step, returns, storing_word}
 
 -- after a step from a machine: nothing has changed its place, or an event has happened

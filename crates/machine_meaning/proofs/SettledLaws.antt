@@ -1,5 +1,5 @@
 -- In every state of a run the objects are settled: no two of them overlap, and each stands where it was made or was moved.
-use Rattle.std.proofs.Common.{◌≡◌, ℕ, zero, suc, ◌+◌, ◌*◌, ◌<◌, ◌≤◌, ◌%◌, Bool, true, false, List, [], ◌∷◌, ◌++◌, length, map, refl, sym, ap, ◌∙◌, subst, arith, cond, ltb, max, Option, Some, None, Result, Ok, Err, ℤ}
+use Rattle.std.proofs.Common.{◌≡◌, ℕ, zero, suc, ◌+◌, Bool, true, false, List, [], ◌∷◌, ◌++◌, map, refl, subst, arith, cond, ltb, Option, Some, None, Result, Ok, Err, ℤ}
 use Rattle.std.specs.Prelude.{unsigned_abs, int_lt, pos, slice_get}
 use Rattle.std.specs.List.{sum_by}
 use Rattle.std.proofs.lemmas.Bool.{ltb-false}
@@ -20,7 +20,7 @@ use Rattle.moving_heap.specs.declared.heap.Deny.TheVariants as denies
 use Rattle.moving_heap.specs.declared.stands.Moved.{Moved}
 use Rattle.moving_heap.specs.declared.stands.Stand.{Stand}
 use Rattle.moving_heap.specs.Places.{carried, first_place, new_stand}
-use Rattle.moving_heap.specs.Heaps.{HeapView, alloc_answer, footprint}
+use Rattle.moving_heap.specs.Heaps.{alloc_answer, footprint}
 use Rattle.moving_heap.specs.Settled.{AreSettled}
 use Rattle.moving_heap.proofs.PlaceLemmas.{group_settled, settled_added}
 use Rattle.moving_heap.proofs.SizeLemmas.{footprint_bytes}
@@ -36,7 +36,7 @@ use Rattle.object_meaning.specs.Tasks.{with_event}
 use Rattle.machine_meaning.specs.EventPlaces.{flip_of}
 use Rattle.machine_meaning.specs.Machines.{Machine, Machinery, gone_on, lifted, then_on}
 use Rattle.machine_meaning.specs.Moving.{after_walk, eventful, moved_by, moves_due, walked_all}
-use Rattle.machine_meaning.specs.MachineTasks.{allocated_machine, allocating_machine, ended_machine, handed_machine, polled_machine, switched_machine}
+use Rattle.machine_meaning.specs.MachineTasks.{allocated_machine, allocating_machine, handed_machine, polled_machine, switched_machine}
 use Rattle.machine_meaning.specs.MachineSteps.{behind_step, calls, checking, denied, loading_word, machine_acts, machine_at, machine_step, returns, storing_word}
 use Rattle.machine_meaning.specs.MachineRuns.{machine_opening, machine_proceeds}
 

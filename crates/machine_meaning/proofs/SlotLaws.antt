@@ -1,9 +1,8 @@
 -- The slots of a frame that waits, after the walk.
-use Rattle.std.proofs.Common.{◌≡◌, ℕ, zero, suc, ◌+◌, ◌<◌, ◌≤◌, ◌^◌, List, [], ◌∷◌, length, get_or, set, map, refl, sym, ap, ◌∙◌, subst, arith, Option, Some, None, ◌⊎◌, inl, inr}
+use Rattle.std.proofs.Common.{◌≡◌, ℕ, zero, suc, ◌<◌, ◌≤◌, ◌^◌, List, [], ◌∷◌, length, get_or, set, map, refl, sym, ap, ◌∙◌, subst, arith, Option, Some, inl, inr}
 use Rattle.std.specs.Prelude.{slice_get}
 use Rattle.std.proofs.lemmas.Bool.{cases_eq}
 use Rattle.std.proofs.lemmas.List.{get_or-set_same, get_or-set_other, length-set}
-use Rattle.std.proofs.lemmas.Option.{slice_get-map}
 use Rattle.ir_ast.specs.Objects.{Pointer}
 use Rattle.moving_heap.specs.declared.stands.Stand.{Stand}
 use Rattle.moving_heap.specs.declared.stands.Moved.{Moved}
@@ -11,8 +10,8 @@ use Rattle.moving_heap.specs.Places.{moved, moves_of}
 use Rattle.moving_heap.specs.Settled.{AreSettled}
 use Rattle.moving_heap.proofs.PlaceLemmas.{moved-length}
 use Rattle.frame_walk.specs.Maps.{Pair}
-use Rattle.frame_walk.specs.Walks.{SlotWrite, slot_write, write_slots, carried_word}
-use Rattle.machine_meaning.specs.Relations.{addr, IsInHeap, IsPair, AreSlots, AreClosed}
+use Rattle.frame_walk.specs.Walks.{SlotWrite, slot_write, write_slots}
+use Rattle.machine_meaning.specs.Relations.{addr, AreSlots, AreClosed}
 use Rattle.machine_meaning.proofs.AddressLaws.{addr_none, slot_moves}
 
 -- all writes to a place write one word
@@ -28,8 +27,9 @@ keeps (write ∷ writes) words i word one l e =
     let size = length-set words write.to write.word in
     keeps writes (set words write.to write.word) i word (tail write writes i word one) (omega arith)
     (elim (cases_eq write.to i) [
-      inl same ↦ (ap (λ (p : ℕ). get_or (set words p write.word) i 0) same ∙ get_or-set_same words i write.word 0 l ∙ one zero write refl same)
-    | inr other ↦ (get_or-set_other words write.to i write.word 0 (λ q. other (sym q)) ∙ e) ])
+      | inl same ↦ (ap (λ (p : ℕ). get_or (set words p write.word) i 0) same ∙ get_or-set_same words i write.word 0 l ∙ one zero write refl same)
+      | inr other ↦ (get_or-set_other words write.to i write.word 0 (λ q. other (sym q)) ∙ e)
+    ])
 
 gets : (writes : List SlotWrite) (words : List ℕ) (i word k : ℕ) (write : SlotWrite) → OneWord writes i word → i < length words → slice_get writes k ≡ Some write → write.to ≡ i
     → get_or (write_slots writes words) i 0 ≡ word
@@ -101,7 +101,8 @@ slots_after stands targets entries slots pairs are closed hold = record {
         first = was.first;
         derived_is = slot_after stands targets entries slots pairs k pair are hold e (closed.within k pair e).0;
         base_is = elim (closed.bases k pair e) [
-            inl named ↦ (slot_after stands targets entries slots pairs named.0 (record { base = pair.base; derived = pair.base }) are hold named.1 (closed.within k pair e).1)
-          | inr null ↦ (null_after stands targets entries slots pairs k pair are hold e (closed.within k pair e).1 null) ];
+          | inl named ↦ (slot_after stands targets entries slots pairs named.0 (record { base = pair.base; derived = pair.base }) are hold named.1 (closed.within k pair e).1)
+          | inr null ↦ (null_after stands targets entries slots pairs k pair are hold e (closed.within k pair e).1 null)
+        ];
       };
 }

@@ -1,9 +1,8 @@
 -- What a run of the machine does besides printing, read off its states: its events with their verdicts, moves and slots, and
 -- its accesses by the object that owns the address.
 use Rattle.std.specs.Prelude.{ℕ, zero, suc, ◌+◌, ◌-◌, ◌==◌, if◌then◌else◌, List, [], ◌∷◌, ◌++◌, length, drop, take, map, Option, Some, None, slice_index, Result, Ok, Err}
-use Rattle.std.specs.List.{filter_map, flat_map}
-use Rattle.std.specs.Option.{option_map, option_map_or}
-use Rattle.ir_ast.specs.declared.ops.Callee.{Callee}
+use Rattle.std.specs.List.{filter_map}
+use Rattle.std.specs.Option.{option_map}
 use Rattle.ir_ast.specs.declared.ops.Op.{Op}
 use Rattle.ir_ast.specs.declared.ops.Op.TheVariants.{Load, Store, Call, Statepoint}
 use Rattle.moving_heap.specs.declared.heap.Deny.{Deny}
@@ -11,12 +10,12 @@ use Rattle.moving_heap.specs.declared.stands.Moved.{Moved}
 use Rattle.moving_heap.specs.declared.stands.Stand.{Stand}
 use Rattle.moving_heap.specs.declared.stands.Verdict.{Verdict}
 use Rattle.moving_heap.specs.Places.{new_address, owner}
-use Rattle.moving_heap.specs.Heaps.{HeapView, loaded}
+use Rattle.moving_heap.specs.Heaps.{loaded}
 use Rattle.frame_forms.specs.FrameSizes.{slot}
 use Rattle.frame_walk.specs.Maps.{FrameEntry, Pair, pairs_of}
 use Rattle.frame_walk.specs.Walks.{frame_after, frame_words}
 use Rattle.object_meaning.specs.Lines.{Line}
-use Rattle.object_meaning.specs.States.{Frame, State}
+use Rattle.object_meaning.specs.States.{Frame}
 use Rattle.object_meaning.specs.Tasks.{with_event}
 use Rattle.object_meaning.specs.Traces.{Event, Access, reads, writes, event_at}
 use Rattle.machine_meaning.specs.Machines.{Machine, Machinery, return_address, spilled, all_frames, all_stacks}

@@ -6,7 +6,7 @@ use Rattle.sp_ids.specs.declared.ends.Trap.TheVariants.{Null, Bounds, Kind, Unre
 use Rattle.sp_ids.specs.Numbers.{signed}
 use Rattle.ir_ast.specs.declared.types.Ty.TheVariants.{Int}
 use Rattle.ir_ast.specs.declared.ops.Callee.{Callee}
-use Rattle.ir_ast.specs.declared.ops.Callee.TheVariants.{Fun, New, Print, Read, TaskStart, Poll, Check, Same}
+use Rattle.ir_ast.specs.declared.ops.Callee.TheVariants.{Fun, New, TaskStart, Poll, Check, Same}
 use Rattle.ir_ast.specs.declared.ops.Elem.{Elem}
 use Rattle.ir_ast.specs.declared.ops.Operand.{Operand}
 use Rattle.ir_ast.specs.declared.ops.Op.{Op}

@@ -1,6 +1,6 @@
 -- States of the address machine: those of the target meaning, whose registers hold words alone, with stacks of words and a
 -- heap of objects that have addresses. A frame that waits stands at its call, in every task.
-use Rattle.std.specs.Prelude.{ℕ, ◌+◌, ◌-◌, Bool, List, [], ◌∷◌, ◌++◌, length, take, drop, map, filter, Option, slice_get, slice_set, slice_index}
+use Rattle.std.specs.Prelude.{ℕ, ◌-◌, List, [], ◌∷◌, ◌++◌, length, take, drop, map, filter, Option, slice_get, slice_set, slice_index}
 use Rattle.ir_ast.specs.declared.types.Ty.{Ty}
 use Rattle.ir_ast.specs.declared.ops.Operand.{Operand}
 use Rattle.ir_ast.specs.declared.ops.Op.{Op}

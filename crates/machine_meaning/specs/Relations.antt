@@ -1,5 +1,5 @@
 -- What the machine's words are of the target meaning's values: an address is that of the object and the offset.
-use Rattle.std.specs.Prelude.{◌≡◌, ℕ, ◌+◌, ◌<◌, ◌≤◌, ◌%◌, ◌^◌, Bool, true, List, length, map, Option, Some, slice_get, slice_index, slice_index_or, ◌⊎◌, Result, Ok, Err}
+use Rattle.std.specs.Prelude.{◌≡◌, ℕ, ◌+◌, ◌<◌, ◌≤◌, ◌%◌, ◌^◌, Bool, true, List, length, map, Some, slice_get, slice_index, slice_index_or, ◌⊎◌, Result, Ok, Err}
 use Rattle.std.specs.List.{AllZip}
 use Rattle.std.specs.Option.{option_map_or}
 use Rattle.ir_ast.specs.declared.ops.Operand.{Operand}
@@ -16,7 +16,7 @@ use Rattle.moving_heap.specs.Settled.{AreSettled}
 use Rattle.moving_heap.specs.Heaps.{of_number}
 use Rattle.object_meaning.specs.Accesses.{Place}
 use Rattle.object_meaning.specs.Registers.{value, pointer_in, number_in}
-use Rattle.object_meaning.specs.States.{Frame, State}
+use Rattle.object_meaning.specs.States.{Frame}
 use Rattle.machine_meaning.specs.Words.{worded_operand}
 use Rattle.frame_walk.specs.Maps.{Pair}
 
@@ -75,7 +75,7 @@ pub record IsFrame (stands : List Stand) (facts : Operand → Operand → Bool) 
 pub record AreSlots (stands : List Stand) (entries : List Pointer) (slots : List ℕ) (pairs : List Pair) : Type 0 where
   pub each : (k : ℕ) (pair : Pair) → slice_get pairs k ≡ Some pair
       → IsPair stands (slice_index_or entries pair.derived (record { object = 0; offset = 0 })) (slice_index_or entries pair.base (record { object = 0; offset = 0 }))
-          (slice_index slots pair.derived) (slice_index slots pair.base)
+      (slice_index slots pair.derived) (slice_index slots pair.base)
 
 -- each base is named with both indices by a pair of the group, or is `null` (a closed group)
 pub record AreClosed (entries : List Pointer) (pairs : List Pair) (count : ℕ) : Type 0 where

@@ -1,12 +1,12 @@
 -- An object and a pointer before its first byte, kept over a call in which the object moves.
-use Rattle.std.proofs.Common.{ℕ, ◌+◌, ◌-◌, ◌^◌, List, [], ◌∷◌, Option, Some, None, refl, codes, pos}
+use Rattle.std.proofs.Common.{ℕ, ◌+◌, ◌-◌, ◌^◌, List, [], ◌∷◌, refl, codes, pos}
 use Rattle.sp_ids.specs.declared.ends.End.TheVariants as ended
 use Rattle.ir_ast.specs.declared.cells.Cell.TheVariants as cells
 use Rattle.ir_ast.specs.declared.ops.Callee.TheVariants as callees
-use Rattle.ir_ast.specs.declared.ops.Operand.{Operand}
 use Rattle.ir_ast.specs.declared.types.Ty.TheVariants.{Void, Int, Ptr}
 use Rattle.ir_ast.specs.Modules.{ModuleContent}
 use Rattle.ir_ast.specs.Sizes.{laid, size_of}
+use Rattle.map_bytes.specs.Entries.{entries_of}
 use Rattle.map_bytes.specs.Maps.{StackMap}
 use Rattle.move_plan.specs.declared.plan_lines.PlanLine.{PlanLine}
 use Rattle.move_plan.specs.declared.plan_lines.PlanLine.TheVariants.{Move}
@@ -69,13 +69,13 @@ relocated_outcome = record {
 }
 
 relocated : MachineGives (exterior 5 6) (map_of 36) [] plan 1000 relocated_outcome
-unfolding machine_proceeds machine_step step laid size_of field_at
+unfolding machine_proceeds machine_step step laid size_of field_at entries_of
 relocated = gives_within (machinery_of (exterior 5 6) (map_of 36) plan 1000) [] 30 relocated_outcome refl
 
 -- a stale use: the registers of before the call are read, and no object stands at the base any more
 stale : MachineGives (exterior 2 3) (map_of 36) [] plan 1000
     (record relocated_outcome { lines = []; end = ended.Poison; steps = 2; printed = 0; accesses = writes 1 0 ∷ [] })
-unfolding machine_proceeds machine_step step laid size_of field_at
+unfolding machine_proceeds machine_step step laid size_of field_at entries_of
 stale = gives_within (machinery_of (exterior 2 3) (map_of 36) plan 1000) [] 30
     (record relocated_outcome { lines = []; end = ended.Poison; steps = 2; printed = 0; accesses = writes 1 0 ∷ [] }) refl
 
@@ -104,7 +104,7 @@ lost_outcome = record stayed {
 }
 
 lost : MachineGives (exterior 5 6) (map_of 40) [] plan 1000 lost_outcome
-unfolding machine_proceeds machine_step step laid size_of field_at
+unfolding machine_proceeds machine_step step laid size_of field_at entries_of
 lost = gives_within (machinery_of (exterior 5 6) (map_of 40) plan 1000) [] 30 lost_outcome refl
 
 -- one line names an object that doesn't exist: nothing moves
@@ -119,7 +119,7 @@ illegal_outcome = record stayed {
 }
 
 illegal : MachineGives (exterior 5 6) (map_of 36) [] illegal_plan 1000 illegal_outcome
-unfolding machine_proceeds machine_step step laid size_of field_at
+unfolding machine_proceeds machine_step step laid size_of field_at entries_of
 illegal = gives_within (machinery_of (exterior 5 6) (map_of 36) illegal_plan 1000) [] 30 illegal_outcome refl
 
 -- an object that points to another, and has an integer that looks like the other's address. They change places
@@ -171,5 +171,5 @@ swapped_outcome = record {
 }
 
 swapped : MachineGives cells_of cells_map [] swap 1000 swapped_outcome
-unfolding machine_proceeds machine_step step laid size_of field_at
+unfolding machine_proceeds machine_step step laid size_of field_at entries_of
 swapped = gives_within (machinery_of cells_of cells_map swap 1000) [] 40 swapped_outcome refl

@@ -1,5 +1,5 @@
 -- Two tasks. One waits at its poll, with a pointer before its object, while the other runs and the object moves three times.
-use Rattle.std.proofs.Common.{ℕ, ◌-◌, ◌^◌, List, [], ◌∷◌, Option, Some, None, refl, codes, pos}
+use Rattle.std.proofs.Common.{◌-◌, ◌^◌, List, [], ◌∷◌, refl, codes, pos}
 use Rattle.sp_ids.specs.declared.ends.End.TheVariants as ended
 use Rattle.ir_ast.specs.declared.cells.Cell.TheVariants as cells
 use Rattle.ir_ast.specs.declared.ops.Callee.TheVariants as callees
@@ -9,6 +9,7 @@ use Rattle.ir_ast.specs.declared.types.Ty.TheVariants.{Void, Int, Ptr}
 use Rattle.ir_ast.specs.Insts.{Instruction}
 use Rattle.ir_ast.specs.Modules.{ModuleContent}
 use Rattle.ir_ast.specs.Sizes.{laid, size_of}
+use Rattle.map_bytes.specs.Entries.{entries_of}
 use Rattle.map_bytes.specs.Maps.{StackMap}
 use Rattle.move_plan.specs.declared.plan_lines.PlanLine.{PlanLine}
 use Rattle.move_plan.specs.declared.plan_lines.PlanLine.TheVariants.{Move, Flip, Go}
@@ -87,5 +88,5 @@ tasks_outcome = record {
 }
 
 tasks_give : MachineGives tasks map_of [] plan 1000 tasks_outcome
-unfolding machine_proceeds machine_step step laid size_of field_at
+unfolding machine_proceeds machine_step step laid size_of field_at entries_of
 tasks_give = gives_within (machinery_of tasks map_of plan 1000) [] 60 tasks_outcome refl
