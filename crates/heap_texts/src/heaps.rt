@@ -39,7 +39,11 @@ pub(crate) fn found(
         let b1 = words.number();
         let p1 = words.number();
         let b2 = words.number();
-        let same = if tried.heap.same(b1, p1, b2, words.number()) { "yes" } else { "no" };
+        let same = if tried.heap.same(b1, p1, b2, words.number()) {
+            "yes"
+        } else {
+            "no"
+        };
         return Ok(Some(String::from_str(alloc, same)?));
     }
     if asked == b"place".as_slice() {
@@ -69,7 +73,11 @@ fn group_found(
 ) -> Result<Option<String>, AllocError> {
     let alloc = tried.alloc;
     if asked == b"ready".as_slice() {
-        let flip = if words.is_empty() { None } else { Some(words.number()) };
+        let flip = if words.is_empty() {
+            None
+        } else {
+            Some(words.number())
+        };
         let verdict = tried.heap.ready(tried.group.as_slice(), flip);
         tried.group.clear();
         return Ok(Some(String::from_str(alloc, verdict_word(verdict))?));
@@ -123,7 +131,11 @@ fn count_of(word: &[u8]) -> i64 {
 }
 
 fn kind_of(word: &[u8]) -> Cell {
-    if word == b"p".as_slice() { Cell::Ptr } else { Cell::I64 }
+    if word == b"p".as_slice() {
+        Cell::Ptr
+    } else {
+        Cell::I64
+    }
 }
 
 fn verdict_word(verdict: Verdict) -> &'static str {

@@ -27,7 +27,9 @@ fn main(rt: HostRuntime) -> io::Result<()> {
     };
     if let Some(objects) = words.next() {
         let objects = objects.parse().unwrap_or(0u64);
-        let turns = words.next().map_or(0u64, |turns| turns.parse().unwrap_or(0u64));
+        let turns = words
+            .next()
+            .map_or(0u64, |turns| turns.parse().unwrap_or(0u64));
         return match work::done(rt.alloc(), name.as_str(), objects, turns) {
             Ok(number) => println!(rt; "{number}"),
             Err(fault) => println!(rt; "{fault}"),

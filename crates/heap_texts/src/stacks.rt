@@ -15,7 +15,11 @@ pub(crate) fn found(
     let alloc = tried.alloc;
     if asked == b"push".as_slice() {
         let count = words.number().min(4_294_967_295) as u32;
-        let pushed = if tried.stack.push_frame(count, words.number()).is_ok() { "done" } else { "memory" };
+        let pushed = if tried.stack.push_frame(count, words.number()).is_ok() {
+            "done"
+        } else {
+            "memory"
+        };
         return Ok(Some(String::from_str(alloc, pushed)?));
     }
     if asked == b"pop".as_slice() {
@@ -75,12 +79,19 @@ fn map_found(
         let size = words.number().min(65_535) as u16;
         let register = words.number().min(65_535) as u16;
         let offset = words.number().min(4_294_967_295) as u32;
-        tried.map.add_place(located(kind, size, register, signed(offset)))?;
+        tried
+            .map
+            .add_place(located(kind, size, register, signed(offset)))?;
         return Ok(Some(String::from_str(alloc, "done")?));
     }
     if asked == b"walk".as_slice() {
         let records = tried.map.lent();
-        let walked = walk(&records, &mut tried.stack, words.number(), tried.heap.moves());
+        let walked = walk(
+            &records,
+            &mut tried.stack,
+            words.number(),
+            tried.heap.moves(),
+        );
         return Ok(Some(match walked {
             Ok(()) => String::from_str(alloc, "done")?,
             Err(LostFrame { return_address }) => format!(in alloc; "lost {return_address}")?,
@@ -104,7 +115,11 @@ fn located(kind: u8, size: u16, register: u16, offset: i32) -> Place {
 
 // The signed number that these 32 bits spell.
 fn signed(bits: u32) -> i32 {
-    if bits <= 2_147_483_647 { bits as i32 } else { -1 - (4_294_967_295 - bits) as i32 }
+    if bits <= 2_147_483_647 {
+        bits as i32
+    } else {
+        -1 - (4_294_967_295 - bits) as i32
+    }
 }
 
 // How many words each frame has, and how the frames ended. Each lent word is raised by one on the way.

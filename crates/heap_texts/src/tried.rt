@@ -1,9 +1,8 @@
 //! What is tried: a heap, a stack, a group of move lines and a map.
 
-use crate::heaps;
 use crate::maps::Listed;
-use crate::stacks;
 use crate::words::Words;
+use crate::{heaps, stacks};
 use frame_walk::Stack;
 use move_plan::Move;
 use moving_heap::Heap;

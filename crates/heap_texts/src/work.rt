@@ -63,7 +63,10 @@ fn groups(alloc: Global, heap: &mut Heap, objects: u64, turns: u64) -> Result<u6
         let place = turn.wrapping_mul(2_654_435_761) % objects.max(1);
         group.push(Move {
             obj: place.wrapping_add(1),
-            to: objects.wrapping_sub(place).wrapping_mul(16).wrapping_add(1 << 40),
+            to: objects
+                .wrapping_sub(place)
+                .wrapping_mul(16)
+                .wrapping_add(1 << 40),
         })?;
     }
     let mut legal = 0u64;
@@ -161,7 +164,11 @@ fn events(alloc: Global, heap: &mut Heap, turns: u64) -> Result<u64, Memory> {
 }
 
 fn walk_all(records: &Records<'_>, stack: &mut Stack, heap: &Heap) -> u64 {
-    if walk(records, stack, 4_100, heap.moves()).is_ok() { 1 } else { 0 }
+    if walk(records, stack, 4_100, heap.moves()).is_ok() {
+        1
+    } else {
+        0
+    }
 }
 
 // A map with one record, whose frame has 4 words, each a base slot and a derived slot.
