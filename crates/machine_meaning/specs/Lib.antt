@@ -1,0 +1,10 @@
+pub mod Words
+pub mod EventPlaces
+pub mod Machines
+pub mod Moving
+pub mod MachineTasks
+pub mod MachineSteps
+pub mod Happenings
+pub mod Code
+pub mod MachineRuns
+pub mod Relations

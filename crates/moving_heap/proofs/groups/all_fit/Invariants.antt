@@ -1,0 +1,6 @@
+use Rattle.std.proofs.Common.{◌≡◌, drop}
+use Rattle.moving_heap.specs.Places.{all_fit}
+use Rattle.moving_heap.proofs.groups.all_fit.Given as goal
+
+abbrev pub invariant-loop-place : goal.invariant-loop-place
+invariant-loop-place l = all_fit (drop l.place l.stands) (drop l.place l.targets) ≡ all_fit l.stands l.targets
