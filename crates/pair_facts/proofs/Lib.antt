@@ -1,0 +1,3 @@
+pub mod BoolLemmas
+pub mod FreshLaws
+mod Samples

@@ -1,0 +1,6 @@
+pub mod Lines
+pub mod Pairs
+pub mod Paths
+pub mod Uses
+pub mod Faults
+pub mod Laws
