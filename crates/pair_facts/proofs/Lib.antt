@@ -1,3 +1,4 @@
 pub mod BoolLemmas
 pub mod FreshLaws
+pub mod PlaceLaws
 mod Samples
