@@ -1,4 +1,5 @@
 pub mod BoolLemmas
 pub mod FreshLaws
 pub mod PlaceLaws
+pub mod GroupLaws
 mod Samples
