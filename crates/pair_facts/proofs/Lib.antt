@@ -2,4 +2,5 @@ pub mod BoolLemmas
 pub mod FreshLaws
 pub mod PlaceLaws
 pub mod GroupLaws
+pub mod OwnLaws
 mod Samples

@@ -5,4 +5,4 @@ mod bases;
 mod laws;
 
 pub use bases::Base;
-pub use laws::fresh_with_base;
+pub use laws::{bases_are_own, fresh_with_base};
