@@ -1,7 +1,6 @@
 -- What has a base is fresh, literals and functions have no pair, and `null` has itself: kept by lines, groups and edges.
-use Rattle.std.proofs.Common.{◌≡◌, ◌∙◌, ◌⊎◌, inl, inr, ℕ, zero, suc, cond, Bool, true, false, List, [], ◌∷◌, Option, Some, None, refl, ap, sym, subst, nat_lt, slice_get, length}
-use Rattle.std.specs.Prelude.{◌&&◌, ◌||◌, ◌==◌}
-use Rattle.std.specs.List.{list_any}
+use Rattle.std.proofs.Common.{◌≡◌, ◌∙◌, inl, inr, ℕ, zero, suc, cond, Bool, true, false, List, Option, Some, None, refl, ap, sym, nat_lt, slice_get}
+use Rattle.std.specs.Prelude.{◌&&◌}
 use Rattle.std.specs.Option.{option_map_or}
 use Rattle.std.proofs.lemmas.Bool.{false≢true}
 use Rattle.sp_ids.specs.declared.ids.FuncId.{FuncId}
@@ -13,13 +12,12 @@ use Rattle.ir_ast.specs.Insts.{Instruction}
 use Rattle.ir_ast.specs.Funcs.{Function}
 use Rattle.ir_ast.specs.Types.{is_pointer}
 use Rattle.ir_ast.specs.Faults.GroupShape.{entries_of}
-use Rattle.ir_cfg.specs.Graphs.{graph_of, Edge}
 use Rattle.object_meaning.specs.Lines.{Line}
 use Rattle.object_meaning.specs.Jumps.{phi_count}
 use Rattle.pair_facts.specs.declared.bases.Base.{Base}
 use Rattle.pair_facts.specs.declared.bases.Base.TheVariants.{Any, Named}
 use Rattle.pair_facts.specs.Lines.{lines_at, line_in, line_before, phis_in, head_at, group_in, gives, operand_at, is_null, is_select, same_operand}
-use Rattle.pair_facts.specs.Pairs.{Pairs, is_named, is_base_named, null_pairs, own_pairs, at_entry, without, with_own, with_given, are_own, follows, follows_named, selected, given_pairs, after, base_index, relocates_base, has_base, relocated_pairs, member_pairs, after_group, along, base_along, on_edge}
+use Rattle.pair_facts.specs.Pairs.{Pairs, is_named, is_base_named, own_pairs, at_entry, without, with_own, with_given, are_own, follows, follows_named, selected, given_pairs, after, base_index, relocates_base, has_base, relocated_pairs, member_pairs, after_group, along, base_along, on_edge}
 use Rattle.pair_facts.specs.Paths.{behind, pairs_at, pairs_at_end, Arrives, start, went}
 use Rattle.pair_facts.proofs.BoolLemmas.{both, joined, either, or_first, or_second, and_false, list_any_weaker, list_any_never}
 
@@ -145,7 +143,7 @@ group_fresh entries group (Value value) base h =
     list_any_weaker (λ line. gives line value.0 && member_pairs entries group value.0 line line.inst.op base)
     (λ line. gives line value.0 && member_pairs entries group value.0 line line.inst.op Any) group
     (λ line holds. let two = both (gives line value.0) (member_pairs entries group value.0 line line.inst.op base) holds in
-        joined (gives line value.0) (member_pairs entries group value.0 line line.inst.op Any) two.0 (member_fresh entries group value.0 line line.inst.op base two.1)) h
+    joined (gives line value.0) (member_pairs entries group value.0 line line.inst.op Any) two.0 (member_fresh entries group value.0 line line.inst.op base two.1)) h
 group_fresh entries group (Int number) base h = absurd (false≢true h)
 group_fresh entries group (Fun func) base h = absurd (false≢true h)
 
@@ -205,7 +203,7 @@ after_literal_base pairs last line operand base literal none = by line.to
     by None = none operand
     by (Some value) = with_own_none value (given_pairs (without value pairs) last line.inst line.inst.op value) pairs operand (Named base)
         (λ named. given_literal (without value pairs) last line.inst line.inst.op value base literal
-            (λ other. without_literal value pairs other (Named base) (none other))) (none operand)
+        (λ other. without_literal value pairs other (Named base) (none other))) (none operand)
 
 relocated_literal : (entries : List Operand) (group : List Line) (entry : ℕ) (base : Operand) → IsLiteral base → relocated_pairs entries group entry (Named base) ≡ false
 relocated_literal entries group entry _ (int number) = refl

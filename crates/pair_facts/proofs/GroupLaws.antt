@@ -1,11 +1,10 @@
 -- What a statepoint group gives: each of its lines by its place, and the pairs of a value that one of them gives.
 use Rattle.std.proofs.Common.{◌≡◌, ◌≢◌, ◌∙◌, ◌⊎◌, inl, inr, ℕ, zero, suc, ◌+◌, ◌-◌, ◌<◌, ◌≤◌, cond, Bool, true, false, List, [], ◌∷◌, Option, Some, None, refl, ap, sym, subst, slice_get, length, arith, get_or, take, drop}
-use Rattle.std.specs.Prelude.{◌&&◌, ◌==◌}
-use Rattle.std.specs.Option.{option_map_or}
+use Rattle.std.specs.Prelude.{◌&&◌}
 use Rattle.std.specs.List.{list_any, prefix_len}
-use Rattle.std.proofs.lemmas.Bool.{false≢true, cases_Bool, cases_lt, cases_eq, eq-eqb, eqb-true}
+use Rattle.std.proofs.lemmas.Bool.{false≢true, cases_Bool, cases_lt, eq-eqb, eqb-true}
 use Rattle.std.proofs.lemmas.List.Sums.{prefix_len_passes, prefix_len-le-length}
-use Rattle.std.proofs.lemmas.Option.{none-some, same_Some, slice_get_within, get_or_from_slice_get, slice_get-get_or}
+use Rattle.std.proofs.lemmas.Option.{none-some, same_Some, get_or_from_slice_get, slice_get-get_or}
 use Rattle.list_laws.proofs.Places.{get_taken}
 use Rattle.ir_ast.specs.declared.ops.Operand.{Operand}
 use Rattle.ir_ast.specs.declared.ops.Op.{Op}
@@ -14,7 +13,7 @@ use Rattle.ir_ast.specs.Faults.GroupShape.{is_statepoint}
 use Rattle.object_meaning.specs.Lines.{Line}
 use Rattle.object_meaning.specs.Frames.{is_member, group_length}
 use Rattle.pair_facts.specs.declared.bases.Base.{Base}
-use Rattle.pair_facts.specs.declared.bases.Base.TheVariants.{Any, Named}
+use Rattle.pair_facts.specs.declared.bases.Base.TheVariants.{Named}
 use Rattle.pair_facts.specs.Lines.{line_in, no_line, head_at, group_in, gives, is_given, named}
 use Rattle.pair_facts.specs.Pairs.{member_pairs, relocates_base, relocated_pairs, after_group}
 use Rattle.pair_facts.proofs.BoolLemmas.{or_false}
@@ -139,8 +138,8 @@ member_stands lines head place is low =
     let back : suc head + i ≡ place = omega arith in
     let tail = drop (suc head) lines in
     let long : i < group_length tail = prefix_reaches (λ (line : Line). is_member line.inst.op) tail i no_line refl
-        (λ j below. ap (λ (line : Line). is_member line.inst.op) (or_dropped lines (suc head) j no_line)
-            ∙ (members_between lines head place (suc head + j) is (omega arith) (omega arith)).member) in
+    (λ j below. ap (λ (line : Line). is_member line.inst.op) (or_dropped lines (suc head) j no_line)
+    ∙ (members_between lines head place (suc head + j) is (omega arith) (omega arith)).member) in
     let inside : i < length tail = omega (arith, long, prefix_len-le-length (λ (line : Line). is_member line.inst.op) tail) in
     get_taken tail i (group_length tail) long
     ∙ slice_get-get_or tail i no_line inside
@@ -159,10 +158,10 @@ stands_member lines head i line is at =
     let short : i < group_length tail = taken_within tail (group_length tail) i line at in
     let there : slice_get tail i ≡ Some line = sym (get_taken tail i (group_length tail) short) ∙ at in
     let each : (place : ℕ) → head < place → place ≤ suc head + i → is_member (line_in lines place).inst.op ≡ true
-        = λ place low high.
-            let back : suc head + (place - suc head) ≡ place = omega arith in
-            ap (λ (line : Line). is_member line.inst.op) (ap (λ (k : ℕ). get_or lines k no_line) (sym back) ∙ sym (or_dropped lines (suc head) (place - suc head) no_line))
-            ∙ prefix_len_passes test tail (place - suc head) no_line (omega (arith, short)) in
+    = λ place low high.
+    let back : suc head + (place - suc head) ≡ place = omega arith in
+    ap (λ (line : Line). is_member line.inst.op) (ap (λ (k : ℕ). get_or lines k no_line) (sym back) ∙ sym (or_dropped lines (suc head) (place - suc head) no_line))
+    ∙ prefix_len_passes test tail (place - suc head) no_line (omega (arith, short)) in
     record {
       line_is = sym (or_dropped lines (suc head) i no_line) ∙ get_or_from_slice_get tail i line no_line there;
       member = record {
@@ -198,9 +197,9 @@ group_gives lines head place value entries base is found low given only =
     let test : Line → Bool = λ line. gives line value && member_pairs entries group value line line.inst.op base in
     list_any_one test group (place - suc head) (line_in lines place) (member_stands lines head place found low)
     (λ j line at apart.
-        let there = stands_member lines head j line is at in
-        ap (λ b. b && member_pairs entries group value line line.inst.op base)
-        (not_given line value (λ own. apart (let same = only (suc head + j) (ap (λ (l : Line). l.to) there.line_is ∙ own) in omega (arith, same)))))
+    let there = stands_member lines head j line is at in
+    ap (λ b. b && member_pairs entries group value line line.inst.op base)
+    (not_given line value (λ own. apart (let same = only (suc head + j) (ap (λ (l : Line). l.to) there.line_is ∙ own) in omega (arith, same)))))
     ∙ ap (λ b. b && member_pairs entries group value (line_in lines place) (line_in lines place).inst.op base) (gives_is (line_in lines place) value given)
 
 -- a value that no line of the group gives has no pair behind it
@@ -211,9 +210,9 @@ group_gives_none lines head value entries base is none =
     let group = group_in lines head in
     list_any_none_at (λ line. gives line value && member_pairs entries group value line line.inst.op base) group
     (λ j line at.
-        let there = stands_member lines head j line is at in
-        ap (λ b. b && member_pairs entries group value line line.inst.op base)
-        (not_given line value (λ own. none (suc head + j) (omega arith) there.member.head_is (ap (λ (l : Line). l.to) there.line_is ∙ own))))
+    let there = stands_member lines head j line is at in
+    ap (λ b. b && member_pairs entries group value line line.inst.op base)
+    (not_given line value (λ own. none (suc head + j) (omega arith) there.member.head_is (ap (λ (l : Line). l.to) there.line_is ∙ own))))
 
 -- whether the base is the relocate that a line of the group gives
 pub relocated_named : (lines : List Line) (head place value entry : ℕ) (entries : List Operand) → is_statepoint (line_in lines head).inst.op ≡ true
@@ -223,9 +222,9 @@ relocated_named lines head place value entry entries is found low given only =
     let group = group_in lines head in
     list_any_one (λ line. gives line value && relocates_base entry line) group (place - suc head) (line_in lines place) (member_stands lines head place found low)
     (λ j line at apart.
-        let there = stands_member lines head j line is at in
-        ap (λ b. b && relocates_base entry line)
-        (not_given line value (λ own. apart (let same = only (suc head + j) (ap (λ (l : Line). l.to) there.line_is ∙ own) in omega (arith, same)))))
+    let there = stands_member lines head j line is at in
+    ap (λ b. b && relocates_base entry line)
+    (not_given line value (λ own. apart (let same = only (suc head + j) (ap (λ (l : Line). l.to) there.line_is ∙ own) in omega (arith, same)))))
     ∙ ap (λ b. b && relocates_base entry (line_in lines place)) (gives_is (line_in lines place) value given)
 
 pub relocated_none : (lines : List Line) (head value entry : ℕ) (entries : List Operand) → is_statepoint (line_in lines head).inst.op ≡ true
@@ -235,6 +234,6 @@ relocated_none lines head value entry entries is none =
     let group = group_in lines head in
     list_any_none_at (λ line. gives line value && relocates_base entry line) group
     (λ j line at.
-        let there = stands_member lines head j line is at in
-        ap (λ b. b && relocates_base entry line)
-        (not_given line value (λ own. none (suc head + j) (omega arith) there.member.head_is (ap (λ (l : Line). l.to) there.line_is ∙ own))))
+    let there = stands_member lines head j line is at in
+    ap (λ b. b && relocates_base entry line)
+    (not_given line value (λ own. none (suc head + j) (omega arith) there.member.head_is (ap (λ (l : Line). l.to) there.line_is ∙ own))))

@@ -1,12 +1,11 @@
 -- A named base has itself as its base: kept by lines, groups and edges.
-use Rattle.std.proofs.Common.{◌≡◌, ◌∙◌, ◌⊎◌, inl, inr, ℕ, zero, suc, ◌<◌, ◌≤◌, cond, Bool, true, false, List, [], ◌∷◌, Option, Some, None, refl, ap, sym, subst, slice_get, get_or, length, arith, nat_lt}
-use Rattle.std.specs.Prelude.{◌&&◌, ◌||◌, ◌==◌}
+use Rattle.std.proofs.Common.{◌≡◌, ◌∙◌, ◌⊎◌, inl, inr, ℕ, zero, suc, cond, Bool, true, false, List, [], ◌∷◌, Option, Some, None, refl, ap, sym, subst, slice_get, length, nat_lt}
+use Rattle.std.specs.Prelude.{◌&&◌, ◌==◌}
 use Rattle.std.specs.List.{list_any}
 use Rattle.std.specs.Option.{option_map_or}
 use Rattle.std.proofs.lemmas.Bool.{false≢true, cases_lt, eqb-true, eq-eqb}
 use Rattle.std.proofs.lemmas.List.Sums.{prefix_len_passes}
-use Rattle.std.proofs.lemmas.Option.{none-some, same_Some, get_or_from_slice_get}
-use Rattle.ir_ast.specs.declared.types.Ty.{Ty}
+use Rattle.std.proofs.lemmas.Option.{none-some, get_or_from_slice_get}
 use Rattle.ir_ast.specs.declared.ops.Operand.{Operand}
 use Rattle.ir_ast.specs.declared.ops.Operand.TheVariants.{Value, Int, Null, Fun}
 use Rattle.ir_ast.specs.declared.ops.Op.{Op}
@@ -20,12 +19,12 @@ use Rattle.object_meaning.specs.Lines.{Line}
 use Rattle.object_meaning.specs.Frames.{is_member}
 use Rattle.object_meaning.specs.Jumps.{phi_count}
 use Rattle.pair_facts.specs.declared.bases.Base.{Base}
-use Rattle.pair_facts.specs.declared.bases.Base.TheVariants.{Any, Named}
+use Rattle.pair_facts.specs.declared.bases.Base.TheVariants.{Named}
 use Rattle.pair_facts.specs.Lines.{lines_at, line_in, no_line, line_before, phis_in, head_at, group_in, gives, operand_at, is_select, is_relocate, named}
-use Rattle.pair_facts.specs.Pairs.{Pairs, is_named, is_base_named, own_pairs, at_entry, without, with_own, with_given, are_own, follows, follows_named, selected, given_pairs, after, base_index, derived_index, relocates_base, relocated_pairs, member_pairs, after_group, along, on_edge}
+use Rattle.pair_facts.specs.Pairs.{Pairs, is_named, is_base_named, at_entry, without, with_own, with_given, are_own, follows, follows_named, selected, given_pairs, after, base_index, derived_index, relocates_base, relocated_pairs, member_pairs, after_group, along, on_edge}
 use Rattle.pair_facts.specs.Paths.{behind, pairs_at, pairs_at_end, Arrives, start, went}
 use Rattle.pair_facts.proofs.BoolLemmas.{both, joined, either, or_first, list_any_weaker}
-use Rattle.pair_facts.proofs.FreshLaws.{IsSound, IsLiteral, int, function, follows_pairs, pairs_sound, arrives_sound}
+use Rattle.pair_facts.proofs.FreshLaws.{IsSound, int, function, follows_pairs, pairs_sound, arrives_sound}
 use Rattle.pair_facts.proofs.PlaceLaws.{IsPlainAt, after_given, behind_line}
 use Rattle.pair_facts.proofs.GroupLaws.{given_is}
 
@@ -68,8 +67,10 @@ own_before pairs last line value operand is h = by (is_named value operand) refl
   where
     own : Base → Bool
     own base = given_pairs (without value pairs) last line.inst line.inst.op value base
+
     opened : with_own value own pairs operand (Named operand) ≡ true
     opened = sym (ap (λ (to : Option ℕ). with_given to (λ value. given_pairs (without value pairs) last line.inst line.inst.op value) pairs operand (Named operand)) is) ∙ h
+
     by : (b : Bool) → is_named value operand ≡ b
         → (after pairs last line (named value) (Named (named value)) ≡ true) ⊎ (without value pairs operand (Named operand) ≡ true)
     by true here = inl (subst (λ (o : Operand). after pairs last line o (Named o) ≡ true) (named_is value operand here) h)
@@ -182,12 +183,12 @@ base_own entries group entry other h =
     list_any_weaker (λ line. gives line other && relocates_base entry line)
     (λ line. gives line other && member_pairs entries group other line line.inst.op (Named (named other))) group
     (λ line holds.
-        let two = both (gives line other) (relocates_base entry line) holds in
-        let kind = both (is_relocate line.inst.op) (base_index line == entry && derived_index line == entry) two.1 in
-        let same : base_index line ≡ entry = eqb-true (base_index line) entry (both (base_index line == entry) (derived_index line == entry) kind.1).0 in
-        joined (gives line other) (member_pairs entries group other line line.inst.op (Named (named other))) two.0
-        (relocate_pairs entries group other line line.inst.op (Named (named other)) kind.0
-        (subst (λ (e : ℕ). relocated_pairs entries group e (Named (named other)) ≡ true) (sym same) h))) h
+    let two = both (gives line other) (relocates_base entry line) holds in
+    let kind = both (is_relocate line.inst.op) (base_index line == entry && derived_index line == entry) two.1 in
+    let same : base_index line ≡ entry = eqb-true (base_index line) entry (both (base_index line == entry) (derived_index line == entry) kind.1).0 in
+    joined (gives line other) (member_pairs entries group other line line.inst.op (Named (named other))) two.0
+    (relocate_pairs entries group other line line.inst.op (Named (named other)) kind.0
+    (subst (λ (e : ℕ). relocated_pairs entries group e (Named (named other)) ≡ true) (sym same) h))) h
 
 member_own : (entries : List Operand) (group : List Line) (value other : ℕ) (line : Line) (op : Op) → after_group entries group (named value) (Named (named other)) ≡ true
     → member_pairs entries group value line op (Named (named other)) ≡ true → after_group entries group (named other) (Named (named other)) ≡ true
@@ -229,11 +230,13 @@ head_none lines (suc place) = by (is_statepoint (line_in lines (suc place)).inst
 select_plain_at : (lines : List Line) (place : ℕ) (line : Line) → slice_get lines place ≡ Some line → is_select line.inst.op ≡ true → IsPlainAt lines place
 select_plain_at lines place line at is =
     let here : line_in lines place ≡ line = get_or_from_slice_get lines place line no_line at in
-    let plain = select_plain (line_in lines place).inst.op (ap (λ (l : Line). is_select l.inst.op) here ∙ is) in
-    (head_none lines place plain.0 plain.1, elim (cases_lt place (phi_count lines)) [
-      | inl phi ↦ absurd (false≢true (sym plain.2 ∙ prefix_len_passes (λ (l : Line). is_phi l.inst.op) lines place no_line phi))
-      | inr past ↦ past
-    ])
+    let plain = select_plain (line_in lines place).inst.op (ap (λ (l : Line). is_select l.inst.op) here ∙ is) in (
+      head_none lines place plain.0 plain.1,
+      elim (cases_lt place (phi_count lines)) [
+        | inl phi ↦ absurd (false≢true (sym plain.2 ∙ prefix_len_passes (λ (l : Line). is_phi l.inst.op) lines place no_line phi))
+        | inr past ↦ past
+      ],
+    )
 
 record OwnAt (lines : List Line) (pairs : Pairs) (place : ℕ) : Type 0 where
   pub own : Own pairs
@@ -254,7 +257,7 @@ next_last lines place pairs line value at is pointer to own =
     let last = line_before lines place in
     let plain = select_plain_at lines place line at is in
     let same : (operand : Operand) (base : Base) → behind lines place pairs operand base ≡ after pairs last line operand base
-        = λ operand base. behind_line lines place pairs operand base plain ∙ ap (λ (l : Line). after pairs last l operand base) here in
+    = λ operand base. behind_line lines place pairs operand base plain ∙ ap (λ (l : Line). after pairs last l operand base) here in
     let first = operand_at line.inst.operands 1 in
     let second = operand_at line.inst.operands 2 in
     let two = both (behind lines place pairs first (Named first)) (behind lines place pairs second (Named second)) own in

@@ -1,20 +1,15 @@
 -- Which pairs stand at a place of a block, by the lines that come last before it: lines that give neither the pointer nor the
 -- base keep a pair, a line that gives the base takes it, and a group takes all.
-use Rattle.std.proofs.Common.{◌≡◌, ◌≢◌, ◌∙◌, ◌⊎◌, inl, inr, ℕ, zero, suc, ◌+◌, ◌<◌, ◌≤◌, cond, Bool, true, false, List, [], ◌∷◌, Option, Some, None, refl, ap, sym, subst, nat_lt, slice_get, length, arith, get_or, take, drop}
-use Rattle.std.specs.Prelude.{◌&&◌, ◌==◌}
+use Rattle.std.proofs.Common.{◌≡◌, ◌∙◌, ◌⊎◌, inl, inr, ℕ, zero, suc, ◌<◌, ◌≤◌, cond, Bool, true, false, List, Option, Some, None, refl, ap, sym, subst, nat_lt, arith}
 use Rattle.std.specs.Option.{option_map_or}
-use Rattle.std.proofs.lemmas.Bool.{false≢true, cases_Bool, cases_lt, lt-ltb, le-ltb, cases_eq}
+use Rattle.std.proofs.lemmas.Bool.{false≢true, cases_lt, lt-ltb, le-ltb}
 use Rattle.std.proofs.lemmas.Bool.{eq-eqb}
 use Rattle.ir_ast.specs.declared.ops.Operand.{Operand}
-use Rattle.ir_ast.specs.declared.ops.Operand.TheVariants.{Value}
-use Rattle.ir_ast.specs.declared.ops.Op.{Op}
-use Rattle.ir_ast.specs.declared.ops.Op.TheVariants.{Statepoint}
 use Rattle.ir_ast.specs.Faults.GroupShape.{is_statepoint}
 use Rattle.object_meaning.specs.Lines.{Line}
 use Rattle.object_meaning.specs.Frames.{is_member}
 use Rattle.object_meaning.specs.Jumps.{phi_count}
 use Rattle.pair_facts.specs.declared.bases.Base.{Base}
-use Rattle.pair_facts.specs.declared.bases.Base.TheVariants.{Any, Named}
 use Rattle.pair_facts.specs.Lines.{line_in, line_before, head_at, group_in, named}
 use Rattle.pair_facts.specs.Pairs.{Pairs, is_named, is_base_named, without, with_own, with_given, given_pairs, after, after_group}
 use Rattle.pair_facts.specs.Paths.{behind, pairs_at}

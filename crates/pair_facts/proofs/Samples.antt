@@ -1,13 +1,13 @@
 -- Pairs along the lines of a block, by computation, as a check that the definitions say what was meant.
 use Rattle.std.proofs.Common.{◌≡◌, ℕ, Bool, true, false, List, [], ◌∷◌, Some, None, refl, map}
 use Rattle.ir_ast.specs.declared.types.Ty.{Ty}
-use Rattle.ir_ast.specs.declared.types.Ty.TheVariants.{Ptr, Int, Void, Token}
+use Rattle.ir_ast.specs.declared.types.Ty.TheVariants.{Ptr, Void}
 use Rattle.ir_ast.specs.declared.ops.Callee.TheVariants.{Poll}
 use Rattle.ir_ast.specs.declared.ops.Elem.TheVariants as elems
 use Rattle.ir_ast.specs.declared.ops.Op.{Op}
 use Rattle.ir_ast.specs.declared.ops.Op.TheVariants as ops
 use Rattle.ir_ast.specs.declared.ops.Operand.{Operand}
-use Rattle.ir_ast.specs.declared.ops.Operand.TheVariants.{Int as Literal, Null, Value, Fun}
+use Rattle.ir_ast.specs.declared.ops.Operand.TheVariants.{Int as Literal, Null}
 use Rattle.object_meaning.specs.Lines.{Line}
 use Rattle.pair_facts.specs.declared.bases.Base.{Base}
 use Rattle.pair_facts.specs.declared.bases.Base.TheVariants.{Any, Named}

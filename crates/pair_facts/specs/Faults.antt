@@ -15,7 +15,7 @@ use Rattle.ir_cfg.specs.Paths.{Reached}
 use Rattle.ir_cfg.specs.DefiniteUses.{text_place}
 use Rattle.object_meaning.specs.Lines.{Line}
 use Rattle.pair_facts.specs.declared.bases.Base.TheVariants.{Any, Named}
-use Rattle.pair_facts.specs.Lines.{lines_at, line_in, operand_at, is_null, head_at, group_in}
+use Rattle.pair_facts.specs.Lines.{lines_at, operand_at, is_null, group_in}
 use Rattle.pair_facts.specs.Pairs.{base_index, has_base}
 use Rattle.pair_facts.specs.Paths.{Stands, Misses}
 use Rattle.pair_facts.specs.Uses.{Use, Uses, Relocates, entries_at, accessed_at, is_checked, is_kept}

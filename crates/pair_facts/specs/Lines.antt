@@ -1,7 +1,6 @@
 -- The lines of a block as the target meaning runs them: each instruction, and the value that it gives.
 use Rattle.std.specs.Prelude.{ℕ, zero, suc, Bool, true, false, ◌==◌, List, [], drop, take, Option, Some, None, slice_get, slice_index, slice_index_or, if◌then◌else◌}
 use Rattle.std.specs.Option.{option_map_or}
-use Rattle.sp_ids.specs.declared.ids.ValueId.{ValueId}
 use Rattle.ir_ast.specs.declared.types.Ty.TheVariants.{Void}
 use Rattle.ir_ast.specs.declared.ops.Operand.{Operand}
 use Rattle.ir_ast.specs.declared.ops.Operand.TheVariants.{Value, Int, Null}

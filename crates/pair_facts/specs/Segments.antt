@@ -1,6 +1,5 @@
 -- Where the lines begin that stand behind the last statepoint before a place of a block.
-use Rattle.std.specs.Prelude.{◌≡◌, ℕ, zero, suc, List, Some, None, if◌then◌else◌}
-use Rattle.ir_ast.specs.declared.ops.Operand.{Operand}
+use Rattle.std.specs.Prelude.{ℕ, zero, suc, List, if◌then◌else◌}
 use Rattle.ir_ast.specs.Faults.GroupShape.{is_statepoint}
 use Rattle.object_meaning.specs.Lines.{Line}
 use Rattle.pair_facts.specs.Lines.{line_in}

@@ -1,6 +1,6 @@
 -- The pairs that lines use: which pointer, with which base, judged before which place, and the code of the fault where
 -- the pair doesn't stand.
-use Rattle.std.specs.Prelude.{◌≡◌, ℕ, suc, Bool, true, false, ◌==◌, ◌&&◌, if◌then◌else◌, List, [], ◌∷◌, map, Option, Some, None, slice_get}
+use Rattle.std.specs.Prelude.{◌≡◌, ℕ, suc, Bool, true, false, ◌==◌, ◌&&◌, List, [], ◌∷◌, Option, Some, None, slice_get}
 use Rattle.std.specs.List.{Contains, list_any, position}
 use Rattle.std.specs.Option.{option_map_or}
 use Rattle.ir_ast.specs.declared.types.Ty.{Ty}
@@ -12,13 +12,11 @@ use Rattle.ir_ast.specs.declared.ops.Operand.TheVariants.{Value, Int}
 use Rattle.ir_ast.specs.declared.ops.Op.{Op}
 use Rattle.ir_ast.specs.declared.ops.Op.TheVariants.{Icmp, Load, Store, Call, Statepoint, Ret}
 use Rattle.ir_ast.specs.Insts.{Instruction}
-use Rattle.ir_ast.specs.Funcs.{Function}
-use Rattle.ir_ast.specs.Types.{is_pointer}
 use Rattle.ir_ast.specs.Cells.{kind_of}
 use Rattle.ir_ast.specs.Faults.GroupShape.{entries_of}
 use Rattle.object_meaning.specs.Lines.{Line}
 use Rattle.object_meaning.specs.Accesses.{cell_of}
-use Rattle.pair_facts.specs.Lines.{lines_at, line_in, line_before, operand_at, same_operand, is_relocate, head_at, group_in}
+use Rattle.pair_facts.specs.Lines.{line_in, line_before, operand_at, same_operand, is_relocate, head_at}
 use Rattle.pair_facts.specs.Pairs.{base_index, derived_index}
 
 -- a pointer, and the base that a line takes for it

@@ -1,5 +1,4 @@
 use Rattle.std.proofs.Common.{sym, subst}
-use Rattle.pair_facts.specs.Lines.{lines_at}
 use Rattle.pair_facts.proofs.OwnLaws.{Own, own_along}
 use Rattle.pair_facts.proofs.laws.bases_are_own.Goals as goal
 

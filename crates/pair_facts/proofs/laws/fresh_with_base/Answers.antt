@@ -1,8 +1,6 @@
-use Rattle.std.proofs.Common.{◌≡◌, true, sym, subst, ap, ◌∙◌}
-use Rattle.pair_facts.specs.declared.bases.Base.TheVariants.{Any}
-use Rattle.pair_facts.specs.Pairs.{Pairs}
+use Rattle.std.proofs.Common.{sym, subst}
 use Rattle.pair_facts.specs.Lines.{lines_at}
-use Rattle.pair_facts.proofs.FreshLaws.{Fresh, IsSound, pairs_sound, arrives_sound}
+use Rattle.pair_facts.proofs.FreshLaws.{Fresh, pairs_sound, arrives_sound}
 use Rattle.pair_facts.proofs.laws.fresh_with_base.Goals as goal
 
 pub returns : goal.returns

@@ -1,0 +1,5 @@
+//! Which base pairs stand on every path to a place of a rewritten function.
+#![tactic(auto)]
+
+mod homes;
+
