@@ -8,7 +8,7 @@ use Rattle.list_laws.proofs.Places.{get_pushed}
 use Rattle.ir_ast.specs.Insts.{Instruction}
 use Rattle.ir_ast.specs.Blocks.{BasicBlock}
 use Rattle.ir_ast.specs.Funcs.{Function}
-use Rattle.object_meaning.specs.Lines.{Line, numbered, following, after_all, registers_of, insts_in}
+use Rattle.object_meaning.specs.Lines.{Line, numbered, following, after_all, registers_of, insts_in, first_registers}
 use Rattle.pair_facts.specs.Lines.{lines_at, line_in, no_line}
 use Rattle.base_facts.specs.declared.homes.Home.{Home}
 use Rattle.base_facts.specs.Homes.{GivesAt, home_at, home_in, register_at, IsBefore, KnowsHomes}
@@ -113,7 +113,7 @@ homes_none func = record {
     never : (block place : ℕ) → IsBefore block place 0 0 → ⊥
     never block place (inl earlier) = omega arith
     never block place (inr (same, below)) = omega arith
-    first_register : (blocks : List BasicBlock) → length func.args ≡ slice_index (Rattle.object_meaning.specs.Lines.first_registers (length func.args) blocks) 0
+    first_register : (blocks : List BasicBlock) → length func.args ≡ slice_index (first_registers (length func.args) blocks) 0
     first_register [] = refl
     first_register (block ∷ blocks) = refl
 

@@ -1,1 +1,4 @@
 pub mod Homes
+pub mod Notes
+pub mod Tables
+pub mod Facts

@@ -68,14 +68,13 @@ is_relocate _ = false
 
 -- ---- statepoint groups: a statepoint, and the results and relocates directly behind it
 
-abbrev head_here : Line → ℕ → Option ℕ → Option ℕ
-head_here line place before =
-    if is_statepoint line.inst.op then Some place else (if is_member line.inst.op then before else None)
+abbrev pub head_here : Op → ℕ → Option ℕ → Option ℕ
+head_here op place before = if is_statepoint op then Some place else (if is_member op then before else None)
 
 -- the place of the statepoint whose group has the line at this place
 abbrev pub head_at : List Line → ℕ → Option ℕ
-head_at lines zero = head_here (line_in lines 0) 0 None
-head_at lines (suc place) = head_here (line_in lines (suc place)) (suc place) (head_at lines place)
+head_at lines zero = head_here (line_in lines 0).inst.op 0 None
+head_at lines (suc place) = head_here (line_in lines (suc place)).inst.op (suc place) (head_at lines place)
 
 -- the results and relocates of the statepoint at this place
 abbrev pub group_in : List Line → ℕ → List Line
