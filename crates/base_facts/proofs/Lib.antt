@@ -2,3 +2,5 @@ pub mod LineLemmas
 pub mod HomeLemmas
 pub mod NoteLemmas
 pub mod TableLemmas
+pub mod SettleLemmas
+pub mod MemberLemmas

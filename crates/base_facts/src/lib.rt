@@ -3,5 +3,7 @@
 
 mod facts;
 mod homes;
+mod members;
 mod notes;
+mod settle;
 mod tables;

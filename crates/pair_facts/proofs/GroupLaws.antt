@@ -103,7 +103,7 @@ members_between lines head (suc to) place is low high = elim (step_cases lines t
   | inr (inr none) ↦ absurd (none-some head (sym none ∙ is))
 ]
 
-members_head : (lines : List Line) (head to : ℕ) → is_statepoint (line_in lines head).inst.op ≡ true → head ≤ to
+pub members_head : (lines : List Line) (head to : ℕ) → is_statepoint (line_in lines head).inst.op ≡ true → head ≤ to
     → ((place : ℕ) → head < place → place ≤ to → is_member (line_in lines place).inst.op ≡ true) → head_at lines to ≡ Some head
 members_head lines head zero is up each =
     let same : head ≡ 0 = omega arith in subst (λ (k : ℕ). head_at lines k ≡ Some head) same (head_here lines head is)
