@@ -4,3 +4,4 @@ pub mod NoteLemmas
 pub mod TableLemmas
 pub mod SettleLemmas
 pub mod MemberLemmas
+pub mod StepLemmas

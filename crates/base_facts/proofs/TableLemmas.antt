@@ -1,18 +1,19 @@
 -- What is found in the tables.
-use Rattle.std.proofs.Common.{◌≡◌, ◌∙◌, ◌⊎◌, inl, inr, ℕ, zero, suc, ◌+◌, ◌<◌, ◌≤◌, cond, Bool, true, false, List, [], ◌∷◌, ◌++◌, Option, Some, None, MatchOption, refl, ap, sym, subst, slice_get, length, arith, get_or, nat_lt}
+use Rattle.std.proofs.Common.{◌≡◌, ◌∙◌, ◌⊎◌, inl, inr, ℕ, zero, suc, ◌+◌, ◌-◌, ◌<◌, ◌≤◌, cond, Bool, true, false, List, [], ◌∷◌, ◌++◌, Option, Some, None, MatchOption, refl, ap, sym, subst, slice_get, length, arith, get_or, nat_lt}
 use Rattle.std.specs.Prelude.{◌==◌, ◌&&◌, nat_le, slice_index}
 use Rattle.std.specs.Option.{option_map_or}
 use Rattle.std.proofs.lemmas.Bool.{false≢true, cases_lt, cases_Bool, eqb-true, eq-eqb, ltb-true, lt-ltb, leb-true, le-leb}
 use Rattle.std.proofs.lemmas.List.{length_push}
-use Rattle.std.proofs.lemmas.Option.{none-some, same_Some, slice_get_read, slice_get_within}
+use Rattle.std.proofs.lemmas.Option.{none-some, same_Some, slice_get_read, slice_get_within, slice_get-get_or}
 use Rattle.list_laws.proofs.Places.{get_pushed}
 use Rattle.ir_ast.specs.Insts.{Instruction}
 use Rattle.ir_ast.specs.Blocks.{BasicBlock}
 use Rattle.ir_ast.specs.Funcs.{Function}
 use Rattle.object_meaning.specs.Lines.{Line, registers_of, insts_in}
-use Rattle.pair_facts.specs.Lines.{lines_at, line_in, head_at}
+use Rattle.pair_facts.specs.Lines.{lines_at, line_in, line_before, no_line, head_at, gives}
 use Rattle.pair_facts.specs.Segments.{start_at}
-use Rattle.pair_facts.proofs.BoolLemmas.{both, joined}
+use Rattle.pair_facts.proofs.BoolLemmas.{both, joined, same_tests}
+use Rattle.pair_facts.proofs.GroupLaws.{gives_is, given_is}
 use Rattle.base_facts.specs.declared.homes.Home.{Home}
 use Rattle.base_facts.specs.declared.notes.Notes.{Notes}
 use Rattle.base_facts.specs.declared.tables.Tables.{Tables}
@@ -133,3 +134,30 @@ pub finds_none : (func : Function) (homes : List (Option Home)) (block place val
     → home_in homes value ≡ None → FindsWithin (lines_at func block) place value None
 finds_none func homes block place value knows none = λ at low high gives.
     none-some (home_at block at) (sym none ∙ home_found func homes block at value knows gives)
+
+-- whether the line at a place gives a value, by its home
+pub home_gives : (func : Function) (homes : List (Option Home)) (block place value : ℕ) (home : Home) → KnowsHomes func (length func.blocks) 0 homes
+    → home_in homes value ≡ Some home → gives (line_in (lines_at func block) place) value ≡ (home.block == block && home.place == place)
+home_gives func homes block place value home knows found =
+    same_tests (gives (line_in (lines_at func block) place) value) (home.block == block && home.place == place)
+    (λ given.
+        let same = same_Some home (home_at block place) (sym found ∙ home_found func homes block place value knows (given_is (line_in (lines_at func block) place) value given)) in
+        joined (home.block == block) (home.place == place) (eq-eqb home.block block (ap (λ (h : Home). h.block) same)) (eq-eqb home.place place (ap (λ (h : Home). h.place) same)))
+    (λ here.
+        let two = both (home.block == block) (home.place == place) here in
+        let own : GivesAt func block home.place value = subst (λ (b : ℕ). GivesAt func b home.place value) (eqb-true home.block block two.0) (knows.sound value home found) in
+        gives_is (line_in (lines_at func block) place) value (subst (λ (k : ℕ). GivesAt func block k value) (eqb-true home.place place two.1) own))
+
+pub no_home_gives : (func : Function) (homes : List (Option Home)) (block place value : ℕ) → KnowsHomes func (length func.blocks) 0 homes
+    → home_in homes value ≡ None → gives (line_in (lines_at func block) place) value ≡ false
+no_home_gives func homes block place value knows none = elim (cases_Bool (gives (line_in (lines_at func block) place) value)) [
+  | inl given ↦ absurd (none-some (home_at block place) (sym none ∙ home_found func homes block place value knows (given_is (line_in (lines_at func block) place) value given)))
+  | inr other ↦ other
+]
+
+-- the line before a place that isn't the first
+pub last_line : (lines : List Line) (at : ℕ) → 0 < at → at < length lines → line_before lines at ≡ Some (line_in lines (at - 1))
+last_line lines zero some within = absurd (omega arith)
+last_line lines (suc at) some within =
+    let same : suc at - 1 ≡ at = omega arith in
+    slice_get-get_or lines at no_line (omega arith) ∙ ap (λ (k : ℕ). Some (line_in lines k)) (sym same)

@@ -4,3 +4,4 @@ pub mod Tables
 pub mod Facts
 pub mod Members
 pub mod Settled
+pub mod Steps

@@ -6,4 +6,5 @@ mod homes;
 mod members;
 mod notes;
 mod settle;
+mod steps;
 mod tables;
