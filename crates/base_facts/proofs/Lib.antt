@@ -5,3 +5,8 @@ pub mod TableLemmas
 pub mod SettleLemmas
 pub mod MemberLemmas
 pub mod StepLemmas
+pub mod PredLemmas
+pub mod EdgeLemmas
+pub mod AskedLemmas
+pub mod ClosingLemmas
+pub mod FinalLemmas

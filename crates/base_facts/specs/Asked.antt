@@ -62,10 +62,36 @@ pub record IsNumbered (fact : Fact) (number : ℕ) (old new : Asked) : Type 0 wh
   pub failing : new.failing ≡ old.failing
   pub longer : length old.facts.keys ≤ length new.facts.keys
 
--- the facts with an asker in this block, at places up to one, hold on a path
-abbrev pub Holding : Function → Asked → ℕ → ℕ → Pairs → Type 0
-Holding func asked asker block front = (number : ℕ) (fact : Fact) → IsFact asked number fact → Asks asked number asker → fact.block ≡ block → holds func front fact ≡ true
+-- the fact with this number is missed where the other is
+abbrev pub MissedBy : Function → Asked → ℕ → Fact → Type 0
+MissedBy func asked asker fact = (own : Fact) → IsFact asked asker own → MissesFact func fact → MissesFact func own
 
-abbrev pub HoldingBelow : Function → Asked → ℕ → ℕ → ℕ → Pairs → Type 0
-HoldingBelow func asked asker block place front =
-    (number : ℕ) (fact : Fact) → IsFact asked number fact → Asks asked number asker → fact.block ≡ block → fact.place < place → holds func front fact ≡ true
+pub record AddsAsker (number asker : ℕ) (old new : Asked) : Type 0 where
+  pub facts : new.facts ≡ old.facts
+  pub failing : new.failing ≡ old.failing
+  pub same : length new.askers.items ≡ length old.askers.items
+  pub kept : (other one : ℕ) → Asks old other one → Asks new other one
+  pub added : Asks new number asker
+  pub others : (other one : ℕ) → Asks new other one → Asks old other one ⊎ ((other ≡ number) × (one ≡ asker))
+
+-- the fact with this number fails
+pub record HasFailed (func : Function) (asker : ℕ) (old new : Asked) : Type 0 where
+  pub asked : IsAsked func new
+  pub grows : Grows old new
+  pub failed : Contains new.failing.items asker
+
+-- the facts for which a fact asks in a block, up to a place or behind the block's phis, hold on a path
+abbrev pub HoldingUpTo : Function → Asked → ℕ → ℕ → ℕ → Pairs → Type 0
+HoldingUpTo func asked asker block place front =
+    (number : ℕ) (fact : Fact) → IsFact asked number fact → Asks asked number asker → fact.block ≡ block
+    → (fact.place ≤ place) ⊎ (fact.place ≡ phi_count (lines_at func fact.block)) → holds func front fact ≡ true
+
+-- unless the asker fails, a fact holds wherever those hold for which the asker asks
+abbrev pub Answered : Function → Asked → ℕ → Fact → Type 0
+Answered func asked asker fact = ¬ Contains asked.failing.items asker
+    → (front : Pairs) → IsSound front → HoldingUpTo func asked asker fact.block fact.place front → holds func front fact ≡ true
+
+pub record HasAsked (func : Function) (asker : ℕ) (fact : Fact) (old new : Asked) : Type 0 where
+  pub asked : IsAsked func new
+  pub grows : Grows old new
+  pub answered : Answered func new asker fact

@@ -5,3 +5,8 @@ pub mod Facts
 pub mod Members
 pub mod Settled
 pub mod Steps
+pub mod Edges
+pub mod Asked
+pub mod Closing
+pub mod Answers
+pub mod Found

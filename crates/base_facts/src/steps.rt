@@ -51,7 +51,7 @@ pub(crate) fn step_of(func: &Func, tables: &Tables, fact: Fact, value: u32, at: 
     }
 }
 
-fn is_own(value: u32, base: Wanted) -> bool
+pub(crate) fn is_own(value: u32, base: Wanted) -> bool
     ensures { result ≡ own_pairs value (base_in base) }
 {
     match base {

@@ -37,7 +37,7 @@ abbrev pub own_pairs : ℕ → Base → Bool
 own_pairs value Any = true
 own_pairs value (Named operand) = is_named value operand
 
-abbrev is_pointer_argument : Function → ℕ → Bool
+abbrev pub is_pointer_argument : Function → ℕ → Bool
 is_pointer_argument func value = option_map_or (λ arg. is_pointer arg.ty) (slice_get func.args value) false
 
 -- at the entry `null` and each pointer argument has itself
