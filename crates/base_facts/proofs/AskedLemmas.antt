@@ -1,25 +1,21 @@
 -- Facts that are asked: a number more, an asker more, a fact that fails.
-use Rattle.std.proofs.Common.{◌≡◌, ◌∙◌, ◌⊎◌, inl, inr, ℕ, zero, suc, ◌+◌, ◌<◌, ◌≤◌, Bool, true, false, List, [], ◌∷◌, ◌++◌, map, Option, Some, None, refl, ap, sym, subst, slice_get, length, arith, get_or, set, cond, Vec}
+use Rattle.std.proofs.Common.{◌≡◌, ◌∙◌, ◌⊎◌, inl, inr, ℕ, zero, suc, ◌+◌, ◌<◌, ◌≤◌, Bool, true, false, List, [], ◌∷◌, ◌++◌, map, Some, refl, ap, sym, subst, slice_get, length, arith, get_or, set, cond, Vec}
 use Rattle.std.specs.List.{Contains}
 use Rattle.std.specs.declared.alloc.Global.{Global}
-use Rattle.std.proofs.lemmas.Bool.{false≢true, cases_lt, cases_eq}
-use Rattle.std.proofs.lemmas.List.{length-append, length-map, length_push}
+use Rattle.std.proofs.lemmas.Bool.{cases_eq}
+use Rattle.std.proofs.lemmas.List.{length_push}
 use Rattle.std.proofs.Math.ListN.{length-set}
 use Rattle.std.proofs.lemmas.List.Elements.{Contains-append_left, Contains-append_right, Contains-append_cases}
 use Rattle.std.proofs.lemmas.Option.{none-some, same_Some, slice_get_within, slice_get-get_or}
 use Rattle.list_laws.proofs.Places.{get_front, get_some, get_middle, get_map, map_back}
-use Rattle.list_laws.proofs.Contents.{contains_one, contains_none, contains_first, get_contained}
+use Rattle.list_laws.proofs.Contents.{contains_one, contains_none, contains_first}
 use Rattle.ir_ast.specs.Funcs.{Function}
-use Rattle.object_meaning.specs.Jumps.{phi_count}
-use Rattle.pair_facts.specs.Lines.{lines_at}
-use Rattle.pair_facts.specs.Pairs.{Pairs}
 use Rattle.pair_facts.specs.Paths.{Arrives}
-use Rattle.pair_facts.proofs.FreshLaws.{IsSound, arrives_sound}
+use Rattle.pair_facts.proofs.FreshLaws.{arrives_sound}
 use Rattle.base_facts.specs.declared.facts.Fact.{Fact}
 use Rattle.base_facts.specs.declared.search.Asked.{Asked}
-use Rattle.base_facts.specs.Facts.{holds}
 use Rattle.base_facts.specs.Settled.{Decides, IsSettled, SettlesBy}
-use Rattle.base_facts.specs.Asked.{IsReached, MissesFact, IsFact, rows_of, Asks, Grows, IsAsked, IsNumbered, MissedBy, AddsAsker, HasFailed, HoldingUpTo, Answered, HasAsked}
+use Rattle.base_facts.specs.Asked.{IsReached, MissesFact, IsFact, rows_of, Asks, Grows, IsAsked, IsNumbered, MissedBy, AddsAsker, HasFailed, HasAsked}
 
 pub grows_not : (asked : Asked) → Grows asked asked
 grows_not asked = record { facts = λ number fact is. is; asks = λ number asker is. is; failing = λ number is. is }
@@ -77,10 +73,13 @@ has_failed func asker old new facts askers failing inside misses are = record {
   where
     same_keys : length new.facts.keys ≡ length old.facts.keys
     same_keys = ap (λ (f : _). length f.keys) facts
+
     back : (number : ℕ) (fact : Fact) → IsFact new number fact → IsFact old number fact
     back number fact is = ap (λ (f : _). slice_get f.keys number) (sym facts) ∙ is
+
     asks_back : (number one : ℕ) → Asks new number one → Asks old number one
     asks_back number one asks = record { row = asks.row; stands = ap (λ (a : _). slice_get (map (λ row. row.items) a.items) number) (sym askers) ∙ asks.stands; contained = asks.contained }
+
     cases : (number : ℕ) → Contains new.failing.items number → Contains old.failing.items number ⊎ (number ≡ asker)
     cases number there = elim (Contains-append_cases old.failing.items (asker ∷ []) number (subst (λ (xs : List ℕ). Contains xs number) failing there)) [
       | inl earlier ↦ inl earlier
@@ -139,28 +138,35 @@ other_asked func asker number fact other old mid new are inside reached missed s
   where
     to_mid : (n : ℕ) (one : Fact) → IsFact new n one → IsFact mid n one
     to_mid n one is = ap (λ (f : _). slice_get f.keys n) (sym added.facts) ∙ is
+
     stands : IsFact new number other
     stands = ap (λ (f : _). slice_get f.keys number) added.facts ∙ numbered.stands
+
     longer : length old.facts.keys ≤ length new.facts.keys
     longer = omega (arith, numbered.longer, ap (λ (f : _). length f.keys) added.facts)
+
     grows : Grows old new
     grows = record {
       facts = λ n one is. ap (λ (f : _). slice_get f.keys n) added.facts ∙ numbered.grows.facts n one is;
       asks = λ n one asks. added.kept n one (numbered.grows.asks n one asks);
       failing = λ n there. subst (λ (f : _). Contains f.items n) (sym added.failing) (numbered.grows.failing n there);
     }
+
     failing_back : (n : ℕ) → Contains new.failing.items n → Contains old.failing.items n
     failing_back n there = subst (λ (f : _). Contains f.items n) numbered.failing (subst (λ (f : _). Contains f.items n) added.failing there)
+
     was : (n : ℕ) (one : Fact) → n < length old.facts.keys → IsFact new n one → IsFact old n one
     was n one below is =
         let found = get_some old.facts.keys n below in
         let again : IsFact new n found.0 = ap (λ (f : _). slice_get f.keys n) added.facts ∙ numbered.grows.facts n found.0 found.1 in
         found.1 ∙ ap Some (same_Some found.0 one (sym again ∙ is))
+
     asks_back : (n one : ℕ) → Asks new n one → Asks old n one ⊎ ((n ≡ number) × (one ≡ asker))
     asks_back n one asks = elim (added.others n one asks) [
       | inl earlier ↦ inl (numbered.askers n one earlier)
       | inr own ↦ inr own
     ]
+
     missed_fact : MissesFact func other → MissesFact func fact
     missed_fact misses =
         let arrives : Arrives func fact.block misses.front = subst (λ (b : ℕ). Arrives func b misses.front) settles.block misses.arrives in
@@ -262,10 +268,10 @@ adds_asker number asker old new before after inside read pushed facts failing wr
         let row_is : asks.row ≡ before.items ++ asker ∷ [] = same_Some asks.row after.items (sym own ∙ now) ∙ pushed in
         elim (Contains-append_cases before.items (asker ∷ []) one (subst (λ (xs : List ℕ). Contains xs one) row_is asks.contained)) [
           | inl earlier ↦ inl (record {
-              row = before.items;
-              stands = subst (λ (n : ℕ). slice_get (rows_of old) n ≡ Some before.items) (sym same) (get_map (λ (v : Vec ℕ Global). v.items) old.askers.items number before there);
-              contained = earlier;
-            })
+            row = before.items;
+            stands = subst (λ (n : ℕ). slice_get (rows_of old) n ≡ Some before.items) (sym same) (get_map (λ (v : Vec ℕ Global). v.items) old.askers.items number before there);
+            contained = earlier;
+          })
           | inr last ↦ inr (same, sym (contains_one asker one last))
         ])
     | inr apart ↦
@@ -280,5 +286,6 @@ adds_asker number asker old new before after inside read pushed facts failing wr
   where
     there : slice_get old.askers.items number ≡ Some before
     there = slice_get-get_or old.askers.items number before inside ∙ ap Some (sym read)
+
     now : slice_get (rows_of new) number ≡ Some after.items
     now = get_map (λ (v : Vec ℕ Global). v.items) new.askers.items number after (ap (λ (xs : List (Vec ℕ Global)). slice_get xs number) written ∙ get_own old.askers.items number after inside)

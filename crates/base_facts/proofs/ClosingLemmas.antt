@@ -1,13 +1,11 @@
 -- Facts ask for what they need along edges and at the lines of definitions.
-use Rattle.std.proofs.Common.{◌≡◌, ◌≢◌, ◌∙◌, ◌⊎◌, inl, inr, ℕ, zero, suc, ◌+◌, ◌<◌, ◌≤◌, Bool, true, false, List, [], ◌∷◌, map, Option, Some, None, refl, ap, sym, subst, slice_get, length, arith, get_or, Result, Ok, Err, IfOk}
+use Rattle.std.proofs.Common.{◌≡◌, ◌∙◌, inl, inr, ℕ, zero, suc, ◌+◌, ◌<◌, ◌≤◌, Bool, true, false, List, [], ◌∷◌, Option, Some, None, ap, sym, subst, slice_get, length, arith, Result, Ok, Err, IfOk}
 use Rattle.std.specs.Prelude.{◌&&◌}
 use Rattle.std.specs.List.{Contains}
-use Rattle.std.proofs.lemmas.Bool.{false≢true, cases_Bool, cases_lt}
+use Rattle.std.proofs.lemmas.Bool.{cases_lt}
 use Rattle.std.proofs.lemmas.List.{get_or_past, length-map}
 use Rattle.std.proofs.lemmas.Option.{none-some, same_Some, slice_get_within}
 use Rattle.list_laws.proofs.Places.{get_some}
-use Rattle.ir_ast.specs.declared.ops.Op.{Op}
-use Rattle.ir_ast.specs.Insts.{Instruction}
 use Rattle.ir_ast.specs.Edges.{targets}
 use Rattle.ir_ast.specs.Funcs.{Function}
 use Rattle.ir_cfg.specs.Graphs.{graph_of, Edge}
@@ -17,24 +15,22 @@ use Rattle.ir_cfg.proofs.PathLemmas.{reached_by, edge_within}
 use Rattle.object_meaning.specs.Lines.{Line}
 use Rattle.object_meaning.specs.Frames.{is_member}
 use Rattle.object_meaning.specs.Jumps.{phi_count}
-use Rattle.pair_facts.specs.Lines.{lines_at, line_in, line_before, no_line, phis_in, head_at}
+use Rattle.pair_facts.specs.Lines.{lines_at, line_in, line_before, no_line, phis_in}
 use Rattle.pair_facts.specs.Pairs.{Pairs, at_entry, along, base_along, on_edge}
 use Rattle.pair_facts.specs.Paths.{pairs_at, pairs_at_end, Arrives, start, went}
 use Rattle.pair_facts.proofs.FreshLaws.{IsSound, pairs_sound, arrives_sound}
 use Rattle.pair_facts.proofs.PlaceLaws.{pairs_from_front}
 use Rattle.pair_facts.proofs.BoolLemmas.{joined, and_false}
-use Rattle.base_facts.specs.declared.facts.Pointer.{Pointer}
 use Rattle.base_facts.specs.declared.facts.Pointer.TheVariants as pointers
 use Rattle.base_facts.specs.declared.facts.Fact.{Fact}
 use Rattle.base_facts.specs.declared.search.Asked.{Asked}
 use Rattle.base_facts.specs.declared.steps.Step.{Step}
 use Rattle.base_facts.specs.declared.steps.Step.TheVariants.{Known, One, Two}
 use Rattle.base_facts.specs.Facts.{operand_in, base_in, fact_at, holds, maybe_holds}
-use Rattle.base_facts.specs.Tables.{IsPlace}
-use Rattle.base_facts.specs.Settled.{IsSettled, IsDefined}
+use Rattle.base_facts.specs.Settled.{IsDefined}
 use Rattle.base_facts.specs.Steps.{step_holds, step_for}
-use Rattle.base_facts.specs.Asked.{IsReached, MissesFact, IsFact, Asks, Grows, IsAsked, MissedBy, HasFailed, Answered, HasAsked}
-use Rattle.base_facts.specs.Closing.{Holding, HoldingBelow, HoldsAlong, Follows, from_front, from_definition, IsClosed, HasClosed, AskedAlong, AskedBefore, ClosedBelow, AllClosed, CanAsk, CanStep, Stepped, HasStepped}
+use Rattle.base_facts.specs.Asked.{IsReached, MissesFact, IsFact, Grows, IsAsked, MissedBy, HasFailed, Answered, HasAsked}
+use Rattle.base_facts.specs.Closing.{HoldingBelow, HoldsAlong, Follows, from_front, from_definition, HasClosed, AskedAlong, AskedBefore, ClosedBelow, AllClosed, CanAsk, CanStep, Stepped, HasStepped}
 use Rattle.base_facts.proofs.SettleLemmas.{start_front}
 use Rattle.base_facts.proofs.StepLemmas.{fact_holds, definition_holds, IsAt, AllFacts, fact_stands_at, step_at, step_outside, is_asking}
 use Rattle.base_facts.proofs.AskedLemmas.{grows_not, grows_more}
@@ -259,12 +255,16 @@ can_step func asked number fact value at step are stands inside defined pointer 
   where
     lines : List Line
     lines = lines_at func fact.block
+
     reached : IsReached func fact.block
     reached = are.reached number fact stands
+
     asks : (front : Pairs) → IsSound front → holds func front fact ≡ step_holds func front step
     asks front sound = definition_asks func fact value at step front defined pointer place is sound
+
     facts_at : AllFacts (IsAt fact.block at) step
     facts_at = subst (AllFacts (IsAt fact.block at)) (sym is) (step_at fact.block at value (line_before lines at) (line_in lines at).inst (line_in lines at).inst.op fact.base)
+
     can : (first : Fact) → IsAt fact.block at first → is_asking step ≡ true → ((front : Pairs) → IsSound front → holds func front first ≡ false → holds func front fact ≡ false) → CanAsk func asked number first
     can first first_at asking fails =
         let lines_are : lines_at func first.block ≡ lines = ap (lines_at func) first_at.block_is in
@@ -288,10 +288,10 @@ first_holds : (func : Function) (asked : Asked) (number : ℕ) (fact first : Fac
 first_holds func asked number fact first at front defined place first_at answered none sound holding =
     answered none front sound
     (λ n one is asks block up. holding n one is asks (block ∙ first_at.block_is)
-        (elim up [
-          | inl low ↦ omega (arith, low, first_at.place_is, place)
-          | inr phis ↦ omega (arith, phis, ap (λ (b : ℕ). phi_count (lines_at func b)) (block ∙ first_at.block_is), defined.past, defined.behind)
-        ]))
+    (elim up [
+      | inl low ↦ omega (arith, low, first_at.place_is, place)
+      | inr phis ↦ omega (arith, phis, ap (λ (b : ℕ). phi_count (lines_at func b)) (block ∙ first_at.block_is), defined.past, defined.behind)
+    ]))
 
 stepped_holds : (func : Function) (asked : Asked) (number : ℕ) (fact : Fact) (at : ℕ) (step : Step) (front : Pairs) → IsDefined func fact → fact.place ≡ suc at
     → AllFacts (IsAt fact.block at) step → Stepped func asked number step → ¬ Contains asked.failing.items number → IsSound front

@@ -1,14 +1,14 @@
 -- The phi of a block that gives a value, and what the value was along an edge.
-use Rattle.std.proofs.Common.{◌≡◌, ◌≢◌, ◌∙◌, ◌⊎◌, inl, inr, ℕ, zero, suc, ◌<◌, ◌≤◌, cond, Bool, true, false, List, [], ◌∷◌, Option, Some, None, refl, ap, sym, subst, slice_get, length, arith, get_or, take, nat_lt}
+use Rattle.std.proofs.Common.{◌≡◌, ◌∙◌, inl, inr, ℕ, zero, suc, ◌<◌, ◌≤◌, cond, Bool, true, false, List, [], ◌∷◌, Option, Some, None, refl, ap, sym, subst, length, arith, take, nat_lt}
 use Rattle.std.specs.Prelude.{◌==◌, ◌&&◌}
-use Rattle.std.proofs.lemmas.Bool.{false≢true, cases_Bool, cases_lt, eqb-true, eq-eqb, ltb-true, lt-ltb}
+use Rattle.std.proofs.lemmas.Bool.{false≢true, cases_Bool, eqb-true, eq-eqb, ltb-true, lt-ltb}
 use Rattle.std.proofs.lemmas.List.Sums.{prefix_len-le-length}
 use Rattle.std.proofs.lemmas.Option.{none-some, same_Some}
 use Rattle.ir_ast.specs.Funcs.{Function}
 use Rattle.ir_ast.specs.Faults.PhiEdges.{is_phi}
 use Rattle.object_meaning.specs.Lines.{Line}
 use Rattle.object_meaning.specs.Jumps.{phi_count}
-use Rattle.pair_facts.specs.Lines.{lines_at, line_in, no_line, phis_in, gives, named}
+use Rattle.pair_facts.specs.Lines.{lines_at, line_in, phis_in, gives, named}
 use Rattle.pair_facts.specs.Pairs.{incoming, value_along}
 use Rattle.pair_facts.proofs.BoolLemmas.{both, joined}
 use Rattle.pair_facts.proofs.GroupLaws.{gives_is, given_is}
@@ -62,11 +62,11 @@ finds_phi func homes block value home knows found = elim (cases_Bool test) [
       subst (λ (b : Bool). FindsPhi (lines_at func block) value (cond b (Some home.place) None)) (sym holds) is)
   | inr fails ↦ subst (λ (b : Bool). FindsPhi (lines_at func block) value (cond b (Some home.place) None)) (sym fails)
       (λ at below given.
-          let same = same_Some home (home_at block at) (sym found ∙ home_found func homes block at value knows given) in
-          let place_is : home.place ≡ at = ap (λ (h : Home). h.place) same in
-          let found_too : test ≡ true = joined (home.block == block) (nat_lt home.place (phi_count (lines_at func block)))
-              (eq-eqb home.block block (ap (λ (h : Home). h.block) same)) (lt-ltb home.place (phi_count (lines_at func block)) (omega (arith, below, place_is))) in
-          false≢true (sym fails ∙ found_too))
+      let same = same_Some home (home_at block at) (sym found ∙ home_found func homes block at value knows given) in
+      let place_is : home.place ≡ at = ap (λ (h : Home). h.place) same in
+      let found_too : test ≡ true = joined (home.block == block) (nat_lt home.place (phi_count (lines_at func block)))
+      (eq-eqb home.block block (ap (λ (h : Home). h.block) same)) (lt-ltb home.place (phi_count (lines_at func block)) (omega (arith, below, place_is))) in
+      false≢true (sym fails ∙ found_too))
 ]
   where
     test : Bool

@@ -1,22 +1,21 @@
 -- What is left unmarked holds on every path, and what is marked is missed on some path.
-use Rattle.std.proofs.Common.{◌≡◌, ◌≢◌, ◌∙◌, ◌⊎◌, inl, inr, ℕ, zero, suc, ◌+◌, ◌<◌, ◌≤◌, Bool, true, false, not, List, [], ◌∷◌, map, Option, Some, None, refl, ap, sym, subst, slice_get, length, arith, get_or, take, Vec, ◌++◌}
+use Rattle.std.proofs.Common.{◌≡◌, ◌∙◌, inl, inr, ℕ, zero, suc, ◌+◌, ◌<◌, Bool, true, false, not, List, [], ◌∷◌, map, Some, None, refl, ap, sym, subst, slice_get, length, arith, get_or, take, Vec, ◌++◌}
 use Rattle.std.specs.List.{Contains, AllZip}
 use Rattle.std.specs.declared.alloc.Global.{Global}
-use Rattle.std.proofs.lemmas.Bool.{false≢true, cases_Bool, cases_lt}
+use Rattle.std.proofs.lemmas.Bool.{false≢true, cases_lt}
 use Rattle.std.proofs.lemmas.List.{length-map, get_or_past, take_more}
-use Rattle.std.proofs.lemmas.Option.{none-some, same_Some, slice_get_within, get_or_from_slice_get, slice_get-get_or}
+use Rattle.std.proofs.lemmas.Option.{none-some, slice_get_within, get_or_from_slice_get, slice_get-get_or}
 use Rattle.list_laws.proofs.Places.{get_some, map_back}
 use Rattle.list_laws.proofs.Contents.{get_contained, contains_get, contains_none}
-use Rattle.graph_search.specs.Edges.{targets_of, AreInside}
+use Rattle.graph_search.specs.Edges.{AreInside}
 use Rattle.graph_search.specs.Edges.{Edge as RowEdge}
 use Rattle.graph_search.specs.Paths.{ReachedFrom, at_start, along, Marked, MarksReached}
 use Rattle.ir_ast.specs.Funcs.{Function}
 use Rattle.ir_cfg.specs.Graphs.{graph_of, Edge}
-use Rattle.object_meaning.specs.Lines.{Line}
 use Rattle.object_meaning.specs.Jumps.{phi_count}
 use Rattle.pair_facts.specs.Lines.{lines_at, phis_in}
 use Rattle.pair_facts.specs.Pairs.{Pairs, at_entry, on_edge}
-use Rattle.pair_facts.specs.Paths.{pairs_at, pairs_at_end, Arrives, start, went, Stands, Misses}
+use Rattle.pair_facts.specs.Paths.{pairs_at_end, Arrives, start, went}
 use Rattle.pair_facts.proofs.FreshLaws.{IsSound, pairs_sound, arrives_sound}
 use Rattle.ir_cfg.specs.Paths.{Reached}
 use Rattle.base_facts.specs.declared.asks.Ask.{Ask}
@@ -25,11 +24,11 @@ use Rattle.base_facts.specs.declared.asks.Found.TheVariants.{Known, Numbered}
 use Rattle.base_facts.specs.declared.facts.Fact.{Fact}
 use Rattle.base_facts.specs.declared.search.Asked.{Asked}
 use Rattle.base_facts.specs.Facts.{operand_in, base_in, fact_at, holds, maybe_holds}
-use Rattle.base_facts.specs.Settled.{IsSettled, Decides, SettlesBy}
+use Rattle.base_facts.specs.Settled.{IsSettled, SettlesBy}
 use Rattle.base_facts.specs.Asked.{IsReached, MissesFact, IsFact, rows_of, Asks, Grows, IsAsked, IsNumbered}
-use Rattle.base_facts.specs.Closing.{HoldingBelow, HoldsAlong, Follows, from_front, from_definition, IsClosed, AllClosed}
+use Rattle.base_facts.specs.Closing.{HoldingBelow, HoldsAlong, Follows, from_front, from_definition, IsClosed}
 use Rattle.base_facts.specs.Answers.{IsAnswered}
-use Rattle.base_facts.specs.Found.{ask_holds, IsNumberedAs, IsFound, HasFound, IsNumberedBy, IsFoundFact, HasFoundFact, told_by, AreFound}
+use Rattle.base_facts.specs.Found.{ask_holds, IsFound, HasFound, IsFoundFact, HasFoundFact, told_by, AreFound}
 use Rattle.base_facts.proofs.StepLemmas.{fact_holds, IsAt, fact_stands_at}
 use Rattle.base_facts.proofs.AskedLemmas.{grows_not}
 use Rattle.base_facts.proofs.ClosingLemmas.{front_holds, one_fact, pair_along, arrives_reached}
@@ -74,7 +73,7 @@ reached_missed func asked number are (at_start _ there) fact is = are.misses num
 reached_missed func asked _ are (along from to before edge) fact is =
     let asks = asks_of_edge asked from to edge in
     let inside : from < length asked.facts.keys = (let row = map_back (λ row. row.items) asked.askers.items from asks.row asks.stands in
-        omega (arith, slice_get_within asked.askers.items from row.before row.stands, are.same)) in
+    omega (arith, slice_get_within asked.askers.items from row.before row.stands, are.same)) in
     let asker = get_some asked.facts.keys from inside in
     are.spreads from to asker.0 fact asks asker.1 is (reached_missed func asked from are before asker.0 asker.1)
 
@@ -118,12 +117,12 @@ unmarked_holds func asked _ _ closed start number fact is own unmarked =
 unmarked_holds func asked _ _ closed (went from to front arrives edge) number fact is own unmarked =
     levels func asked to _ (arrives_sound func to _ (went from to front arrives edge)) closed
     (λ n one there beside free place entry edges.
-        let own_edge : Edge (graph_of func) from one.block = subst (Edge (graph_of func) from) (sym beside) edge in
-        let along_holds : pair_along func one from front ≡ true = edges from own_edge front arrives
-            (λ m other stands asks same. unmarked_holds func asked from front closed arrives m other stands same (asker_unmarked asked m n free asks)) in
-        front_holds func one _ place
-        ∙ ap (λ (b : ℕ). on_edge from (phis_in (lines_at func b)) (pairs_at_end (lines_at func from) front) (operand_in one.pointer) (base_in one.base)) (sym beside)
-        ∙ along_holds)
+    let own_edge : Edge (graph_of func) from one.block = subst (Edge (graph_of func) from) (sym beside) edge in
+    let along_holds : pair_along func one from front ≡ true = edges from own_edge front arrives
+    (λ m other stands asks same. unmarked_holds func asked from front closed arrives m other stands same (asker_unmarked asked m n free asks)) in
+    front_holds func one _ place
+    ∙ ap (λ (b : ℕ). on_edge from (phis_in (lines_at func b)) (pairs_at_end (lines_at func from) front) (operand_in one.pointer) (base_in one.base)) (sym beside)
+    ∙ along_holds)
     (suc fact.place) number fact (omega arith) is own unmarked
 
 -- ---- answers
@@ -147,12 +146,13 @@ asked_numbered func fact number old new are numbered settled reached = record {
   spreads = λ n one f o asks is also.
       let earlier = numbered.askers n one asks in
       let inside : n < length old.facts.keys = (let row = map_back (λ row. row.items) old.askers.items n earlier.row earlier.stands in
-          omega (arith, slice_get_within old.askers.items n row.before row.stands, are.same)) in
+      omega (arith, slice_get_within old.askers.items n row.before row.stands, are.same)) in
       are.spreads n one f o earlier (was n f inside is) (was one o (are.asks n one earlier) also);
 }
   where
     failing_back : (n : ℕ) → Contains new.failing.items n → Contains old.failing.items n
     failing_back n there = subst (λ (f : Vec ℕ Global). Contains f.items n) numbered.failing there
+
     was : (n : ℕ) (one : Fact) → n < length old.facts.keys → IsFact new n one → IsFact old n one
     was n one below is =
         let found = get_some old.facts.keys n below in
@@ -169,8 +169,10 @@ found_fact func ask fact found old new reached is has = record { asked = has.ask
   where
     at : IsAt ask.block.0 ask.place fact
     at = fact_stands_at ask.block.0 ask.place ask.pointer ask.base fact is
+
     same : (front : Pairs) → IsSound front → ask_holds func front ask ≡ holds func front fact
     same front sound = fact_holds func front ask.block.0 ask.place ask.pointer ask.base (pairs_sound (lines_at func ask.block.0) front ask.place sound) ∙ ap (maybe_holds func front) is
+
     by : (found : Found) → IsFoundFact func new fact found → IsFound func new ask found
     by (Known true) decides = λ front arrives. same front (arrives_sound func ask.block.0 front arrives) ∙ decides front (arrives_sound func ask.block.0 front arrives)
     by (Known false) decides = record {
@@ -215,6 +217,7 @@ told_answer func asked marks ask (Numbered number) are closed found is = by (get
   where
     inside : number < length marks
     inside = omega (arith, slice_get_within asked.facts.keys number is.fact is.stands, are.same, length-rows_of asked, found.whole)
+
     by : (mark : Bool) → get_or marks number false ≡ mark → IsAnswered func ask (not mark)
     by true marked =
         let missed = marked_missed func asked marks number is.fact are found (slice_get-get_or marks number false inside ∙ ap Some marked) is.stands in
@@ -263,7 +266,7 @@ found_more func old new asks count ask found next one at pushed before has = rec
   asked = has.asked;
   found =
       let more : take (count + 1) asks ≡ take count asks ++ ask ∷ [] = take_more asks count ask (slice_get_within asks count ask at)
-          ∙ ap (λ (a : Ask). take count asks ++ a ∷ []) (get_or_from_slice_get asks count ask ask at) in
+      ∙ ap (λ (a : Ask). take count asks ++ a ∷ []) (get_or_from_slice_get asks count ask ask at) in
       subst (λ (xs : List Ask). AllZip (IsFound func new) xs next) (sym more)
       (subst (λ (ys : List Found). AllZip (IsFound func new) (take count asks ++ ask ∷ []) ys) (sym pushed)
       (zip_pushed (IsFound func new) (take count asks) found ask one (all_grow func old new (take count asks) found has.grows before.found) has.is));
@@ -282,6 +285,7 @@ nothing_is_asked func asked facts askers failing = record {
   where
     no_fact : (number : ℕ) (fact : Fact) → IsFact asked number fact → ⊥
     no_fact number fact is = none-some fact (ap (λ (xs : List Fact). slice_get xs number) (sym facts) ∙ is)
+
     no_row : (number : ℕ) (row : List ℕ) → slice_get {X = List ℕ} [] number ≡ Some row → ⊥
     no_row number row is = none-some row is
 

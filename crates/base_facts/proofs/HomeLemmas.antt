@@ -1,14 +1,13 @@
 -- The table of homes, an instruction at a time.
-use Rattle.std.proofs.Common.{◌≡◌, ◌≢◌, ◌∙◌, ◌⊎◌, inl, inr, ℕ, zero, suc, ◌+◌, ◌<◌, ◌≤◌, cond, Bool, true, false, List, [], ◌∷◌, ◌++◌, Option, Some, None, refl, ap, sym, subst, slice_get, length, arith, get_or, take, replicate, take_all, add-one}
+use Rattle.std.proofs.Common.{◌≡◌, ◌∙◌, ◌⊎◌, inl, inr, ℕ, zero, suc, ◌+◌, ◌≤◌, cond, true, false, List, [], ◌∷◌, ◌++◌, Option, Some, None, refl, ap, sym, subst, slice_get, length, arith, take, replicate, take_all, add-one}
 use Rattle.std.specs.Prelude.{is_some, slice_index}
-use Rattle.std.proofs.lemmas.Bool.{cases_lt, cases_eq}
-use Rattle.std.proofs.lemmas.List.{length-append, length_push, length-replicate}
-use Rattle.std.proofs.lemmas.Option.{none-some, same_Some, slice_get_within, get_or_from_slice_get}
-use Rattle.list_laws.proofs.Places.{get_pushed}
+use Rattle.std.proofs.lemmas.Bool.{cases_lt}
+use Rattle.std.proofs.lemmas.List.{length_push, length-replicate}
+use Rattle.std.proofs.lemmas.Option.{none-some, same_Some, get_or_from_slice_get}
 use Rattle.ir_ast.specs.Insts.{Instruction}
 use Rattle.ir_ast.specs.Blocks.{BasicBlock}
 use Rattle.ir_ast.specs.Funcs.{Function}
-use Rattle.object_meaning.specs.Lines.{Line, numbered, following, after_all, registers_of, insts_in, first_registers}
+use Rattle.object_meaning.specs.Lines.{Line, after_all, registers_of, insts_in, first_registers}
 use Rattle.pair_facts.specs.Lines.{lines_at, line_in, no_line}
 use Rattle.base_facts.specs.declared.homes.Home.{Home}
 use Rattle.base_facts.specs.Homes.{GivesAt, home_at, home_in, register_at, IsBefore, KnowsHomes}
@@ -80,7 +79,7 @@ pub homes_pushed : (func : Function) (block place : ℕ) (inst : Instruction) (h
     → is_some inst.result ≡ true → KnowsHomes func block place homes → KnowsHomes func block (place + 1) (homes ++ Some (home_at block place) ∷ [])
 homes_pushed func block place inst homes at some knows =
     let gives : GivesAt func block place (length homes)
-        = line_gives func block place inst at ∙ ap (λ t. cond t (Some (register_at func block place)) None) some ∙ ap Some (sym knows.count) in
+    = line_gives func block place inst at ∙ ap (λ t. cond t (Some (register_at func block place)) None) some ∙ ap Some (sym knows.count) in
     record {
       count = length_push homes (Some (home_at block place)) ∙ ap (λ (n : ℕ). n + 1) knows.count ∙ sym (register_more func block place inst at some);
       sound = λ value home is. elim (in_pushed homes (home_at block place) value home is) [
@@ -113,6 +112,7 @@ homes_none func = record {
     never : (block place : ℕ) → IsBefore block place 0 0 → ⊥
     never block place (inl earlier) = omega arith
     never block place (inr (same, below)) = omega arith
+
     first_register : (blocks : List BasicBlock) → length func.args ≡ slice_index (first_registers (length func.args) blocks) 0
     first_register [] = refl
     first_register (block ∷ blocks) = refl

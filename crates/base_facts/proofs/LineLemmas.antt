@@ -1,14 +1,14 @@
 -- The lines of a block by its instructions.
-use Rattle.std.proofs.Common.{◌≡◌, ◌∙◌, ℕ, zero, suc, ◌+◌, ◌<◌, ◌≤◌, cond, List, [], ◌∷◌, Option, Some, None, refl, ap, sym, slice_get, length, arith, get_or, take, take-suc}
-use Rattle.std.specs.Prelude.{is_some, slice_index}
+use Rattle.std.proofs.Common.{◌≡◌, ℕ, zero, suc, List, [], ◌∷◌, Option, Some, None, refl, ap, sym, slice_get, length, take}
+use Rattle.std.specs.Prelude.{slice_index}
 use Rattle.std.specs.Option.{option_map_or}
-use Rattle.std.proofs.lemmas.Option.{none-some, same_Some, slice_get_within}
+use Rattle.std.proofs.lemmas.Option.{none-some, same_Some}
 use Rattle.ir_ast.specs.Insts.{Instruction}
 use Rattle.ir_ast.specs.Blocks.{BasicBlock}
 use Rattle.ir_ast.specs.Funcs.{Function}
-use Rattle.object_meaning.specs.Lines.{Line, numbered, following, after_all, first_registers, registers_of, insts_in}
+use Rattle.object_meaning.specs.Lines.{numbered, following, after_all, first_registers, insts_in}
 use Rattle.object_meaning.specs.TargetRuns.{plain_lines}
-use Rattle.pair_facts.specs.Lines.{lines_at, line_in, no_line}
+use Rattle.pair_facts.specs.Lines.{line_in, no_line}
 
 pub length-plain_lines : (next : ℕ) (insts : List Instruction) → length (plain_lines next insts) ≡ length insts
 length-plain_lines next [] = refl

@@ -1,10 +1,10 @@
 -- The lines of a group, read one by one.
-use Rattle.std.proofs.Common.{◌≡◌, ◌∙◌, ◌⊎◌, inl, inr, ℕ, zero, suc, ◌+◌, ◌-◌, ◌<◌, ◌≤◌, Bool, true, false, List, [], ◌∷◌, Some, None, refl, ap, sym, subst, slice_get, length, arith, get_or}
-use Rattle.std.specs.Prelude.{◌||◌, slice_index}
+use Rattle.std.proofs.Common.{◌≡◌, ◌∙◌, inl, inr, ℕ, zero, suc, ◌+◌, ◌-◌, ◌<◌, ◌≤◌, Bool, true, false, List, [], ◌∷◌, Some, refl, ap, sym, subst, slice_get, length, arith, get_or}
+use Rattle.std.specs.Prelude.{slice_index}
 use Rattle.std.specs.List.{list_any}
 use Rattle.std.proofs.lemmas.Bool.{false≢true, cases_lt}
 use Rattle.std.proofs.lemmas.List.{get_or_past, length-append}
-use Rattle.std.proofs.lemmas.Option.{none-some, same_Some, slice_get_read, slice_get_within, get_or_from_slice_get}
+use Rattle.std.proofs.lemmas.Option.{none-some, same_Some, slice_get_read}
 use Rattle.ir_ast.specs.Insts.{Instruction}
 use Rattle.ir_ast.specs.Blocks.{BasicBlock}
 use Rattle.ir_ast.specs.Funcs.{Function, instructions_of}
@@ -14,7 +14,7 @@ use Rattle.object_meaning.specs.Frames.{is_member}
 use Rattle.pair_facts.specs.Lines.{lines_at, line_in, no_line, head_at, group_in}
 use Rattle.pair_facts.specs.Pairs.{relocates_base, has_base}
 use Rattle.pair_facts.proofs.BoolLemmas.{or_first, or_second}
-use Rattle.pair_facts.proofs.GroupLaws.{IsMemberAt, members_between, members_head, member_stands, stands_member, list_any_none_at}
+use Rattle.pair_facts.proofs.GroupLaws.{members_between, members_head, member_stands, stands_member, list_any_none_at}
 use Rattle.base_facts.proofs.LineLemmas.{insts_are, length-plain_lines}
 use Rattle.base_facts.proofs.NoteLemmas.{inst_at}
 
@@ -61,9 +61,9 @@ no_base_by : (lines : List Line) (head entry place : ℕ) → is_statepoint (lin
 no_base_by lines head entry place is below ends other =
     list_any_none_at (relocates_base entry) (group_in lines head)
     (λ j line at.
-        let there = stands_member lines head j line is at in
-        subst (λ (l : Line). relocates_base entry l ≡ false) there.line_is
-        (other (suc head + j) (omega arith) (ends (suc head + j) there.member.member there.member.head_is)).1)
+    let there = stands_member lines head j line is at in
+    subst (λ (l : Line). relocates_base entry l ≡ false) there.line_is
+    (other (suc head + j) (omega arith) (ends (suc head + j) there.member.member there.member.head_is)).1)
 
 -- the group has ended
 pub no_base_ended : (lines : List Line) (head entry place : ℕ) → is_statepoint (line_in lines head).inst.op ≡ true → head < place
@@ -90,10 +90,10 @@ pub base_found : (lines : List Line) (head entry place : ℕ) → is_statepoint 
     → has_base (group_in lines head) entry ≡ true
 base_found lines head entry place is below member found other =
     let in_group = members_head lines head place is (omega arith)
-        (λ k low high. elim (cases_lt k place) [
-          | inl less ↦ (other k low less).0
-          | inr past ↦ (let same : k ≡ place = omega arith in subst (λ (n : ℕ). is_member (line_in lines n).inst.op ≡ true) (sym same) member)
-        ]) in
+    (λ k low high. elim (cases_lt k place) [
+      | inl less ↦ (other k low less).0
+      | inr past ↦ (let same : k ≡ place = omega arith in subst (λ (n : ℕ). is_member (line_in lines n).inst.op ≡ true) (sym same) member)
+    ]) in
     list_any_here (relocates_base entry) (group_in lines head) (place - suc head) (line_in lines place) (member_stands lines head place in_group below) found
 
 pub others_more : (lines : List Line) (head entry place : ℕ) → is_member (line_in lines place).inst.op ≡ true → relocates_base entry (line_in lines place) ≡ false

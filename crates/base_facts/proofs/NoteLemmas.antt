@@ -1,10 +1,10 @@
 -- The notes on a block, an instruction at a time.
-use Rattle.std.proofs.Common.{◌≡◌, ◌∙◌, ◌⊎◌, inl, inr, ℕ, zero, suc, ◌+◌, ◌<◌, ◌≤◌, cond, Bool, true, false, List, [], ◌∷◌, ◌++◌, Option, Some, None, refl, ap, sym, subst, slice_get, length, arith, get_or, add-one}
+use Rattle.std.proofs.Common.{◌≡◌, ◌∙◌, inl, inr, ℕ, zero, suc, ◌+◌, ◌<◌, ◌≤◌, cond, true, false, List, [], ◌∷◌, ◌++◌, Option, Some, refl, ap, sym, subst, slice_get, length, arith, add-one}
 use Rattle.std.specs.Prelude.{slice_index}
 use Rattle.std.specs.List.{prefix_len}
-use Rattle.std.proofs.lemmas.Bool.{false≢true, cases_lt}
-use Rattle.std.proofs.lemmas.List.{length-append, length_push}
-use Rattle.std.proofs.lemmas.Option.{none-some, same_Some, slice_get_within, get_or_from_slice_get}
+use Rattle.std.proofs.lemmas.Bool.{cases_lt}
+use Rattle.std.proofs.lemmas.List.{length_push}
+use Rattle.std.proofs.lemmas.Option.{get_or_from_slice_get}
 use Rattle.list_laws.proofs.Places.{get_front, get_middle}
 use Rattle.ir_ast.specs.Insts.{Instruction}
 use Rattle.ir_ast.specs.Funcs.{Function}
@@ -76,9 +76,9 @@ noted_more func block place start next head found starts starts_next heads heads
     let lines = lines_at func block in
     let own = inst_at func block place inst at in
     let head_now : found ≡ head_at lines place = found_is ∙ ap (λ (h : Option ℕ). head_here inst.op place h) noted.head_is
-        ∙ ap (λ (i : Instruction). head_here i.op place (head_before lines place)) (sym own) ∙ head_next lines place in
+    ∙ ap (λ (i : Instruction). head_here i.op place (head_before lines place)) (sym own) ∙ head_next lines place in
     let start_now : next ≡ start_at lines (suc place) = next_is ∙ ap (λ (n : ℕ). cond (is_statepoint inst.op) (suc place) n) noted.start_is
-        ∙ ap (λ (i : Instruction). cond (is_statepoint i.op) (suc place) (start_at lines place)) (sym own) in
+    ∙ ap (λ (i : Instruction). cond (is_statepoint i.op) (suc place) (start_at lines place)) (sym own) in
     subst (λ (n : ℕ). AreNoted lines n next found starts_next heads_next) (sym (add-one place)) (record {
       start_is = start_now;
       head_is = head_now;
@@ -89,7 +89,8 @@ noted_more func block place start next head found starts starts_next heads heads
 pub noted_end : (lines : List Line) (place start : ℕ) (head : Option ℕ) (starts starts_next : List ℕ) (heads : List (Option ℕ)) → place ≡ length lines
     → starts_next ≡ starts ++ start ∷ [] → AreNoted lines place start head starts heads
     → (starts_next ≡ told (start_at lines) (suc (length lines))) × (heads ≡ told (head_at lines) (length lines))
-noted_end lines place start head starts starts_next heads is pushed noted =
-    (pushed ∙ ap (λ (n : ℕ). starts ++ n ∷ []) (noted.start_is ∙ ap (start_at lines) is)
-    ∙ ap (λ (xs : List ℕ). xs ++ start_at lines (length lines) ∷ []) (noted.starts_are ∙ ap (told (start_at lines)) is),
-    noted.heads_are ∙ ap (told (head_at lines)) is)
+noted_end lines place start head starts starts_next heads is pushed noted = (
+  pushed ∙ ap (λ (n : ℕ). starts ++ n ∷ []) (noted.start_is ∙ ap (start_at lines) is)
+      ∙ ap (λ (xs : List ℕ). xs ++ start_at lines (length lines) ∷ []) (noted.starts_are ∙ ap (told (start_at lines)) is),
+  noted.heads_are ∙ ap (told (head_at lines)) is,
+)

@@ -1,9 +1,7 @@
 -- What settles a fact: the place of the last line that gives its pointer or its base, or the last statepoint.
-use Rattle.std.proofs.Common.{◌≡◌, ◌≢◌, ◌∙◌, ◌⊎◌, inl, inr, ℕ, zero, suc, ◌+◌, ◌-◌, ◌<◌, ◌≤◌, cond, Bool, true, false, List, [], ◌∷◌, Option, Some, None, MatchOption, refl, ap, sym, subst, slice_get, length, arith, get_or, nat_lt}
-use Rattle.std.specs.Prelude.{◌==◌, ◌&&◌, ◌||◌, max}
-use Rattle.std.specs.List.{list_any, prefix_len}
-use Rattle.std.proofs.lemmas.Bool.{false≢true, cases_lt, cases_Bool, cases_eq, eqb-true, eq-eqb, ne_eqb, ltb-true, lt-ltb, le-ltb}
-use Rattle.std.proofs.lemmas.List.{get_or_past}
+use Rattle.std.proofs.Common.{◌≡◌, ◌≢◌, ◌∙◌, ◌⊎◌, inl, inr, ℕ, zero, suc, ◌<◌, ◌≤◌, cond, Bool, true, false, List, Option, Some, None, refl, ap, sym, subst, arith}
+use Rattle.std.specs.Prelude.{◌==◌, ◌&&◌}
+use Rattle.std.proofs.lemmas.Bool.{false≢true, cases_lt, cases_Bool, eqb-true, eq-eqb, ne_eqb, lt-ltb, le-ltb}
 use Rattle.std.proofs.lemmas.List.Sums.{prefix_len_passes}
 use Rattle.std.proofs.lemmas.Option.{none-some, same_Some}
 use Rattle.ir_ast.specs.declared.ops.Operand.{Operand}
@@ -20,24 +18,24 @@ use Rattle.object_meaning.specs.Jumps.{phi_count}
 use Rattle.pair_facts.specs.declared.bases.Base.{Base}
 use Rattle.pair_facts.specs.declared.bases.Base.TheVariants.{Any, Named}
 use Rattle.pair_facts.specs.Lines.{lines_at, line_in, no_line, head_at, group_in, named}
-use Rattle.pair_facts.specs.Pairs.{Pairs, is_named, is_base_named, own_pairs, relocated_pairs, member_pairs, base_index, relocates_base, has_base, after_group}
+use Rattle.pair_facts.specs.Pairs.{Pairs, relocated_pairs, member_pairs, base_index, relocates_base, after_group}
 use Rattle.pair_facts.specs.Paths.{pairs_at}
 use Rattle.pair_facts.specs.Segments.{start_at}
 use Rattle.pair_facts.specs.Uses.{entries_at}
 use Rattle.pair_facts.proofs.BoolLemmas.{and_false}
 use Rattle.pair_facts.proofs.FreshLaws.{IsSound, pairs_sound}
-use Rattle.pair_facts.proofs.PlaceLaws.{Leaves, LeavesBase, IsPlainAt, ArePassed, ArePassedBy, pairs_passed, pairs_fall, pairs_gone, start_below, no_statepoint, start_is, head_within, head_ended, head_here, no_head_before, pairs_from_front, pairs_from_group, pairs_lost}
-use Rattle.pair_facts.proofs.GroupLaws.{IsMemberAt, members_between, members_head, member_stands, stands_member, group_gives, group_gives_none, relocated_named, relocated_none, list_any_none_at, GivesOnly}
+use Rattle.pair_facts.proofs.PlaceLaws.{Leaves, LeavesBase, IsPlainAt, pairs_passed, pairs_gone, start_below, no_statepoint, start_is, head_ended, head_here, no_head_before, pairs_from_front, pairs_from_group, pairs_lost}
+use Rattle.pair_facts.proofs.GroupLaws.{members_between, group_gives, group_gives_none, relocated_named, relocated_none}
 use Rattle.base_facts.specs.declared.facts.Pointer.{Pointer}
 use Rattle.base_facts.specs.declared.facts.Pointer.TheVariants as pointers
 use Rattle.base_facts.specs.declared.facts.Wanted.{Wanted}
 use Rattle.base_facts.specs.declared.facts.Wanted.TheVariants as bases
 use Rattle.base_facts.specs.declared.facts.Fact.{Fact}
-use Rattle.base_facts.specs.declared.settle.Answer.TheVariants.{Always, Never, Asks}
-use Rattle.base_facts.specs.Facts.{operand_in, base_in, holds}
+use Rattle.base_facts.specs.declared.settle.Answer.TheVariants.{Never, Asks}
+use Rattle.base_facts.specs.Facts.{operand_in, base_in}
 use Rattle.base_facts.specs.Tables.{IsPlace, first_of, IsWithin, FindsWithin}
 use Rattle.base_facts.specs.Members.{member_named}
-use Rattle.base_facts.specs.Settled.{Decides, IsDefined, IsSettled, SettlesBy, Settles, IsNotGiven, finds_wanted, settled_defined, named_under, with_base}
+use Rattle.base_facts.specs.Settled.{Decides, SettlesBy, Settles, IsNotGiven, finds_wanted, settled_defined, named_under, with_base}
 
 -- ---- operators
 
@@ -107,7 +105,7 @@ pub head_is : (lines : List Line) (place at head : ℕ) → head_at lines at ≡
 head_is lines place at head is low high =
     let stands = head_stands lines at head is in
     let not_from : (k : ℕ) → start_at lines place ≤ k → k < place → is_statepoint (line_in lines k).inst.op ≡ true → ⊥
-        = λ k up down there. false≢true (sym (no_statepoint lines place k up down) ∙ there) in
+    = λ k up down there. false≢true (sym (no_statepoint lines place k up down) ∙ there) in
     let before : head < start_at lines place = elim (cases_lt head (start_at lines place)) [
       | inl less ↦ less
       | inr more ↦ absurd (not_from head more (omega (arith, stands.1)) stands.0)
@@ -175,7 +173,7 @@ before_group lines front place operand base some leave lost = by (start_at lines
         let past = statepoint_past lines head statepoint in
         pairs_lost lines front place head operand base is past
         (λ k low high none. leave k
-            (first_high lines place k (let apart : k ≢ head = (λ same. none-some head (sym none ∙ ap (head_at lines) same ∙ head_here lines head statepoint)) in omega (arith, is)) (omega (arith, past))) high)
+        (first_high lines place k (let apart : k ≢ head = (λ same. none-some head (sym none ∙ ap (head_at lines) same ∙ head_here lines head statepoint)) in omega (arith, is)) (omega (arith, past))) high)
         (lost head is)
 
 pub before_base : (lines : List Line) (front : Pairs) (place : ℕ) (operand : Operand) (base : Wanted) (given : ℕ) → start_at lines place ≡ 0
@@ -236,9 +234,10 @@ from_group lines front place value at head base within found leave_base =
     let is = head_is lines place at head found (omega (arith, low.0, within.low)) within.high in
     pairs_from_group lines front place head (named value) base is.start_is is.past
     (λ k up down none.
-        let apart : k ≢ head = (λ same. none-some head (sym none ∙ ap (head_at lines) same ∙ head_here lines head is.statepoint)) in
-        (named_only lines value at k within.only (λ same. none-some head (sym none ∙ ap (head_at lines) same ∙ found)),
-        leave_base k (first_high lines place k (omega (arith, is.start_is)) (omega (arith, is.past))) down none))
+    let apart : k ≢ head = (λ same. none-some head (sym none ∙ ap (head_at lines) same ∙ head_here lines head is.statepoint)) in (
+      named_only lines value at k within.only (λ same. none-some head (sym none ∙ ap (head_at lines) same ∙ found)),
+      leave_base k (first_high lines place k (omega (arith, is.start_is)) (omega (arith, is.past))) down none,
+    ))
     ∙ group_gives lines head at value (entries_at lines head) base is.statepoint found is.below within.gives within.only
 
 pub group_any : (lines : List Line) (front : Pairs) (place value at head : ℕ) → IsWithin lines place value at → head_at lines at ≡ Some head
@@ -265,8 +264,8 @@ group_without lines front place value at head base outside within found none =
     from_group lines front place value at head (Named (named base)) within found (λ k up down ended. base_not_given lines place (bases.Value base) k none up down)
     ∙ member_none lines head value base (line_in lines at) (line_in lines at).inst.op (entries_at lines head) apart
     (λ entry. relocated_none lines head base entry (entries_at lines head) is.statepoint
-        (λ k below there gives. none k (first_high lines place k (omega (arith, is.start_is)) (omega (arith, is.past)))
-            (member_before lines place head k outside is.start_is there below) gives))
+    (λ k below there gives. none k (first_high lines place k (omega (arith, is.start_is)) (omega (arith, is.past)))
+    (member_before lines place head k outside is.start_is there below) gives))
 
 member_is : (lines : List Line) (head value base : ℕ) (line given : Line) (op : Op) (entries : List Operand)
     → ((entry : ℕ) → relocated_pairs entries (group_in lines head) entry (Named (named base)) ≡ relocates_base entry given)
@@ -281,8 +280,10 @@ group_with lines front place value at head base given within found base_within =
   where
     low : (start_at lines place ≤ first_of lines place) × (phi_count lines ≤ first_of lines place)
     low = first_low lines place
+
     is : IsHead lines place at head
     is = head_is lines place at head found (omega (arith, low.0, within.low)) within.high
+
     by : (other : Option ℕ) → head_at lines given ≡ other → pairs_at lines front place (named value) (Named (named base)) ≡ with_base lines value at base given
     by None none =
         definition_gone lines front place value at base given within base_within none
@@ -305,7 +306,7 @@ value_lost lines place value head base outside is none =
     let statepoint = start_is lines place head is in
     group_gives_none lines head value (entries_at lines head) base statepoint
     (λ k below there gives. none k (first_high lines place k (omega (arith, is)) (omega (arith, statepoint_past lines head statepoint)))
-        (member_before lines place head k outside is there below) gives)
+    (member_before lines place head k outside is there below) gives)
 
 -- ---- of facts
 

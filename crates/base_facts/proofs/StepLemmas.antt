@@ -1,9 +1,8 @@
 -- What a step asks is what the line of the definition gives.
-use Rattle.std.proofs.Common.{◌≡◌, ◌≢◌, ◌∙◌, ◌⊎◌, inl, inr, ℕ, zero, suc, ◌+◌, ◌-◌, ◌<◌, ◌≤◌, cond, Bool, true, false, List, Option, Some, None, refl, ap, sym, subst, slice_get, length, arith, get_or}
+use Rattle.std.proofs.Common.{◌≡◌, ◌∙◌, inl, inr, ℕ, zero, suc, cond, Bool, true, false, List, Option, Some, None, refl, ap, sym, subst, arith}
 use Rattle.std.specs.Prelude.{◌==◌, ◌&&◌, ◌||◌}
-use Rattle.std.specs.Option.{option_map_or}
-use Rattle.std.proofs.lemmas.Bool.{false≢true, cases_Bool, eqb-true, eq-eqb}
-use Rattle.std.proofs.lemmas.Option.{same_Some, slice_get-get_or, get_or_from_slice_get}
+use Rattle.std.proofs.lemmas.Bool.{false≢true, cases_Bool, eqb-true}
+use Rattle.std.proofs.lemmas.Option.{get_or_from_slice_get}
 use Rattle.ir_ast.specs.declared.ops.Operand.{Operand}
 use Rattle.ir_ast.specs.declared.ops.Operand.TheVariants.{Value, Int, Null, Fun}
 use Rattle.ir_ast.specs.declared.ops.Op.{Op}
@@ -13,18 +12,16 @@ use Rattle.ir_ast.specs.Funcs.{Function}
 use Rattle.ir_ast.specs.Types.{is_pointer}
 use Rattle.object_meaning.specs.Lines.{Line}
 use Rattle.object_meaning.specs.Frames.{is_member}
-use Rattle.object_meaning.specs.Jumps.{phi_count}
 use Rattle.pair_facts.specs.declared.bases.Base.{Base}
 use Rattle.pair_facts.specs.declared.bases.Base.TheVariants.{Any, Named}
-use Rattle.pair_facts.specs.Lines.{lines_at, line_in, line_before, no_line, head_at, gives, is_given, named, operand_at, same_operand, is_select}
-use Rattle.pair_facts.specs.Pairs.{Pairs, is_named, is_base_named, own_pairs, without, are_own, follows, follows_named, selected, given_pairs, after}
-use Rattle.pair_facts.specs.Paths.{behind, pairs_at}
-use Rattle.pair_facts.proofs.BoolLemmas.{and_false, or_false, both}
-use Rattle.pair_facts.proofs.FreshLaws.{IsSound, IsLiteral, int, function, pairs_sound}
+use Rattle.pair_facts.specs.Lines.{lines_at, line_in, line_before, no_line, gives, named, operand_at, same_operand, is_select}
+use Rattle.pair_facts.specs.Pairs.{Pairs, is_named, is_base_named, without, are_own, follows, follows_named, selected, given_pairs}
+use Rattle.pair_facts.specs.Paths.{pairs_at}
+use Rattle.pair_facts.proofs.BoolLemmas.{and_false, or_false}
+use Rattle.pair_facts.proofs.FreshLaws.{IsSound, int, function, pairs_sound}
 use Rattle.pair_facts.proofs.PlaceLaws.{behind_line, after_given}
 use Rattle.pair_facts.proofs.GroupLaws.{given_is}
 use Rattle.base_facts.specs.declared.facts.Pointer.{Pointer}
-use Rattle.base_facts.specs.declared.facts.Pointer.TheVariants as pointers
 use Rattle.base_facts.specs.declared.facts.Wanted.{Wanted}
 use Rattle.base_facts.specs.declared.facts.Wanted.TheVariants as bases
 use Rattle.base_facts.specs.declared.facts.Fact.{Fact}
@@ -96,7 +93,7 @@ follow_holds func front block at value (Some line) inst base sound =
     (without value (pairs_at (lines_at func block) front at) (operand_at inst.operands 1) (Named (operand_at line.inst.operands 1)))
     (without value (pairs_at (lines_at func block) front at) (operand_at inst.operands 2) (Named (operand_at line.inst.operands 2)))
     (two_of (asked_without block at value (operand_at inst.operands 1) (Named (operand_at line.inst.operands 1)))
-        (asked_without block at value (operand_at inst.operands 2) (Named (operand_at line.inst.operands 2))))
+    (asked_without block at value (operand_at inst.operands 2) (Named (operand_at line.inst.operands 2))))
     (pair_holds func front block at value (operand_at inst.operands 1) (operand_at inst.operands 2) (Named (operand_at line.inst.operands 1)) (Named (operand_at line.inst.operands 2)) sound)
 
 -- the line before doesn't give the value
@@ -119,13 +116,13 @@ select_holds func front block at value last inst (bases.Value base) sound none =
       let is : value ≡ base = eqb-true value base same in
       ap (λ b. (b && own) || follows_named (without value (pairs_at (lines_at func block) front at)) last inst.operands (named base)) same
       ∙ ap (λ b. own || b) (subst (λ (n : ℕ). follows_named (without value (pairs_at (lines_at func block) front at)) last inst.operands (named n) ≡ false) is
-          (no_follow (without value (pairs_at (lines_at func block) front at)) last inst.operands value none))
+      (no_follow (without value (pairs_at (lines_at func block) front at)) last inst.operands value none))
       ∙ or_false own
       ∙ pair_holds func front block at value (operand_at inst.operands 1) (operand_at inst.operands 2) (Named (operand_at inst.operands 1)) (Named (operand_at inst.operands 2)) sound
       ∙ ap (λ b. step_holds func front (cond b (own_step block at value inst) (follow_step block at value last inst base))) (sym same))
   | inr other ↦
       ap (λ b. (b && are_own (without value (pairs_at (lines_at func block) front at)) inst.operands)
-          || follows_named (without value (pairs_at (lines_at func block) front at)) last inst.operands (named base)) other
+      || follows_named (without value (pairs_at (lines_at func block) front at)) last inst.operands (named base)) other
       ∙ follow_holds func front block at value last inst base sound
       ∙ ap (λ b. step_holds func front (cond b (own_step block at value inst) (follow_step block at value last inst base))) (sym other)
 ]

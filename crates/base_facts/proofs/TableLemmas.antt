@@ -1,11 +1,10 @@
 -- What is found in the tables.
-use Rattle.std.proofs.Common.{◌≡◌, ◌∙◌, ◌⊎◌, inl, inr, ℕ, zero, suc, ◌+◌, ◌-◌, ◌<◌, ◌≤◌, cond, Bool, true, false, List, [], ◌∷◌, ◌++◌, Option, Some, None, MatchOption, refl, ap, sym, subst, slice_get, length, arith, get_or, nat_lt}
+use Rattle.std.proofs.Common.{◌≡◌, ◌∙◌, ◌⊎◌, inl, inr, ℕ, zero, suc, ◌+◌, ◌-◌, ◌<◌, ◌≤◌, cond, Bool, true, false, List, [], ◌∷◌, ◌++◌, Option, Some, None, refl, ap, sym, subst, slice_get, length, arith, get_or, nat_lt}
 use Rattle.std.specs.Prelude.{◌==◌, ◌&&◌, nat_le, slice_index}
 use Rattle.std.specs.Option.{option_map_or}
 use Rattle.std.proofs.lemmas.Bool.{false≢true, cases_lt, cases_Bool, eqb-true, eq-eqb, ltb-true, lt-ltb, leb-true, le-leb}
 use Rattle.std.proofs.lemmas.List.{length_push}
-use Rattle.std.proofs.lemmas.Option.{none-some, same_Some, slice_get_read, slice_get_within, slice_get-get_or}
-use Rattle.list_laws.proofs.Places.{get_pushed}
+use Rattle.std.proofs.lemmas.Option.{none-some, same_Some, slice_get_read, slice_get-get_or}
 use Rattle.ir_ast.specs.Insts.{Instruction}
 use Rattle.ir_ast.specs.Blocks.{BasicBlock}
 use Rattle.ir_ast.specs.Funcs.{Function}
@@ -18,8 +17,8 @@ use Rattle.base_facts.specs.declared.homes.Home.{Home}
 use Rattle.base_facts.specs.declared.notes.Notes.{Notes}
 use Rattle.base_facts.specs.declared.tables.Tables.{Tables}
 use Rattle.base_facts.specs.Homes.{GivesAt, home_at, home_in, KnowsHomes}
-use Rattle.base_facts.specs.Notes.{told, IsNotes}
-use Rattle.base_facts.specs.Tables.{AreNotes, AreTables, IsPlace, first_of, IsWithin, FindsWithin, place_between}
+use Rattle.base_facts.specs.Notes.{IsNotes}
+use Rattle.base_facts.specs.Tables.{AreNotes, AreTables, first_of, IsWithin, FindsWithin, place_between}
 use Rattle.base_facts.proofs.LineLemmas.{plain_none}
 use Rattle.base_facts.proofs.NoteLemmas.{told_at, length-told}
 
@@ -85,6 +84,7 @@ gives_inside func block place value gives = elim (cases_lt block (length func.bl
     past_end [] place past = refl
     past_end (block ∷ blocks) zero past = absurd (omega arith)
     past_end (block ∷ blocks) (suc place) past = past_end blocks place (omega arith)
+
     nothing_at : (place : ℕ) → slice_get {X = Instruction} [] place ≡ None
     nothing_at place = refl
 
@@ -118,13 +118,13 @@ finds_within func homes block place value first home knows found is = elim (case
       subst (λ (b : Bool). FindsWithin (lines_at func block) place value (cond b (Some home.place) None)) (sym holds) here)
   | inr fails ↦ subst (λ (b : Bool). FindsWithin (lines_at func block) place value (cond b (Some home.place) None)) (sym fails)
       (λ at low high gives.
-          let same = same_Some home (home_at block at) (sym found ∙ home_found func homes block at value knows gives) in
-          let own : home.block ≡ block = ap (λ (h : Home). h.block) same in
-          let place_is : home.place ≡ at = ap (λ (h : Home). h.place) same in
-          let found_too : test ≡ true = joined (home.block == block && nat_le first home.place) (nat_lt home.place place)
-              (joined (home.block == block) (nat_le first home.place) (eq-eqb home.block block own) (le-leb first home.place (omega (arith, is, low, place_is))))
-              (lt-ltb home.place place (omega (arith, high, place_is))) in
-          false≢true (sym fails ∙ found_too))
+      let same = same_Some home (home_at block at) (sym found ∙ home_found func homes block at value knows gives) in
+      let own : home.block ≡ block = ap (λ (h : Home). h.block) same in
+      let place_is : home.place ≡ at = ap (λ (h : Home). h.place) same in
+      let found_too : test ≡ true = joined (home.block == block && nat_le first home.place) (nat_lt home.place place)
+      (joined (home.block == block) (nat_le first home.place) (eq-eqb home.block block own) (le-leb first home.place (omega (arith, is, low, place_is))))
+      (lt-ltb home.place place (omega (arith, high, place_is))) in
+      false≢true (sym fails ∙ found_too))
 ]
   where
     test : Bool
@@ -141,12 +141,12 @@ pub home_gives : (func : Function) (homes : List (Option Home)) (block place val
 home_gives func homes block place value home knows found =
     same_tests (gives (line_in (lines_at func block) place) value) (home.block == block && home.place == place)
     (λ given.
-        let same = same_Some home (home_at block place) (sym found ∙ home_found func homes block place value knows (given_is (line_in (lines_at func block) place) value given)) in
-        joined (home.block == block) (home.place == place) (eq-eqb home.block block (ap (λ (h : Home). h.block) same)) (eq-eqb home.place place (ap (λ (h : Home). h.place) same)))
+    let same = same_Some home (home_at block place) (sym found ∙ home_found func homes block place value knows (given_is (line_in (lines_at func block) place) value given)) in
+    joined (home.block == block) (home.place == place) (eq-eqb home.block block (ap (λ (h : Home). h.block) same)) (eq-eqb home.place place (ap (λ (h : Home). h.place) same)))
     (λ here.
-        let two = both (home.block == block) (home.place == place) here in
-        let own : GivesAt func block home.place value = subst (λ (b : ℕ). GivesAt func b home.place value) (eqb-true home.block block two.0) (knows.sound value home found) in
-        gives_is (line_in (lines_at func block) place) value (subst (λ (k : ℕ). GivesAt func block k value) (eqb-true home.place place two.1) own))
+    let two = both (home.block == block) (home.place == place) here in
+    let own : GivesAt func block home.place value = subst (λ (b : ℕ). GivesAt func b home.place value) (eqb-true home.block block two.0) (knows.sound value home found) in
+    gives_is (line_in (lines_at func block) place) value (subst (λ (k : ℕ). GivesAt func block k value) (eqb-true home.place place two.1) own))
 
 pub no_home_gives : (func : Function) (homes : List (Option Home)) (block place value : ℕ) → KnowsHomes func (length func.blocks) 0 homes
     → home_in homes value ≡ None → gives (line_in (lines_at func block) place) value ≡ false

@@ -1,5 +1,5 @@
 -- Asks of pairs, and what answers them.
-use Rattle.std.specs.Prelude.{◌≡◌, ℕ, ◌<◌, ◌≤◌, Bool, true, false, length, MatchBool}
+use Rattle.std.specs.Prelude.{◌≡◌, ◌<◌, ◌≤◌, Bool, false, length, MatchBool}
 use Rattle.ir_ast.specs.Funcs.{Function}
 use Rattle.object_meaning.specs.Frames.{is_member}
 use Rattle.pair_facts.specs.Lines.{lines_at, line_in}

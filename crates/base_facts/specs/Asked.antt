@@ -1,17 +1,16 @@
 -- Facts that were asked, and how they ask one another.
-use Rattle.std.specs.Prelude.{◌≡◌, ◌⊎◌, ℕ, ◌<◌, ◌≤◌, ◌+◌, Bool, true, false, List, [], ◌∷◌, ◌++◌, length, map, Option, Some, None, slice_get}
+use Rattle.std.specs.Prelude.{◌≡◌, ◌⊎◌, ℕ, ◌<◌, ◌≤◌, true, false, List, length, map, Some, slice_get}
 use Rattle.std.specs.List.{Contains}
 use Rattle.ir_ast.specs.Funcs.{Function}
-use Rattle.ir_cfg.specs.Graphs.{graph_of, Edge}
 use Rattle.object_meaning.specs.Jumps.{phi_count}
-use Rattle.pair_facts.specs.Lines.{lines_at, phis_in}
-use Rattle.pair_facts.specs.Pairs.{Pairs, at_entry, on_edge}
-use Rattle.pair_facts.specs.Paths.{pairs_at_end, Arrives}
+use Rattle.pair_facts.specs.Lines.{lines_at}
+use Rattle.pair_facts.specs.Pairs.{Pairs}
+use Rattle.pair_facts.specs.Paths.{Arrives}
 use Rattle.pair_facts.proofs.FreshLaws.{IsSound}
 use Rattle.base_facts.specs.declared.facts.Fact.{Fact}
 use Rattle.base_facts.specs.declared.search.Asked.{Asked}
-use Rattle.base_facts.specs.Facts.{operand_in, base_in, holds}
-use Rattle.base_facts.specs.Settled.{IsSettled, IsDefined}
+use Rattle.base_facts.specs.Facts.{holds}
+use Rattle.base_facts.specs.Settled.{IsSettled}
 
 -- some path leads to the block
 abbrev pub IsReached : Function → ℕ → Type 0

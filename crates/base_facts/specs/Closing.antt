@@ -1,8 +1,8 @@
 -- Facts that have asked for what they need.
-use Rattle.std.specs.Prelude.{◌≡◌, ℕ, ◌<◌, ◌≤◌, true, false, List, length, Some, slice_get}
+use Rattle.std.specs.Prelude.{◌≡◌, ℕ, ◌<◌, true, false, List, length, Some, slice_get}
 use Rattle.std.specs.List.{Contains}
 use Rattle.ir_ast.specs.Funcs.{Function}
-use Rattle.ir_cfg.specs.Graphs.{graph_of, Edge, block_at}
+use Rattle.ir_cfg.specs.Graphs.{graph_of, Edge}
 use Rattle.object_meaning.specs.Frames.{is_member}
 use Rattle.object_meaning.specs.Jumps.{phi_count}
 use Rattle.pair_facts.specs.Lines.{lines_at, line_in, phis_in}
@@ -15,7 +15,6 @@ use Rattle.base_facts.specs.declared.steps.Step.{Step}
 use Rattle.base_facts.specs.declared.steps.Step.TheVariants.{Known, One, Two}
 use Rattle.base_facts.specs.Facts.{operand_in, base_in, holds}
 use Rattle.base_facts.specs.Tables.{IsPlace}
-use Rattle.base_facts.specs.Settled.{IsDefined}
 use Rattle.base_facts.specs.Asked.{IsReached, MissesFact, IsFact, Asks, Grows, IsAsked, MissedBy, Answered}
 
 -- the facts for which a fact asks in a block hold on a path

@@ -1,19 +1,14 @@
 -- Facts, and what settles them.
-use Rattle.std.specs.Prelude.{◌≡◌, ◌⊎◌, ℕ, suc, ◌<◌, ◌≤◌, Bool, true, false, ◌&&◌, List, length, Option, Some, None}
+use Rattle.std.specs.Prelude.{ℕ, Bool, false, Option, Some, None}
 use Rattle.std.specs.Option.{option_map_or}
-use Rattle.sp_ids.specs.declared.ids.ValueId.{ValueId}
 use Rattle.ir_ast.specs.declared.ops.Operand.{Operand}
 use Rattle.ir_ast.specs.declared.ops.Operand.TheVariants.{Value, Int, Null, Fun}
 use Rattle.ir_ast.specs.Funcs.{Function}
-use Rattle.object_meaning.specs.Lines.{Line}
-use Rattle.object_meaning.specs.Frames.{is_member}
-use Rattle.object_meaning.specs.Jumps.{phi_count}
 use Rattle.pair_facts.specs.declared.bases.Base.{Base}
 use Rattle.pair_facts.specs.declared.bases.Base.TheVariants.{Any, Named}
-use Rattle.pair_facts.specs.Lines.{lines_at, line_in, head_at, named}
+use Rattle.pair_facts.specs.Lines.{lines_at, named}
 use Rattle.pair_facts.specs.Pairs.{Pairs}
 use Rattle.pair_facts.specs.Paths.{pairs_at}
-use Rattle.pair_facts.proofs.FreshLaws.{IsSound}
 use Rattle.base_facts.specs.declared.facts.Pointer.{Pointer}
 use Rattle.base_facts.specs.declared.facts.Pointer.TheVariants as pointers
 use Rattle.base_facts.specs.declared.facts.Wanted.{Wanted}

@@ -1,5 +1,5 @@
 -- What is known of an ask before the facts have asked one another.
-use Rattle.std.specs.Prelude.{◌≡◌, ℕ, Bool, true, false, not, List, take, slice_index_or}
+use Rattle.std.specs.Prelude.{◌≡◌, ℕ, Bool, false, not, List, take, slice_index_or}
 use Rattle.std.specs.List.{AllZip}
 use Rattle.ir_ast.specs.Funcs.{Function}
 use Rattle.pair_facts.specs.Lines.{lines_at}

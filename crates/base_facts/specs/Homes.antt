@@ -1,5 +1,5 @@
 -- Where the values of a function are defined.
-use Rattle.std.specs.Prelude.{◌≡◌, ◌⊎◌, ℕ, ◌<◌, List, [], length, take, Option, Some, None, slice_get, slice_index, slice_index_or}
+use Rattle.std.specs.Prelude.{◌≡◌, ◌⊎◌, ℕ, ◌<◌, List, length, take, Option, Some, None, slice_index, slice_index_or}
 use Rattle.ir_ast.specs.Funcs.{Function}
 use Rattle.object_meaning.specs.Lines.{after_all, registers_of, insts_in}
 use Rattle.pair_facts.specs.Lines.{lines_at, line_in}

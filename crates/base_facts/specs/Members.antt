@@ -1,5 +1,5 @@
 -- What the lines of a group give, by their instructions.
-use Rattle.std.specs.Prelude.{ℕ, Bool, true, false, ◌==◌, ◌&&◌, slice_get}
+use Rattle.std.specs.Prelude.{ℕ, Bool, false, ◌==◌, ◌&&◌, slice_get}
 use Rattle.ir_ast.specs.declared.ops.Op.{Op}
 use Rattle.ir_ast.specs.declared.ops.Op.TheVariants.{GcResult, GcRelocate}
 use Rattle.ir_ast.specs.Insts.{Instruction}

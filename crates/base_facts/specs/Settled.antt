@@ -1,6 +1,5 @@
 -- What a fact comes to in its block.
 use Rattle.std.specs.Prelude.{◌≡◌, ◌⊎◌, ℕ, suc, ◌<◌, ◌≤◌, Bool, true, false, nat_lt, List, length, Option, Some, None, if◌then◌else◌}
-use Rattle.ir_ast.specs.declared.ops.Operand.{Operand}
 use Rattle.ir_ast.specs.Funcs.{Function}
 use Rattle.object_meaning.specs.Lines.{Line}
 use Rattle.object_meaning.specs.Jumps.{phi_count}
@@ -9,7 +8,6 @@ use Rattle.pair_facts.specs.Pairs.{Pairs, is_named, after_group}
 use Rattle.pair_facts.specs.Segments.{start_at}
 use Rattle.pair_facts.specs.Uses.{entries_at}
 use Rattle.pair_facts.proofs.FreshLaws.{IsSound}
-use Rattle.base_facts.specs.declared.facts.Pointer.{Pointer}
 use Rattle.base_facts.specs.declared.facts.Pointer.TheVariants as pointers
 use Rattle.base_facts.specs.declared.facts.Wanted.{Wanted}
 use Rattle.base_facts.specs.declared.facts.Wanted.TheVariants as bases

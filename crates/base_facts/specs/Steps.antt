@@ -1,5 +1,5 @@
 -- What a fact directly behind the definition of its pointer asks before that line.
-use Rattle.std.specs.Prelude.{◌≡◌, ℕ, Bool, true, false, ◌==◌, ◌&&◌, ◌||◌, ◌-◌, List, Option, Some, None, if◌then◌else◌}
+use Rattle.std.specs.Prelude.{◌≡◌, ℕ, Bool, false, ◌==◌, ◌&&◌, ◌||◌, ◌-◌, List, Option, Some, None, if◌then◌else◌}
 use Rattle.ir_ast.specs.declared.ops.Operand.{Operand}
 use Rattle.ir_ast.specs.declared.ops.Op.{Op}
 use Rattle.ir_ast.specs.declared.ops.Op.TheVariants.{Select, Gep, Load}
@@ -48,7 +48,7 @@ module _ (block at value : ℕ) where
   merged inst last given =
       if given && is_merge_of last inst
       then two_of (asked_without block at value (operand_at inst.operands 1) (Named (operand_at last.operands 1)))
-          (asked_without block at value (operand_at inst.operands 2) (Named (operand_at last.operands 2)))
+      (asked_without block at value (operand_at inst.operands 2) (Named (operand_at last.operands 2)))
       else Known false
 
   abbrev pub follow_step : Option Line → Instruction → ℕ → Step

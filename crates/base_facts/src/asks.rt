@@ -121,7 +121,12 @@ fn find(
     if !cfg.reached(ask.block) {
         return Ok(Found::Known(true));
     }
-    match fact_at(ask.block.0 as usize, ask.place as usize, ask.pointer, ask.base) {
+    match fact_at(
+        ask.block.0 as usize,
+        ask.place as usize,
+        ask.pointer,
+        ask.base,
+    ) {
         None => Ok(Found::Known(false)),
         Some(fact) => find_fact(alloc, func, tables, asked, fact),
     }

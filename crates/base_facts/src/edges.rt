@@ -16,18 +16,30 @@ use sp_ids::{BlockId, ValueId};
 
 /// What a fact is at the end of a block from which an edge leads to its block, behind whose phis it stands: none where it
 /// names a literal there.
-pub(crate) fn along_edge(func: &Func, tables: &Tables, from: BlockId, place: usize, fact: Fact) -> Option<Fact>
+pub(crate) fn along_edge(
+    func: &Func,
+    tables: &Tables,
+    from: BlockId,
+    place: usize,
+    fact: Fact,
+) -> Option<Fact>
     requires tables { AreTables func.now.content tables.now }
     requires block { fact.block < length func.now.content.blocks }
     ensures { let phis = phis_in (lines_at func.now.content fact.block) in
-      result ≡ fact_at from.0 place (along from.0 phis (operand_in fact.pointer)) (base_along from.0 phis (base_in fact.base)) }
+        result ≡ fact_at from.0 place (along from.0 phis (operand_in fact.pointer)) (base_along from.0 phis (base_in fact.base)) }
 {
     let operand = pointer_along(func, tables, from, fact.block, fact.pointer);
     let base = wanted_along(func, tables, from, fact.block, fact.base);
     fact_at(from.0 as usize, place, operand, base)
 }
 
-fn pointer_along(func: &Func, tables: &Tables, from: BlockId, block: usize, pointer: Pointer) -> Operand
+fn pointer_along(
+    func: &Func,
+    tables: &Tables,
+    from: BlockId,
+    block: usize,
+    pointer: Pointer,
+) -> Operand
     requires tables { AreTables func.now.content tables.now }
     requires block { block < length func.now.content.blocks }
     ensures { result ≡ along from.0 (phis_in (lines_at func.now.content block)) (operand_in pointer) }

@@ -114,7 +114,7 @@ pub(crate) fn is_fresh_member(func: &Func, block: usize, value: u32, at: usize, 
     requires head { head < length (lines_at func.now.content block) }
     requires statepoint { is_statepoint (line_in (lines_at func.now.content block) head).inst.op ≡ true }
     ensures { let lines = lines_at func.now.content block in
-      result ≡ member_pairs (entries_at lines head) (group_in lines head) value (line_in lines at) (line_in lines at).inst.op Any }
+        result ≡ member_pairs (entries_at lines head) (group_in lines head) value (line_in lines at) (line_in lines at).inst.op Any }
 {
     let inst = inst_at(func, block, at);
     match inst.op() {
@@ -129,7 +129,7 @@ fn is_fresh_entry(func: &Func, block: usize, head: usize, entry: u64) -> bool
     requires head { head < length (lines_at func.now.content block) }
     requires statepoint { is_statepoint (line_in (lines_at func.now.content block) head).inst.op ≡ true }
     ensures { let lines = lines_at func.now.content block in
-      result ≡ relocated_pairs (entries_at lines head) (group_in lines head) entry Any }
+        result ≡ relocated_pairs (entries_at lines head) (group_in lines head) entry Any }
 {
     has_base(func, block, head, entry) || is_null_entry(func, block, head, entry)
 }
@@ -140,7 +140,7 @@ pub(crate) fn is_null_member(func: &Func, block: usize, value: u32, at: usize, h
     requires at { at < length (lines_at func.now.content block) }
     requires head { head < length (lines_at func.now.content block) }
     ensures { let lines = lines_at func.now.content block in
-      result ≡ member_pairs (entries_at lines head) (group_in lines head) value (line_in lines at) (line_in lines at).inst.op (Named Operand.Null) }
+        result ≡ member_pairs (entries_at lines head) (group_in lines head) value (line_in lines at) (line_in lines at).inst.op (Named Operand.Null) }
 {
     let inst = inst_at(func, block, at);
     match inst.op() {
@@ -162,7 +162,7 @@ pub(crate) fn is_based_member(
     requires at { at < length (lines_at func.now.content block) }
     requires given { given < length (lines_at func.now.content block) }
     ensures { let lines = lines_at func.now.content block in
-      result ≡ member_named value (line_in lines at) (line_in lines at).inst.op base (line_in lines given) }
+        result ≡ member_named value (line_in lines at) (line_in lines at).inst.op base (line_in lines given) }
 {
     let inst = inst_at(func, block, at);
     match inst.op() {

@@ -28,7 +28,7 @@ pub(crate) fn step_of(func: &Func, tables: &Tables, fact: Fact, value: u32, at: 
     requires block { fact.block < length func.now.content.blocks }
     requires at { at < length (lines_at func.now.content fact.block) }
     ensures { let lines = lines_at func.now.content fact.block in
-      result ≡ step_for fact.block at value (line_before lines at) (line_in lines at).inst (line_in lines at).inst.op fact.base }
+        result ≡ step_for fact.block at value (line_before lines at) (line_in lines at).inst (line_in lines at).inst.op fact.base }
 {
     let inst = inst_at(func, fact.block, at);
     match inst.op() {
@@ -118,14 +118,7 @@ fn two(first: Option<Fact>, second: Option<Fact>) -> Step
     }
 }
 
-fn select_step(
-    func: &Func,
-    tables: &Tables,
-    fact: Fact,
-    value: u32,
-    at: usize,
-    inst: &Inst,
-) -> Step
+fn select_step(func: &Func, tables: &Tables, fact: Fact, value: u32, at: usize, inst: &Inst) -> Step
     requires tables { AreTables func.now.content tables.now }
     requires block { fact.block < length func.now.content.blocks }
     requires at { at < length (lines_at func.now.content fact.block) }

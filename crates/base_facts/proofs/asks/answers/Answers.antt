@@ -1,4 +1,4 @@
-use Rattle.std.proofs.Common.{◌≡◌, ◌∙◌, ℕ, Bool, List, map, sym, ap, subst, refl, length, arith, take, take_all}
+use Rattle.std.proofs.Common.{◌≡◌, ◌∙◌, Bool, List, map, sym, ap, subst, arith, take, take_all}
 use Rattle.std.specs.List.{AllZip}
 use Rattle.std.proofs.lemmas.Option.{slice_get-get_or}
 use Rattle.base_facts.specs.declared.asks.Ask.{Ask}
@@ -39,7 +39,7 @@ returns c =
     let before = subst (λ (xs : List Ask). AllZip (IsFound func c.loop-ask.asked) xs found) all c.loop-ask.invariant.found in
     ok_map c.told.result _ _
     (λ answers is.
-        subst (λ (xs : List Bool). AllZip (IsAnswered func) asks xs)
-        (sym (is ∙ ap (λ (ms : List Bool). map (told_by ms) c.deref.result.now) c.deref-2.ensures.value ∙ ap (map (told_by marks)) c.deref.ensures.value))
-        (told_all func c.close.new.asked marks asks found c.in_ok-close.ensures.asked c.in_ok-close.ensures.closed c.in_ok-marks.ensures
-        (all_grow func c.loop-ask.asked c.close.new.asked asks found c.in_ok-close.ensures.grows before))) c.told.ensures
+    subst (λ (xs : List Bool). AllZip (IsAnswered func) asks xs)
+    (sym (is ∙ ap (λ (ms : List Bool). map (told_by ms) c.deref.result.now) c.deref-2.ensures.value ∙ ap (map (told_by marks)) c.deref.ensures.value))
+    (told_all func c.close.new.asked marks asks found c.in_ok-close.ensures.asked c.in_ok-close.ensures.closed c.in_ok-marks.ensures
+    (all_grow func c.loop-ask.asked c.close.new.asked asks found c.in_ok-close.ensures.grows before))) c.told.ensures

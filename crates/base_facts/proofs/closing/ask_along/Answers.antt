@@ -1,4 +1,4 @@
-use Rattle.std.proofs.Common.{◌∙◌, sym, subst, length}
+use Rattle.std.proofs.Common.{◌∙◌, sym, subst}
 use Rattle.std.proofs.lemmas.Option.{slice_get_within}
 use Rattle.base_facts.specs.Asked.{MissesFact}
 use Rattle.base_facts.proofs.ClosingLemmas.{can_ask_along, asked_along, misses_along, failed_along, one_fact, ok_map}
@@ -8,7 +8,7 @@ pub ask-requires : goal.ask-requires
 ask-requires c =
     let func = c.args.func.now.content in
     let can = can_ask_along func c.args.asked.now c.args.number c.args.fact c.in-Some.other c.args.from.0 c.count_insts-end.result c.requires.front c.requires.edge c.requires.reached
-        c.requires.stands c.count_insts-end.ensures (sym c.in-Some.is ∙ c.along_edge.ensures) in
+    c.requires.stands c.count_insts-end.ensures (sym c.in-Some.is ∙ c.along_edge.ensures) in
     record {
       tables = c.requires.tables;
       place = can.place;
@@ -34,7 +34,7 @@ returns-in-Some c =
     let func = c.args.func.now.content in
     ok_map c.ask.result _ _
     (λ x has. asked_along func c.args.number c.args.fact c.in-Some.other c.args.from.0 c.count_insts-end.result c.args.asked.now c.ask.new.asked c.count_insts-end.ensures
-        (sym c.in-Some.is ∙ c.along_edge.ensures) has) c.ask.ensures
+    (sym c.in-Some.is ∙ c.along_edge.ensures) has) c.ask.ensures
 
 pub returns-in-None : goal.returns-in-None
 returns-in-None c =

@@ -1,4 +1,4 @@
-use Rattle.std.proofs.Common.{◌≡◌, ◌∙◌, ℕ, Bool, true, false, List, map, Some, sym, ap, subst, refl, slice_get, length, arith}
+use Rattle.std.proofs.Common.{◌≡◌, ◌∙◌, ℕ, false, List, map, sym, ap, subst, slice_get, length, arith}
 use Rattle.std.specs.Prelude.{slice_index_or}
 use Rattle.std.proofs.lemmas.List.{length-map}
 use Rattle.std.proofs.lemmas.Option.{slice_get-get_or}
@@ -26,7 +26,7 @@ ask_if_reached-requires-clause-edge c =
     let items = c.preds-pred-items.result.now in
     let none : BlockId = record { 0 = 0 } in
     let preds : items ≡ preds_of graph c.args.fact.block =
-        c.preds-pred-items.ensures ∙ ap (λ (g : Graph). preds_of g c.block_id.result.0) c.requires.edges ∙ ap (preds_of graph) c.block_id.ensures in
+    c.preds-pred-items.ensures ∙ ap (λ (g : Graph). preds_of g c.block_id.result.0) c.requires.edges ∙ ap (preds_of graph) c.block_id.ensures in
     edge_of_pred graph (slice_index_or items c.loop-pred.pred-index none).0 c.args.fact.block c.loop-pred.pred-index
     (ap (λ (xs : List BlockId). slice_get xs c.loop-pred.pred-index) (sym preds) ∙ slice_get-get_or items c.loop-pred.pred-index none c.loop-pred-test.true)
 
@@ -47,7 +47,7 @@ returns c =
     let items = c.preds-pred-items.result.now in
     let numbers = map (λ (label : BlockId). label.0) items in
     let preds : items ≡ preds_of graph c.args.fact.block =
-        c.preds-pred-items.ensures ∙ ap (λ (g : Graph). preds_of g c.block_id.result.0) c.requires.edges ∙ ap (preds_of graph) c.block_id.ensures in
+    c.preds-pred-items.ensures ∙ ap (λ (g : Graph). preds_of g c.block_id.result.0) c.requires.edges ∙ ap (preds_of graph) c.block_id.ensures in
     let all : c.loop-pred.pred-index ≡ length numbers = omega (arith, length-map items (λ (label : BlockId). label.0)) in
     front_closed func c.args.number c.args.fact numbers c.args.asked.now c.loop-pred.asked c.requires.front
     (λ entry. elim c.else-fact-eq0.branch [
@@ -55,6 +55,6 @@ returns c =
       | else-fact-eq0-via-else-fact-eq0 w ↦ absurd (w.if-fact-eq0.false entry)
     ])
     (λ from edge.
-        let pred = pred_of_edge graph from c.args.fact.block edge in
-        (pred.0, get_map (λ (label : BlockId). label.0) items pred.0 (block_at from) (ap (λ (xs : List BlockId). slice_get xs pred.0) preds ∙ pred.1)))
+    let pred = pred_of_edge graph from c.args.fact.block edge in
+    (pred.0, get_map (λ (label : BlockId). label.0) items pred.0 (block_at from) (ap (λ (xs : List BlockId). slice_get xs pred.0) preds ∙ pred.1)))
     (subst (λ (n : ℕ). AskedBefore func c.args.number c.args.fact numbers n c.args.asked.now c.loop-pred.asked) all c.loop-pred.invariant)

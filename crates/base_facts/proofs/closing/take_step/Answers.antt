@@ -30,4 +30,4 @@ pub returns-in_ok-ask-in-Two : goal.returns-in_ok-ask-in-Two
 returns-in_ok-ask-in-Two c =
     ok_map c.ask-in-Two-2.result _ _
     (λ x has. stepped_two c.args.func.now.content c.args.number c.args.step c.in-Two.first c.in-Two.second c.args.asked.now c.ask-in-Two.new.asked c.ask-in-Two-2.new.asked
-        c.in-Two.is c.in_ok-ask-in-Two.ensures has) c.ask-in-Two-2.ensures
+    c.in-Two.is c.in_ok-ask-in-Two.ensures has) c.ask-in-Two-2.ensures

@@ -1,4 +1,4 @@
-use Rattle.std.proofs.Common.{◌≡◌, ◌∙◌, ap, sym, subst, Option, None, ℕ}
+use Rattle.std.proofs.Common.{◌∙◌, ap, sym, subst, Option, ℕ}
 use Rattle.ir_ast.specs.Insts.{Instruction}
 use Rattle.pair_facts.specs.Lines.{lines_at}
 use Rattle.pair_facts.specs.Pairs.{incoming}

@@ -1,9 +1,7 @@
-use Rattle.std.proofs.Common.{◌≡◌, ◌∙◌, sym, ap, length, refl, slice_get, List, arith, Some, true, false, Bool}
+use Rattle.std.proofs.Common.{◌≡◌, ◌∙◌, sym, ap, length, arith, true, false}
 use Rattle.ir_ast.specs.Insts.{Instruction}
-use Rattle.ir_ast.specs.Blocks.{BasicBlock}
 use Rattle.object_meaning.specs.Frames.{is_member}
-use Rattle.pair_facts.specs.Lines.{lines_at, line_in}
-use Rattle.pair_facts.specs.Pairs.{relocates_base}
+use Rattle.pair_facts.specs.Lines.{lines_at}
 use Rattle.base_facts.specs.Members.{relocates_base_of}
 use Rattle.base_facts.proofs.MemberLemmas.{insts_within, count_lines, inst_read, block_read, no_base_ended, no_base_at_end, base_found, others_more}
 use Rattle.base_facts.proofs.members.has_base.Goals as goal

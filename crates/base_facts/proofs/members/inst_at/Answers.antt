@@ -1,5 +1,4 @@
-use Rattle.std.proofs.Common.{◌≡◌, ◌∙◌, sym, ap, length, refl, slice_get, List, arith, Some}
-use Rattle.ir_ast.specs.Blocks.{BasicBlock}
+use Rattle.std.proofs.Common.{sym, ap, length, arith}
 use Rattle.base_facts.proofs.MemberLemmas.{insts_within, count_lines, inst_read, block_read}
 use Rattle.base_facts.proofs.members.inst_at.Goals as goal
 

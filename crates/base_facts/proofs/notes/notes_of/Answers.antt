@@ -1,4 +1,4 @@
-use Rattle.std.proofs.Common.{◌≡◌, ◌∙◌, ℕ, suc, cond, sym, ap, refl, List, length, slice_get, arith, Some}
+use Rattle.std.proofs.Common.{◌≡◌, ◌∙◌, suc, cond, sym, ap, refl, List, length, slice_get, arith, Some}
 use Rattle.std.specs.Prelude.{slice_index}
 use Rattle.std.specs.List.{prefix_len}
 use Rattle.std.proofs.lemmas.Option.{slice_get_read}
@@ -17,8 +17,8 @@ loop-place-preserved c =
     let func = c.args.func.now.content in
     let same = c.insts-inst-items.ensures.value ∙ sym (insts_are func c.args.number c.args.block.now c.requires) in
     let at : slice_get (insts_in func c.args.number) c.loop-place.place ≡ Some c.inst-item.result =
-        ap (λ (insts : List Instruction). slice_get insts c.loop-place.place) (sym same)
-        ∙ slice_get_read c.insts-inst-items.result.now (length c.insts-inst-items.result.now) c.loop-place.place c.inst-item.result refl c.loop-place-test.true c.inst-item.is in
+    ap (λ (insts : List Instruction). slice_get insts c.loop-place.place) (sym same)
+    ∙ slice_get_read c.insts-inst-items.result.now (length c.insts-inst-items.result.now) c.loop-place.place c.inst-item.result refl c.loop-place-test.true c.inst-item.is in
     noted_more func c.args.number c.loop-place.place c.loop-place.start _ c.loop-place.head _ c.loop-place.starts.items _ c.loop-place.heads.items _ c.inst-item.result at
     c.in_ok-push.ensures.items
     (c.head_here-head.ensures ∙ ap (λ (op : Op). head_here op c.loop-place.place c.loop-place.head) c.op.ensures)

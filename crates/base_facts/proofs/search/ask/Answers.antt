@@ -1,9 +1,7 @@
-use Rattle.std.proofs.Common.{◌≡◌, ◌∙◌, ap, sym, subst, length, arith}
+use Rattle.std.proofs.Common.{subst, arith}
 use Rattle.std.proofs.lemmas.Option.{slice_get_within}
-use Rattle.base_facts.specs.declared.settle.Answer.{Answer}
-use Rattle.base_facts.specs.Asked.{HasAsked}
 use Rattle.base_facts.specs.Settled.{Settles}
-use Rattle.base_facts.proofs.AskedLemmas.{never_missed, always_asked, never_asked, other_asked}
+use Rattle.base_facts.proofs.AskedLemmas.{never_missed, other_asked}
 use Rattle.base_facts.proofs.search.ask.Goals as goal
 
 pub fail-requires-clause-misses : goal.fail-requires-clause-misses
@@ -15,7 +13,6 @@ pub add_asker-requires : goal.add_asker-requires
 add_asker-requires c =
     let numbered = c.in_ok-number-in-Asks.ensures in
     omega (arith, numbered.same, slice_get_within c.number_of.new.asked.facts.keys c.in_ok-number-in-Asks.number c.in-Asks.other numbered.stands)
-
 
 pub returns-in_ok-add_asker-in-Asks : goal.returns-in_ok-add_asker-in-Asks
 returns-in_ok-add_asker-in-Asks c =

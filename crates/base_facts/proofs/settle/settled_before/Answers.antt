@@ -1,4 +1,4 @@
-use Rattle.std.proofs.Common.{◌≡◌, ◌<◌, ◌∙◌, sym, ap, subst, length, refl, Option, Some, None, arith, ℕ}
+use Rattle.std.proofs.Common.{◌≡◌, ◌<◌, ◌∙◌, ap, subst, Option, arith, ℕ}
 use Rattle.pair_facts.specs.Lines.{lines_at}
 use Rattle.pair_facts.specs.Segments.{start_at}
 use Rattle.base_facts.specs.declared.facts.Fact.{Fact}

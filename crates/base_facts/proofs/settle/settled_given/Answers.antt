@@ -1,6 +1,4 @@
-use Rattle.std.proofs.Common.{◌≡◌, ◌∙◌, sym, ap, subst, arith}
-use Rattle.pair_facts.specs.Lines.{lines_at}
-use Rattle.base_facts.specs.declared.settle.Answer.{Answer}
+use Rattle.std.proofs.Common.{◌∙◌, sym, subst}
 use Rattle.base_facts.specs.Settled.{Settles}
 use Rattle.base_facts.proofs.SettleLemmas.{settles_defined}
 use Rattle.base_facts.proofs.settle.settled_given.Goals as goal

@@ -1,5 +1,5 @@
-use Rattle.std.proofs.Common.{◌≡◌, ◌∙◌, sym, ap, subst, Option, None, ℕ, false, arith}
-use Rattle.pair_facts.specs.Lines.{lines_at, group_in, named}
+use Rattle.std.proofs.Common.{◌≡◌, sym, subst, Option, ℕ, false}
+use Rattle.pair_facts.specs.Lines.{lines_at, group_in}
 use Rattle.pair_facts.specs.Pairs.{after_group}
 use Rattle.pair_facts.specs.Uses.{entries_at}
 use Rattle.base_facts.specs.declared.facts.Pointer.{Pointer}

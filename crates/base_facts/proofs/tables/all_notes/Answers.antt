@@ -1,6 +1,3 @@
-use Rattle.std.proofs.Common.{◌≡◌, ◌∙◌, sym, ap, subst, refl, List, ◌++◌, ◌∷◌, [], length, slice_get, ◌+◌}
-use Rattle.base_facts.specs.declared.notes.Notes.{Notes}
-use Rattle.base_facts.specs.Tables.{AreNotes}
 use Rattle.base_facts.proofs.TableLemmas.{notes_pushed}
 use Rattle.base_facts.proofs.tables.all_notes.Goals as goal
 

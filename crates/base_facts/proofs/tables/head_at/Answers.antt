@@ -1,4 +1,4 @@
-use Rattle.std.proofs.Common.{suc, ap, length, arith, ◌∙◌}
+use Rattle.std.proofs.Common.{ap, length, arith, ◌∙◌}
 use Rattle.pair_facts.specs.Lines.{lines_at, head_at}
 use Rattle.base_facts.proofs.NoteLemmas.{length-told}
 use Rattle.base_facts.proofs.TableLemmas.{notes_read, head_read}
