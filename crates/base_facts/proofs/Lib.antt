@@ -1,0 +1,12 @@
+pub mod LineLemmas
+pub mod HomeLemmas
+pub mod NoteLemmas
+pub mod TableLemmas
+pub mod SettleLemmas
+pub mod MemberLemmas
+pub mod StepLemmas
+pub mod PredLemmas
+pub mod EdgeLemmas
+pub mod AskedLemmas
+pub mod ClosingLemmas
+pub mod FinalLemmas

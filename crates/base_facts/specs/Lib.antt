@@ -1,0 +1,12 @@
+pub mod Homes
+pub mod Notes
+pub mod Tables
+pub mod Facts
+pub mod Members
+pub mod Settled
+pub mod Steps
+pub mod Edges
+pub mod Asked
+pub mod Closing
+pub mod Answers
+pub mod Found

@@ -1,0 +1,173 @@
+ghost use Rattle.std.specs.Prelude.{◌≡◌, ◌<◌, true, length, drop, slice_get};
+ghost use Rattle.ir_ast.specs.Types.{is_pointer};
+ghost use Rattle.ir_ast.specs.Faults.GroupShape.{entries_of, is_statepoint};
+ghost use Rattle.object_meaning.specs.Frames.{index_in, is_member};
+ghost use Rattle.pair_facts.specs.declared.bases.Base.TheVariants.{Any, Named};
+ghost use Rattle.pair_facts.specs.Lines.{lines_at, line_in, group_in, is_null, operand_at};
+ghost use Rattle.pair_facts.specs.Pairs.{relocates_base, has_base, relocated_pairs, member_pairs};
+ghost use Rattle.pair_facts.specs.Uses.{entries_at};
+ghost use Rattle.base_facts.specs.Members.{relocates_base_of, member_named};
+
+use ir_ast::{Func, Inst, Op, Operand, Ty};
+
+/// The instruction at a place of a block.
+pub(crate) fn inst_at(func: &Func, block: usize, place: usize) -> &Inst
+    requires block { block < length func.now.content.blocks }
+    requires place { place < length (lines_at func.now.content block) }
+    ensures { result.now ≡ (line_in (lines_at func.now.content block) place).inst }
+{
+    &func.blocks()[block].insts()[place]
+}
+
+pub(crate) fn is_pointer(ty: &Ty) -> bool
+    ensures { result ≡ is_pointer ty.now }
+{
+    matches!(ty, Ty::Ptr)
+}
+
+pub(crate) fn operand_at(operands: &[Operand], place: usize) -> Operand
+    ensures { result ≡ operand_at operands.now place }
+{
+    operands.get(place).copied().unwrap_or(Operand::Int(0))
+}
+
+pub(crate) fn is_null(operand: Operand) -> bool
+    ensures { result ≡ is_null operand }
+{
+    matches!(operand, Operand::Null)
+}
+
+/// The "gc-live" entries of a statepoint.
+pub(crate) fn entries_of(inst: &Inst) -> &[Operand]
+    ensures { result.now ≡ entries_of inst.now }
+{
+    match inst.op() {
+        Op::Statepoint { types, .. } => behind(inst.operands(), types.list().len()),
+        _ => &[],
+    }
+}
+
+fn behind(operands: &[Operand], count: usize) -> &[Operand]
+    ensures { result.now ≡ drop count operands.now }
+{
+    if count <= operands.len() {
+        &operands[count..]
+    } else {
+        &[]
+    }
+}
+
+/// The number at a place of the operands of a result or a relocate.
+pub(crate) fn index_at(inst: &Inst, place: usize) -> u64
+    ensures { result ≡ index_in (slice_get inst.now.operands place) }
+{
+    match inst.operands().get(place) {
+        Some(Operand::Int(number)) => *number,
+        _ => 0,
+    }
+}
+
+fn is_relocate_of_base(inst: &Inst, entry: u64) -> bool
+    ensures { result ≡ relocates_base_of entry inst.now }
+{
+    matches!(inst.op(), Op::GcRelocate) && index_at(inst, 1) == entry && index_at(inst, 2) == entry
+}
+
+fn is_member(op: &Op) -> bool
+    ensures { result ≡ is_member op.now }
+{
+    matches!(op, Op::GcResult | Op::GcRelocate)
+}
+
+/// Whether a relocate of the group keeps this entry as a base.
+pub(crate) fn has_base(func: &Func, block: usize, head: usize, entry: u64) -> bool
+    requires block { block < length func.now.content.blocks }
+    requires head { head < length (lines_at func.now.content block) }
+    requires statepoint { is_statepoint (line_in (lines_at func.now.content block) head).inst.op ≡ true }
+    ensures { result ≡ has_base (group_in (lines_at func.now.content block) head) entry }
+{
+    let insts = func.blocks()[block].insts();
+    for place in head + 1..insts.len() {
+        let inst = &insts[place];
+        if !is_member(inst.op()) {
+            return false;
+        }
+        if is_relocate_of_base(inst, entry) {
+            return true;
+        }
+    }
+    false
+}
+
+fn is_null_entry(func: &Func, block: usize, head: usize, entry: u64) -> bool
+    requires block { block < length func.now.content.blocks }
+    requires head { head < length (lines_at func.now.content block) }
+    ensures { result ≡ is_null (operand_at (entries_at (lines_at func.now.content block) head) entry) }
+{
+    is_null(operand_at(entries_of(inst_at(func, block, head)), entry as usize))
+}
+
+/// Whether a line of a group gives a fresh pointer.
+pub(crate) fn is_fresh_member(func: &Func, block: usize, value: u32, at: usize, head: usize) -> bool
+    requires block { block < length func.now.content.blocks }
+    requires at { at < length (lines_at func.now.content block) }
+    requires head { head < length (lines_at func.now.content block) }
+    requires statepoint { is_statepoint (line_in (lines_at func.now.content block) head).inst.op ≡ true }
+    ensures { let lines = lines_at func.now.content block in
+        result ≡ member_pairs (entries_at lines head) (group_in lines head) value (line_in lines at) (line_in lines at).inst.op Any }
+{
+    let inst = inst_at(func, block, at);
+    match inst.op() {
+        Op::GcResult => is_pointer(inst.ty()),
+        Op::GcRelocate => is_fresh_entry(func, block, head, index_at(inst, 1)),
+        _ => false,
+    }
+}
+
+fn is_fresh_entry(func: &Func, block: usize, head: usize, entry: u64) -> bool
+    requires block { block < length func.now.content.blocks }
+    requires head { head < length (lines_at func.now.content block) }
+    requires statepoint { is_statepoint (line_in (lines_at func.now.content block) head).inst.op ≡ true }
+    ensures { let lines = lines_at func.now.content block in
+        result ≡ relocated_pairs (entries_at lines head) (group_in lines head) entry Any }
+{
+    has_base(func, block, head, entry) || is_null_entry(func, block, head, entry)
+}
+
+/// Whether a line of a group gives a pointer whose base is `null`.
+pub(crate) fn is_null_member(func: &Func, block: usize, value: u32, at: usize, head: usize) -> bool
+    requires block { block < length func.now.content.blocks }
+    requires at { at < length (lines_at func.now.content block) }
+    requires head { head < length (lines_at func.now.content block) }
+    ensures { let lines = lines_at func.now.content block in
+        result ≡ member_pairs (entries_at lines head) (group_in lines head) value (line_in lines at) (line_in lines at).inst.op (Named Operand.Null) }
+{
+    let inst = inst_at(func, block, at);
+    match inst.op() {
+        Op::GcRelocate => is_null_entry(func, block, head, index_at(inst, 1)),
+        _ => false,
+    }
+}
+
+/// Whether a line of a group gives a pointer whose base is given by this line of the group.
+pub(crate) fn is_based_member(
+    func: &Func,
+    block: usize,
+    value: u32,
+    at: usize,
+    base: u32,
+    given: usize,
+) -> bool
+    requires block { block < length func.now.content.blocks }
+    requires at { at < length (lines_at func.now.content block) }
+    requires given { given < length (lines_at func.now.content block) }
+    ensures { let lines = lines_at func.now.content block in
+        result ≡ member_named value (line_in lines at) (line_in lines at).inst.op base (line_in lines given) }
+{
+    let inst = inst_at(func, block, at);
+    match inst.op() {
+        Op::GcResult => is_pointer(inst.ty()) && value == base,
+        Op::GcRelocate => is_relocate_of_base(inst_at(func, block, given), index_at(inst, 1)),
+        _ => false,
+    }
+}

@@ -1,0 +1,6 @@
+pub mod BoolLemmas
+pub mod FreshLaws
+pub mod PlaceLaws
+pub mod GroupLaws
+pub mod OwnLaws
+mod Samples
