@@ -211,7 +211,7 @@ module _ (func : Function) where
         ∙ (ap (λ all. all ++ []) (given_append (take place (instructions_of func.blocks)) (inst ∷ drop (place + 1) (instructions_of func.blocks)))
         ∙ append_assoc (given_by (take place (instructions_of func.blocks))) (given_by (inst ∷ drop (place + 1) (instructions_of func.blocks))) []))
 
-    start_number : (place : ℕ) (inst : Instruction) → slice_get (instructions_of func.blocks) place ≡ Some inst
+    pub start_number : (place : ℕ) (inst : Instruction) → slice_get (instructions_of func.blocks) place ≡ Some inst
         → length func.args + length (filter has_result (before_group place)) ≡ inserted_number func (derived_marks func) (value_at place)
     start_number place inst at =
         sym (after_is (length func.args) (before_group place))
