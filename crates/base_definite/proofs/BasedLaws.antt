@@ -23,6 +23,7 @@ use Rattle.base_forms.specs.Inserted.{has_inserted, inserted_number, is_merged, 
 use Rattle.base_forms.specs.Lines.{operand_at}
 use Rattle.base_forms.specs.Based.{base_line, based, based_blocks, based_insts, check, compared, kept_line, lines_for, negation, same_call}
 use Rattle.renaming_laws.specs.Renamed.{Renaming}
+use Rattle.definite_assign.proofs.TextLemmas.{stands_in_text}
 use Rattle.base_paths.proofs.GivesLaws.{defines_gives}
 use Rattle.base_laws.proofs.PlacedLaws.{has_result}
 use Rattle.base_laws.proofs.TypeLaws.{MarksPointers}
@@ -130,7 +131,7 @@ module _ (functions : ℕ → Renaming) (index : ℕ) (func : Function) (called 
   abbrev pub lines_before : ℕ → ℕ → List Instruction
   lines_before number place = based_insts func (derived_marks func) (first_value number) (take place (insts_in func number))
 
-  offset : ℕ → ℕ → ℕ
+  pub offset : ℕ → ℕ → ℕ
   offset number place = length (based_insts func (derived_marks func) (first_value number) (take place (insts_in func number)))
 
   pub based_at : (number : ℕ) (own : BasicBlock) → slice_get func.blocks number ≡ Some own
@@ -202,4 +203,109 @@ module _ (functions : ℕ → Renaming) (index : ℕ) (func : Function) (called 
   pub group_defines : (number place : ℕ) (own : BasicBlock) (inst : Instruction) → slice_get func.blocks number ≡ Some own → slice_get own.insts place ≡ Some inst
       → (front back : List Instruction) (line : Instruction) → lines_for func (derived_marks func) (value_here number place own) inst inst.op ≡ front ++ line ∷ back → is_some line.result ≡ true
       → Defines (based func) (inserted_number func (derived_marks func) (number_at func (text_place func number place)) + results_in front) number (offset number place + length front)
-  group_defines number place own inst found at front back line group named = ?
+  group_defines number place own inst found at front back line group named =
+      let before_it : List Instruction = based_insts func (derived_marks func) (first_value number) (take place own.insts) in
+      let behind : List Instruction = based_insts func (derived_marks func) (following (value_here number place own) inst) (drop (place + 1) own.insts) in
+      let block : BasicBlock = record own { insts = based_insts func (derived_marks func) (first_value number) own.insts } in
+      let found_there = based_at number own found in
+      let whole : block.insts ≡ (before_it ++ front) ++ line ∷ (back ++ behind) =
+      ap (based_insts func (derived_marks func) (first_value number)) (split_at own.insts place inst at)
+      ∙ (based_append func (derived_marks func) (first_value number) (take place own.insts) (inst ∷ drop (place + 1) own.insts)
+      ∙ (ap (λ lines. before_it ++ (lines ++ behind)) group
+      ∙ (ap (λ rest. before_it ++ rest) (append_assoc front (line ∷ back) behind) ∙ sym (append_assoc before_it front (line ∷ (back ++ behind)))))) in
+      let place_is : offset number place + length front ≡ length (before_it ++ front) =
+      ap (λ n. n + length front) (offset_is number place own found) ∙ sym (length-append before_it front) in
+      let stands_there : slice_get block.insts (offset number place + length front) ≡ Some line =
+      ap (slice_get block.insts) place_is ∙ (ap (λ insts. slice_get insts (length (before_it ++ front))) whole ∙ get_middle_of (before_it ++ front) line (back ++ behind)) in
+      let inside = slice_get_within block.insts (offset number place + length front) line stands_there in
+      let cut = number_cut (based func) number (offset number place + length front) block found_there (omega arith) in
+      let front_is : take (offset number place + length front) block.insts ≡ before_it ++ front =
+      ap (λ n. take n block.insts) place_is ∙ (ap (take (length (before_it ++ front))) whole ∙ take_front_of (before_it ++ front) (line ∷ (back ++ behind))) in
+      let counted : results_in (take (offset number place + length front) block.insts) ≡ results_in before_it + results_in front =
+      ap results_in front_is ∙ results_append before_it front in
+      let earlier : results_in (instructions_of (take number (based func).blocks))
+      ≡ results_in (based_insts func (derived_marks func) (length func.args) (instructions_of (take number func.blocks))) =
+      ap (λ blocks. results_in (instructions_of blocks)) (take_based func (derived_marks func) (length func.args) number func.blocks)
+      ∙ ap results_in (text_now func (length func.args) (take number func.blocks)) in
+      let own_inside = slice_get_within own.insts place inst at in
+      let text_at = stands_in_text func number place inst (record { block = own; in_function = found; in_block = at }) in
+      let start = start_number func functions index called is pointers ready (text_place func number place) inst text_at in
+      let text_is : take (text_place func number place) (instructions_of func.blocks) ≡ instructions_of (take number func.blocks) ++ take place own.insts =
+      text_take func.blocks number place own found (omega arith) in
+      let together : results_in (based_insts func (derived_marks func) (length func.args) (take (text_place func number place) (instructions_of func.blocks)))
+      ≡ results_in (based_insts func (derived_marks func) (length func.args) (instructions_of (take number func.blocks))) + results_in before_it =
+      ap (λ insts. results_in (based_insts func (derived_marks func) (length func.args) insts)) text_is
+      ∙ (ap results_in (based_append func (derived_marks func) (length func.args) (instructions_of (take number func.blocks)) (take place own.insts))
+      ∙ results_append (based_insts func (derived_marks func) (length func.args) (instructions_of (take number func.blocks))) before_it) in
+      let value_same = ap (inserted_number func (derived_marks func)) (value_is func (text_place func number place)) in
+      record {
+        inst = line;
+        stands = record { block = block; in_function = found_there; in_block = stands_there };
+        named = named;
+        numbered = cut ∙ omega arith;
+      }
+
+  value_there : (number place : ℕ) (own : BasicBlock) → slice_get func.blocks number ≡ Some own → place ≤ length own.insts → value_here number place own ≡ number_at func (text_place func number place)
+  value_there number place own found within =
+      sym (after_append (length func.args) (instructions_of (take number func.blocks)) (take place own.insts))
+      ∙ (ap (after_all (length func.args)) (sym (text_take func.blocks number place own found within)) ∙ sym (value_is func (text_place func number place)))
+
+  offset_defines : (value number place : ℕ) → Defines func value number place
+      → (before : ℕ) × (offset number (suc place) ≡ suc before) × Defines (based func) (new_number func (derived_marks func) value) number before
+  offset_defines value number place defines =
+      let own = defines.stands.block in
+      let inst = defines.inst in
+      let end = ends_so func (derived_marks func) (value_here number place own) inst in
+      let last_named : is_some end.last.result ≡ true = ap (λ (result : Option (List ℕ)). is_some result) end.result ∙ defines.named in
+      let there = group_defines number place own inst defines.stands.in_function defines.stands.in_block end.front [] end.last end.whole last_named in
+      let next = next_offset number place own inst defines.stands.in_function defines.stands.in_block in
+      let long = ap length end.whole ∙ length-append end.front (end.last ∷ []) in
+      let given = defines_gives func value number place defines in
+      let number_same = ap (λ n. inserted_number func (derived_marks func) n + results_in end.front) defines.numbered in
+      let value_is_now : inserted_number func (derived_marks func) value + results_in end.front ≡ new_number func (derived_marks func) value =
+      by (has_inserted (derived_marks func) (outcome inst)) refl given end.count in
+      (
+        offset number place + length end.front,
+        omega arith,
+        subst (λ (v : ℕ). Defines (based func) v number (offset number place + length end.front)) (number_same ∙ value_is_now) there,
+      )
+    where
+      by : (b : Bool) → has_inserted (derived_marks func) (outcome defines.inst) ≡ b → Gives func value defines.inst → {count : ℕ}
+          → count ≡ (if has_inserted (derived_marks func) (outcome defines.inst) then 1 else 0) → inserted_number func (derived_marks func) value + count ≡ new_number func (derived_marks func) value
+      by true test given is =
+          let one = is ∙ ap (λ (t : Bool). if t then 1 else 0) test in
+          let behind = number_behind func value (outcome defines.inst) given test in
+          omega arith
+      by false test given is =
+          let none = is ∙ ap (λ (t : Bool). if t then 1 else 0) test in
+          let alone = number_alone func value (outcome defines.inst) given test in
+          omega arith
+
+  pub expands_bases : Expands func (based func) (new_number func (derived_marks func))
+  expands_bases = record {
+    offset = offset;
+    first = offset_first;
+    rises = offset_rises;
+    found = offset_found;
+    defines = offset_defines;
+    graph = edges_based func (derived_marks func) (length func.args) func.blocks;
+  }
+
+  -- the base of a phi or select stands directly before it
+  pub base_defines : (value number place : ℕ) (defines : Defines func value number place) → is_merge (defines.inst).op ≡ true → is_merged (derived_marks func) defines.inst ≡ true
+      → (before : ℕ) × (offset number (suc place) ≡ suc (suc before)) × Defines (based func) (inserted_number func (derived_marks func) value) number before
+  base_defines value number place defines kind merges =
+      let own = defines.stands.block in
+      let inst = defines.inst in
+      let group = merged_true func (derived_marks func) (value_here number place own) inst inst.op refl kind merges in
+      let there = group_defines number place own inst defines.stands.in_function defines.stands.in_block [] (kept_line func (derived_marks func) inst ∷ [])
+      (base_line func (derived_marks func) (value_here number place own) inst) group refl in
+      let next = next_offset number place own inst defines.stands.in_function defines.stands.in_block in
+      let long = ap length group in
+      let number_same = ap (λ n. inserted_number func (derived_marks func) n + 0) defines.numbered in
+      let zero_is : inserted_number func (derived_marks func) value + 0 ≡ inserted_number func (derived_marks func) value = omega arith in
+      (
+        offset number place + 0,
+        omega arith,
+        subst (λ (v : ℕ). Defines (based func) v number (offset number place + 0)) (number_same ∙ zero_is) there,
+      )
