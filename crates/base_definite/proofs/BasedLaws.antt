@@ -245,7 +245,7 @@ module _ (functions : ℕ → Renaming) (index : ℕ) (func : Function) (called 
         numbered = cut ∙ omega arith;
       }
 
-  value_there : (number place : ℕ) (own : BasicBlock) → slice_get func.blocks number ≡ Some own → place ≤ length own.insts → value_here number place own ≡ number_at func (text_place func number place)
+  pub value_there : (number place : ℕ) (own : BasicBlock) → slice_get func.blocks number ≡ Some own → place ≤ length own.insts → value_here number place own ≡ number_at func (text_place func number place)
   value_there number place own found within =
       sym (after_append (length func.args) (instructions_of (take number func.blocks)) (take place own.insts))
       ∙ (ap (after_all (length func.args)) (sym (text_take func.blocks number place own found within)) ∙ sym (value_is func (text_place func number place)))
@@ -290,6 +290,10 @@ module _ (functions : ℕ → Renaming) (index : ℕ) (func : Function) (called 
     defines = offset_defines;
     graph = edges_based func (derived_marks func) (length func.args) func.blocks;
   }
+
+  pub offset_same : (number place : ℕ) → expands_bases.offset number place ≡ offset number place
+  unfolding expands_bases
+  offset_same number place = refl
 
   -- the base of a phi or select stands directly before it
   pub base_defines : (value number place : ℕ) (defines : Defines func value number place) → is_merge (defines.inst).op ≡ true → is_merged (derived_marks func) defines.inst ≡ true
