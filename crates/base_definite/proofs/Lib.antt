@@ -6,3 +6,4 @@ pub mod BasedLaws
 pub mod UseLaws
 pub mod PolledUses
 pub mod BasedUses
+pub mod DefiniteInstance

@@ -199,7 +199,7 @@ module _ (func : Function) (marks : List Bool) where
         by true merges = two index (ap (λ lines. slice_get lines index) (sym (merged_true func marks next inst op is kind merges)) ∙ at)
         by false merges = kept_only next index line (ap (λ lines. slice_get lines index) (sym (merged_false func marks next inst op is kind merges)) ∙ at) value inside group
 
-    phi_lines : (next index : ℕ) (line : Instruction) → inst.op ≡ ops.Phi → slice_get (lines_for func marks next inst ops.Phi) index ≡ Some line → is_phi line.op ≡ true
+    pub phi_lines : (next index : ℕ) (line : Instruction) → inst.op ≡ ops.Phi → slice_get (lines_for func marks next inst ops.Phi) index ≡ Some line → is_phi line.op ≡ true
     phi_lines next index line is at = by (is_merged marks inst) refl
       where
         two : (index : ℕ) → slice_get (base_line func marks next inst ∷ kept_line func marks inst ∷ []) index ≡ Some line → is_phi line.op ≡ true
