@@ -1,6 +1,6 @@
 -- Bases and checks expand a function: the lines for an instruction end with the one that gives its value.
 use Rattle.std.proofs.Common.{◌≡◌, ℕ, zero, suc, ◌+◌, ◌<◌, ◌≤◌, Bool, true, false, ◌&&◌, ◌||◌, if◌then◌else◌, List, [], ◌∷◌, ◌++◌, length, take, drop, refl, sym, ap, subst, ◌∙◌, append_assoc, append-nil, arith}
-use Rattle.std.specs.Prelude.{Option, Some, None, is_some, slice_get, filter}
+use Rattle.std.specs.Prelude.{Option, Some, None, is_some, slice_get}
 use Rattle.std.specs.List.{All}
 use Rattle.std.specs.Option.{option_map, option_map_or}
 use Rattle.std.proofs.lemmas.List.{length-append}
@@ -14,9 +14,9 @@ use Rattle.ir_ast.specs.Insts.{Instruction}
 use Rattle.ir_ast.specs.Blocks.{BasicBlock}
 use Rattle.ir_ast.specs.Derived.{is_merge}
 use Rattle.ir_ast.specs.Funcs.{Function, instructions_of}
-use Rattle.ir_ast.specs.Values.{Definition, Gives, definitions_of, outcome}
+use Rattle.ir_ast.specs.Values.{Gives, outcome}
 use Rattle.ir_ast.specs.Faults.GroupShape.{number_at}
-use Rattle.ir_cfg.specs.DefiniteUses.{Defines, Stands, text_place}
+use Rattle.ir_cfg.specs.DefiniteUses.{Defines, text_place}
 use Rattle.object_meaning.specs.Lines.{after_all, following, insts_in}
 use Rattle.base_forms.specs.DerivedMarks.{derived_marks, uses_marked}
 use Rattle.base_forms.specs.Inserted.{has_inserted, inserted_number, is_merged, is_unequal, new_number}
@@ -25,11 +25,10 @@ use Rattle.base_forms.specs.Based.{base_line, based, based_blocks, based_insts, 
 use Rattle.renaming_laws.specs.Renamed.{Renaming}
 use Rattle.definite_assign.proofs.TextLemmas.{stands_in_text}
 use Rattle.base_paths.proofs.GivesLaws.{defines_gives}
-use Rattle.base_laws.proofs.PlacedLaws.{has_result}
 use Rattle.base_laws.proofs.TypeLaws.{MarksPointers}
 use Rattle.base_laws.proofs.NumberLaws.{number_alone, number_behind, renaming_of}
 use Rattle.base_laws.proofs.LineLaws.{IsReady}
-use Rattle.base_laws.proofs.BlockLaws.{after_append, after_is}
+use Rattle.base_laws.proofs.BlockLaws.{after_append}
 use Rattle.base_laws.proofs.FormLaws.{based_append, edges_based}
 use Rattle.base_relations.proofs.GroupLaws.{start_number, text_now, value_is}
 use Rattle.base_relations.proofs.ValueLaws.{merged_false, merged_true}
@@ -191,12 +190,11 @@ module _ (functions : ℕ → Renaming) (index : ℕ) (func : Function) (called 
           absurd cc
       by (Some own) at =
           let both : Some (record own { insts = based_insts func (derived_marks func) (first_value number) own.insts }) ≡ Some block = sym (based_at number own at) ∙ found in
-          let same : record own { insts = based_insts func (derived_marks func) (first_value number) own.insts } ≡ block = cc in
-          (
+          let same : record own { insts = based_insts func (derived_marks func) (first_value number) own.insts } ≡ block = cc in (
             own,
             at,
             offset_is number (length own.insts) own at
-            ∙ (ap (λ insts. length (based_insts func (derived_marks func) (first_value number) insts)) (take_whole own.insts) ∙ ap (λ (b : BasicBlock). length b.insts) same),
+                ∙ (ap (λ insts. length (based_insts func (derived_marks func) (first_value number) insts)) (take_whole own.insts) ∙ ap (λ (b : BasicBlock). length b.insts) same),
           )
 
   -- what a line of a group defines
@@ -263,8 +261,7 @@ module _ (functions : ℕ → Renaming) (index : ℕ) (func : Function) (called 
       let given = defines_gives func value number place defines in
       let number_same = ap (λ n. inserted_number func (derived_marks func) n + results_in end.front) defines.numbered in
       let value_is_now : inserted_number func (derived_marks func) value + results_in end.front ≡ new_number func (derived_marks func) value =
-      by (has_inserted (derived_marks func) (outcome inst)) refl given end.count in
-      (
+      by (has_inserted (derived_marks func) (outcome inst)) refl given end.count in (
         offset number place + length end.front,
         omega arith,
         subst (λ (v : ℕ). Defines (based func) v number (offset number place + length end.front)) (number_same ∙ value_is_now) there,
@@ -307,8 +304,7 @@ module _ (functions : ℕ → Renaming) (index : ℕ) (func : Function) (called 
       let next = next_offset number place own inst defines.stands.in_function defines.stands.in_block in
       let long = ap length group in
       let number_same = ap (λ n. inserted_number func (derived_marks func) n + 0) defines.numbered in
-      let zero_is : inserted_number func (derived_marks func) value + 0 ≡ inserted_number func (derived_marks func) value = omega arith in
-      (
+      let zero_is : inserted_number func (derived_marks func) value + 0 ≡ inserted_number func (derived_marks func) value = omega arith in (
         offset number place + 0,
         omega arith,
         subst (λ (v : ℕ). Defines (based func) v number (offset number place + 0)) (number_same ∙ zero_is) there,

@@ -1,12 +1,12 @@
 -- In a function with bases no use is one where the value isn't defined: where a base isn't defined, what is derived from it isn't.
-use Rattle.std.proofs.Common.{◌≡◌, ℕ, zero, suc, ◌+◌, ◌<◌, ◌≤◌, Bool, true, false, ◌&&◌, if◌then◌else◌, List, [], ◌∷◌, ◌++◌, length, map, take, refl, sym, ap, subst, ◌∙◌, ◌⊎◌, inl, inr, arith}
-use Rattle.std.specs.Prelude.{Option, Some, None, is_some, slice_get}
+use Rattle.std.proofs.Common.{◌≡◌, ℕ, suc, ◌+◌, ◌<◌, ◌≤◌, Bool, true, false, ◌&&◌, if◌then◌else◌, [], ◌∷◌, length, map, take, refl, sym, ap, subst, ◌∙◌, inl, inr, arith}
+use Rattle.std.specs.Prelude.{Option, Some, None, slice_get}
 use Rattle.std.specs.List.{All, Contains}
 use Rattle.std.specs.Option.{option_and_then, option_map_or}
 use Rattle.std.proofs.lemmas.Bool.{cases_eq, cases_lt}
 use Rattle.std.proofs.lemmas.Option.{slice_get_within}
 use Rattle.list_laws.proofs.Contents.{all_at, all_from_at}
-use Rattle.list_laws.proofs.Places.{get_some, map_back}
+use Rattle.list_laws.proofs.Places.{map_back}
 use Rattle.sp_ids.specs.declared.ids.ValueId.{ValueId}
 use Rattle.sp_ids.specs.declared.ids.BlockId.{BlockId}
 use Rattle.ir_ast.specs.declared.ops.Op.{Op}
@@ -18,15 +18,14 @@ use Rattle.ir_ast.specs.Blocks.{BasicBlock}
 use Rattle.ir_ast.specs.Derived.{is_merge, is_step}
 use Rattle.ir_ast.specs.Funcs.{Function, instructions_of}
 use Rattle.ir_ast.specs.Operands.{value_in, values_used}
-use Rattle.ir_ast.specs.Values.{Definition, Gives, argument, definitions_of, outcome}
+use Rattle.ir_ast.specs.Values.{Definition, Gives, argument, outcome}
 use Rattle.ir_ast.specs.Faults.PhiEdges.{is_phi}
 use Rattle.ir_ast.specs.Faults.GroupShape.{number_at}
 use Rattle.ir_cfg.specs.DefiniteUses.{Defines, Stands, Uses, UsesAreDefinite, by_entry, by_line, in_arguments, text_place}
-use Rattle.ir_cfg.specs.Graphs.{Edge, graph_of}
 use Rattle.object_meaning.specs.Lines.{after_all}
 use Rattle.base_forms.specs.DerivedMarks.{derived_marks, uses_marked}
 use Rattle.base_forms.specs.Inserted.{by_line as by_kind, inserted_number, is_merged, new_number, renumbered}
-use Rattle.base_forms.specs.Bases.{base_of, gives_by, origin, own_base, source_of, stepped_from}
+use Rattle.base_forms.specs.Bases.{base_of, gives_by, own_base, source_of, stepped_from}
 use Rattle.base_forms.specs.Lines.{merged_bases}
 use Rattle.base_forms.specs.Based.{base_line, based, based_insts, insertion, kept_line, lines_for}
 use Rattle.base_forms.proofs.OriginLaws.{origin-own, origin-step}
@@ -308,6 +307,14 @@ module _ (functions : ℕ → Renaming) (index : ℕ) (func : Function) (called 
           (none_here func (based func) (new_number func (derived_marks func)) expands used.0 label.0 (length block.insts)
           (subst (λ (v : ℕ). Undefined (based func) v label.0 (length block.insts)) used.2 undefined) (length end.0.insts) end.0 end.1 (omega arith) (omega arith))
 
+      over_value : (source : Operand) (used : ValueId) → source ≡ operands.Value used → base_of func (derived_marks func) source ≡ operands.Value (record { 0 = value }) → is_phi from.inst.op ≡ true
+          → slice_get from.inst.labels entry ≡ Some label → slice_get from.inst.operands entry ≡ Some source → ⊥
+      over_value source used is_used based_on is_one at_label at_operand =
+          let used_base : base used.0 ≡ operands.Value (record { 0 = value }) = sym (ap (base_of func (derived_marks func)) is_used) ∙ based_on in
+          let last = end.2 in
+          no_use used.0 source is_one at_label at_operand (ap value_in is_used) (used_high value used.0 high used_base)
+          (one_undefined value label.0 (length block.insts) undefined (base_none value high label.0 (length block.insts) undefined) used.0 used_base (length end.0.insts) end.0 end.1 (omega arith) (omega arith))
+
       over_bases : phi ≡ base_line func (derived_marks func) (next_of number from.from from.own) from.inst → ⊥
       over_bases same =
           let is_one : is_phi from.inst.op ≡ true = ap (λ (i : Instruction). is_phi i.op) (sym same) ∙ one in
@@ -318,10 +325,7 @@ module _ (functions : ℕ → Renaming) (index : ℕ) (func : Function) (called 
           let source = map_back (base_of func (derived_marks func)) from.inst.operands entry operand bases in
           let based_on : base_of func (derived_marks func) source.before ≡ operands.Value (record { 0 = value }) = sym source.is ∙ in_value operand value value_at in
           let used = value_of_base func (derived_marks func) source.before (record { 0 = value }) based_on in
-          let used_base : base used.0.0 ≡ operands.Value (record { 0 = value }) = sym (ap (base_of func (derived_marks func)) used.1) ∙ based_on in
-          let last = end.2 in
-          no_use used.0.0 source.before is_one (ap (λ (i : Instruction). slice_get i.labels entry) (sym same) ∙ label_at) source.stands (ap value_in used.1) (used_high value used.0.0 high used_base)
-          (one_undefined value label.0 (length block.insts) undefined (base_none value high label.0 (length block.insts) undefined) used.0.0 used_base (length end.0.insts) end.0 end.1 (omega arith) (omega arith))
+          over_value source.before used.0 used.1 based_on is_one (ap (λ (i : Instruction). slice_get i.labels entry) (sym same) ∙ label_at) source.stands
 
       by : MergeLine func (derived_marks func) (next_of number from.from from.own) from.inst from.nth phi → ⊥
       by (inserted_one kind merges same first) = over_bases same

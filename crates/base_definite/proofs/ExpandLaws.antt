@@ -1,12 +1,11 @@
 -- A function whose lines stand for those of another, several for one: where a value isn't defined there, it isn't here.
-use Rattle.std.proofs.Common.{◌≡◌, ℕ, zero, suc, ◌+◌, ◌<◌, ◌≤◌, List, [], ◌∷◌, length, refl, sym, ap, subst, ◌∙◌, ◌⊎◌, inl, inr, arith}
+use Rattle.std.proofs.Common.{◌≡◌, ℕ, zero, suc, ◌<◌, ◌≤◌, length, refl, sym, ap, subst, inl, inr, arith}
 use Rattle.std.specs.Prelude.{Some, slice_get}
 use Rattle.std.proofs.lemmas.Bool.{cases_lt}
 use Rattle.list_laws.proofs.Places.{get_some}
-use Rattle.ir_ast.specs.Insts.{Instruction}
 use Rattle.ir_ast.specs.Blocks.{BasicBlock}
 use Rattle.ir_ast.specs.Funcs.{Function}
-use Rattle.ir_cfg.specs.DefiniteUses.{Defines, Stands}
+use Rattle.ir_cfg.specs.DefiniteUses.{Defines}
 use Rattle.ir_cfg.specs.Graphs.{Edge, Graph, graph_of}
 use Rattle.base_paths.proofs.UndefinedLaws.{Undefined, at_first, behind_edge, behind_line}
 

@@ -1,15 +1,13 @@
 -- A path meets the definition of a value, or comes to its end without one.
-use Rattle.std.proofs.Common.{◌≡◌, ℕ, zero, suc, ◌+◌, ◌<◌, ◌≤◌, List, [], ◌∷◌, ◌++◌, length, refl, sym, ap, subst, ◌∙◌, ◌⊎◌, inl, inr, append_assoc, arith}
+use Rattle.std.proofs.Common.{◌≡◌, ℕ, zero, suc, ◌≤◌, List, [], ◌∷◌, ◌++◌, length, ap, ◌∙◌, ◌⊎◌, inl, inr, append_assoc, arith}
 use Rattle.std.specs.Prelude.{Some, slice_get}
-use Rattle.std.proofs.lemmas.Bool.{cases_lt}
 use Rattle.std.proofs.lemmas.List.{length-map}
 use Rattle.list_laws.proofs.Places.{get_some}
-use Rattle.ir_ast.specs.Insts.{Instruction}
 use Rattle.ir_ast.specs.Blocks.{BasicBlock}
 use Rattle.ir_ast.specs.Edges.{targets}
 use Rattle.ir_ast.specs.Funcs.{Function}
-use Rattle.ir_cfg.specs.DefiniteUses.{Defines, IsDefinite, Meets, Stands, Uses, UsesAreDefinite, by_entry, by_line, in_arguments, in_earlier, in_last}
-use Rattle.ir_cfg.specs.Graphs.{Edge, graph_of}
+use Rattle.ir_cfg.specs.DefiniteUses.{Meets, Stands, in_arguments, in_earlier, in_last}
+use Rattle.ir_cfg.specs.Graphs.{graph_of}
 use Rattle.ir_cfg.specs.Paths.{Path, along, at_entry}
 use Rattle.ir_cfg.proofs.PathLemmas.{edge_within}
 use Rattle.definite_assign.proofs.PathLemmas.{path_ends}

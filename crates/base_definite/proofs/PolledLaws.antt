@@ -1,6 +1,6 @@
 -- Polls expand a function: each line stands behind its polls.
-use Rattle.std.proofs.Common.{◌≡◌, ℕ, zero, suc, ◌+◌, ◌<◌, ◌≤◌, Bool, true, false, if◌then◌else◌, List, [], ◌∷◌, ◌++◌, length, take, drop, refl, sym, ap, subst, ◌∙◌, ◌⊎◌, inl, inr, append_assoc, append-nil, arith}
-use Rattle.std.specs.Prelude.{Option, Some, None, is_some, slice_get, filter}
+use Rattle.std.proofs.Common.{◌≡◌, ℕ, zero, suc, ◌+◌, ◌<◌, ◌≤◌, Bool, true, false, if◌then◌else◌, List, [], ◌∷◌, ◌++◌, length, take, drop, refl, sym, ap, ◌∙◌, ◌⊎◌, inl, inr, append_assoc, append-nil, arith}
+use Rattle.std.specs.Prelude.{Option, Some, None, slice_get}
 use Rattle.std.specs.List.{flat_map}
 use Rattle.std.specs.Option.{option_map, option_map_or}
 use Rattle.std.proofs.lemmas.Grind.{flat_map-append}
@@ -10,11 +10,10 @@ use Rattle.list_laws.proofs.Places.{get_some, split_at}
 use Rattle.ir_ast.specs.Insts.{Instruction}
 use Rattle.ir_ast.specs.Blocks.{BasicBlock}
 use Rattle.ir_ast.specs.Funcs.{Function, instructions_of}
-use Rattle.ir_ast.specs.Faults.GroupShape.{number_at}
-use Rattle.ir_cfg.specs.DefiniteUses.{Defines, Stands, text_place}
+use Rattle.ir_cfg.specs.DefiniteUses.{Defines, Stands}
 use Rattle.object_meaning.specs.Lines.{insts_in, retreats}
 use Rattle.base_forms.specs.Polls.{front_poll, placed, placed_block, placed_from, poll_call, polled}
-use Rattle.base_laws.proofs.PlacedLaws.{block_placed, has_result, results_placed, results_polled}
+use Rattle.base_laws.proofs.PlacedLaws.{block_placed, results_placed, results_polled}
 use Rattle.base_laws.proofs.PollLaws.{graph_placed}
 use Rattle.base_definite.proofs.CutLaws.{get_middle_of, number_cut, results_append, results_in, take_front_of, take_next, take_whole}
 use Rattle.base_definite.proofs.ExpandLaws.{Expands}
@@ -153,8 +152,7 @@ module _ (func : Function) (filled : (number : ℕ) (block : BasicBlock) → sli
       let sum = length-append (polled_all number (take place own.insts)) (polls_of number inst ++ inst ∷ []) in
       let tail = length-append (polls_of number inst) (inst ∷ []) in
       let front_long = length-append (front_poll number) (polled_all number (take place own.insts) ++ polls_of number inst) in
-      let middle_long = length-append (polled_all number (take place own.insts)) (polls_of number inst) in
-      (
+      let middle_long = length-append (polled_all number (take place own.insts)) (polls_of number inst) in (
         length front,
         omega arith,
         record {

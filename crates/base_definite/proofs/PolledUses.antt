@@ -1,5 +1,5 @@
 -- In a function with polls no use is one where the value isn't defined.
-use Rattle.std.proofs.Common.{◌≡◌, ℕ, ◌<◌, ◌≤◌, List, [], ◌∷◌, length, refl, sym, ap, subst, ◌∙◌, ◌⊎◌, inl, inr, arith}
+use Rattle.std.proofs.Common.{◌≡◌, ℕ, ◌<◌, ◌≤◌, length, sym, ap, subst, ◌∙◌, inl, inr, arith}
 use Rattle.std.specs.Prelude.{true, false, Some, slice_get}
 use Rattle.std.specs.List.{Contains}
 use Rattle.std.proofs.lemmas.Option.{slice_get_within}
@@ -9,8 +9,8 @@ use Rattle.ir_ast.specs.Blocks.{BasicBlock}
 use Rattle.ir_ast.specs.Funcs.{Function}
 use Rattle.ir_ast.specs.Operands.{values_used}
 use Rattle.ir_ast.specs.Faults.PhiEdges.{is_phi}
-use Rattle.ir_cfg.specs.DefiniteUses.{Stands, Uses, UsesAreDefinite, by_entry, by_line, text_place}
-use Rattle.base_forms.specs.Polls.{placed, poll_call}
+use Rattle.ir_cfg.specs.DefiniteUses.{Uses, UsesAreDefinite, by_entry, by_line, text_place}
+use Rattle.base_forms.specs.Polls.{placed}
 use Rattle.base_paths.proofs.UndefinedLaws.{Undefined, undefined_unused}
 use Rattle.base_definite.proofs.ExpandLaws.{Expands, none_here}
 use Rattle.base_definite.proofs.PolledLaws.{IsSourceLine, expands_polls, source_line}

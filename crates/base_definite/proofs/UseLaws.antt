@@ -1,9 +1,9 @@
 -- What the lines for an instruction use: what it uses under new numbers, the bases of it, and what the line before gives.
-use Rattle.std.proofs.Common.{◌≡◌, ℕ, zero, suc, ◌+◌, ◌<◌, ◌≤◌, Bool, true, false, ◌&&◌, ◌||◌, if◌then◌else◌, List, [], ◌∷◌, ◌++◌, length, map, take, drop, refl, sym, ap, subst, ◌∙◌, ◌⊎◌, inl, inr, append-nil, arith}
-use Rattle.std.specs.Prelude.{Option, Some, None, is_some, slice_get, slice_index_or, codes}
+use Rattle.std.proofs.Common.{◌≡◌, ℕ, zero, suc, Bool, true, false, if◌then◌else◌, List, [], ◌∷◌, ◌++◌, map, refl, sym, ap, subst, ◌∙◌, ◌⊎◌, inl, inr, append-nil}
+use Rattle.std.specs.Prelude.{Option, Some, is_some, slice_get, slice_index_or, codes}
 use Rattle.std.specs.List.{All, Contains, filter_map}
 use Rattle.std.proofs.lemmas.List.Elements.{All-cons, All-nil}
-use Rattle.list_laws.proofs.Places.{filter_map_forth, get_front, get_map, map_back}
+use Rattle.list_laws.proofs.Places.{filter_map_forth, get_front, map_back}
 use Rattle.list_laws.proofs.Contents.{all_from_at, contains_cons, contains_get, contains_image, contains_none}
 use Rattle.sp_ids.specs.declared.ids.ValueId.{ValueId}
 use Rattle.ir_ast.specs.declared.ops.Pred.{Pred}
@@ -21,7 +21,7 @@ use Rattle.ir_ast.specs.Operands.{operands_of, value_in, values_used}
 use Rattle.ir_ast.specs.Faults.PhiEdges.{is_phi}
 use Rattle.base_forms.specs.DerivedMarks.{uses_marked}
 use Rattle.base_forms.specs.Inserted.{inserted_number, is_merged, is_negated, new_number, renumbered}
-use Rattle.base_forms.specs.Bases.{base_of, origin, own_base, stepped_from}
+use Rattle.base_forms.specs.Bases.{base_of, own_base}
 use Rattle.base_forms.specs.Lines.{merged_bases, numbered_name, operand_at}
 use Rattle.base_forms.specs.Based.{base_line, check, compared, insertion, kept_line, lines_for, negation, rank_of, same_call}
 use Rattle.base_forms.proofs.OriginLaws.{origin-own}
