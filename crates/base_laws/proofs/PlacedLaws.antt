@@ -59,7 +59,7 @@ block_placed start (suc place) (block ∷ blocks) =
 
 -- ---- the values
 
-results_polled : (number : ℕ) (insts : List Instruction) → filter has_result (flat_map (polled number) insts) ≡ filter has_result insts
+pub results_polled : (number : ℕ) (insts : List Instruction) → filter has_result (flat_map (polled number) insts) ≡ filter has_result insts
 results_polled number [] = refl
 results_polled number (inst ∷ insts) = by (retreats number inst) (results_polled number insts)
   where
@@ -74,11 +74,11 @@ results_polled number (inst ∷ insts) = by (retreats number inst) (results_poll
     by true rest = either (has_result inst) rest
     by false rest = either (has_result inst) rest
 
-results_placed_block : (number : ℕ) (block : BasicBlock) → filter has_result (placed_block number block).insts ≡ filter has_result block.insts
+pub results_placed_block : (number : ℕ) (block : BasicBlock) → filter has_result (placed_block number block).insts ≡ filter has_result block.insts
 results_placed_block zero block = results_polled zero block.insts
 results_placed_block (suc number) block = results_polled (suc number) block.insts
 
-results_placed : (number : ℕ) (blocks : List BasicBlock) → filter has_result (instructions_of (placed_from number blocks)) ≡ filter has_result (instructions_of blocks)
+pub results_placed : (number : ℕ) (blocks : List BasicBlock) → filter has_result (instructions_of (placed_from number blocks)) ≡ filter has_result (instructions_of blocks)
 results_placed number [] = refl
 results_placed number (block ∷ blocks) =
     filter-append has_result (placed_block number block).insts (instructions_of (placed_from (suc number) blocks))

@@ -92,7 +92,7 @@ first_used inst value first =
     let there = filter_map_forth value_in (operands_of inst) 0 (operands.Value value) value.0 at refl in
     contains_get (values_used inst) there.0 value.0 there.1
 
-argument_below : (args : List Arg) (rest : List Definition) (value : ℕ) → value < length args → (arg : Arg) × (slice_get (map argument args ++ rest) value ≡ Some (argument arg))
+pub argument_below : (args : List Arg) (rest : List Definition) (value : ℕ) → value < length args → (arg : Arg) × (slice_get (map argument args ++ rest) value ≡ Some (argument arg))
 argument_below [] rest value below = absurd (omega arith)
 argument_below (arg ∷ args) rest zero below = (arg, refl)
 argument_below (arg ∷ args) rest (suc value) below = argument_below args rest value (omega arith)

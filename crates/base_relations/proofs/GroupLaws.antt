@@ -113,7 +113,7 @@ module _ (func : Function) where
   pub value_is : (place : ℕ) → number_at func place ≡ value_at place
   value_is place = sym (after_is (length func.args) (take place (instructions_of func.blocks)))
 
-  text_now : (next : ℕ) (blocks : List BasicBlock) → instructions_of (based_blocks func (derived_marks func) next blocks) ≡ based_insts func (derived_marks func) next (instructions_of blocks)
+  pub text_now : (next : ℕ) (blocks : List BasicBlock) → instructions_of (based_blocks func (derived_marks func) next blocks) ≡ based_insts func (derived_marks func) next (instructions_of blocks)
   text_now next [] = refl
   text_now next (block ∷ blocks) =
       ap (λ rest. based_insts func (derived_marks func) next block.insts ++ rest) (text_now (after_all next block.insts) blocks)
@@ -163,15 +163,15 @@ module _ (func : Function) where
     | inr there ↦ inr (there.0, there.1, let is = there.2 in omega arith)
   ]
 
-  record FoundIn (next : ℕ) (insts : List Instruction) (place : ℕ) (line : Instruction) : Type 0 where
-    from : ℕ
-    inst : Instruction
-    stands : slice_get insts from ≡ Some inst
-    index : ℕ
-    in_group : slice_get (lines_for func (derived_marks func) (after_all next (take from insts)) inst inst.op) index ≡ Some line
-    is : place ≡ length (based_insts func (derived_marks func) next (take from insts)) + index
+  pub record FoundIn (next : ℕ) (insts : List Instruction) (place : ℕ) (line : Instruction) : Type 0 where
+    pub from : ℕ
+    pub inst : Instruction
+    pub stands : slice_get insts from ≡ Some inst
+    pub index : ℕ
+    pub in_group : slice_get (lines_for func (derived_marks func) (after_all next (take from insts)) inst inst.op) index ≡ Some line
+    pub is : place ≡ length (based_insts func (derived_marks func) next (take from insts)) + index
 
-  found_in : (next : ℕ) (insts : List Instruction) (place : ℕ) (line : Instruction) → slice_get (based_insts func (derived_marks func) next insts) place ≡ Some line → FoundIn next insts place line
+  pub found_in : (next : ℕ) (insts : List Instruction) (place : ℕ) (line : Instruction) → slice_get (based_insts func (derived_marks func) next insts) place ≡ Some line → FoundIn next insts place line
   found_in next [] place line at = absurd cc
   found_in next (inst ∷ insts) place line at =
       elim (split_place (lines_for func (derived_marks func) next inst inst.op) (based_insts func (derived_marks func) (following next inst) insts) place line at) [
@@ -211,7 +211,7 @@ module _ (func : Function) where
         ∙ (ap (λ all. all ++ []) (given_append (take place (instructions_of func.blocks)) (inst ∷ drop (place + 1) (instructions_of func.blocks)))
         ∙ append_assoc (given_by (take place (instructions_of func.blocks))) (given_by (inst ∷ drop (place + 1) (instructions_of func.blocks))) []))
 
-    start_number : (place : ℕ) (inst : Instruction) → slice_get (instructions_of func.blocks) place ≡ Some inst
+    pub start_number : (place : ℕ) (inst : Instruction) → slice_get (instructions_of func.blocks) place ≡ Some inst
         → length func.args + length (filter has_result (before_group place)) ≡ inserted_number func (derived_marks func) (value_at place)
     start_number place inst at =
         sym (after_is (length func.args) (before_group place))

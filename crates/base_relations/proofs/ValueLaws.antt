@@ -223,7 +223,7 @@ module _ (func : Function) (pointers : MarksPointers func (derived_marks func)) 
       by operands.Null at its_base = cc
       by (operands.Fun named) at its_base = cc
 
-  some_base : (all : List Operand) (value : ℕ) → Contains (filter_map value_in (map (base_of func (derived_marks func)) all)) value
+  pub some_base : (all : List Operand) (value : ℕ) → Contains (filter_map value_in (map (base_of func (derived_marks func)) all)) value
       → (operand : Operand) × (base_of func (derived_marks func) operand ≡ operands.Value (record { 0 = value }))
   some_base [] value inside = absurd (contains_none value inside)
   some_base (operand ∷ all) value inside = by (base_of func (derived_marks func) operand) refl inside (λ more. some_base all value more)

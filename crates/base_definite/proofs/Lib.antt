@@ -1,0 +1,9 @@
+pub mod MeetLaws
+pub mod ExpandLaws
+pub mod CutLaws
+pub mod PolledLaws
+pub mod BasedLaws
+pub mod UseLaws
+pub mod PolledUses
+pub mod BasedUses
+pub mod DefiniteInstance
