@@ -79,7 +79,7 @@ quiet inst none =
     ap (λ (bundle : List (Ty × Operand)). filter_map value_in (inst.operands ++ map (λ entry. entry.1) bundle)) none
     ∙ ap (filter_map value_in) (append-nil inst.operands)
 
-marked_by : (marks : List Bool) (inst : Instruction) → inst.bundle ≡ [] → uses_marked marks inst ≡ any_marked marks inst.operands
+pub marked_by : (marks : List Bool) (inst : Instruction) → inst.bundle ≡ [] → uses_marked marks inst ≡ any_marked marks inst.operands
 marked_by marks inst none = ap (list_any (has_mark marks)) (quiet inst none)
 
 merged_by : (marks : List Bool) (op : Op) (inst : Instruction) → LineOf op inst → (is_merge op && uses_marked marks inst) ≡ kind_merged marks (kind_by op inst.operands)
@@ -154,7 +154,7 @@ merge_kind Phi operands is = refl
 merge_kind Select operands is = refl
 merge_kind op operands is = absurd (false≢true is)
 
-merge_quiet : (op : Op) (inst : Instruction) → LineOf op inst → is_merge op ≡ true → inst.bundle ≡ []
+pub merge_quiet : (op : Op) (inst : Instruction) → LineOf op inst → is_merge op ≡ true → inst.bundle ≡ []
 merge_quiet Phi inst line is = line.0.no_bundle
 merge_quiet Select inst line is = line.no_bundle
 merge_quiet op inst line is = absurd (false≢true is)

@@ -144,7 +144,7 @@ count_map f xs = fold_map f 0 xs
 before_map : {X : Type 0} (f : X → Bool) (xs : List X) (value : ℕ) → marks_before (map f xs) value ≡ count_by f (take value xs)
 before_map f xs value = ap (count_by (λ (mark : Bool). mark)) (take-map f value xs) ∙ count_map f (take value xs)
 
-at_value : {X : Type 0} (f : ℕ → X) (n value : ℕ) (d : X) → value < n → get_or (map f (range_with_len 0 n)) value d ≡ f value
+pub at_value : {X : Type 0} (f : ℕ → X) (n value : ℕ) (d : X) → value < n → get_or (map f (range_with_len 0 n)) value d ≡ f value
 at_value f n value d below = get_or-map-range_with_len f 0 n value value d below (omega arith)
 
 flag_at : {X : Type 0} (f : X → Bool) (xs : List X) (value : ℕ) → slice_index_or (map f xs) value false ≡ option_map_or f (slice_get xs value) false
@@ -189,7 +189,7 @@ table_is func =
 
 -- ---- what is known
 
-abbrev IsKnown : ℕ → Operand → Type 0
+abbrev pub IsKnown : ℕ → Operand → Type 0
 IsKnown count (Value value) = value.0 < count
 IsKnown count operand = Unit {0}
 
