@@ -2,7 +2,7 @@
 use Rattle.std.proofs.Common.{◌≡◌, ℕ, zero, suc, ◌+◌, ◌≤◌, ◌<◌, List, [], ◌∷◌, length, map, drop, refl, sym, ap, subst, ◌∙◌, get_or, inl, inr, ◌⊎◌, arith}
 use Rattle.std.specs.Prelude.{Option, Some, None, MatchOption, slice_get}
 use Rattle.std.specs.Option.{option_map, option_map_or}
-use Rattle.std.proofs.lemmas.Option.{slice_get_past}
+use Rattle.std.proofs.lemmas.Option.{slice_get_past, slice_get_within}
 use Rattle.ir_ast.specs.Layouts.{ObjectLayout}
 use Rattle.ir_ast.specs.Funcs.{Function as IrFunction, LinedFunction, content_of}
 use Rattle.ir_ast.specs.Modules.{ModuleContent}
@@ -106,3 +106,25 @@ get_known (x ∷ xs) (suc k) d = elim (get_known xs k d) [
   | inl is ↦ inl is
   | inr past ↦ inr ((let h : length xs ≤ k = past.0 in let more : suc (length xs) ≤ suc k = omega arith in more), past.1)
 ]
+
+pub functions_are : (content : ModuleContent) (functions : List Function) (nowhere : Function) → AreDecoded content functions
+    → IsFunction content.layouts (slice_get content.funcs (length content.funcs)) nowhere
+    → AreFunctions (record { content = content; functions = functions; nowhere = nowhere })
+functions_are content functions nowhere decoded other = record {
+  each = λ func. elim (get_known functions func nowhere) [
+    | inl is ↦ decoded.each func nowhere (slice_get_within functions func (get_or functions func nowhere) is)
+    | inr past ↦
+        let count = decoded.count in let behind : length functions ≤ func = past.0 in
+        let le : length content.funcs ≤ func = omega arith in
+        let last : length content.funcs ≤ length content.funcs = omega arith in
+        let same : slice_get content.funcs (length content.funcs) ≡ slice_get content.funcs func =
+        slice_get_past content.funcs (length content.funcs) last ∙ sym (slice_get_past content.funcs func le) in
+        subst (IsFunction content.layouts (slice_get content.funcs func)) (sym past.1)
+        (subst (λ (defined : Option IrFunction). IsFunction content.layouts defined nowhere) same other)
+  ];
+}
+
+pub func_got : (content : List IrFunction) (funcs : List LinedFunction) (place : ℕ) (found : Option LinedFunction) → map content_of funcs ≡ content
+    → slice_get funcs place ≡ found → option_map content_of found ≡ slice_get content place
+func_got content funcs place found is there =
+    ap (option_map content_of) (sym there) ∙ got_content funcs place ∙ ap (λ (fs : List IrFunction). slice_get fs place) is

@@ -1,6 +1,7 @@
 //! A module as it is run: its functions, decoded.
 
-ghost use Rattle.std.specs.Prelude.{◌≡◌, [], None, IfOk, MatchOption, slice_get};
+ghost use Rattle.std.specs.Prelude.{◌≡◌, [], Some, None, IfOk, MatchOption, slice_get};
+ghost use Rattle.std.specs.Option.{option_map};
 ghost use Rattle.object_meaning.specs.Lines.{insts_of, register_count};
 ghost use Rattle.flat_code.specs.Segments.{IsFunction};
 ghost use Rattle.flat_code.specs.Codes.{IsReadyModule, function_at, segment_at, Fits, HasFront, Begins, AreDecoded};
@@ -8,7 +9,7 @@ ghost use Rattle.flat_code.specs.Codes.{IsReadyModule, function_at, segment_at, 
 use crate::decode::function;
 use crate::lines::{Function, Segment};
 use crate::sources::Source;
-use ir_ast::Module;
+use ir_ast::{Func, Module};
 use sp_ids::Memory;
 use std::alloc::Global;
 use std::marker::Model;
@@ -57,7 +58,10 @@ impl<'m> Code<'m> {
     pub fn segment(&self, func: u32, place: u32) -> Option<&Segment>
         ensures { MatchOption result (segment_at self.now func place ≡ None) (λ segment. Fits self.now func place segment.now) }
     {
-        self.function(func).segments.get(place as usize)
+        match segment_in(self.function(func).segments.as_slice(), place as usize) {
+            None => None,
+            Some(segment) => Some(segment),
+        }
     }
 
     /// How many registers a function has, which begins at its segment 0.
@@ -72,7 +76,10 @@ impl<'m> Code<'m> {
     pub fn start(&self, func: u32, block: u32) -> Option<u32>
         ensures { MatchOption result (insts_of self.now.content func block ≡ []) (Begins self.now func block) }
     {
-        self.function(func).starts.get(block as usize).copied()
+        match start_in(self.function(func).starts.as_slice(), block as usize) {
+            None => None,
+            Some(place) => Some(place),
+        }
     }
 
     fn function(&self, func: u32) -> &Function
@@ -102,6 +109,33 @@ fn function_of(alloc: Global, module: &Module, place: usize) -> Result<Function,
     requires { IsReadyModule «module».now.content }
     ensures { IfOk result (λ func. IsFunction «module».now.content.layouts (slice_get «module».now.content.funcs place) func) }
 {
-    let source = Source::of(alloc, module.layouts(), module.funcs().get(place))?;
+    let source = Source::of(alloc, module.layouts(), func_at(module, place))?;
     function(alloc, &source)
+}
+
+fn func_at(module: &Module, place: usize) -> Option<&Func>
+    ensures { option_map (λ func. func.now.content) result ≡ slice_get «module».now.content.funcs place }
+{
+    match func_in(module.funcs(), place) {
+        None => None,
+        Some(func) => Some(func),
+    }
+}
+
+fn func_in(funcs: &[Func], place: usize) -> Option<&Func>
+    ensures { MatchOption result (slice_get funcs.now place ≡ None) (λ func. slice_get funcs.now place ≡ Some func.now) }
+{
+    funcs.get(place)
+}
+
+fn segment_in(segments: &[Segment], place: usize) -> Option<&Segment>
+    ensures { MatchOption result (slice_get segments.now place ≡ None) (λ segment. slice_get segments.now place ≡ Some segment.now) }
+{
+    segments.get(place)
+}
+
+fn start_in(starts: &[u32], block: usize) -> Option<u32>
+    ensures { result ≡ slice_get starts.now block }
+{
+    starts.get(block).copied()
 }
