@@ -4,3 +4,4 @@ pub mod PhiLemmas
 pub mod LineLemmas
 pub mod DecodeLemmas
 pub mod CodeLemmas
+pub mod StraightLemmas

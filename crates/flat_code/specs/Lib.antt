@@ -5,3 +5,4 @@ pub mod Edges
 pub mod Segments
 pub mod Opens
 pub mod Codes
+pub mod Straight
