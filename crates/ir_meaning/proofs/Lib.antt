@@ -1,12 +1,5 @@
-pub mod LineLemmas
-pub mod WordLemmas
-pub mod PhiLemmas
-pub mod RegisterLemmas
 pub mod StackLemmas
-pub mod FrameLemmas
-pub mod RunLemmas
-pub mod ReadyLemmas
-pub mod OpeningLemmas
-pub mod ReferenceLaws
-pub mod MemoryLemmas
-pub mod SizeLemmas
+pub mod WordLemmas
+pub mod StraightLemmas
+pub mod MachineLemmas
+pub mod CallLemmas
