@@ -23,7 +23,8 @@ use Rattle.object_meaning.specs.Calls.{called, stepped, entering, allocating, ma
 use Rattle.object_meaning.specs.Effects.{Effect, goes_on, prints, ends}
 use Rattle.object_meaning.specs.Frames.{entered, passed, resumed}
 use Rattle.object_meaning.specs.Jumps.{incoming, phi_write, phi_count, arrived, jumped, label_at, branch_taken, case_taken}
-use Rattle.object_meaning.specs.Lines.{Line, insts_of, lines_of, lines_from, register_count}
+use Rattle.object_meaning.specs.Lines.{Line, poll, insts_of, lines_of, lines_from, register_count}
+use Rattle.object_meaning.specs.Numbers.{width_of}
 use Rattle.object_meaning.specs.Registers.{nothing, value, operand, number_in, is_set, Write, put, put_all}
 use Rattle.object_meaning.specs.States.{Frame, State, Setting}
 use Rattle.object_meaning.specs.Steps.{step, acts, returned}
@@ -35,7 +36,7 @@ use Rattle.object_store.specs.Words.{datum, number_word, pointer_word}
 use Rattle.flat_code.specs.declared.lines.Copied.{Copied}
 use Rattle.flat_code.specs.declared.lines.Edge.{Edge}
 use Rattle.flat_code.specs.declared.lines.Exit.{Exit}
-use Rattle.flat_code.specs.declared.lines.Exit.TheVariants.{Enter, New, Print, Read, Start, Branch, Jump, Return}
+use Rattle.flat_code.specs.declared.lines.Exit.TheVariants.{Enter, New, Print, Read, Start, Branch, Jump, Return, Unreachable as Stops}
 use Rattle.flat_code.specs.declared.lines.Segment.{Segment}
 use Rattle.flat_code.specs.Codes.{FlatModule, defined_at, block_at, front_lines, HasFront, Begins}
 use Rattle.flat_code.specs.Edges.{chosen, copy_of, block_lines, phis_in, IsEdge}
@@ -191,13 +192,13 @@ zeros_are zero = refl
 zeros_are (suc count) = ap (λ rest. nothing ∷ rest) (zeros_are count)
 
 -- the first frame of a call
-front_is : (code : FlatModule) (plan : List PlanLine) (bound func : ℕ) (words : List Word) (arguments : List Datum) (count : ℕ) → HasFront code func
+pub front_is : (code : FlatModule) (plan : List PlanLine) (bound func : ℕ) (words : List Word) (arguments : List Datum) (count : ℕ) → HasFront code func
     → map datum words ≡ arguments ++ replicate (count - length arguments) nothing → count ≡ register_count code.content func
     → front_frame code (record { spot = record { func = func; segment = 0 }; registers = words }) ≡ entered (today code plan bound) func arguments
 front_is code plan bound func words arguments count front are is =
     ap (λ (b : ℕ). let f : Frame = record { func = func; block = b; rest = front_lines code func 0; registers = map datum words } in f) front.block
     ∙ ap (λ (r : List Line). let f : Frame = record { func = func; block = 0; rest = r; registers = map datum words } in f) front.lines
-    ∙ ap (λ (rs : List Datum). let f : Frame = record { func = func; block = 0; rest = _; registers = rs } in f)
+    ∙ ap (λ (rs : List Datum). let f : Frame = record { func = func; block = 0; rest = poll ∷ lines_of code.content func 0; registers = rs } in f)
     (are ∙ ap (λ (n : ℕ). arguments ++ replicate (n - length arguments) nothing) is)
 
 pub enter_goes : (code : FlatModule) (plan : List PlanLine) (bound : ℕ) (frames next : Frames) (others : Rest) (segment : Segment) (func count : ℕ)
@@ -259,7 +260,7 @@ ret_step code plan bound frames others segment width s =
     let rest = front_lines code frames.running.spot.func (frames.running.spot.segment + 1) in
     let registers = map datum frames.running.registers in let below = map (exit_frame code) frames.below in
     ap (λ (w : ℕ). stepped setting state (returned w (operand registers segment.operands.items 0) below)) s.leaves.exit_is.1
-    ∙ ap (λ (os : List Operand). stepped setting state (returned _ (operand registers os 0) below)) (sym s.leaves.operands_are)
+    ∙ ap (λ (os : List Operand). stepped setting state (returned (width_of s.leaves.line.inst.ty) (operand registers os 0) below)) (sym s.leaves.operands_are)
     ∙ sym (exit_step code plan bound frames others segment (Return width) s ∙ ap (acts setting state s.leaves.line rest) s.leaves.exit_is.0)
 
 -- a task returns from its first frame
@@ -312,11 +313,11 @@ read_some code plan bound frames next others segment first word left s found is 
         → goes_on (state_from code (record frames { running = passed_frame frames.running segment.to (number_word word) }) (record others { input = left }))
         ≡ taking (exit_from code frames others) (passed (exit_from code frames others) s.leaves.line (front_lines code frames.running.spot.func (frames.running.spot.segment + 1))) input
     taken_from [] found left_is = cc
-    taken_from (number ∷ numbers) found left_is =
-        let same : number ≡ first = cc in
-        let spelled : word ≡ cast_unsigned w64 number = is ∙ ap (cast_unsigned w64) (sym same) in
+    taken_from (one ∷ numbers) found left_is =
+        let same : one ≡ first = cc in
+        let spelled : word ≡ cast_unsigned w64 one = is ∙ ap (cast_unsigned w64) (sym same) in
         rw (left_is, spelled) (ap (λ (state : State). goes_on (record state { input = numbers }))
-        (passed_at code frames others segment Read s (number_word (cast_unsigned w64 number))))
+        (passed_at code frames others segment Read s (number_word (cast_unsigned w64 one))))
 
 -- the count of a new object
 make_step : (code : FlatModule) (plan : List PlanLine) (bound : ℕ) (frames : Frames) (others : Rest) (segment : Segment) (layout : ℕ) (s : StandsAt code frames segment (New layout)) (count : ℤ)
@@ -427,3 +428,61 @@ start_goes code plan bound frames next others segment func count argument tasks 
     ∙ ap (λ (frame : Frame). goes_on (record state { running = frame; below = []; task = length others.tasks; tasks = set (map (waiting_frames code) others.tasks) others.task (task_frames code frames) ++ [] ∷ [] }))
     (front_is code plan bound func words (datum argument ∷ []) count front same count_is)
     ∙ starts ∙ start_step code plan bound frames others segment func argument s is passes)
+
+-- ---- ends
+
+stop_step : (code : FlatModule) (plan : List PlanLine) (bound : ℕ) (frames : Frames) (others : Rest) (segment : Segment) (s : StandsAt code frames segment Stops)
+    → stepped (today code plan bound) (exit_from code frames others) (ends (Trap Unreachable)) ≡ step (today code plan bound) (exit_from code frames others)
+stop_step code plan bound frames others segment s =
+    let setting = today code plan bound in let state = exit_from code frames others in
+    let rest = front_lines code frames.running.spot.func (frames.running.spot.segment + 1) in
+    sym (exit_step code plan bound frames others segment Stops s ∙ ap (acts setting state s.leaves.line rest) s.leaves.exit_is)
+
+pub stop_out : (code : FlatModule) (plan : List PlanLine) (bound : ℕ) (frames : Frames) (others : Rest) (segment : Segment) → StandsAt code frames segment Stops → bound ≤ others.steps
+    → Turned (today code plan bound) (exit_from code frames others) (Ends OutOfSteps) (state_from code frames others)
+stop_out code plan bound frames others segment s over =
+    let setting = today code plan bound in let state = exit_from code frames others in
+    turned_ends setting state state (state_from code frames others) OutOfSteps
+    (out_of_steps setting state (ends (Trap Unreachable)) over ∙ stop_step code plan bound frames others segment s)
+    (record { func = refl; below = refl; steps = refl; events = refl })
+
+pub stop_traps : (code : FlatModule) (plan : List PlanLine) (bound : ℕ) (frames : Frames) (others : Rest) (segment : Segment) → StandsAt code frames segment Stops → others.steps < bound
+    → Turned (today code plan bound) (exit_from code frames others) (Ends (Trap Unreachable)) (state_from code frames (record others { steps = others.steps + 1 }))
+stop_traps code plan bound frames others segment s left =
+    let setting = today code plan bound in let state = exit_from code frames others in let more = record others { steps = others.steps + 1 } in
+    turned_ends setting state (exit_from code frames more) (state_from code frames more) (Trap Unreachable)
+    (step_left setting state (ends (Trap Unreachable)) left ∙ stop_step code plan bound frames others segment s)
+    (record { func = refl; below = refl; steps = refl; events = refl })
+
+pub ret_out : (code : FlatModule) (plan : List PlanLine) (bound : ℕ) (frames : Frames) (others : Rest) (segment : Segment) (width : ℕ) → StandsAt code frames segment (Return width) → bound ≤ others.steps
+    → Turned (today code plan bound) (exit_from code frames others) (Ends OutOfSteps) (state_from code frames others)
+ret_out code plan bound frames others segment width s over =
+    let setting = today code plan bound in let state = exit_from code frames others in
+    turned_ends setting state state (state_from code frames others) OutOfSteps
+    (out_of_steps setting state (returned width (operand (map datum frames.running.registers) segment.operands.items 0) (map (exit_frame code) frames.below)) over
+    ∙ ret_step code plan bound frames others segment width s)
+    (record { func = refl; below = refl; steps = refl; events = refl })
+
+-- what a return with steps left does
+ret_does : (code : FlatModule) (plan : List PlanLine) (bound : ℕ) (frames : Frames) (others : Rest) (segment : Segment) (width : ℕ) (answer : Datum) (s : StandsAt code frames segment (Return width))
+    → others.steps < bound → answer ≡ operand (map datum frames.running.registers) segment.operands.items 0
+    → returned width answer (map (exit_frame code) frames.below) (exit_from code frames (record others { steps = others.steps + 1 })) ≡ step (today code plan bound) (exit_from code frames others)
+ret_does code plan bound frames others segment width answer s left is =
+    let setting = today code plan bound in let state = exit_from code frames others in let more = record others { steps = others.steps + 1 } in
+    ap (λ (d : Datum). returned width d (map (exit_frame code) frames.below) (exit_from code frames more)) is
+    ∙ step_left setting state (returned width (operand (map datum frames.running.registers) segment.operands.items 0) (map (exit_frame code) frames.below)) left
+    ∙ ret_step code plan bound frames others segment width s
+
+pub ret_ended : (code : FlatModule) (plan : List PlanLine) (bound : ℕ) (frames : Frames) (others : Rest) (segment : Segment) (width : ℕ) (answer : Datum) (s : StandsAt code frames segment (Return width))
+    → others.steps < bound → answer ≡ operand (map datum frames.running.registers) segment.operands.items 0 → length frames.below ≡ 0
+    → task_ended (exit_from code frames (record others { steps = others.steps + 1 })) width answer ≡ step (today code plan bound) (exit_from code frames others)
+ret_ended code plan bound frames others segment width answer s left is none =
+    returned_end code frames.below width answer (exit_from code frames (record others { steps = others.steps + 1 })) none
+    ∙ ret_does code plan bound frames others segment width answer s left is
+
+pub ret_more : (code : FlatModule) (plan : List PlanLine) (bound : ℕ) (frames next : Frames) (others : Rest) (segment : Segment) (width : ℕ) (answer : Datum) (s : StandsAt code frames segment (Return width))
+    → others.steps < bound → answer ≡ operand (map datum frames.running.registers) segment.operands.items 0 → frames.below ≡ next.running ∷ next.below
+    → goes_on (resumed (exit_from code next (record others { steps = others.steps + 1 })) answer) ≡ step (today code plan bound) (exit_from code frames others)
+ret_more code plan bound frames next others segment width answer s left is below =
+    ap (λ (bs : List Seen). returned width answer (map (exit_frame code) bs) (exit_from code frames (record others { steps = others.steps + 1 }))) (sym below)
+    ∙ ret_does code plan bound frames others segment width answer s left is

@@ -3,3 +3,8 @@ pub mod WordLemmas
 pub mod StraightLemmas
 pub mod MachineLemmas
 pub mod CallLemmas
+pub mod SegmentLemmas
+pub mod OpeningLemmas
+pub mod RunLemmas
+pub mod ReadyLemmas
+pub mod ReferenceLaws

@@ -1,3 +1,4 @@
 pub mod Stacks
 pub mod Straights
 pub mod Machines
+pub mod References

@@ -2,7 +2,10 @@
 #![tactic(auto)]
 
 mod computing;
+mod interpret;
 mod machine;
 mod stacks;
 mod straight;
+
+pub use interpret::{Ran, RefFault, reference};
 

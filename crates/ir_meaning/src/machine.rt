@@ -1,6 +1,6 @@
 //! One turn of the running task: a straight part of a block, and its exit.
 
-ghost use Rattle.std.specs.Prelude.{◌≡◌, ◌<◌, ◌≤◌, None, IfOk, IfSome, OnOk, length, drop, slice_get, slice_set, unwrap_or};
+ghost use Rattle.std.specs.Prelude.{◌≡◌, ◌+◌, ◌<◌, ◌≤◌, None, IfOk, IfSome, OnOk, length, drop, slice_get, slice_set, unwrap_or};
 ghost use Rattle.std.specs.List.{position};
 ghost use Rattle.std.specs.Option.{option_map_or};
 ghost use Rattle.object_meaning.specs.Calls.{function_in};

@@ -1,0 +1,220 @@
+//! The reference interpreter.
+
+ghost use Rattle.std.specs.Prelude.{◌≡◌, ◌≤◌, ◌<◌, length, codes, IfOk, IfSome, OnErr, IsErrOf};
+ghost use Rattle.std.specs.List.{All, position};
+ghost use Rattle.std.specs.Str.{bytes_eq};
+ghost use Rattle.ir_ast.specs.Bundles.{HasNoBundle};
+ghost use Rattle.ir_cfg.specs.SourceModules.{IsSourceModule};
+ghost use Rattle.tool_io.specs.Counts.{Rose};
+ghost use Rattle.object_meaning.specs.Lines.{main_of};
+ghost use Rattle.ir_meaning.specs.Machines.{state_of, today, IsOpened};
+ghost use Rattle.move_plan.specs.Plans.{go};
+ghost use Rattle.flat_code.specs.Codes.{IsReadyModule};
+ghost use Rattle.object_meaning.specs.Effects.{printed_line};
+ghost use Rattle.ir_meaning.specs.References.{IsRun, IsRunFrom, WritesFrontFrom, WritesFrontOfRun, unprinted, ended_of, Wrote, WroteFront};
+
+use crate::machine::{Did, Machine};
+use crate::stacks::{Spot, Stack};
+use arrayvec::ArrayVec;
+use flat_code::Code;
+use ir_ast::{Func, Module};
+use itoa::Buffer;
+use move_plan::Plan;
+use object_store::Objects;
+use sp_ids::{End, FuncId, Memory, sign};
+use std::alloc::Global;
+use tool_io::{Failed, Sink};
+
+/// How a run ended: its end, the function that ran last, the steps and events, and the number of lines that
+/// `print_i64` wrote. Events and lines stand still at 2^64 - 1.
+#[derive(Clone, Copy, Debug, PartialEq, Eq)]
+pub struct Ran {
+    pub end: End,
+    pub func: FuncId,
+    pub steps: u64,
+    pub events: u64,
+    pub lines: u64,
+}
+
+/// Why a run is not written to its end.
+#[derive(Clone, Copy, Debug, PartialEq, Eq)]
+pub enum RefFault {
+    Memory,
+    /// The sink counted a fault.
+    Write,
+}
+
+impl From<Memory> for RefFault {
+    ghost use Rattle.std.specs.Prelude.{◌≡◌};
+    ghost use Rattle.ir_meaning.specs.declared.interpret.RefFault.TheVariants as faults;
+
+    ghost from_gives = { λ _ e. e ≡ faults.Memory };
+
+    fn from(_error: Memory) -> RefFault {
+        RefFault::Memory
+    }
+}
+
+impl From<Failed> for RefFault {
+    ghost use Rattle.std.specs.Prelude.{◌≡◌};
+    ghost use Rattle.ir_meaning.specs.declared.interpret.RefFault.TheVariants as faults;
+
+    ghost from_gives = { λ _ e. e ≡ faults.Write };
+
+    fn from(_failed: Failed) -> RefFault {
+        RefFault::Write
+    }
+}
+
+/// Runs `@main` of a source module without bundles, which may take these many steps, over this input and under the `go` lines of this plan,
+/// and writes each line that it prints by one `put`.
+///
+/// `Write` comes only where the sink counted a fault. After it, and after `Memory`, a front of what the run
+/// prints was written.
+pub fn reference<O: Sink>(
+    alloc: Global,
+    module: &Module,
+    input: &[i64],
+    plan: &Plan,
+    steps: u64,
+    out: &mut O,
+) -> Result<Ran, RefFault>
+    requires source { IsSourceModule «module».now.content }
+    requires no_bundle { All HasNoBundle «module».now.content.funcs }
+    ensures ran { IfOk result (λ ran. IsRun «module».now.content input.now (go plan.now) steps ran (O.written out.old) (O.written out.new)) }
+    ensures front { OnErr result (WritesFrontOfRun «module».now.content input.now (go plan.now) steps (O.written out.old) (O.written out.new)) }
+    ensures failed { IsErrOf result RefFault.Write → Rose (O.faults out.old) (O.faults out.new) }
+    ensures count { O.faults out.old ≤ O.faults out.new }
+{
+    let code = Code::of(alloc, module)?;
+    let mut machine = opened(alloc, &code, input)?;
+    run(&code, &mut machine, plan, steps, out)
+}
+
+// Task 0 at the front of `@main`.
+fn opened<'c, 'i>(
+    alloc: Global,
+    code: &'c Code,
+    input: &'i [i64],
+) -> Result<Machine<'c, 'i>, Memory>
+    ensures { IfOk result (λ machine. IsOpened code.now input.now machine) }
+{
+    let main = main_of(code);
+    let front = Spot {
+        func: main,
+        segment: 0,
+    };
+    let stack = Stack::new(alloc, front, code.registers(main))?;
+    Ok(Machine {
+        stack,
+        moves: Vec::new(alloc),
+        args: Vec::new(alloc),
+        alloc,
+        task: 0,
+        tasks: vec![in alloc; None]?,
+        objects: Objects::new(alloc, code.module().layouts()),
+        input,
+        steps: 0,
+        events: 0,
+    })
+}
+
+// The number of `@main`.
+fn main_of(code: &Code) -> u32
+    ensures { result ≡ main_of code.now.content }
+{
+    match main_among(code.module().funcs()) {
+        None => 0,
+        Some(place) => place as u32,
+    }
+}
+
+fn main_among(funcs: &[Func]) -> Option<usize>
+    ensures value { result ≡ position (λ func. bytes_eq func.content.name (codes "main")) funcs.now }
+    ensures within { IfSome result (λ place. place < length funcs.now) }
+{
+    funcs.iter().position(|func| is_main(func))
+}
+
+fn is_main(func: &Func) -> bool
+    ensures { result ≡ bytes_eq func.now.content.name (codes "main") }
+{
+    func.name().bytes() == b"main".as_slice()
+}
+
+// Runs to the end.
+fn run<O: Sink>(
+    code: &Code,
+    machine: &mut Machine,
+    plan: &Plan,
+    bound: u64,
+    out: &mut O,
+) -> Result<Ran, RefFault>
+    requires ready { IsReadyModule code.now.content }
+    requires layouts { machine.old.objects.layouts ≡ code.now.content.layouts }
+    ensures ran { IfOk result (λ ran. IsRunFrom (today code.now plan.now bound) (unprinted (state_of code.now machine.old)) ran (O.written out.old) (O.written out.new)) }
+    ensures front { OnErr result (WritesFrontFrom (today code.now plan.now bound) (unprinted (state_of code.now machine.old)) (O.written out.old) (O.written out.new)) }
+    ensures failed { IsErrOf result RefFault.Write → Rose (O.faults out.old) (O.faults out.new) }
+    ensures count { O.faults out.old ≤ O.faults out.new }
+{
+    let mut lines = 0u64;
+    for _ in 0..u64::MAX {
+        let did = machine.turn(code, plan, bound)?;
+        if let Some(end) = ended(did) {
+            return Ok(how_ran(end, machine, lines));
+        }
+        let more = write_line(did, lines, out)?;
+        lines = more;
+    }
+    Err(RefFault::Memory)
+}
+
+// The end of the run, where the turn was its last.
+fn ended(did: Did) -> Option<End>
+    ensures { result ≡ ended_of did }
+{
+    match did {
+        Did::Ends(end) => Some(end),
+        _ => None,
+    }
+}
+
+// Writes what a turn printed, and counts the line.
+fn write_line<O: Sink>(did: Did, lines: u64, out: &mut O) -> Result<u64, Failed>
+    ensures ok { IfOk result (λ more. Wrote did lines more (O.written out.old) (O.written out.new)) }
+    ensures err { OnErr result (WroteFront did (O.written out.old) (O.written out.new)) }
+    ensures failed { OnErr result (Rose (O.faults out.old) (O.faults out.new)) }
+    ensures count { O.faults out.old ≤ O.faults out.new }
+{
+    match did {
+        Did::Prints(number) => {
+            out.put(printed_line(number).as_slice())?;
+            Ok(lines.saturating_add(1))
+        }
+        _ => Ok(lines),
+    }
+}
+
+fn how_ran(end: End, machine: &Machine, lines: u64) -> Ran
+    ensures { result ≡ record { end = end; func = record { 0 = machine.now.stack.running.spot.func }; steps = machine.now.steps; events = machine.now.events; lines = lines } }
+{
+    Ran {
+        end,
+        func: FuncId(machine.stack.spot().func),
+        steps: machine.steps,
+        events: machine.events,
+        lines,
+    }
+}
+
+// The signed decimal of an `i64`, and a newline.
+#[tactic(auto, unfolding(object_meaning::specs::Effects::printed_line))]
+fn printed_line(word: u64) -> ArrayVec<u8, 64>
+    ensures { result.items ≡ printed_line word }
+{
+    let mut buffer = Buffer::new();
+    let mut line = ArrayVec::new();
+    let _ = line.try_extend_from_slice(buffer.format(sign(64, word)).as_bytes());
+    let _ = line.try_extend_from_slice(b"\n");
+    line
+}
