@@ -36,8 +36,6 @@ first_is [] (suc place) = refl
 first_is (first ∷ segments) zero = refl
 first_is (first ∷ segments) (suc place) = first_is segments place
 
-
-
 leads_to : (code : FlatModule) (func place : ℕ) (segment : Segment) (exit : Option Exit) (found : Option Segment) → segment_at code func (place + 1) ≡ found
     → segment.end.block ≡ segment.start.block → Leads (defined_at code func) segment exit (option_map (λ next. next.start) found)
     → MatchOption exit (lines_at (defined_at code func) segment.end ≡ []) (Leaves code func place segment)

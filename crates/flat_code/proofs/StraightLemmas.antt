@@ -139,7 +139,7 @@ pub step_straight : (setting : Setting) (state : State) (line : Line) (rest : Li
 step_straight setting state line rest there straight =
     let registers = state.running.registers in let os = line.inst.operands in
     let done : Datum → Datum → Datum → Result Held Trap = λ a b c.
-        acts_on setting.layouts (held_of state) line.to (width_at line.inst.op line.inst.ty) a b c (action_of setting.layouts line.inst.op line.inst.ty) in
+    acts_on setting.layouts (held_of state) line.to (width_at line.inst.op line.inst.ty) a b c (action_of setting.layouts line.inst.op line.inst.ty) in
     step_is setting state line rest there ∙ acts_is setting state line rest line.inst.op straight
     ∙ ap (held_effect state rest)
     (ap (λ (a : Datum). done a (operand registers os 1) (operand registers os 2)) (sym (value_at registers os 0))

@@ -70,7 +70,15 @@ fn front(alloc: Global, source: &Source) -> Result<Vec<Segment>, Memory>
         due: Due::Line,
         ..draft.spot
     };
-    leave(alloc, source, &mut draft, Exit::Poll, None, Vec::new(alloc), spot)?;
+    leave(
+        alloc,
+        source,
+        &mut draft,
+        Exit::Poll,
+        None,
+        Vec::new(alloc),
+        spot,
+    )?;
     decode_block(alloc, source, draft)
 }
 
@@ -176,7 +184,15 @@ fn take_poll(alloc: Global, source: &Source, draft: &mut Open, inst: &Inst) -> R
         due: Due::Behind,
         ..draft.spot
     };
-    leave(alloc, source, draft, Exit::Poll, None, Vec::new(alloc), spot)
+    leave(
+        alloc,
+        source,
+        draft,
+        Exit::Poll,
+        None,
+        Vec::new(alloc),
+        spot,
+    )
 }
 
 // The line at which the open segment stands.

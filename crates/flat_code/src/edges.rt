@@ -19,12 +19,7 @@ pub(crate) fn edge(alloc: Global, source: &Source, from: u32, label: u32) -> Res
     ensures { IfOk result (λ edge. IsEdge source.now.defined from label edge) }
 {
     let insts = source.insts(label);
-    let copies = copies_of(
-        alloc,
-        from,
-        source.first(label),
-        &insts[..phi_count(insts)],
-    )?;
+    let copies = copies_of(alloc, from, source.first(label), &insts[..phi_count(insts)])?;
     Ok(Edge {
         block: label,
         copies,

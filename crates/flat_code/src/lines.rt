@@ -29,10 +29,7 @@ pub enum Action {
     SignExtend(u32),
     Select,
     /// A `getelementptr`: the bytes of an element, and where the field begins.
-    Advance {
-        scale: u64,
-        fixed: u64,
-    },
+    Advance { scale: u64, fixed: u64 },
     Load(Cell),
     Store(Cell),
     /// No such line.
@@ -78,10 +75,7 @@ pub enum Exit {
     /// A `task_start`.
     Start,
     Jump(Edge),
-    Branch {
-        yes: Edge,
-        no: Edge,
-    },
+    Branch { yes: Edge, no: Edge },
     /// The default's edge first.
     Switch(Vec<Edge>),
     /// The bits of the answer.

@@ -419,7 +419,9 @@ start_goes code plan bound frames next others segment func count argument tasks 
     ap (map (waiting_frames code)) pushed ∙ map-append (waiting_frames code) (set others.tasks others.task (Some frames)) (None ∷ [])
     ∙ ap (λ (ts : List (List Frame)). ts ++ [] ∷ []) (map-set (waiting_frames code) others.tasks others.task (Some frames)) in
     let starts : goes_on (record state {
-      running = entered setting func (datum argument ∷ []); below = []; task = length others.tasks;
+      running = entered setting func (datum argument ∷ []);
+      below = [];
+      task = length others.tasks;
       tasks = set (map (waiting_frames code) others.tasks) others.task (task_frames code frames) ++ [] ∷ [];
     }) ≡ started setting state func (datum argument) = rw (many, lt-ltb (length others.tasks) 64 few) refl in
     turned_goes setting state (state_from code next (record others { task = length others.tasks; tasks = tasks }))

@@ -57,8 +57,10 @@ turned_does setting middle state did effect e does =
 pub turned_behind : (setting : Setting) (start middle state : State) (did : Did) → Passes setting start middle → Turned setting middle did state → Turned setting start did state
 turned_behind setting start middle state did passes turned = record {
   middle = turned.middle;
-  passes = record { by = λ lines. reaches_by _ (record { state = start; lines = lines }) (record { state = middle; lines = lines })
-      (record { state = turned.middle; lines = lines }) (passes.by lines) (turned.passes.by lines) };
+  passes = record {
+    by = λ lines. reaches_by _ (record { state = start; lines = lines }) (record { state = middle; lines = lines })
+        (record { state = turned.middle; lines = lines }) (passes.by lines) (turned.passes.by lines);
+  };
   last = turned.last;
   effect = turned.effect;
   after = turned.after;

@@ -8,4 +8,3 @@ mod stacks;
 mod straight;
 
 pub use interpret::{Ran, RefFault, reference};
-

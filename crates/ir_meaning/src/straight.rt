@@ -12,11 +12,7 @@ use object_store::{Objects, Word};
 use sp_ids::Trap;
 
 /// These lines, up to a trap.
-pub fn straight(
-    registers: &mut [Word],
-    objects: &mut Objects,
-    lines: &[FlatLine],
-) -> Option<Trap>
+pub fn straight(registers: &mut [Word], objects: &mut Objects, lines: &[FlatLine]) -> Option<Trap>
     requires { All IsSizedLine lines.now }
     ensures done { outcome result (held_in registers.new objects.new) ≡ lines_done objects.old.layouts (held_in registers.old objects.old) lines.now }
     ensures layouts { objects.new.layouts ≡ objects.old.layouts }

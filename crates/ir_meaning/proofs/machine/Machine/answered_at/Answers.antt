@@ -10,6 +10,6 @@ returns-in-Some-clause-resumes c =
     let frames : Frames = c.args.self.now.stack in
     on_ok_weaker c.pass.result
     (λ (e : c.pass.new.self ≡ record frames { running = passed_frame frames.running c.args.segment.now.to c.args.answer }).
-        ap (λ (fs : Frames). state_from c.args.code.now fs (rest_of c.args.self.now)) e
-        ∙ resumed_fits c.args.code.now c.args.self.now.stack (rest_of c.args.self.now) c.args.segment.now _ c.args.answer c.requires.fits c.in-Some.is)
+    ap (λ (fs : Frames). state_from c.args.code.now fs (rest_of c.args.self.now)) e
+    ∙ resumed_fits c.args.code.now c.args.self.now.stack (rest_of c.args.self.now) c.args.segment.now _ c.args.answer c.requires.fits c.in-Some.is)
     c.pass.ensures
