@@ -1,6 +1,6 @@
 //! One turn of the running task: a straight part of a block, and its exit.
 
-ghost use Rattle.std.specs.Prelude.{◌≡◌, ◌+◌, ◌<◌, ◌≤◌, None, IfOk, IfSome, OnOk, length, drop, slice_get, slice_set, unwrap_or};
+ghost use Rattle.std.specs.Prelude.{◌≡◌, ◌+◌, ◌-◌, ◌<◌, ◌≤◌, None, IfOk, IfSome, OnOk, length, drop, slice_get, slice_set, unwrap_or};
 ghost use Rattle.std.specs.List.{position};
 ghost use Rattle.std.specs.Option.{option_map_or};
 ghost use Rattle.object_meaning.specs.Calls.{function_in};
@@ -237,9 +237,6 @@ impl Machine<'_, '_> {
     {
         let operands = segment.operands.as_slice();
         let taken = case_taken(self.stack.operand(operands, 0), operands);
-        if taken >= edges.len() {
-            return Err(Memory);
-        }
         self.jump(code, plan, bound, &edges[taken])
     }
 
@@ -479,7 +476,8 @@ fn rest_of(input: &[i64]) -> &[i64]
 
 // Which edge of a `switch` is taken: the first equal case's, or the default's, which stands first.
 fn case_taken(word: Word, operands: &[Operand]) -> usize
-    ensures { result ≡ case_taken (datum word) (drop 1 operands.now) }
+    ensures value { result ≡ case_taken (datum word) (drop 1 operands.now) }
+    ensures within { result ≤ length operands.now - 1 }
 {
     case_among(word.number(), cases_of(operands))
 }
@@ -494,7 +492,8 @@ fn cases_of(operands: &[Operand]) -> &[Operand]
 }
 
 fn case_among(number: u64, cases: &[Operand]) -> usize
-    ensures { result ≡ option_map_or (λ place. place + 1) (position (is_case number) cases.now) 0 }
+    ensures value { result ≡ option_map_or (λ place. place + 1) (position (is_case number) cases.now) 0 }
+    ensures within { result ≤ length cases.now }
 {
     match place_of(number, cases) {
         None => 0,
