@@ -1,19 +1,18 @@
 -- The segments of a decoded module.
-use Rattle.std.proofs.Common.{◌≡◌, ℕ, zero, suc, ◌+◌, ◌≤◌, ◌<◌, List, [], ◌∷◌, length, map, drop, refl, sym, ap, subst, ◌∙◌, get_or, inl, inr, ◌⊎◌, arith}
+use Rattle.std.proofs.Common.{◌≡◌, ℕ, zero, suc, ◌+◌, ◌≤◌, List, [], ◌∷◌, length, map, drop, refl, sym, ap, subst, ◌∙◌, get_or, inl, inr, ◌⊎◌, arith}
 use Rattle.std.specs.Prelude.{Option, Some, None, MatchOption, slice_get}
 use Rattle.std.specs.Option.{option_map, option_map_or}
 use Rattle.std.proofs.lemmas.Option.{slice_get_past, slice_get_within}
 use Rattle.ir_ast.specs.Layouts.{ObjectLayout}
 use Rattle.ir_ast.specs.Funcs.{Function as IrFunction, LinedFunction, content_of}
 use Rattle.ir_ast.specs.Modules.{ModuleContent}
-use Rattle.object_meaning.specs.Lines.{Line, poll, lines_of}
 use Rattle.flat_code.specs.declared.spots.Spot.{Spot}
 use Rattle.flat_code.specs.declared.lines.Exit.{Exit}
 use Rattle.flat_code.specs.declared.lines.Function.{Function}
 use Rattle.flat_code.specs.declared.lines.Segment.{Segment}
-use Rattle.flat_code.specs.Spots.{lines_at, front_spot}
-use Rattle.flat_code.specs.Segments.{IsExit, IsSegment, Leads, first_spot, AreChained, starts_in, StartsAt, IsFunction}
-use Rattle.flat_code.specs.Codes.{FlatModule, defined_at, function_at, segment_at, block_at, front_lines, Leaves, Fits, HasFront, AreDecoded, AreFunctions}
+use Rattle.flat_code.specs.Spots.{lines_at}
+use Rattle.flat_code.specs.Segments.{IsExit, IsSegment, Leads, first_spot, AreChained, StartsAt, IsFunction}
+use Rattle.flat_code.specs.Codes.{FlatModule, defined_at, function_at, segment_at, block_at, front_lines, Leaves, Fits, AreDecoded, AreFunctions}
 
 -- what a segment of a chain is, and what it leads to
 chained_is : (layouts : List ObjectLayout) (defined : Option IrFunction) (segments : List Segment) (last : Option Spot) (place : ℕ) (segment : Segment)

@@ -1,7 +1,6 @@
 -- One line more, and one segment more.
-use Rattle.std.proofs.Common.{◌≡◌, ℕ, zero, suc, ◌+◌, Bool, true, false, List, [], ◌∷◌, ◌++◌, length, map, refl, sym, ap, subst, ◌∙◌, ◌≤◌, arith, append_assoc, append-nil}
+use Rattle.std.proofs.Common.{◌≡◌, ℕ, zero, suc, Bool, true, false, List, [], ◌∷◌, ◌++◌, length, refl, sym, ap, subst, ◌∙◌, ◌≤◌, arith, append_assoc, append-nil}
 use Rattle.std.specs.Prelude.{Option, Some, None, MatchOption, ◌||◌, if◌then◌else◌, slice_get}
-use Rattle.std.specs.List.{All}
 use Rattle.ir_ast.specs.Layouts.{ObjectLayout}
 use Rattle.ir_ast.specs.Funcs.{Function}
 use Rattle.ir_ast.specs.Faults.PhiEdges.{is_phi}
@@ -11,7 +10,6 @@ use Rattle.flat_code.specs.declared.lines.Exit.{Exit}
 use Rattle.flat_code.specs.declared.lines.FlatLine.{FlatLine}
 use Rattle.flat_code.specs.declared.lines.Segment.{Segment}
 use Rattle.flat_code.specs.Flats.{is_straight, flat_line, flat_lines, is_inner, AreInner, Decodes}
-use Rattle.flat_code.specs.Spots.{lines_at}
 use Rattle.flat_code.specs.Segments.{IsSegment, Leads, first_spot, AreChained, starts_in, IsFront}
 
 flat_append : (layouts : List ObjectLayout) (xs ys : List Line) → flat_lines layouts (xs ++ ys) ≡ flat_lines layouts xs ++ flat_lines layouts ys

@@ -1,6 +1,6 @@
 -- What decoded lines do is what the lines of the module do, one step each.
-use Rattle.std.proofs.Common.{◌≡◌, ℕ, zero, suc, ◌+◌, ◌*◌, ◌%◌, ◌^◌, true, false, inl, inr, List, [], ◌∷◌, ◌++◌, refl, sym, ap, subst, ◌∙◌, Option, Some, None, Result, Ok, Err, arith}
-use Rattle.std.specs.Prelude.{slice_get, unwrap_or, ◌||◌, if◌then◌else◌}
+use Rattle.std.proofs.Common.{◌≡◌, ℕ, zero, suc, ◌+◌, ◌*◌, ◌%◌, ◌^◌, true, inl, inr, List, [], ◌∷◌, ◌++◌, refl, sym, ap, subst, ◌∙◌, Some, None, Result, Ok, Err, arith}
+use Rattle.std.specs.Prelude.{slice_get, unwrap_or}
 use Rattle.std.specs.Option.{option_map_or}
 use Rattle.std.specs.Int.{w64, cast_unsigned}
 use Rattle.std.proofs.Math.Nat.{add-mod-mod, mod-add-mod}
@@ -18,7 +18,7 @@ use Rattle.ir_ast.specs.declared.ops.Operand.{Operand}
 use Rattle.ir_ast.specs.declared.ops.Operand.TheVariants.{Int}
 use Rattle.ir_ast.specs.Faults.PhiEdges.{is_phi}
 use Rattle.ir_ast.specs.Layouts.{ObjectLayout}
-use Rattle.ir_ast.specs.Objects.{Pointer, Datum, number, pointer}
+use Rattle.ir_ast.specs.Objects.{Datum, pointer}
 use Rattle.object_meaning.specs.Lines.{Line}
 use Rattle.object_meaning.specs.Numbers.{width_of}
 use Rattle.object_meaning.specs.Registers.{nothing, value, operand, pointer_in, number_in}
@@ -31,9 +31,8 @@ use Rattle.object_meaning.specs.Outcomes.{proceeds}
 use Rattle.object_meaning.specs.Steps.{step, acts, settled, loading, storing}
 use Rattle.object_meaning.proofs.ListLemmas.{known}
 use Rattle.object_meaning.proofs.StepLaws.{step_is}
-use Rattle.flat_code.specs.declared.lines.FlatLine.{FlatLine}
 use Rattle.flat_code.specs.Actions.{acted}
-use Rattle.flat_code.specs.Flats.{is_straight, comparison, action_of, width_at, operand_at, flat_line, flat_lines, is_inner, AreInner, Held, computes, loads, stores, acts_on, line_done, and_then, lines_done}
+use Rattle.flat_code.specs.Flats.{is_straight, comparison, action_of, width_at, operand_at, flat_line, flat_lines, AreInner, Held, computes, loads, stores, acts_on, line_done, and_then, lines_done}
 use Rattle.flat_code.specs.Straight.{held_of, stood, held_effect, Passes, IsAlike, TrapsAt}
 
 -- ---- what an action computes

@@ -1,5 +1,5 @@
 -- What an action computes.
-use Rattle.std.specs.Prelude.{ℕ, ◌+◌, ◌*◌, ◌≤◌, if◌then◌else◌, Result, Ok, Err}
+use Rattle.std.specs.Prelude.{ℕ, ◌+◌, ◌*◌, ◌≤◌, if◌then◌else◌, Result, Ok}
 use Rattle.std.specs.Int.{w64, cast_unsigned}
 use Rattle.sp_ids.specs.Numbers.{signed}
 use Rattle.sp_ids.specs.declared.ends.Trap.{Trap}

@@ -1,5 +1,5 @@
 -- The segments of a function: straight parts of its blocks, each with its exit.
-use Rattle.std.specs.Prelude.{◌≡◌, ℕ, ◌+◌, ◌<◌, ◌≤◌, Bool, true, false, List, [], ◌∷◌, ◌++◌, length, map, Option, Some, None, MatchOption, slice_get, slice_index_or}
+use Rattle.std.specs.Prelude.{◌≡◌, ℕ, ◌<◌, ◌≤◌, List, [], ◌∷◌, ◌++◌, length, map, Option, Some, None, MatchOption, slice_get, slice_index_or}
 use Rattle.std.specs.List.{All}
 use Rattle.ir_ast.specs.declared.types.Ty.{Ty}
 use Rattle.ir_ast.specs.declared.ops.Callee.{Callee}
@@ -11,7 +11,7 @@ use Rattle.ir_ast.specs.declared.ops.Operand.{Operand}
 use Rattle.ir_ast.specs.Layouts.{ObjectLayout}
 use Rattle.ir_ast.specs.Funcs.{Function as IrFunction}
 use Rattle.ir_ast.specs.Insts.{Instruction}
-use Rattle.object_meaning.specs.Lines.{Line, numbered, insts_in}
+use Rattle.object_meaning.specs.Lines.{Line}
 use Rattle.object_meaning.specs.Numbers.{width_of}
 use Rattle.object_meaning.specs.Jumps.{label_at}
 use Rattle.flat_code.specs.declared.spots.Spot.{Spot}
@@ -22,7 +22,7 @@ use Rattle.flat_code.specs.declared.lines.Segment.{Segment}
 use Rattle.flat_code.specs.declared.lines.Function.{Function}
 use Rattle.flat_code.specs.Flats.{Decodes, IsSizedLine}
 use Rattle.flat_code.specs.Edges.{IsEdge}
-use Rattle.flat_code.specs.Spots.{insts_at, count_at, lines_at, passed_spot, front_spot, entry_spot, behind_phis}
+use Rattle.flat_code.specs.Spots.{insts_at, count_at, lines_at, front_spot, behind_phis}
 
 -- the line of a call
 pub record Calls (callee : Callee) (op : Op) : Type 0 where

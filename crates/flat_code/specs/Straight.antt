@@ -5,8 +5,8 @@ use Rattle.sp_ids.specs.declared.ends.End.TheVariants.{Trap as Trapped}
 use Rattle.sp_ids.specs.declared.ends.Trap.{Trap}
 use Rattle.object_meaning.specs.Lines.{Line}
 use Rattle.object_meaning.specs.Runs.{Reaches}
-use Rattle.object_meaning.specs.States.{Frame, State, Setting}
-use Rattle.object_meaning.specs.Effects.{Effect, goes_on, ends, Progress}
+use Rattle.object_meaning.specs.States.{State, Setting}
+use Rattle.object_meaning.specs.Effects.{Effect, goes_on, ends}
 use Rattle.object_meaning.specs.Steps.{step}
 use Rattle.object_meaning.specs.Outcomes.{proceeds}
 use Rattle.flat_code.specs.Flats.{Held}

@@ -1,9 +1,8 @@
-use Rattle.std.proofs.Common.{◌≡◌, refl, sym, ap, []}
+use Rattle.std.proofs.Common.{◌≡◌, refl, sym, []}
 use Rattle.std.proofs.lemmas.Result.{on_ok_weaker}
 use Rattle.object_meaning.specs.Lines.{poll}
 use Rattle.flat_code.specs.declared.spots.Due.TheVariants.{Behind}
 use Rattle.flat_code.specs.declared.spots.Spot.{Spot}
-use Rattle.flat_code.specs.Opens.{StandsBefore}
 use Rattle.flat_code.proofs.LineLemmas.{at_line, at_poll, at_behind}
 use Rattle.flat_code.proofs.decode.take_poll.Goals as goal
 

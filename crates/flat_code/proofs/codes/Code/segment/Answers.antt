@@ -1,8 +1,7 @@
-use Rattle.std.proofs.Common.{◌≡◌, ap, sym, ◌∙◌, Some, None, List}
+use Rattle.std.proofs.Common.{◌≡◌, ap, sym, ◌∙◌, Some, List}
 use Rattle.std.specs.Prelude.{slice_get}
 use Rattle.flat_code.specs.declared.lines.Function.{Function}
 use Rattle.flat_code.specs.declared.lines.Segment.{Segment}
-use Rattle.flat_code.specs.Segments.{IsFunction}
 use Rattle.flat_code.specs.Codes.{segment_at}
 use Rattle.flat_code.proofs.CodeLemmas.{fits_at}
 use Rattle.flat_code.proofs.codes.Code.segment.Goals as goal
