@@ -1,6 +1,6 @@
 -- Source modules without bundles are what the interpreter asks for.
 use Rattle.std.proofs.Common.{◌≡◌, ℕ, zero, suc, ◌+◌, true, false, List, [], ◌∷◌, ◌++◌, length, map, take, drop, get_or, refl, sym, ap, subst, ◌∙◌}
-use Rattle.std.specs.Prelude.{slice_get, if◌then◌else◌}
+use Rattle.std.specs.Prelude.{Some, None, slice_get, if◌then◌else◌}
 use Rattle.std.specs.List.{All}
 use Rattle.std.specs.Option.{option_map_or}
 use Rattle.std.proofs.lemmas.List.Elements.{All-nil, All-head, All-tail, All-same, All-take, All-drop}
@@ -17,12 +17,14 @@ use Rattle.ir_ast.specs.Blocks.{BasicBlock}
 use Rattle.ir_ast.specs.Funcs.{Function, instructions_of}
 use Rattle.ir_ast.specs.Modules.{ModuleContent}
 use Rattle.ir_cfg.specs.SourceModules.{IsSourceModule}
-use Rattle.ir_meaning.specs.declared.spots.Due.{Due}
-use Rattle.ir_meaning.specs.declared.spots.Due.TheVariants.{Front, Line as Next, Behind}
+use Rattle.flat_code.specs.declared.spots.Due.{Due}
+use Rattle.flat_code.specs.declared.spots.Due.TheVariants.{Front, Line as Next, Behind}
 use Rattle.object_meaning.specs.Lines.{poll, numbered, following, retreats, lines_from, insts_in, insts_of}
 use Rattle.object_meaning.specs.States.{State}
-use Rattle.ir_meaning.specs.Stacks.{Seen, lines_due, frame_of}
-use Rattle.ir_meaning.specs.Stages.{IsReady, AllReady, IsReadyModule}
+use Rattle.flat_code.specs.declared.lines.Segment.{Segment}
+use Rattle.flat_code.specs.Codes.{FlatModule, IsReadyModule, defined_at, segment_at, exit_lines}
+use Rattle.flat_code.specs.Spots.{IsReady, AllReady, insts_at, lines_at, lines_due}
+use Rattle.ir_meaning.specs.Stacks.{Seen, exit_frame}
 use Rattle.object_meaning.proofs.ListLemmas.{take_front, drop_front}
 use Rattle.object_meaning.specs.Texts.{bundle_of, bundle_line, bundle_lines, closing_lines, function_name}
 
@@ -70,17 +72,25 @@ quiet_lines Next block next (inst ∷ insts) all =
 quiet_lines Behind block next [] all = refl
 quiet_lines Behind block next (inst ∷ insts) all = (All-head IsReady inst insts all).no_bundle
 
-quiet_frames : (content : ModuleContent) → IsReadyModule content → (place : ℕ) (seens : List Seen)
-    → bundle_lines (function_name content) place (map (frame_of content) seens) ≡ []
-quiet_frames content ready place [] = refl
-quiet_frames content ready place (seen ∷ seens) =
-    let insts = insts_of content seen.spot.func seen.spot.block in
-    let quiet = quiet_lines seen.spot.due seen.spot.block seen.spot.next (drop seen.spot.at insts) (All-drop IsReady seen.spot.at insts (ready seen.spot.func seen.spot.block)) in
-    ap (λ (bundle : List (Ty × Operand)). bundle_line (function_name content) place (frame_of content seen) bundle ++ bundle_lines (function_name content) (place + 1) (map (frame_of content) seens)) quiet
-    ∙ quiet_frames content ready (place + 1) seens
+quiet_exit : (code : FlatModule) → IsReadyModule code.content → (func place : ℕ) → bundle_of (exit_lines code func place) ≡ []
+quiet_exit code ready func place =
+    elim (segment_at code func place) as (λ found. bundle_of (option_map_or (λ segment. lines_at (defined_at code func) segment.end) found []) ≡ []) [
+      | None ↦ refl
+      | Some segment ↦
+          quiet_lines segment.end.due segment.end.block segment.end.next (drop segment.end.at (insts_at (defined_at code func) segment.end.block))
+          (All-drop IsReady segment.end.at (insts_at (defined_at code func) segment.end.block) (ready func segment.end.block))
+    ]
+
+quiet_frames : (code : FlatModule) → IsReadyModule code.content → (place : ℕ) (seens : List Seen)
+    → bundle_lines (function_name code.content) place (map (exit_frame code) seens) ≡ []
+quiet_frames code ready place [] = refl
+quiet_frames code ready place (seen ∷ seens) =
+    ap (λ (bundle : List (Ty × Operand)). bundle_line (function_name code.content) place (exit_frame code seen) bundle ++ bundle_lines (function_name code.content) (place + 1) (map (exit_frame code) seens))
+    (quiet_exit code ready seen.spot.func seen.spot.segment)
+    ∙ quiet_frames code ready (place + 1) seens
 
 -- nothing is shown at a trap
-pub quiet_end : (content : ModuleContent) → IsReadyModule content → (end : End) (state : State) (seens : List Seen)
-    → state.below ≡ map (frame_of content) seens → closing_lines (function_name content) end state ≡ []
-quiet_end content ready (Trap trap) state seens below = ap (bundle_lines (function_name content) 1) below ∙ quiet_frames content ready 1 seens
-quiet_end content ready _ state seens below = refl
+pub quiet_end : (code : FlatModule) → IsReadyModule code.content → (end : End) (state : State) (seens : List Seen)
+    → state.below ≡ map (exit_frame code) seens → closing_lines (function_name code.content) end state ≡ []
+quiet_end code ready (Trap trap) state seens below = ap (bundle_lines (function_name code.content) 1) below ∙ quiet_frames code ready 1 seens
+quiet_end code ready _ state seens below = refl

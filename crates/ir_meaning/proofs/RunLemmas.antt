@@ -1,5 +1,5 @@
 -- A run by its steps, and what it has written.
-use Rattle.std.proofs.Common.{◌≡◌, ℕ, suc, ◌+◌, ◌-◌, ◌^◌, min, List, [], ◌∷◌, ◌++◌, length, Option, refl, sym, ap, ◌∙◌, arith}
+use Rattle.std.proofs.Common.{◌≡◌, ℕ, suc, ◌+◌, ◌-◌, ◌^◌, min, List, [], ◌∷◌, ◌++◌, length, Option, refl, sym, ap, subst, ◌∙◌, arith}
 use Rattle.std.proofs.lemmas.List.{append-nil}
 use Rattle.tool_io.specs.Sink.{append_known, AppendsFront}
 use Rattle.tool_io.proofs.AppendLaws.{append_known-nil, append_known-then, AppendsFront-second, AppendsFront-all, AppendsFront-same, AppendsFront-nothing}
@@ -8,7 +8,13 @@ use Rattle.sp_ids.specs.declared.ids.FuncId.{FuncId}
 use Rattle.std.specs.Prelude.{Some, None}
 use Rattle.ir_meaning.specs.declared.machine.Did.{Did}
 use Rattle.ir_meaning.specs.declared.machine.Did.TheVariants.{GoesOn, Prints, Ends as Finishes}
-use Rattle.ir_meaning.specs.Machines.{effect_of}
+use Rattle.flat_code.specs.Straight.{Passes, IsAlike}
+use Rattle.flat_code.proofs.StraightLemmas.{reaches_by}
+use Rattle.sp_ids.specs.declared.ends.End.TheVariants.{Trap}
+use Rattle.ir_meaning.specs.Machines.{effect_of, IsAfter, Turned}
+use Rattle.object_meaning.specs.Effects.{Effect}
+use Rattle.object_meaning.specs.States.{Frame}
+use Rattle.object_meaning.specs.Texts.{bundle_lines}
 use Rattle.ir_meaning.specs.declared.interpret.Ran.{Ran}
 use Rattle.object_meaning.specs.Runs.{Reaches}
 use Rattle.object_meaning.proofs.RunLaws.{reaches_more, ends_more}
@@ -134,3 +140,55 @@ end_more setting start state last (Finishes over) end count ran old now follows 
 pub front_none : (setting : Setting) (start : Progress State) (old : Option (List ℕ)) → WritesFrontFrom setting start old old
 front_none setting start old =
     record { now = start; reached = record { after = 0; by = refl }; front = AppendsFront-nothing old (text_of start.lines) }
+
+-- ---- turns
+
+follows_passes : (setting : Setting) (start : Progress State) (state middle : State) (count : ℕ) (old now : Option (List ℕ))
+    → Follows setting start state count old now → Passes setting state middle → Follows setting start middle count old now
+follows_passes setting start state middle count old now follows passes = record {
+  lines = follows.lines;
+  reached = reaches_by (proceeds setting) start (record { state = state; lines = follows.lines }) (record { state = middle; lines = follows.lines }) follows.reached (passes.by follows.lines);
+  counted = follows.counted;
+  written = follows.written;
+}
+
+after_effect : (did : Did) (last next : State) (effect : Effect State) → ended_of did ≡ None → IsAfter did last next → effect_of did last ≡ effect → effect_of did next ≡ effect
+after_effect GoesOn last next effect goes after e = subst (λ (s : State). goes_on s ≡ effect) after e
+after_effect (Prints word) last next effect goes after e = subst (λ (s : State). prints word s ≡ effect) after e
+after_effect (Finishes end) last next effect goes after e = cc
+
+-- a turn of the machine that isn't the last
+pub follows_turned : (setting : Setting) (start : Progress State) (state next : State) (did : Did) (count more : ℕ) (old now new : Option (List ℕ))
+    → Follows setting start state count old now → Turned setting state did next → ended_of did ≡ None → Wrote did count more now new
+    → Follows setting start next more old new
+follows_turned setting start state next did count more old now new follows turned goes wrote =
+    follows_more setting start turned.middle next did count more old now new (follows_passes setting start state turned.middle count old now follows turned.passes)
+    (after_effect did turned.last next (step setting turned.middle) goes turned.after turned.effect) goes wrote
+
+pub front_turned : (setting : Setting) (start : Progress State) (state next : State) (did : Did) (count : ℕ) (old now new : Option (List ℕ))
+    → Follows setting start state count old now → Turned setting state did next → ended_of did ≡ None → WroteFront did now new
+    → WritesFrontFrom setting start old new
+front_turned setting start state next did count old now new follows turned goes wrote =
+    front_more setting start turned.middle next did count old now new (follows_passes setting start state turned.middle count old now follows turned.passes)
+    (after_effect did turned.last next (step setting turned.middle) goes turned.after turned.effect) goes wrote
+
+closing_below : (names : ℕ → List ℕ) (end : End) (last state : State) → last.below ≡ state.below → closing_lines names end state ≡ [] → closing_lines names end last ≡ []
+closing_below names (Trap trap) last state below quiet = ap (bundle_lines names 1) below ∙ quiet
+closing_below names _ last state below quiet = refl
+
+-- the last turn
+pub end_turned : (setting : Setting) (start : Progress State) (state new : State) (did : Did) (end : End) (count : ℕ) (ran : Ran) (old now : Option (List ℕ))
+    → Follows setting start state count old now → Turned setting state did new → ended_of did ≡ Some end
+    → ran ≡ record { end = end; func = record { 0 = new.running.func }; steps = new.steps; events = new.events; lines = count }
+    → closing_lines setting.names end new ≡ [] → IsRunFrom setting start ran old now
+end_turned setting start state new GoesOn end count ran old now follows turned ended is quiet = cc
+end_turned setting start state new (Prints word) end count ran old now follows turned ended is quiet = cc
+end_turned setting start state new (Finishes over) end count ran old now follows turned ended is quiet =
+    let same : over ≡ end = cc in
+    let last = turned.last in let alike : IsAlike turned.last new = turned.after in
+    let ran_is : ran ≡ record { end = end; func = record { 0 = last.running.func }; steps = last.steps; events = last.events; lines = count } =
+    is ∙ ap (λ (f : ℕ). let r : Ran = record { end = end; func = record { 0 = f }; steps = new.steps; events = new.events; lines = count } in r) (sym alike.func)
+    ∙ ap (λ (n : ℕ). let r : Ran = record { end = end; func = record { 0 = last.running.func }; steps = n; events = new.events; lines = count } in r) (sym alike.steps)
+    ∙ ap (λ (n : ℕ). let r : Ran = record { end = end; func = record { 0 = last.running.func }; steps = last.steps; events = n; lines = count } in r) (sym alike.events) in
+    end_more setting start turned.middle last (Finishes over) end count ran old now (follows_passes setting start state turned.middle count old now follows turned.passes)
+    turned.effect ended ran_is (closing_below setting.names end last new alike.below quiet)

@@ -1,4 +1,4 @@
-pub mod Stages
 pub mod Stacks
+pub mod Straights
 pub mod Machines
 pub mod References

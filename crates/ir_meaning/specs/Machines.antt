@@ -1,23 +1,29 @@
--- The state that the interpreter stands for, and what it did.
+-- The states that the interpreter stands for, and what it did.
 use Rattle.std.specs.Prelude.{◌≡◌, ℕ, ℤ, List, [], ◌∷◌, map, replicate, Option, Some, None, slice_get, slice_set}
-use Rattle.ir_ast.specs.Insts.{Instruction}
 use Rattle.ir_ast.specs.Modules.{ModuleContent}
 use Rattle.ir_ast.specs.Objects.{Object}
 use Rattle.move_plan.specs.declared.plan_lines.PlanLine.{PlanLine}
 use Rattle.move_plan.specs.Plans.{go}
-use Rattle.object_meaning.specs.Lines.{numbered, insts_of, main_of, first_register, register_count}
+use Rattle.ir_ast.specs.declared.ops.Op.TheVariants.{Switch}
+use Rattle.flat_code.specs.declared.lines.Edge.{Edge}
+use Rattle.flat_code.specs.declared.lines.Exit.{Exit}
+use Rattle.flat_code.specs.declared.lines.Segment.{Segment}
+use Rattle.flat_code.specs.Edges.{copy_of, phis_in, block_lines}
+use Rattle.flat_code.specs.Segments.{AreEdges}
+use Rattle.flat_code.specs.Codes.{FlatModule, defined_at, segment_at, block_at, Leaves, HasFront}
+use Rattle.flat_code.specs.Straight.{Passes, IsAlike}
+use Rattle.object_meaning.specs.Lines.{main_of, register_count}
 use Rattle.object_meaning.specs.States.{Frame, State, Setting}
 use Rattle.object_meaning.specs.Effects.{Effect, goes_on, prints, ends}
+use Rattle.object_meaning.specs.Calls.{stepped}
+use Rattle.object_meaning.specs.Jumps.{jumped}
 use Rattle.object_meaning.specs.SourceRuns.{source_setting}
-use Rattle.object_meaning.specs.Steps.{acts}
+use Rattle.object_meaning.specs.Steps.{step}
 use Rattle.object_store.specs.Words.{number_word}
 use Rattle.ir_meaning.specs.declared.machine.Did.{Did}
 use Rattle.ir_meaning.specs.declared.machine.Did.TheVariants.{GoesOn, Prints, Ends}
 use Rattle.ir_meaning.specs.declared.machine.Machine.{Machine}
-use Rattle.ir_meaning.specs.declared.spots.Spot.{Spot}
-use Rattle.ir_meaning.specs.declared.spots.Due.TheVariants.{Front}
-use Rattle.ir_meaning.specs.Stages.{IsReady}
-use Rattle.ir_meaning.specs.Stacks.{Frames, frame_of, lines_at, lines_behind}
+use Rattle.ir_meaning.specs.Stacks.{Frames, front_frame, exit_frame}
 
 -- what a run has beside the frames of its running task; the frames of the other tasks by number, where they have any
 pub record Rest : Type 0 where
@@ -28,25 +34,32 @@ pub record Rest : Type 0 where
   pub steps : ℕ
   pub events : ℕ
 
--- the frames of a task, the newest first
-abbrev pub task_frames : ModuleContent → Frames → List Frame
-task_frames content frames = frame_of content frames.running ∷ map (frame_of content) frames.below
+-- the frames of a task that waits, the newest first
+abbrev pub task_frames : FlatModule → Frames → List Frame
+task_frames code frames = exit_frame code frames.running ∷ map (exit_frame code) frames.below
 
-abbrev pub waiting_frames : ModuleContent → Option Frames → List Frame
-waiting_frames content None = []
-waiting_frames content (Some frames) = task_frames content frames
+abbrev pub waiting_frames : FlatModule → Option Frames → List Frame
+waiting_frames code None = []
+waiting_frames code (Some frames) = task_frames code frames
 
-abbrev pub state_from : ModuleContent → Frames → Rest → State
-state_from content frames others = record {
-  running = frame_of content frames.running;
-  below = map (frame_of content) frames.below;
+abbrev pub state_with : FlatModule → Frame → Frames → Rest → State
+state_with code running frames others = record {
+  running = running;
+  below = map (exit_frame code) frames.below;
   task = others.task;
-  tasks = map (waiting_frames content) others.tasks;
+  tasks = map (waiting_frames code) others.tasks;
   objects = others.objects;
   input = others.input;
   steps = others.steps;
   events = others.events;
 }
+
+-- the running frame stands at the front of its segment, or at its exit
+abbrev pub state_from : FlatModule → Frames → Rest → State
+state_from code frames others = state_with code (front_frame code frames.running) frames others
+
+abbrev pub exit_from : FlatModule → Frames → Rest → State
+exit_from code frames others = state_with code (exit_frame code frames.running) frames others
 
 abbrev pub rest_of : Machine → Rest
 rest_of machine = record {
@@ -58,8 +71,11 @@ rest_of machine = record {
   events = machine.events;
 }
 
-abbrev pub state_of : ModuleContent → Machine → State
-state_of content machine = state_from content machine.stack (rest_of machine)
+abbrev pub state_of : FlatModule → Machine → State
+state_of code machine = state_from code machine.stack (rest_of machine)
+
+abbrev pub exit_of : FlatModule → Machine → State
+exit_of code machine = exit_from code machine.stack (rest_of machine)
 
 -- the frames of the running task and the rest
 pub record Whole : Type 0 where
@@ -82,29 +98,56 @@ gone_to whole None = whole
 gone_to whole (Some to) = switched_so whole to (slice_get whole.others.tasks to)
 
 -- the run of a source module under the `go` lines of a plan
-abbrev pub today : ModuleContent → List PlanLine → ℕ → Setting
-today content plan bound = source_setting content (go plan) bound
+abbrev pub today : FlatModule → List PlanLine → ℕ → Setting
+today code plan bound = source_setting code.content (go plan) bound
 
--- the running frame stands at this instruction
-pub record StandsAt (content : ModuleContent) (spot : Spot) (inst : Instruction) : Type 0 where
-  pub there : slice_get (insts_of content spot.func spot.block) spot.at ≡ Some inst
-  pub lines : lines_at content spot ≡ numbered spot.next inst ∷ lines_behind content spot inst
-  pub ready : IsReady inst
-
--- what the meaning does at this instruction
-abbrev pub does : ModuleContent → List PlanLine → ℕ → State → Spot → Instruction → Effect State
-does content plan bound state spot inst =
-    acts (today content plan bound) state (numbered spot.next inst) (lines_behind content spot inst) inst.op
+-- the running frame stands at the exit of this segment
+pub record StandsAt (code : FlatModule) (frames : Frames) (segment : Segment) (exit : Exit) : Type 0 where
+  pub there : segment_at code frames.running.spot.func frames.running.spot.segment ≡ Some segment
+  pub leaves : Leaves code frames.running.spot.func frames.running.spot.segment segment exit
 
 abbrev pub effect_of : Did → State → Effect State
 effect_of GoesOn state = goes_on state
 effect_of (Prints word) state = prints word state
 effect_of (Ends end) state = ends end state
 
+-- at an end what is left of the state is what is written of it
+abbrev pub IsAfter : Did → State → State → Type 0
+IsAfter (Ends end) last state = IsAlike last state
+IsAfter _ last state = last ≡ state
+
+-- the run comes from a state to one whose step does this
+pub record Turned (setting : Setting) (start : State) (did : Did) (state : State) : Type 0 where
+  pub middle : State
+  pub passes : Passes setting start middle
+  pub last : State
+  pub effect : effect_of did last ≡ step setting middle
+  pub after : IsAfter did last state
+
+-- what is left when a step did this
+pub record Does (did : Did) (effect : Effect State) (state : State) : Type 0 where
+  pub last : State
+  pub effect_is : effect_of did last ≡ effect
+  pub after : IsAfter did last state
+
+-- the step takes this edge, from the block in which the running frame stands
+pub record LeadsAlong (code : FlatModule) (frames : Frames) (setting : Setting) (middle : State) (edge : Edge) : Type 0 where
+  pub step_is : step setting middle ≡ stepped setting middle (jumped setting edge.block)
+  pub copies : edge.copies.items
+      ≡ map (copy_of (block_at code frames.running.spot.func frames.running.spot.segment)) (phis_in (block_lines (defined_at code frames.running.spot.func) edge.block))
+
+-- the running frame stands at a `switch` with these edges
+pub record SwitchesAt (code : FlatModule) (frames : Frames) (segment : Segment) (edges : List Edge) : Type 0 where
+  pub exit : Exit
+  pub stands : StandsAt code frames segment exit
+  pub op : stands.leaves.line.inst.op ≡ Switch
+  pub edges_are : AreEdges (defined_at code frames.running.spot.func) segment.start.block stands.leaves.line.inst edges
+
 -- the machine stands at the front of `@main`
-pub record IsOpened (content : ModuleContent) (input : List ℤ) (machine : Machine) : Type 0 where
-  pub spot : machine.stack.running.spot ≡ record { func = main_of content; block = 0; at = 0; next = first_register content (main_of content) 0; due = Front }
-  pub registers : machine.stack.running.registers ≡ replicate (register_count content (main_of content)) (number_word 0)
+pub record IsOpened (code : FlatModule) (input : List ℤ) (machine : Machine) : Type 0 where
+  pub front : HasFront code (main_of code.content)
+  pub spot : machine.stack.running.spot ≡ record { func = main_of code.content; segment = 0 }
+  pub registers : machine.stack.running.registers ≡ replicate (register_count code.content (main_of code.content)) (number_word 0)
   pub below : machine.stack.below ≡ []
   pub others : rest_of machine ≡ record { task = 0; tasks = None ∷ []; objects = []; input = input; steps = 0; events = 0 }
-  pub layouts : machine.objects.layouts ≡ content.layouts
+  pub layouts : machine.objects.layouts ≡ code.content.layouts

@@ -1,52 +1,92 @@
-//! The lines that compute a value from values alone.
+//! What decoded lines compute, on words.
 
-ghost use Rattle.std.specs.Prelude.{◌≡◌, ◌≤◌, ◌%◌, ◌^◌};
-ghost use Rattle.object_meaning.specs.Comparisons.{compares, bit, pointers_related, same_pointer};
-ghost use Rattle.object_meaning.specs.Computing.{computed, with_number, address_of, element_bytes, field_bytes};
-ghost use Rattle.ir_ast.specs.Objects.{number, pointer};
-ghost use Rattle.ir_ast.specs.Sizes.{begins_at};
-ghost use Rattle.object_meaning.specs.Registers.{number_in, pointer_in, is_set};
-ghost use Rattle.object_store.specs.Words.{datum, datum_result};
+ghost use Rattle.std.specs.Prelude.{◌≡◌, ◌≤◌, ◌+◌, ◌*◌, map, if◌then◌else◌, slice_index_or};
+ghost use Rattle.std.specs.Int.{w64, cast_unsigned};
+ghost use Rattle.sp_ids.specs.Numbers.{signed};
+ghost use Rattle.ir_ast.specs.Objects.{number, pointer, advanced};
+ghost use Rattle.object_meaning.specs.Comparisons.{bit, pointers_related, same_pointer};
+ghost use Rattle.object_meaning.specs.Computing.{with_number};
+ghost use Rattle.object_meaning.specs.Registers.{value, number_in, pointer_in, is_set};
+ghost use Rattle.object_store.specs.Words.{datum, datum_result, number_word};
+ghost use Rattle.flat_code.specs.Actions.{acted};
+ghost use Rattle.flat_code.specs.Flats.{IsSizedLine};
+ghost use Rattle.ir_meaning.specs.Stacks.{word};
 
-use crate::numbers::{arithmetic, compare, sign_extended, truncated, width_of};
-use ir_ast::{Cell, Elem, Layout, Op, Pred, Ty};
-use object_store::{Word, fields_of};
+use flat_code::{Action, FlatLine, computed_number};
+use ir_ast::{Operand, Pred};
+use object_store::Word;
 use sp_ids::{Trap, sign};
 
-/// The value of a line with this operator and type, of its first three operands.
-pub fn computed(
-    layouts: &[Layout],
-    op: &Op,
-    ty: &Ty,
-    first: Word,
-    second: Word,
-    third: Word,
-) -> Result<Word, Trap>
-    ensures { datum_result result ≡ computed layouts.now op.now ty.now (datum first) (datum second) (datum third) }
+/// What the action of a line gives in a frame with these registers.
+pub fn acted(registers: &[Word], line: &FlatLine) -> Result<Word, Trap>
+    requires { IsSizedLine line.now }
+    ensures { datum_result result ≡ acted line.now.action line.now.width (value (map datum registers.now) line.now.first) (value (map datum registers.now) line.now.second) (value (map datum registers.now) line.now.third) }
 {
-    match op {
-        Op::Icmp(pred) => Ok(bit(compares(*pred, ty, first, second))),
-        Op::Trunc(to) => Ok(Word::of(truncated(width_of(&Ty::Int(*to)), first.number()))),
-        Op::Zext(_) => Ok(Word::of(first.number())),
-        Op::Sext(to) => Ok(Word::of(sign_extended(
-            width_of(ty),
-            width_of(&Ty::Int(*to)),
-            first.number(),
-        ))),
-        Op::Select => Ok(if is_set(first) { second } else { third }),
-        Op::Gep {
-            elem,
-            index_width,
-            place,
-        } => Ok(address(
-            layouts,
-            *elem,
-            width_of(&Ty::Int(*index_width)),
-            *place,
-            first,
-            second.number(),
+    match line.action {
+        Action::Select => Ok(chosen(registers, line)),
+        Action::ComparePointers(pred) => Ok(compared(
+            pred,
+            held(registers, line.first),
+            held(registers, line.second),
         )),
-        _ => with_number(arithmetic(op, width_of(ty), first.number(), second.number())),
+        Action::Advance { scale, fixed } => Ok(advanced(
+            held(registers, line.first),
+            line.width,
+            number_of(registers, line.second),
+            scale,
+            fixed,
+        )),
+        _ => with_number(computed_number(
+            line.action,
+            line.width,
+            number_of(registers, line.first),
+            number_of(registers, line.second),
+        )),
+    }
+}
+
+/// What an operand is.
+pub fn held(registers: &[Word], operand: Operand) -> Word
+    ensures { datum result ≡ value (map datum registers.now) operand }
+{
+    word(registers, operand)
+}
+
+/// The number that an operand is, or 0.
+pub fn number_of(registers: &[Word], operand: Operand) -> u64
+    ensures { result ≡ number_in (value (map datum registers.now) operand) }
+{
+    held(registers, operand).number()
+}
+
+/// The word that an operand is.
+pub fn word(registers: &[Word], operand: Operand) -> Word
+    ensures { result ≡ word registers.now operand }
+{
+    match operand {
+        Operand::Value(id) => register(registers, id.0),
+        Operand::Int(number) => Word::of(number),
+        Operand::Null => Word::to(0, 0),
+        Operand::Fun(_) => Word::of(0),
+    }
+}
+
+fn register(registers: &[Word], register: u32) -> Word
+    ensures { result ≡ slice_index_or registers.now register (number_word 0) }
+{
+    registers
+        .get(register as usize)
+        .copied()
+        .unwrap_or(Word::of(0))
+}
+
+fn chosen(registers: &[Word], line: &FlatLine) -> Word
+    ensures { datum result ≡ (if is_set (value (map datum registers.now) line.now.first) then value (map datum registers.now) line.now.second else value (map datum registers.now) line.now.third) }
+{
+    if is_set(held(registers, line.first)) {
+        held(registers, line.second)
+    } else {
+        held(registers, line.third)
     }
 }
 
@@ -59,13 +99,11 @@ fn with_number(outcome: Result<u64, Trap>) -> Result<Word, Trap>
     }
 }
 
-fn compares(pred: Pred, ty: &Ty, left: Word, right: Word) -> bool
-    ensures { result ≡ compares pred ty.now (datum left) (datum right) }
+// An `icmp` of pointers.
+fn compared(pred: Pred, left: Word, right: Word) -> Word
+    ensures { datum result ≡ number (bit (pointers_related pred (same_pointer (pointer_in (datum left)) (pointer_in (datum right))))) }
 {
-    match ty {
-        Ty::Ptr => compare_pointers(pred, same_pointer(left, right)),
-        _ => compare(pred, width_of(ty), left.number(), right.number()),
-    }
+    bit(related(pred, same_pointer(left, right)))
 }
 
 fn same_pointer(left: Word, right: Word) -> bool
@@ -74,7 +112,7 @@ fn same_pointer(left: Word, right: Word) -> bool
     left.object() == right.object() && left.offset() == right.offset()
 }
 
-fn compare_pointers(pred: Pred, same: bool) -> bool
+fn related(pred: Pred, same: bool) -> bool
     ensures { result ≡ pointers_related pred same }
 {
     match pred {
@@ -98,55 +136,12 @@ pub fn is_set(word: Word) -> bool
 }
 
 // The pointer that a `getelementptr` gives.
-fn address(
-    layouts: &[Layout],
-    elem: Elem,
-    index_width: u32,
-    place: Option<u32>,
-    from: Word,
-    index: u64,
-) -> Word
-    requires some_bits { 1 ≤ index_width }
-    requires word { index_width ≤ 64 }
-    ensures { datum result ≡ pointer (address_of layouts.now elem index_width place (pointer_in (datum from)) index) }
+fn advanced(from: Word, width: u32, index: u64, scale: u64, fixed: u64) -> Word
+    requires some_bits { 1 ≤ width }
+    requires word { width ≤ 64 }
+    ensures { datum result ≡ pointer (advanced (pointer_in (datum from)) (cast_unsigned w64 (signed width index) * scale + fixed)) }
 {
-    let scaled = sign(index_width, index)
-        .cast_unsigned()
-        .wrapping_mul(element_bytes(layouts, elem));
-    let offset = from
-        .offset()
-        .wrapping_add(scaled.wrapping_add(field_bytes(layouts, elem, place)));
+    let scaled = sign(width, index).cast_unsigned().wrapping_mul(scale);
+    let offset = from.offset().wrapping_add(scaled.wrapping_add(fixed));
     Word::to(from.object(), offset)
-}
-
-fn element_bytes(layouts: &[Layout], elem: Elem) -> u64
-    ensures { result ≡ element_bytes layouts.now elem % 2 ^ 64 }
-{
-    match elem {
-        Elem::Int(width) => u64::from(width / 8),
-        Elem::Ptr => 8,
-        Elem::Layout(layout) => (fields_of(layouts, layout).len() as u64).wrapping_mul(8),
-    }
-}
-
-fn field_bytes(layouts: &[Layout], elem: Elem, place: Option<u32>) -> u64
-    ensures { result ≡ field_bytes layouts.now elem place }
-{
-    match elem {
-        Elem::Layout(layout) => match place {
-            None => 0,
-            Some(place) => begins_at(fields_of(layouts, layout), place),
-        },
-        _ => 0,
-    }
-}
-
-fn begins_at(fields: &[Cell], place: u32) -> u64
-    ensures { result ≡ begins_at fields.now place }
-{
-    if (place as usize) < fields.len() {
-        8 * u64::from(place)
-    } else {
-        0
-    }
 }

@@ -9,14 +9,14 @@ ghost use Rattle.tool_io.specs.Counts.{Rose};
 ghost use Rattle.object_meaning.specs.Lines.{main_of};
 ghost use Rattle.ir_meaning.specs.Machines.{state_of, today, IsOpened};
 ghost use Rattle.move_plan.specs.Plans.{go};
-ghost use Rattle.ir_meaning.specs.Stages.{IsReadyModule};
+ghost use Rattle.flat_code.specs.Codes.{IsReadyModule};
 ghost use Rattle.object_meaning.specs.Effects.{printed_line};
 ghost use Rattle.ir_meaning.specs.References.{IsRun, IsRunFrom, WritesFrontFrom, WritesFrontOfRun, unprinted, ended_of, Wrote, WroteFront};
 
-use crate::codes::Code;
-use crate::machine::{Did, Machine, front_of};
-use crate::stacks::Stack;
+use crate::machine::{Did, Machine};
+use crate::stacks::{Spot, Stack};
 use arrayvec::ArrayVec;
+use flat_code::Code;
 use ir_ast::{Func, Module};
 use itoa::Buffer;
 use move_plan::Plan;
@@ -100,7 +100,11 @@ fn opened<'c, 'i>(
     ensures { IfOk result (λ machine. IsOpened code.now input.now machine) }
 {
     let main = main_of(code);
-    let stack = Stack::new(alloc, front_of(code, main), code.register_count(main))?;
+    let front = Spot {
+        func: main,
+        segment: 0,
+    };
+    let stack = Stack::new(alloc, front, code.registers(main))?;
     Ok(Machine {
         stack,
         moves: Vec::new(alloc),
@@ -117,7 +121,7 @@ fn opened<'c, 'i>(
 
 // The number of `@main`.
 fn main_of(code: &Code) -> u32
-    ensures { result ≡ main_of code.now }
+    ensures { result ≡ main_of code.now.content }
 {
     match main_among(code.module().funcs()) {
         None => 0,
@@ -146,8 +150,8 @@ fn run<O: Sink>(
     bound: u64,
     out: &mut O,
 ) -> Result<Ran, RefFault>
-    requires ready { IsReadyModule code.now }
-    requires layouts { machine.old.objects.layouts ≡ code.now.layouts }
+    requires ready { IsReadyModule code.now.content }
+    requires layouts { machine.old.objects.layouts ≡ code.now.content.layouts }
     ensures ran { IfOk result (λ ran. IsRunFrom (today code.now plan.now bound) (unprinted (state_of code.now machine.old)) ran (O.written out.old) (O.written out.new)) }
     ensures front { OnErr result (WritesFrontFrom (today code.now plan.now bound) (unprinted (state_of code.now machine.old)) (O.written out.old) (O.written out.new)) }
     ensures failed { IsErrOf result RefFault.Write → Rose (O.faults out.old) (O.faults out.new) }
@@ -155,7 +159,7 @@ fn run<O: Sink>(
 {
     let mut lines = 0u64;
     for _ in 0..u64::MAX {
-        let did = machine.step(code, plan, bound)?;
+        let did = machine.turn(code, plan, bound)?;
         if let Some(end) = ended(did) {
             return Ok(how_ran(end, machine, lines));
         }
@@ -165,7 +169,7 @@ fn run<O: Sink>(
     Err(RefFault::Memory)
 }
 
-// The end of the run, where the step was its last.
+// The end of the run, where the turn was its last.
 fn ended(did: Did) -> Option<End>
     ensures { result ≡ ended_of did }
 {
@@ -175,7 +179,7 @@ fn ended(did: Did) -> Option<End>
     }
 }
 
-// Writes what a step printed, and counts the line.
+// Writes what a turn printed, and counts the line.
 fn write_line<O: Sink>(did: Did, lines: u64, out: &mut O) -> Result<u64, Failed>
     ensures ok { IfOk result (λ more. Wrote did lines more (O.written out.old) (O.written out.new)) }
     ensures err { OnErr result (WroteFront did (O.written out.old) (O.written out.new)) }

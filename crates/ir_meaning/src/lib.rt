@@ -1,12 +1,10 @@
 //! The source meaning of a module, and the interpreter that computes it.
 #![tactic(auto)]
 
-mod codes;
 mod computing;
 mod interpret;
 mod machine;
-mod numbers;
-mod spots;
 mod stacks;
+mod straight;
 
 pub use interpret::{Ran, RefFault, reference};

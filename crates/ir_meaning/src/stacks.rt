@@ -1,23 +1,30 @@
 //! The frames of a task, with their registers in one list.
 
-ghost use Rattle.std.specs.Prelude.{◌≡◌, ◌==◌, ◌-◌, ◌++◌, ◌<◌, ◌≤◌, [], ◌∷◌, length, map, take, drop, replicate, IfOk, OnOk, slice_set, slice_index_or};
-ghost use Rattle.ir_meaning.specs.declared.spots.Due.TheVariants as dues;
+ghost use Rattle.std.specs.Prelude.{◌≡◌, ◌-◌, ◌++◌, ◌<◌, ◌≤◌, [], ◌∷◌, length, map, replicate, IfOk, OnOk};
+ghost use Rattle.std.specs.List.{All};
 ghost use Rattle.object_store.specs.Words.{number_word};
-ghost use Rattle.object_meaning.specs.Lines.{numbered, after_all};
-ghost use Rattle.ir_ast.specs.Faults.PhiEdges.{is_phi};
-ghost use Rattle.ir_meaning.specs.Stacks.{passed_spot, passed_frame, word, word_at, word_from, move_of, moves_of, moved, phis_of, entered_frames, arrived_frames};
 ghost use Rattle.object_meaning.specs.Registers.{put};
-ghost use Rattle.std.specs.List.{position};
+ghost use Rattle.flat_code.specs.Flats.{IsSizedLine, lines_done};
+ghost use Rattle.ir_meaning.specs.Straights.{held_in, outcome};
+ghost use Rattle.ir_meaning.specs.Stacks.{passed_spot, passed_frame, word, word_at, move_of, moved, entered_frames, arrived_frames};
 
-use crate::codes::following;
-use crate::spots::{Due, Spot};
-use ir_ast::{Inst, Op, Operand};
-use object_store::Word;
-use sp_ids::{BlockId, Memory};
+use crate::computing::word;
+use crate::straight::{put, straight};
+use flat_code::{Copied, FlatLine};
+use ir_ast::Operand;
+use object_store::{Objects, Word};
+use sp_ids::{Memory, Trap};
 use std::alloc::Global;
 use std::marker::Model;
 
-/// A frame that waits: where it stands, and its first register's place in the list.
+/// A segment of a function, by their numbers.
+#[derive(Clone, Copy, Debug, PartialEq, Eq)]
+pub struct Spot {
+    pub func: u32,
+    pub segment: u32,
+}
+
+/// A frame that waits at the exit of a segment, and its first register's place in the list.
 #[derive(Clone, Copy, Debug, PartialEq, Eq)]
 pub struct Saved {
     pub spot: Spot,
@@ -27,7 +34,7 @@ pub struct Saved {
 /// A word that a phi assigns, and the register that it goes to.
 #[derive(Clone, Copy, Debug, PartialEq, Eq)]
 pub struct Move {
-    pub to: Option<usize>,
+    pub to: Option<u32>,
     pub word: Word,
 }
 
@@ -81,7 +88,7 @@ impl Stack {
         })
     }
 
-    /// Where the running frame stands.
+    /// The segment of the running frame.
     pub fn spot(&self) -> Spot
         ensures { result ≡ self.now.running.spot }
     {
@@ -95,81 +102,49 @@ impl Stack {
         self.saved.len()
     }
 
-    /// What an operand of a line of the running frame is.
+    /// What an operand of the running frame's line is.
     pub fn operand(&self, operands: &[Operand], place: usize) -> Word
         ensures { result ≡ word_at self.now.running.registers operands.now place }
     {
         match operands.get(place) {
             None => Word::of(0),
-            Some(operand) => self.value(operand),
+            Some(operand) => self.value(*operand),
         }
     }
 
-    fn value(&self, operand: &Operand) -> Word
-        ensures { result ≡ word self.now.running.registers operand.now }
+    fn value(&self, operand: Operand) -> Word
+        ensures { result ≡ word self.now.running.registers operand }
     {
-        match operand {
-            Operand::Value(id) => self.register(id.0),
-            Operand::Int(number) => Word::of(*number),
-            Operand::Null => Word::to(0, 0),
-            Operand::Fun(_) => Word::of(0),
-        }
+        let at = (self.base as usize).min(self.registers.len());
+        word(&self.registers[at..], operand)
     }
 
-    fn register(&self, register: u32) -> Word
-        ensures { result ≡ slice_index_or self.now.running.registers register (number_word 0) }
+    /// These lines, up to a trap.
+    pub fn run_lines(&mut self, objects: &mut Objects, lines: &[FlatLine]) -> Option<Trap>
+        requires { All IsSizedLine lines.now }
+        ensures done { outcome result (held_in self.new.running.registers objects.new) ≡ lines_done objects.old.layouts (held_in self.old.running.registers objects.old) lines.now }
+        ensures kept { self.new ≡ record self.old { running = record self.old.running { registers = self.new.running.registers } } }
+        ensures layouts { objects.new.layouts ≡ objects.old.layouts }
     {
-        let place = self.base as usize + register as usize;
-        self.registers.get(place).copied().unwrap_or(Word::of(0))
+        let at = (self.base as usize).min(self.registers.len());
+        straight(&mut self.registers.as_mut_slice()[at..], objects, lines)
     }
 
-    /// The running frame stands elsewhere.
-    pub fn stand(&mut self, spot: Spot)
-        ensures { self.new ≡ record self.old { running = record self.old.running { spot = spot } } }
+    /// The running frame goes on behind the exit of its segment with this result.
+    pub fn pass(&mut self, to: Option<u32>, outcome: Word) -> Result<(), Memory>
+        ensures { OnOk result (self.new ≡ record self.old { running = passed_frame self.old.running to outcome }) }
     {
-        self.spot = spot;
-    }
-
-    /// The running frame goes on behind an instruction that gives nothing here.
-    pub fn skip(&mut self, inst: &Inst) -> Result<(), Memory>
-        ensures { OnOk result (self.new ≡ record self.old { running = record self.old.running { spot = passed_spot self.old.running.spot inst.now } }) }
-    {
-        let next = following(self.spot.next, inst)?;
-        let at = self.spot.at.checked_add(1).ok_or(Memory)?;
-        self.spot = Spot {
-            at,
-            next,
-            due: Due::Line,
-            ..self.spot
-        };
+        let segment = self.spot.segment.checked_add(1).ok_or(Memory)?;
+        self.put(to, outcome);
+        self.spot.segment = segment;
         Ok(())
     }
 
-    /// The running frame goes on behind an instruction with this result.
-    pub fn pass(&mut self, inst: &Inst, outcome: Word) -> Result<(), Memory>
-        ensures { OnOk result (self.new ≡ record self.old { running = passed_frame self.old.running inst.now outcome }) }
-    {
-        let register = register_of(self.spot.next, inst);
-        self.skip(inst)?;
-        self.put(register, outcome);
-        Ok(())
-    }
-
-    fn put(&mut self, to: Option<usize>, word: Word)
+    fn put(&mut self, to: Option<u32>, word: Word)
         ensures { self.new ≡ record self.old { running = record self.old.running { registers = put to word self.old.running.registers } } }
     {
-        if let Some(register) = to {
-            self.set(register, word);
-        }
-    }
-
-    fn set(&mut self, register: usize, word: Word)
-        ensures { self.new ≡ record self.old { running = record self.old.running { registers = slice_set self.old.running.registers register word } } }
-    {
-        let place = (self.base as usize).saturating_add(register);
-        if place < self.registers.len() {
-            self.registers[place] = word;
-        }
+        let at = (self.base as usize).min(self.registers.len());
+        put(&mut self.registers.as_mut_slice()[at..], to, word);
     }
 
     /// A new frame runs, with these operands of the old one as its first registers and so many registers at
@@ -201,7 +176,7 @@ impl Stack {
     {
         args.clear();
         for operand in operands {
-            args.push(self.value(operand))?;
+            args.push(self.value(*operand))?;
         }
         Ok(())
     }
@@ -209,74 +184,47 @@ impl Stack {
     /// The newest of the frames that wait runs again, and the running one is gone.
     pub fn leave(&mut self)
         requires { 0 < length self.old.below }
-        ensures below { self.old.below ≡ self.new.running ∷ self.new.below }
-        ensures due { self.new.running.spot.due ≡ dues.Behind }
+        ensures { self.old.below ≡ self.new.running ∷ self.new.below }
     {
         if let Some(saved) = self.saved.pop() {
             self.registers.truncate(self.base as usize);
-            self.spot = Spot {
-                due: Due::Behind,
-                ..saved.spot
-            };
+            self.spot = saved.spot;
             self.base = saved.base;
         }
     }
 
-    /// The running frame goes to the front of another block, whose phis take effect together, and stands
-    /// behind them. `moves` is room for them.
+    /// The running frame goes to another segment, whose block's phis take effect together. `moves` is room for them.
     pub fn arrive(
         &mut self,
         moves: &mut Vec<Move>,
-        insts: &[Inst],
-        block: u32,
-        first: usize,
+        copies: &[Copied],
+        spot: Spot,
     ) -> Result<(), Memory>
-        ensures { OnOk result (self.new ≡ arrived_frames self.old insts.now block first) }
+        ensures { OnOk result (self.new ≡ arrived_frames self.old copies.now spot) }
     {
-        let at = phi_count(insts);
-        let next = self.phi_moves(moves, first, &insts[..at])?;
+        self.gather(moves, copies)?;
         self.do_moves(moves.as_slice());
-        self.spot = Spot {
-            block,
-            at,
-            next,
-            due: Due::Line,
-            ..self.spot
-        };
+        self.spot = spot;
         Ok(())
     }
 
-    // What these phis assign on the edge from the block of the running frame, and the register after theirs.
-    fn phi_moves(&self, moves: &mut Vec<Move>, first: usize, phis: &[Inst]) -> Result<usize, Memory>
-        ensures moves { OnOk result (moves.new.items ≡ moves_of self.now.running.spot.block self.now.running.registers first phis.now) }
-        ensures next { IfOk result (λ next. next ≡ after_all first phis.now) }
+    // What these copies assign.
+    fn gather(&self, moves: &mut Vec<Move>, copies: &[Copied]) -> Result<(), Memory>
+        ensures { OnOk result (moves.new.items ≡ map (move_of self.now.running.registers) copies.now) }
     {
         moves.clear();
-        let mut next = first;
-        for phi in phis {
-            moves.push(self.phi_move(phi, next))?;
-            let after = following(next, phi)?;
-            next = after;
+        for copy in copies {
+            moves.push(self.move_of(*copy))?;
         }
-        Ok(next)
+        Ok(())
     }
 
-    // What a phi assigns on the edge from the block of the running frame.
-    fn phi_move(&self, phi: &Inst, next: usize) -> Move
-        ensures { result ≡ move_of self.now.running.spot.block self.now.running.registers next phi.now }
+    fn move_of(&self, copy: Copied) -> Move
+        ensures { result ≡ move_of self.now.running.registers copy }
     {
         Move {
-            to: register_of(next, phi),
-            word: self.incoming(phi),
-        }
-    }
-
-    fn incoming(&self, phi: &Inst) -> Word
-        ensures { result ≡ word_from self.now.running.spot.block self.now.running.registers phi.now }
-    {
-        match entry_from(self.spot.block, phi.labels()) {
-            None => Word::of(0),
-            Some(entry) => self.operand(phi.operands(), entry),
+            to: copy.to,
+            word: self.value(copy.from),
         }
     }
 
@@ -287,25 +235,6 @@ impl Stack {
             self.put(one.to, one.word);
         }
     }
-}
-
-// The first entry of a phi with the label of this block.
-fn entry_from(block: u32, labels: &[BlockId]) -> Option<usize>
-    ensures { result ≡ position (λ label. label.0 == block) labels.now }
-{
-    labels.iter().position(|label| label.0 == block)
-}
-
-// How many phis stand at the front.
-fn phi_count(insts: &[Inst]) -> usize
-    ensures value { result ≡ phis_of insts.now }
-    ensures within { result ≤ length insts.now }
-{
-    let mut count = 0;
-    while count < insts.len() && is_phi(insts[count].op()) {
-        count += 1;
-    }
-    count
 }
 
 fn base_of(count: usize) -> Result<u32, Memory>
@@ -324,23 +253,6 @@ fn extend(registers: &mut Vec<Word>, words: &[Word], count: usize) -> Result<(),
 {
     registers.extend_from_slice(words)?;
     fill(registers, count.saturating_sub(words.len()))
-}
-
-// The register that the result of an instruction goes to.
-fn register_of(next: usize, inst: &Inst) -> Option<usize>
-    ensures { result ≡ (numbered next inst.now).to }
-{
-    if inst.result().is_some() {
-        Some(next)
-    } else {
-        None
-    }
-}
-
-fn is_phi(op: &Op) -> bool
-    ensures { result ≡ is_phi op.now }
-{
-    matches!(op, Op::Phi)
 }
 
 // More registers, each 0.

@@ -1,5 +1,4 @@
 use Rattle.ir_meaning.specs.declared.interpret.Ran.{Ran}
-use Rattle.ir_meaning.specs.References.{IsRun}
 use Rattle.std.proofs.Common.{subst}
 use Rattle.std.specs.Result.{IfOk, OnErr}
 use Rattle.std.proofs.lemmas.Result.{IfOk-weaker, on_err_weaker}
@@ -8,6 +7,8 @@ use Rattle.object_meaning.specs.States.{State}
 use Rattle.ir_meaning.specs.Machines.{today}
 use Rattle.tool_io.proofs.AppendLaws.{OnErr-always}
 use Rattle.object_meaning.specs.Outcomes.{opening}
+use Rattle.ir_ast.specs.Modules.{ModuleContent}
+use Rattle.object_meaning.specs.SourceRuns.{source_setting}
 use Rattle.move_plan.specs.Plans.{go}
 use Rattle.ir_meaning.specs.References.{IsRun, IsRunFrom, WritesFrontFrom}
 use Rattle.ir_meaning.proofs.RunLemmas.{front_none}
@@ -27,35 +28,34 @@ run-requires-clause-layouts g c = c.in_ok-machine.ensures.layouts
 
 pub returns-clause-ran : goal.returns-clause-ran
 returns-clause-ran g c =
-    let opened = rw c.in_ok-code.ensures at c.in_ok-machine.ensures in
-    let start = opening_is c.args.module.now.content c.args.plan.now c.args.steps c.args.input.now c.in_ok-machine.machine opened in
-    let setting = today c.args.module.now.content c.args.plan.now c.args.steps in
+    let start = opening_is c.in_ok-code.code c.args.plan.now c.args.steps c.args.input.now c.in_ok-machine.machine c.in_ok-machine.ensures in
+    let setting = source_setting c.args.module.now.content (go c.args.plan.now) c.args.steps in
     let old = g.O.Sink.written c.args.out.now in
     let new = g.O.Sink.written c.run.new.out in
     IfOk-weaker c.run.result (λ (ran : Ran). IsRunFrom setting (opening setting c.args.input.now) ran old new)
     (λ (ran : Ran). IsRun c.args.module.now.content c.args.input.now (go c.args.plan.now) c.args.steps ran old new) (run_is c.args.module.now.content c.args.input.now (go c.args.plan.now) c.args.steps old new)
-    (subst (λ (start : Progress State). IfOk c.run.result (λ ran. IsRunFrom setting start ran old new)) start (rw c.in_ok-code.ensures at c.run.ensures.ran))
+    (subst (λ (content : ModuleContent). IfOk c.run.result (λ ran. IsRunFrom (source_setting content (go c.args.plan.now) c.args.steps) (opening (source_setting content (go c.args.plan.now) c.args.steps) c.args.input.now) ran old new)) c.in_ok-code.ensures
+    (subst (λ (start : Progress State). IfOk c.run.result (λ ran. IsRunFrom (today c.in_ok-code.code c.args.plan.now c.args.steps) start ran old new)) start c.run.ensures.ran))
 
 pub returns-clause-front : goal.returns-clause-front
 returns-clause-front g c =
-    let opened = rw c.in_ok-code.ensures at c.in_ok-machine.ensures in
-    let start = opening_is c.args.module.now.content c.args.plan.now c.args.steps c.args.input.now c.in_ok-machine.machine opened in
-    let setting = today c.args.module.now.content c.args.plan.now c.args.steps in
+    let start = opening_is c.in_ok-code.code c.args.plan.now c.args.steps c.args.input.now c.in_ok-machine.machine c.in_ok-machine.ensures in
     let old = g.O.Sink.written c.args.out.now in
     let new = g.O.Sink.written c.run.new.out in
     on_err_weaker c.run.result (front_is c.args.module.now.content c.args.input.now (go c.args.plan.now) c.args.steps old new)
-    (subst (λ (start : Progress State). OnErr c.run.result (WritesFrontFrom setting start old new)) start (rw c.in_ok-code.ensures at c.run.ensures.front))
+    (subst (λ (content : ModuleContent). OnErr c.run.result (WritesFrontFrom (source_setting content (go c.args.plan.now) c.args.steps) (opening (source_setting content (go c.args.plan.now) c.args.steps) c.args.input.now) old new)) c.in_ok-code.ensures
+    (subst (λ (start : Progress State). OnErr c.run.result (WritesFrontFrom (today c.in_ok-code.code c.args.plan.now c.args.steps) start old new)) start c.run.ensures.front))
 
 pub returns-in_err-code-clause-front : goal.returns-in_err-code-clause-front
 returns-in_err-code-clause-front g c =
-    let setting = today c.args.module.now.content c.args.plan.now c.args.steps in
+    let setting = source_setting c.args.module.now.content (go c.args.plan.now) c.args.steps in
     let old = g.O.Sink.written c.args.out.now in
     OnErr-always c.from_residual.result
     (front_is c.args.module.now.content c.args.input.now (go c.args.plan.now) c.args.steps old old (front_none setting (opening setting c.args.input.now) old))
 
 pub returns-in_err-machine-clause-front : goal.returns-in_err-machine-clause-front
 returns-in_err-machine-clause-front g c =
-    let setting = today c.args.module.now.content c.args.plan.now c.args.steps in
+    let setting = source_setting c.args.module.now.content (go c.args.plan.now) c.args.steps in
     let old = g.O.Sink.written c.args.out.now in
     OnErr-always c.from_residual-in_err-machine.result
     (front_is c.args.module.now.content c.args.input.now (go c.args.plan.now) c.args.steps old old (front_none setting (opening setting c.args.input.now) old))

@@ -2,7 +2,7 @@ use Rattle.std.proofs.Common.{sym, refl, ◌∙◌, arith}
 use Rattle.std.proofs.lemmas.Result.{err_from_is_err_and}
 use Rattle.ir_meaning.specs.Machines.{state_of, today}
 use Rattle.ir_meaning.specs.References.{unprinted}
-use Rattle.ir_meaning.proofs.RunLemmas.{follows_start, follows_more, follows_front, front_more, end_more}
+use Rattle.ir_meaning.proofs.RunLemmas.{follows_start, follows_turned, follows_front, front_turned, end_turned}
 use Rattle.ir_meaning.proofs.ReadyLemmas.{quiet_end}
 use Rattle.ir_meaning.proofs.interpret.run.Goals as goal
 
@@ -15,10 +15,10 @@ loop-init g c = record {
 
 pub loop-preserved : goal.loop-preserved
 loop-preserved g c = record {
-  follows = follows_more (today c.args.code.now c.args.plan.now c.args.bound) (unprinted (state_of c.args.code.now c.args.machine.now)) (state_of c.args.code.now c.loop.machine) (state_of c.args.code.now c.step.new.self) c.in_ok-did.did c.loop.lines c.in_ok-more.more
-      (g.O.Sink.written c.args.out.now) (g.O.Sink.written c.loop.out) (g.O.Sink.written c.write_line.new.out) c.loop.invariant.follows c.in_ok-did.ensures.effect
+  follows = follows_turned (today c.args.code.now c.args.plan.now c.args.bound) (unprinted (state_of c.args.code.now c.args.machine.now)) (state_of c.args.code.now c.loop.machine) (state_of c.args.code.now c.turn.new.self) c.in_ok-did.did c.loop.lines c.in_ok-more.more
+      (g.O.Sink.written c.args.out.now) (g.O.Sink.written c.loop.out) (g.O.Sink.written c.write_line.new.out) c.loop.invariant.follows c.in_ok-did.ensures.turned
       (sym c.ended.ensures ∙ c.in_default.is) c.in_ok-more.ensures.ok;
-  layouts = c.step.ensures.layouts ∙ c.loop.invariant.layouts;
+  layouts = c.turn.ensures.layouts ∙ c.loop.invariant.layouts;
   count = omega (arith, c.loop.invariant.count, c.write_line.ensures.count);
 }
 
@@ -30,14 +30,14 @@ returns-in_err-did-clause-front g c =
 pub returns-in_err-more-clause-front : goal.returns-in_err-more-clause-front
 returns-in_err-more-clause-front g c =
     let p = err_from_is_err_and c.from_residual-in_err-more.result c.from_residual-in_err-more.ensures.1 in
-    rw p.1 (front_more (today c.args.code.now c.args.plan.now c.args.bound) (unprinted (state_of c.args.code.now c.args.machine.now)) (state_of c.args.code.now c.loop.machine) (state_of c.args.code.now c.step.new.self) c.in_ok-did.did c.loop.lines (g.O.Sink.written c.args.out.now) (g.O.Sink.written c.loop.out) (g.O.Sink.written c.write_line.new.out)
-    c.loop.invariant.follows c.in_ok-did.ensures.effect (sym c.ended.ensures ∙ c.in_default.is) c.in_err-more.ensures.err)
+    rw p.1 (front_turned (today c.args.code.now c.args.plan.now c.args.bound) (unprinted (state_of c.args.code.now c.args.machine.now)) (state_of c.args.code.now c.loop.machine) (state_of c.args.code.now c.turn.new.self) c.in_ok-did.did c.loop.lines (g.O.Sink.written c.args.out.now) (g.O.Sink.written c.loop.out) (g.O.Sink.written c.write_line.new.out)
+    c.loop.invariant.follows c.in_ok-did.ensures.turned (sym c.ended.ensures ∙ c.in_default.is) c.in_err-more.ensures.err)
 
 pub returns-in-Some-clause-ran : goal.returns-in-Some-clause-ran
 returns-in-Some-clause-ran g c =
-    end_more (today c.args.code.now c.args.plan.now c.args.bound) (unprinted (state_of c.args.code.now c.args.machine.now)) (state_of c.args.code.now c.loop.machine) (state_of c.args.code.now c.step.new.self) c.in_ok-did.did c.in-Some.end c.loop.lines c.how_ran.result (g.O.Sink.written c.args.out.now) (g.O.Sink.written c.loop.out) c.loop.invariant.follows
-    c.in_ok-did.ensures.effect (sym c.ended.ensures ∙ c.in-Some.is) c.how_ran.ensures
-    (quiet_end c.args.code.now c.requires.ready c.in-Some.end (state_of c.args.code.now c.step.new.self) c.step.new.self.stack.below refl)
+    end_turned (today c.args.code.now c.args.plan.now c.args.bound) (unprinted (state_of c.args.code.now c.args.machine.now)) (state_of c.args.code.now c.loop.machine) (state_of c.args.code.now c.turn.new.self) c.in_ok-did.did c.in-Some.end c.loop.lines c.how_ran.result (g.O.Sink.written c.args.out.now) (g.O.Sink.written c.loop.out) c.loop.invariant.follows
+    c.in_ok-did.ensures.turned (sym c.ended.ensures ∙ c.in-Some.is) c.how_ran.ensures
+    (quiet_end c.args.code.now c.requires.ready c.in-Some.end (state_of c.args.code.now c.turn.new.self) c.turn.new.self.stack.below refl)
 
 pub returns-clause-front : goal.returns-clause-front
 returns-clause-front g c = follows_front (today c.args.code.now c.args.plan.now c.args.bound) (unprinted (state_of c.args.code.now c.args.machine.now)) (state_of c.args.code.now c.loop.machine) c.loop.lines (g.O.Sink.written c.args.out.now) (g.O.Sink.written c.loop.out) c.loop.invariant.follows

@@ -7,6 +7,6 @@ abbrev pub invariant-loop : goal.invariant-loop
 invariant-loop g l = record {
   follows : Follows (today l.code l.plan l.bound) (unprinted (state_of l.code l.initial.machine)) (state_of l.code l.machine) l.lines
       (g.O.Sink.written l.initial.out) (g.O.Sink.written l.out);
-  layouts : l.machine.objects.layouts ≡ l.code.layouts;
+  layouts : l.machine.objects.layouts ≡ l.code.content.layouts;
   count : g.O.Sink.faults l.initial.out ≤ g.O.Sink.faults l.out;
 }

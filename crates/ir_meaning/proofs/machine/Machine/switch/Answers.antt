@@ -2,7 +2,7 @@ use Rattle.std.proofs.Common.{List, set, sym, ap, ◌∙◌}
 use Rattle.std.specs.Prelude.{Option, Some, None, slice_get}
 use Rattle.ir_meaning.specs.Stacks.{Frames}
 use Rattle.ir_meaning.specs.Machines.{Whole, rest_of, seen_of, switched_so}
-use Rattle.ir_meaning.proofs.FrameLemmas.{set_again, set_none, found_none, found_some}
+use Rattle.ir_meaning.proofs.MachineLemmas.{set_again, set_none, found_none, found_some}
 use Rattle.ir_meaning.proofs.machine.Machine.switch.Goals as goal
 
 pub returns-in_default-clause-frames : goal.returns-in_default-clause-frames
