@@ -5,4 +5,6 @@ pub mod FilledLaws
 pub mod FitsLaws
 pub mod ReadLaws
 pub mod MapLaws
+pub mod EntryLaws
+pub mod SmallLaws
 mod Examples

@@ -1,5 +1,5 @@
 -- Reading the bytes of a map by place gives the map.
-use Rattle.std.proofs.Common.{◌≡◌, ℕ, suc, ◌+◌, ◌*◌, ◌%◌, ◌^◌, ◌<◌, Bool, true, false, cond, eqb, List, [], ◌∷◌, ◌++◌, length, drop, refl, sym, ap, ◌∙◌, append_assoc, arith}
+use Rattle.std.proofs.Common.{◌≡◌, ℕ, suc, ◌+◌, ◌*◌, ◌%◌, ◌^◌, ◌<◌, ◌≤◌, FitsSigned, Bool, true, false, cond, eqb, List, [], ◌∷◌, ◌++◌, length, drop, refl, sym, ap, ◌∙◌, append_assoc, arith}
 use Rattle.std.proofs.lemmas.Int.{to_z-of_z}
 use Rattle.std.proofs.lemmas.List.{append-nil, drop_at, drop-drop, length-append}
 use Rattle.std.specs.List.{flat_map, AllByRecursion}
@@ -58,18 +58,54 @@ length-constants (c ∷ cs) = omega (arith, length-constants cs)
 
 -- ---- locations
 
+-- the numbers of a location fit in its fields
+pub record PlaceSmall (place : Place) : Type 0 where
+  pub kind : place.kind < 2 ^ 8
+  pub size : place.size < 2 ^ 16
+  pub register : place.register < 2 ^ 16
+  pub offset : FitsSigned w32 place.offset
+
+-- and so do those of a record
+pub record RecordSmall (one : MapRecord) : Type 0 where
+  pub id : one.id < 2 ^ 64
+  pub offset : one.offset < 2 ^ 32
+  pub few_places : length one.places < 2 ^ 16
+  pub few_live_outs : length one.live_outs < 2 ^ 16
+  pub places : AllByRecursion PlaceSmall one.places
+  pub live_outs : AllByRecursion LiveOutFits one.live_outs
+
+places-small : (constants : ℕ) (places : List Place) → AllByRecursion (PlaceFits constants) places → AllByRecursion PlaceSmall places
+places-small constants [] fit = tt
+places-small constants (p ∷ ps) fit =
+    let high : p.kind ≤ 5 = fit.0.kind_high in
+    (record { kind = omega arith; size = fit.0.size; register = fit.0.register; offset = fit.0.offset }, places-small constants ps fit.1)
+
+pub record-small : (constants : ℕ) (one : MapRecord) → RecordFits constants one → RecordSmall one
+record-small constants one fit = record {
+  id = fit.id;
+  offset = fit.offset;
+  few_places = fit.few_places;
+  few_live_outs = fit.few_live_outs;
+  places = places-small constants one.places fit.places;
+  live_outs = fit.live_outs;
+}
+
+records-small : (constants : ℕ) (records : List MapRecord) → AllByRecursion (RecordFits constants) records → AllByRecursion RecordSmall records
+records-small constants [] fit = tt
+records-small constants (r ∷ rs) fit = (record-small constants r fit.0, records-small constants rs fit.1)
+
 place_of : ℕ → ℕ → ℕ → ℕ → Place
 place_of kind size register offset = record { kind = kind; size = size; register = register; offset = cast_signed w32 offset }
 
-pub place-back : (constants : ℕ) (one : Place) (rest : List ℕ) → PlaceFits constants one → place_read (place_bytes one ++ rest) ≡ one
+pub place-back : (one : Place) (rest : List ℕ) → PlaceSmall one → place_read (place_bytes one ++ rest) ≡ one
 unfolding place_read place_bytes place_of
-place-back constants one rest fit =
+place-back one rest fit =
     let unsigned = cast_unsigned w32 one.offset in
     let d : List ℕ = little_bytes 4 unsigned ++ rest in
     let c : List ℕ = little_bytes 2 one.register ++ (little_bytes 2 0 ++ d) in
     let b : List ℕ = little_bytes 2 one.size ++ c in
     let a : List ℕ = little_bytes 1 one.kind ++ (little_bytes 1 0 ++ b) in
-    let small : one.kind < 256 ^ 1 = omega (arith, fit.kind_high) in
+    let small : one.kind < 256 ^ 1 = fit.kind in
     let first : little_number 1 a ≡ one.kind = little_number-reads_back 1 one.kind (little_bytes 1 0 ++ b) small in
     let second : little_number 2 b ≡ one.size = little_number-reads_back 2 one.size c fit.size in
     let third : little_number 2 c ≡ one.register = little_number-reads_back 2 one.register (little_bytes 2 0 ++ d) fit.register in
@@ -80,13 +116,13 @@ place-back constants one rest fit =
     ∙ ap (λ (x : ℕ). place_of one.kind one.size one.register x) fourth
     ∙ ap (λ (x : _). let made : Place = record { kind = one.kind; size = one.size; register = one.register; offset = x } in made) (to_z-of_z w32 one.offset fit.offset)
 
-pub places-back : (constants : ℕ) (places : List Place) (rest : List ℕ) → AllByRecursion (PlaceFits constants) places → places_read (length places) (flat_map place_bytes places ++ rest) ≡ places
+pub places-back : (places : List Place) (rest : List ℕ) → AllByRecursion PlaceSmall places → places_read (length places) (flat_map place_bytes places ++ rest) ≡ places
 unfolding places_read place_bytes
-places-back constants [] rest fit = refl
-places-back constants (p ∷ ps) rest fit =
+places-back [] rest fit = refl
+places-back (p ∷ ps) rest fit =
     let behind : List ℕ = flat_map place_bytes ps ++ rest in
-    let head : place_read (place_bytes p ++ behind) ≡ p = place-back constants p behind fit.0 in
-    ap (λ (x : Place). x ∷ places_read (length ps) behind) head ∙ ap (λ (xs : List Place). p ∷ xs) (places-back constants ps rest fit.1)
+    let head : place_read (place_bytes p ++ behind) ≡ p = place-back p behind fit.0 in
+    ap (λ (x : Place). x ∷ places_read (length ps) behind) head ∙ ap (λ (xs : List Place). p ∷ xs) (places-back ps rest fit.1)
 
 pub length-places : (places : List Place) → length (flat_map place_bytes places) ≡ 12 * length places
 unfolding place_bytes
@@ -177,9 +213,9 @@ pub record ReadsRecord (one : MapRecord) (bytes rest : List ℕ) : Type 0 where
 record_of : ℕ → ℕ → List Place → List LiveOut → MapRecord
 record_of id offset places live_outs = record { id = id; offset = offset; places = places; live_outs = live_outs }
 
-record-parts : (constants : ℕ) (one : MapRecord) (bytes rest : List ℕ) → RecordFits constants one → bytes ≡ record_bytes_then one rest → record_bytes one ++ rest ≡ bytes → ReadsRecord one bytes rest
+record-parts : (one : MapRecord) (bytes rest : List ℕ) → RecordSmall one → bytes ≡ record_bytes_then one rest → record_bytes one ++ rest ≡ bytes → ReadsRecord one bytes rest
 unfolding record_read record_bytes_then record_of from_live_outs
-record-parts constants one bytes rest fit is whole =
+record-parts one bytes rest fit is whole =
     let n = length one.places in
     let l = length one.live_outs in
     let last : List ℕ = padding_bytes (4 + 4 * l) ++ rest in
@@ -191,7 +227,7 @@ record-parts constants one bytes rest fit is whole =
     let at0 : little_number 8 bytes ≡ one.id = ap (little_number 8) is ∙ little_number-reads_back 8 one.id c fit.id in
     let at8 : little_number 4 (drop 8 bytes) ≡ one.offset = ap (λ (x : List ℕ). little_number 4 (drop 8 x)) is ∙ little_number-reads_back 4 one.offset (little_bytes 2 0 ++ d) fit.offset in
     let at14 : places_count bytes ≡ n = ap places_count is ∙ little_number-reads_back 2 n places fit.few_places in
-    let at16 : places_read n (drop 16 bytes) ≡ one.places = ap (λ (x : List ℕ). places_read n (drop 16 x)) is ∙ places-back constants one.places (padding_bytes (16 + 12 * n) ++ tail) fit.places in
+    let at16 : places_read n (drop 16 bytes) ≡ one.places = ap (λ (x : List ℕ). places_read n (drop 16 x)) is ∙ places-back one.places (padding_bytes (16 + 12 * n) ++ tail) fit.places in
     let middle : drop (places_end n) bytes ≡ tail = ap (drop (places_end n)) (is ∙ record-halves one rest) ∙ drop_at (before_live_outs one) (from_live_outs one rest) (places_end n) (length-before one) in
     let two : drop (places_end n + 2) bytes ≡ little_bytes 2 l ++ lives = sym (drop-drop 2 (places_end n) bytes) ∙ ap (drop 2) middle in
     let four : drop (places_end n + 4) bytes ≡ lives = sym (drop-drop 4 (places_end n) bytes) ∙ ap (drop 4) middle in
@@ -211,20 +247,20 @@ record-parts constants one bytes rest fit is whole =
       behind = ap (λ (k : ℕ). drop k bytes) size ∙ ap (drop (length (record_bytes one))) (sym whole) ∙ drop_at (record_bytes one) rest (length (record_bytes one)) refl;
     }
 
-pub record-back : (constants : ℕ) (one : MapRecord) (rest : List ℕ) → RecordFits constants one → ReadsRecord one (record_bytes one ++ rest) rest
-record-back constants one rest fit = record-parts constants one (record_bytes one ++ rest) rest fit (sym (record_bytes-then one rest)) refl
+pub record-back : (one : MapRecord) (rest : List ℕ) → RecordSmall one → ReadsRecord one (record_bytes one ++ rest) rest
+record-back one rest fit = record-parts one (record_bytes one ++ rest) rest fit (sym (record_bytes-then one rest)) refl
 
-pub records-back : (constants : ℕ) (records : List MapRecord) (rest : List ℕ) → AllByRecursion (RecordFits constants) records → records_read (length records) (flat_map record_bytes records ++ rest) ≡ records
+pub records-back : (records : List MapRecord) (rest : List ℕ) → AllByRecursion RecordSmall records → records_read (length records) (flat_map record_bytes records ++ rest) ≡ records
 unfolding records_read
-records-back constants [] rest fit = refl
-records-back constants (r ∷ rs) rest fit =
+records-back [] rest fit = refl
+records-back (r ∷ rs) rest fit =
     let behind : List ℕ = flat_map record_bytes rs ++ rest in
     let whole : (record_bytes r ++ flat_map record_bytes rs) ++ rest ≡ record_bytes r ++ behind = append_assoc (record_bytes r) (flat_map record_bytes rs) rest in
-    let one = record-back constants r behind fit.0 in
+    let one = record-back r behind fit.0 in
     ap (records_read (suc (length rs))) whole
     ∙ ap (λ (x : MapRecord). x ∷ records_read (length rs) (drop (size_read (record_bytes r ++ behind)) (record_bytes r ++ behind))) one.read
     ∙ ap (λ (x : List ℕ). r ∷ records_read (length rs) x) one.behind
-    ∙ ap (λ (xs : List MapRecord). r ∷ xs) (records-back constants rs rest fit.1)
+    ∙ ap (λ (xs : List MapRecord). r ∷ xs) (records-back rs rest fit.1)
 
 -- ---- maps
 
@@ -262,7 +298,7 @@ map-parts map bytes fit is =
     let all_constants : drop (constants_at bytes) bytes ≡ constants = ap (λ (k : ℕ). drop (16 + 24 * k) bytes) at4 ∙ constants_from in
     let all_records : drop (records_at bytes) bytes ≡ records = ap (λ (k : ℕ). drop (16 + 24 * k + 8 * little_number 4 (drop 8 bytes)) bytes) at4 ∙ ap (λ (k : ℕ). drop (16 + 24 * f + 8 * k) bytes) at8 ∙ records_from in
     let records_are : records_read (little_number 4 (drop 12 bytes)) (drop (records_at bytes) bytes) ≡ map.records
-    = ap (λ (k : ℕ). records_read k (drop (records_at bytes) bytes)) at12 ∙ ap (records_read r) all_records ∙ ap (records_read r) (sym (append-nil records)) ∙ records-back c map.records [] fit.records in
+    = ap (λ (k : ℕ). records_read k (drop (records_at bytes) bytes)) at12 ∙ ap (records_read r) all_records ∙ ap (records_read r) (sym (append-nil records)) ∙ records-back map.records [] (records-small c map.records fit.records) in
     let constants_are : constants_read (little_number 4 (drop 8 bytes)) (drop (constants_at bytes) bytes) ≡ map.constants
     = ap (λ (k : ℕ). constants_read k (drop (constants_at bytes) bytes)) at8 ∙ ap (constants_read c) all_constants ∙ constants-back map.constants records fit.constants in
     let functions_are : functions_read (little_number 4 (drop 4 bytes)) (drop 16 bytes) ≡ map.functions

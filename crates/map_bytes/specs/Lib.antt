@@ -5,3 +5,4 @@ pub mod Maps
 pub mod Faults
 pub mod Reads
 pub mod Fits
+pub mod Entries

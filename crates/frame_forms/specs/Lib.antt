@@ -1,0 +1,4 @@
+pub mod Groups
+pub mod CodeAddresses
+pub mod FrameSizes
+pub mod ModuleLayouts

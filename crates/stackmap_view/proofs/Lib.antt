@@ -1,0 +1,6 @@
+pub mod LoopLaws
+pub mod StepLaws
+pub mod RecordLaws
+pub mod WalkLaws
+pub mod ViewLaws
+pub mod LookLaws

@@ -1,0 +1,9 @@
+mod Examples
+pub mod AppendLemmas
+pub mod EntryLemmas
+pub mod RecordLemmas
+pub mod MapLemmas
+pub mod PlaceFitLaws
+pub mod GroupLaws
+pub mod FitLaws
+pub mod AddressLaws

@@ -1,0 +1,3 @@
+pub mod ModuleMaps
+pub mod Writing
+pub mod TargetMaps

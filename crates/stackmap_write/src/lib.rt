@@ -1,0 +1,9 @@
+//! The stack map of a rewritten module, as bytes.
+#![tactic(auto)]
+
+mod fields;
+mod heads;
+mod maps;
+mod records;
+
+pub use maps::{addresses_rise, target_has_map, write};

@@ -1,0 +1,4 @@
+pub mod Closings
+pub mod Names
+pub mod Notes
+pub mod MapTexts
