@@ -1,5 +1,5 @@
 -- Runs by the source meaning, as a phase of the work.
-use Rattle.std.proofs.Common.{◌≡◌, ℕ, List, Option, Result, Ok, Err, IfOk, OnOk, refl, sym, ap, ◌∙◌}
+use Rattle.std.proofs.Common.{◌≡◌, ℕ, List, Option, refl, sym, ap, ◌∙◌}
 use Rattle.std.specs.Prelude.{ℤ}
 use Rattle.move_plan.specs.declared.plan_lines.PlanLine.{PlanLine}
 use Rattle.move_plan.specs.Plans.{go}
@@ -7,7 +7,6 @@ use Rattle.tool_io.specs.Sink.{append_known, AppendsFront}
 use Rattle.tool_io.proofs.AppendLaws.{append_known-then, AppendsFront-front, AppendsFront-same, AppendsFront-second}
 use Rattle.ir_ast.specs.Modules.{ModuleContent}
 use Rattle.ir_meaning.specs.declared.interpret.Ran.{Ran}
-use Rattle.ir_meaning.specs.declared.interpret.RefFault.{RefFault}
 use Rattle.ir_meaning.specs.References.{IsRun, WritesFrontOfRun}
 use Rattle.object_meaning.specs.Outcomes.{Outcome, whole_text}
 use Rattle.object_meaning.specs.SourceRuns.{source_setting}
@@ -43,7 +42,7 @@ module _ (content : ModuleContent) (input : List ℤ) (plan : List PlanLine) (st
   closes = ap (λ (answer : Ran). closing_line content answer.end answer.func.0 answer.steps answer.events) run.answer
 
   -- the whole of the output is written once the closing line is
-  done-run : (status : Status) → status ≡ status_of_end ran.end → new ≡ append_known mid (closing_line content ran.end ran.func.0 ran.steps ran.events)
+  pub done-run : (status : Status) → status ≡ status_of_end ran.end → new ≡ append_known mid (closing_line content ran.end ran.func.0 ran.steps ran.events)
       → IsDone status (Running content input plan steps) (sink_seen old new before after)
   unfolding closing_of
   done-run status is closed = record {
@@ -64,9 +63,3 @@ module _ (content : ModuleContent) (input : List ℤ) (plan : List PlanLine) (st
     defined = comes run.outcome run.gives;
     front = AppendsFront-second old (whole_text run.outcome) run.written (AppendsFront-same front (closing_of content run.outcome) (sym closes));
   }
-
-  pub closed-run : (result : Result Status RefFault) → IfOk result (λ status. status ≡ status_of_end ran.end)
-      → OnOk result (new ≡ append_known mid (closing_line content ran.end ran.func.0 ran.steps ran.events))
-      → IfOk result (λ status. IsDone status (Running content input plan steps) (sink_seen old new before after))
-  closed-run (Ok status) is closed = done-run status is closed
-  closed-run (Err fault) is closed = tt

@@ -131,5 +131,6 @@ fn write_run<O: Sink>(
     ensures out_counted { O.faults out.old ≤ O.faults out.new }
 {
     let ran = reference(alloc, read, numbers, plan, steps, out)?;
-    close(alloc, read, ran, out)
+    let status = close(read, ran, out)?;
+    Ok(status)
 }

@@ -12,7 +12,6 @@ late_module_name code =
     else if code == 16 then codes "PointerCast"
     else if code == 17 then codes "TooManyRelocations"
     else if code == 18 then codes "GroupShape"
-    else if code == 90 then codes "NotYet"
     else []
 
 -- of a module's text
@@ -36,7 +35,6 @@ plan_name code =
     else if code == 2 then codes "Order"
     else if code == 3 then codes "TwoGo"
     else if code == 4 then codes "Limit"
-    else if code == 90 then codes "NotYet"
     else []
 
 -- that the verifier finds

@@ -35,7 +35,6 @@ fn late_module_name(code: u8) -> &'static [u8]
         16 => b"PointerCast",
         17 => b"TooManyRelocations",
         18 => b"GroupShape",
-        90 => b"NotYet",
         _ => b"",
     }
 }
@@ -50,7 +49,6 @@ pub(crate) fn plan_name(code: u8) -> &'static [u8]
         2 => b"Order",
         3 => b"TwoGo",
         4 => b"Limit",
-        90 => b"NotYet",
         _ => b"",
     }
 }

@@ -1,7 +1,6 @@
-use Rattle.std.proofs.lemmas.Result.{on_err_weaker}
 use Rattle.tool_io.proofs.AppendLaws.{OnErr-always}
 use Rattle.statepoint_tool.specs.Answers.{sink_seen}
-use Rattle.statepoint_tool.proofs.RunLaws.{begun-closing, begun-run, closed-run}
+use Rattle.statepoint_tool.proofs.RunLaws.{begun-closing, begun-run, done-run}
 use Rattle.statepoint_tool.proofs.run.write_run.Goals as goal
 
 pub returns-in_err-ran-clause-begun : goal.returns-in_err-ran-clause-begun
@@ -11,15 +10,15 @@ returns-in_err-ran-clause-begun g c =
 
 pub returns-clause-done : goal.returns-clause-done
 returns-clause-done g c =
-    closed-run c.args.read.now.content c.args.numbers.now c.args.plan.now c.args.steps c.in_ok-ran.ran
+    done-run c.args.read.now.content c.args.numbers.now c.args.plan.now c.args.steps c.in_ok-ran.ran
     (g.O.Sink.written c.args.out.now) (g.O.Sink.written c.reference.new.out) (g.O.Sink.written c.close.new.out)
     (g.O.Sink.faults c.args.out.now) (g.O.Sink.faults c.close.new.out)
-    c.in_ok-ran.ensures.ran c.close.result c.close.ensures.ok c.close.ensures.written
+    c.in_ok-ran.ensures.ran c.in_ok-status.status c.in_ok-status.ensures.ok c.in_ok-status.ensures.written
 
-pub returns-clause-begun : goal.returns-clause-begun
-returns-clause-begun g c =
-    on_err_weaker c.close.result
+pub returns-in_err-status-clause-begun : goal.returns-in_err-status-clause-begun
+returns-in_err-status-clause-begun g c =
+    OnErr-always c.from_residual-in_err-status.result
     (begun-closing c.args.read.now.content c.args.numbers.now c.args.plan.now c.args.steps c.in_ok-ran.ran
     (g.O.Sink.written c.args.out.now) (g.O.Sink.written c.reference.new.out) (g.O.Sink.written c.close.new.out)
-    (g.O.Sink.faults c.args.out.now) (g.O.Sink.faults c.close.new.out) c.in_ok-ran.ensures.ran)
-    c.close.ensures.front
+    (g.O.Sink.faults c.args.out.now) (g.O.Sink.faults c.close.new.out) c.in_ok-ran.ensures.ran
+    c.in_err-status.ensures.front)
