@@ -65,7 +65,7 @@ pub(crate) fn found_at(alloc: Global, bytes: &[u8], address: u64) -> Result<Stri
     let Ok(view) = MapView::of(bytes) else {
         return Ok(shown);
     };
-    let Ok(index) = MapIndex::of(alloc, &view) else {
+    let Ok(index) = MapIndex::of(alloc, view) else {
         return String::from_str(alloc, "out of memory");
     };
     if shown_record(alloc, index.find(address))?.as_str() == shown.as_str()

@@ -1,17 +1,17 @@
 -- Searching the sorted records for a return address finds the first record of the map that has it.
 use Rattle.std.proofs.Common.{◌≡◌, ℕ, zero, suc, ◌+◌, ◌<◌, ◌≤◌, Bool, true, false, cond, eqb, ltb, not, ◌&&◌, List, [], ◌∷◌, ◌++◌, length, get_or, Option, Some, None, inl, inr, refl, sym, ap, ◌∙◌, append_assoc, arith}
 use Rattle.std.specs.Prelude.{slice_get, option_map, map, filter, ◌==◌}
-use Rattle.std.specs.List.{find, enumerate_from, AllWithin}
-use Rattle.std.specs.List.Sorted.{IsNonDecreasingBy, IsPermutation, IsStableByKey, ties}
+use Rattle.std.specs.List.{find, enumerate_from, AllAdjacentBelow, AllWithin}
+use Rattle.std.specs.List.Sorted.{IsNonDecreasingBy, IsPermutation, IsSortedByKey, IsStableByKey, ties}
 use Rattle.std.specs.Ordering.{is_lt, nat_cmp}
-use Rattle.std.proofs.lemmas.Bool.{lt-ltb, le-ltb, eq-eqb, ne_eqb, eqb-true, ltb-true, ltb-false, cases_order}
+use Rattle.std.proofs.lemmas.Bool.{lt-ltb, le-ltb, eq-eqb, ne_eqb, eqb-true, ltb-true, ltb-false, cases_lt, cases_order}
 use Rattle.std.proofs.lemmas.List.{map-append, length_push}
-use Rattle.std.proofs.lemmas.List.Sorted.{IsPermutation-map}
+use Rattle.std.proofs.lemmas.List.Sorted.{IsPermutation-map, ties_still_rise}
 use Rattle.map_bytes.specs.Maps.{StackMap}
 use Rattle.map_bytes.specs.Entries.{Entry, entries}
 use Rattle.stackmap_view.specs.declared.numbered.Numbered.{Numbered}
 use Rattle.stackmap_view.specs.Views.{seen}
-use Rattle.stackmap_view.specs.Indexes.{address_of, pair_of, numbered, first_at, numbered_addresses, IsIndex}
+use Rattle.stackmap_view.specs.Indexes.{AreInOrder, address_of, pair_of, numbered, first_at, numbered_addresses, IsIndex}
 
 -- ---- numbering
 
@@ -120,17 +120,58 @@ get-pair [] i d e lt = absurd (omega arith)
 get-pair (x ∷ items) zero d e lt = refl
 get-pair (x ∷ items) (suc i) d e lt = get-pair items i d e (omega arith)
 
+get-number : (items : List Numbered) (i : ℕ) (d : ℕ × ℕ) (e : Numbered) → i < length items → (get_or (map pair_of items) i d).1 ≡ (get_or items i e).number
+get-number [] i d e lt = absurd (omega arith)
+get-number (x ∷ items) zero d e lt = refl
+get-number (x ∷ items) (suc i) d e lt = get-number items i d e (omega arith)
+
 length-pairs : (items : List Numbered) → length (map pair_of items) ≡ length items
 length-pairs [] = refl
 length-pairs (x ∷ items) = ap suc (length-pairs items)
 
-pub pairs-sorted : (items : List Numbered) → IsNonDecreasingBy address_of items → IsNonDecreasingBy (λ (pair : ℕ × ℕ). pair.0) (map pair_of items)
-pairs-sorted [] sorted = λ i j d le lt. absurd (omega arith)
-pairs-sorted (x ∷ items) sorted = λ i j d le lt.
-    let within : j < length (x ∷ items) = omega (arith, length-pairs (x ∷ items)) in
-    let first = get-pair (x ∷ items) i d x (omega arith) in
-    let second = get-pair (x ∷ items) j d x within in
-    omega (arith, first, second, sorted i j x le within)
+number-at : (items : List Numbered) (n : ℕ) (es : List Entry) (k : ℕ) (d : Numbered) → map numbered items ≡ enumerate_from n es → k < length items → (get_or items k d).number ≡ n + k
+number-at [] n es k d e lt = absurd (omega arith)
+number-at (i ∷ items) n [] k d e lt = absurd cc
+number-at (i ∷ items) n (x ∷ es) zero d e lt =
+    let pair : ℕ × Entry = (n, x) in
+    let both : numbered i ≡ pair = cc in
+    ap (λ (p : ℕ × Entry). p.0) both ∙ omega arith
+number-at (i ∷ items) n (x ∷ es) (suc k) d e lt =
+    let tail : map numbered items ≡ enumerate_from (n + 1) es = cc in
+    number-at items (n + 1) es k d tail (omega arith) ∙ omega arith
+
+not-less : (m n : ℕ) → m ≤ n → is_lt (nat_cmp n m) ≡ false
+not-less m n le = elim (cases_order n m) [
+  | inl same ↦ rw (le-ltb n m le, eq-eqb n m same) refl
+  | inr (inl below) ↦ absurd (omega (arith, below, le))
+  | inr (inr above) ↦ rw (le-ltb n m le, ne_eqb n m (λ e. omega (arith, e, above))) refl
+]
+
+numbers-rise : (items : List Numbered) (es : List Entry) → map numbered items ≡ enumerate_from 0 es → IsSortedByKey (λ (one : Numbered). one.number) nat_cmp items
+numbers-rise items es numbers = λ k d low high.
+    let here = number-at items 0 es k d numbers (omega arith) in
+    let next = number-at items 0 es (k + 1) d numbers (omega arith) in
+    not-less (get_or items k d).number (get_or items (k + 1) d).number (omega (arith, here, next))
+
+-- the pairs are in order of the address and the number
+pub pairs-in-order : (es : List Entry) (old new : List Numbered) → map numbered old ≡ enumerate_from 0 es → IsNonDecreasingBy address_of new → IsStableByKey address_of nat_cmp old new
+    → AllAdjacentBelow AreInOrder (map pair_of new) (length (map pair_of new))
+pairs-in-order es old [] numbers sorted stable = λ k d lt. absurd (omega arith)
+pairs-in-order es old (x ∷ items) numbers sorted stable = λ k d lt.
+    let new : List Numbered = x ∷ items in
+    let within : k + 1 < length new = omega (arith, lt, length-pairs new) in
+    let one = get-pair new k d x (omega arith) in
+    let next = get-pair new (k + 1) d x within in
+    let one_number = get-number new k d x (omega arith) in
+    let next_number = get-number new (k + 1) d x within in
+    let rises : address_of (get_or new k x) ≤ address_of (get_or new (k + 1) x) = sorted k (k + 1) x (omega arith) within in
+    elim (cases_lt (address_of (get_or new k x)) (address_of (get_or new (k + 1) x))) [
+      | inl below ↦ inl (omega (arith, one, next, below))
+      | inr equal ↦
+          let same : address_of (get_or new k x) ≡ address_of (get_or new (k + 1) x) = omega (arith, rises, equal) in
+          let later = ties_still_rise (λ (y : Numbered). y.number) address_of old new (numbers-rise old es numbers) stable k x within same in
+          inr (one ∙ same ∙ sym next, omega (arith, one_number, next_number, later))
+    ]
 
 -- ---- searching by halves
 

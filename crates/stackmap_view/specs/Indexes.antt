@@ -1,5 +1,5 @@
 -- An index of a map's records by return address.
-use Rattle.std.specs.Prelude.{◌≡◌, ℕ, ◌==◌, List, Option, option_map, map}
+use Rattle.std.specs.Prelude.{◌≡◌, ◌⊎◌, ◌<◌, ◌≤◌, ℕ, ◌==◌, List, Option, option_map, map}
 use Rattle.std.specs.List.{find, enumerate_from}
 use Rattle.std.specs.List.Sorted.{IsNonDecreasingBy}
 use Rattle.map_bytes.specs.Maps.{StackMap}
@@ -34,3 +34,7 @@ numbered_addresses whole = map (λ one. (one.1.return_address, one.0)) (enumerat
 pub record IsIndex (whole : StackMap) (items : List Numbered) : Type 0 where
   pub sorted : IsNonDecreasingBy address_of items
   pub finds : (address : ℕ) → option_map (λ one. seen one.lent) (first_at items address) ≡ entry_at whole address
+
+-- in order of the address, and of the number where the addresses are equal
+abbrev pub AreInOrder : ℕ × ℕ → ℕ × ℕ → Type 0
+AreInOrder one next = (one.0 < next.0) ⊎ ((one.0 ≡ next.0) × (one.1 ≤ next.1))

@@ -27,22 +27,23 @@ impl<'a> Model for MapIndex<'a> {
 }
 
 impl<'a> MapIndex<'a> {
-    ghost use Rattle.std.specs.Prelude.{◌≡◌, IfOk, option_map};
-    ghost use Rattle.std.specs.List.Sorted.{IsNonDecreasingBy, IsPermutation};
+    ghost use Rattle.std.specs.Prelude.{◌≡◌, IfOk, length, option_map};
+    ghost use Rattle.std.specs.List.Sorted.{IsPermutation};
+    ghost use Rattle.std.specs.List.{AllAdjacentBelow};
     ghost use Rattle.map_bytes.specs.Entries.{entry_at};
-    ghost use Rattle.stackmap_view.specs.Indexes.{numbered_addresses};
+    ghost use Rattle.stackmap_view.specs.Indexes.{AreInOrder, numbered_addresses};
     ghost use Rattle.stackmap_view.specs.Maps.{stack_map};
     ghost use Rattle.stackmap_view.specs.Views.{seen};
 
     /// An index of the view's map, in some n log n steps.
-    pub fn of(alloc: Global, view: &MapView<'a>) -> Result<MapIndex<'a>, Memory>
-        ensures whole { IfOk result (λ index. index.whole ≡ stack_map view.now) }
-        ensures pairs { IfOk result (λ index. IsPermutation (numbered_addresses (stack_map view.now)) index.pairs) }
-        ensures sorted { IfOk result (λ index. IsNonDecreasingBy (λ pair. pair.0) index.pairs) }
+    pub fn of(alloc: Global, view: MapView<'a>) -> Result<MapIndex<'a>, Memory>
+        ensures whole { IfOk result (λ index. index.whole ≡ stack_map view.entry) }
+        ensures pairs { IfOk result (λ index. IsPermutation (numbered_addresses (stack_map view.entry)) index.pairs) }
+        ensures sorted { IfOk result (λ index. AllAdjacentBelow AreInOrder index.pairs (length index.pairs)) }
     {
-        let mut list = number_records(alloc, view)?;
+        let mut list = number_records(alloc, &view)?;
         sort_by_address(&mut list)?;
-        Ok(MapIndex { view: *view, list })
+        Ok(MapIndex { view, list })
     }
 
     /// The first record of the map with this return address, if there is one. It searches by halves.
