@@ -1,9 +1,9 @@
-use Rattle.std.proofs.Common.{arith, refl}
+use Rattle.std.proofs.Common.{refl}
 use Rattle.std.proofs.lemmas.Result.{err_from_is_err_and}
-use Rattle.piece_writer.proofs.SinkLemmas.{TookBefore-next, TookBefore-end, TookBefore-failed}
+use Rattle.piece_writer.proofs.SinkLemmas.{TookBefore-next, TookBefore-failed}
 use Rattle.stackmap_view.specs.Maps.{stack_map}
 use Rattle.stackmap_view.specs.Walks.{records_left}
-use Rattle.tool_report.proofs.MapTextLemmas.{function_next, functions_end}
+use Rattle.tool_report.proofs.MapTextLemmas.{function_next}
 use Rattle.tool_report.proofs.maps.put_functions.Goals as goal
 
 pub loop-index-preserved : goal.loop-index-preserved

@@ -1,6 +1,5 @@
-use Rattle.std.proofs.Common.{◌-◌, arith}
 use Rattle.std.proofs.lemmas.Result.{err_from_is_err_and}
-use Rattle.piece_writer.proofs.SinkLemmas.{TookBefore-next, TookBefore-end, TookBefore-failed}
+use Rattle.piece_writer.proofs.SinkLemmas.{TookBefore-next, TookBefore-failed}
 use Rattle.stackmap_view.specs.Views.{seen}
 use Rattle.stackmap_view.specs.Walks.{records_left}
 use Rattle.tool_report.proofs.MapTextLemmas.{records_next, rest_next}
