@@ -1,24 +1,22 @@
 -- Return addresses rise along the records of a written map.
-use Rattle.std.proofs.Common.{◌≡◌, ◌∙◌, ℕ, zero, suc, ◌+◌, ◌*◌, ◌%◌, ◌^◌, ◌<◌, ◌≤◌, Bool, true, false, cond, List, [], ◌∷◌, ◌++◌, length, take, drop, map, filter, nat_lt, get_or, refl, ap, sym, subst, arith, append_assoc, length-append}
+use Rattle.std.proofs.Common.{◌≡◌, ◌∙◌, ℕ, zero, suc, ◌+◌, ◌*◌, ◌%◌, ◌^◌, ◌<◌, ◌≤◌, Bool, true, false, cond, List, [], ◌∷◌, ◌++◌, length, take, drop, map, filter, nat_lt, get_or, refl, ap, sym, subst, arith}
 use Rattle.std.specs.List.{All, flat_map, prefix_len}
 use Rattle.std.proofs.lemmas.Bool.{ltb-false}
 use Rattle.std.proofs.lemmas.List.Elements.{All-head, All-tail}
 use Rattle.std.specs.List.Sorted.{IsStrictlyIncreasing}
-use Rattle.std.proofs.lemmas.List.{append-nil, map-append}
+use Rattle.std.proofs.lemmas.List.{map-append}
 use Rattle.std.proofs.lemmas.List.Sums.{length-filter}
 use Rattle.std.proofs.Math.Seq.{take-append_seam, drop-append_seam}
 use Rattle.ir_ast.specs.declared.ops.Op.{Op}
-use Rattle.ir_ast.specs.declared.ops.Op.TheVariants.{Statepoint, GcResult, GcRelocate}
+use Rattle.ir_ast.specs.declared.ops.Op.TheVariants.{Statepoint}
 use Rattle.ir_ast.specs.Insts.{Instruction}
 use Rattle.ir_ast.specs.Funcs.{Function, instructions_of}
 use Rattle.ir_ast.specs.Modules.{ModuleContent}
 use Rattle.ir_ast.specs.Faults.GroupShape.{is_statepoint}
 use Rattle.ir_cfg.specs.TargetModules.{IsTargetModule}
 use Rattle.object_meaning.specs.Frames.{is_member}
-use Rattle.frame_forms.specs.Groups.{group_size}
-use Rattle.frame_forms.specs.CodeAddresses.{code_bytes, next_start}
-use Rattle.frame_forms.specs.FrameSizes.{frame_bytes}
-use Rattle.frame_forms.specs.ModuleLayouts.{FunctionLayout, laid_at, laid_from, layout_of, statepoints_of}
+use Rattle.frame_forms.specs.CodeAddresses.{next_start}
+use Rattle.frame_forms.specs.ModuleLayouts.{FunctionLayout, laid_at, laid_from, statepoints_of}
 use Rattle.map_bytes.specs.declared.values.FuncEntry.{FuncEntry}
 use Rattle.map_bytes.specs.Entries.{Entry, entry_of, entries_of, entries}
 use Rattle.map_bytes.specs.Maps.{MapRecord}

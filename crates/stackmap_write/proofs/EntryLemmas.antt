@@ -1,12 +1,12 @@
 -- One more function among the entries.
-use Rattle.std.proofs.Common.{◌≡◌, ◌∙◌, ℕ, suc, zero, ◌+◌, ◌<◌, ◌≤◌, Bool, true, false, cond, List, [], ◌∷◌, ◌++◌, map, filter, length, drop, Option, Some, refl, ap, sym, arith, append_assoc, slice_get, nat_lt}
+use Rattle.std.proofs.Common.{◌≡◌, ◌∙◌, ℕ, suc, zero, ◌+◌, ◌<◌, ◌≤◌, Bool, true, false, cond, List, [], ◌∷◌, ◌++◌, map, filter, length, drop, Option, refl, ap, sym, arith, append_assoc, nat_lt}
 use Rattle.std.proofs.lemmas.Bool.{lt-ltb}
 use Rattle.list_laws.proofs.Places.{get_some, drop_at}
 use Rattle.std.specs.Option.{option_map_or}
 use Rattle.std.specs.List.{flat_map}
 use Rattle.ir_ast.specs.Funcs.{Function}
 use Rattle.frame_forms.specs.CodeAddresses.{next_start}
-use Rattle.frame_forms.specs.ModuleLayouts.{FunctionLayout, laid_from, address_in, frame_bytes_in, statepoints_in}
+use Rattle.frame_forms.specs.ModuleLayouts.{FunctionLayout, laid_from, statepoints_in}
 use Rattle.map_bytes.specs.declared.values.FuncEntry.{FuncEntry}
 use Rattle.map_bytes.specs.Maps.{counted_records, function_bytes}
 use Rattle.stackmap_write.specs.ModuleMaps.{entry_of, entries_of, entry_in}

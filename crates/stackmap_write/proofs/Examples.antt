@@ -1,5 +1,5 @@
 -- The maps of small modules by computation, as a check that the definitions say what is meant.
-use Rattle.std.proofs.Common.{◌≡◌, refl, ℕ, ◌^◌, ◌-◌, List, [], ◌∷◌, ◌++◌, Some, None, codes}
+use Rattle.std.proofs.Common.{◌≡◌, refl, ℕ, ◌^◌, ◌-◌, List, [], ◌∷◌, Some, None, codes}
 use Rattle.std.specs.Prelude.{pos}
 use Rattle.ir_ast.specs.declared.modules.Form.TheVariants.{Rewritten}
 use Rattle.ir_ast.specs.declared.ops.Callee.{Callee}
@@ -16,7 +16,7 @@ use Rattle.ir_ast.specs.Funcs.{Function}
 use Rattle.ir_ast.specs.Modules.{ModuleContent}
 use Rattle.frame_forms.specs.FrameSizes.{frame_words}
 use Rattle.map_bytes.specs.declared.values.Place.{Place}
-use Rattle.map_bytes.specs.Maps.{StackMap, MapRecord}
+use Rattle.map_bytes.specs.Maps.{MapRecord}
 use Rattle.stackmap_write.specs.ModuleMaps.{map_of}
 
 -- ---- modules

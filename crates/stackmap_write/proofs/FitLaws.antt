@@ -1,5 +1,5 @@
 -- The map of a target module is a map: each of its numbers fits in its field.
-use Rattle.std.proofs.Common.{◌≡◌, ◌∙◌, ℕ, zero, suc, ◌+◌, ◌*◌, ◌^◌, ◌<◌, ◌≤◌, Bool, true, false, cond, ◌&&◌, List, [], ◌∷◌, ◌++◌, length, get_or, take, drop, map, filter, fold, max, count_by, nat_lt, Some, slice_get, Result, Ok, Err, IfOk, Vec, Global, refl, ap, sym, subst, arith, append_assoc, length-append, length-drop}
+use Rattle.std.proofs.Common.{◌≡◌, ◌∙◌, ℕ, suc, ◌+◌, ◌*◌, ◌^◌, ◌<◌, ◌≤◌, Bool, true, false, cond, ◌&&◌, List, [], ◌∷◌, ◌++◌, length, get_or, take, drop, map, filter, fold, max, count_by, nat_lt, Some, slice_get, Result, Ok, Err, IfOk, Vec, Global, refl, ap, sym, subst, arith, append_assoc, length-append}
 use Rattle.std.specs.List.{All, AllByRecursion, flat_map}
 use Rattle.std.proofs.lemmas.List.Elements.{All-head, All-tail, filter-append}
 use Rattle.std.proofs.lemmas.List.Sums.{count_by-le-length, length-filter}
@@ -7,29 +7,26 @@ use Rattle.list_laws.proofs.Contents.{all_at}
 use Rattle.list_laws.proofs.Places.{get_middle}
 use Rattle.sp_ids.specs.declared.memory.Memory.{Memory}
 use Rattle.ir_ast.specs.declared.modules.Form.TheVariants.{Rewritten}
-use Rattle.ir_ast.specs.declared.types.Ty.{Ty}
 use Rattle.ir_ast.specs.declared.ops.Op.{Op}
 use Rattle.ir_ast.specs.declared.ops.Op.TheVariants.{Statepoint}
-use Rattle.ir_ast.specs.declared.ops.Operand.{Operand}
 use Rattle.ir_ast.specs.Insts.{Instruction}
 use Rattle.ir_ast.specs.Funcs.{Function, instructions_of}
 use Rattle.ir_ast.specs.Modules.{ModuleContent}
 use Rattle.ir_ast.specs.Faultless.{FunctionHasNoFault, OfForm}
 use Rattle.ir_ast.specs.Faults.GroupShape.{GroupsInShape, entries_of, is_statepoint, is_part, number_at}
-use Rattle.ir_cfg.specs.Statepoints.{StatepointsAreSmall, IdIsWord, is_relocate}
+use Rattle.ir_cfg.specs.Statepoints.{IdIsWord, is_relocate}
 use Rattle.ir_cfg.specs.TypedModules.{IsTypedFunction, IsSmallTarget}
 use Rattle.ir_cfg.specs.TargetModules.{IsTargetModule}
-use Rattle.object_meaning.specs.Frames.{is_member}
 use Rattle.frame_forms.specs.Groups.{group_size}
-use Rattle.frame_forms.specs.CodeAddresses.{code_bytes, next_start}
-use Rattle.frame_forms.specs.FrameSizes.{frame_bytes, frame_words, is_named_integer, words_at, words_of}
+use Rattle.frame_forms.specs.CodeAddresses.{next_start}
+use Rattle.frame_forms.specs.FrameSizes.{frame_words, is_named_integer, words_at, words_of}
 use Rattle.frame_forms.specs.ModuleLayouts.{FunctionLayout, laid_at, laid_from, layout_of, statepoints_of}
 use Rattle.frame_forms.proofs.ReturnLemmas.{group_within}
 use Rattle.map_bytes.specs.Maps.{IsMap, IsMapOf, counted_records, map_bytes}
 use Rattle.map_bytes.specs.Fits.{FunctionFits, MapFits, PlaceFits, RecordFits}
 use Rattle.map_bytes.proofs.FitsLaws.{fits-map}
-use Rattle.stackmap_write.specs.ModuleMaps.{entries_of as function_entries, entry_of, map_of, member_places, group_places, head_places, records_at, records_from, records_of, statepoint_record}
-use Rattle.stackmap_write.proofs.AppendLemmas.{all_back, all_joined}
+use Rattle.stackmap_write.specs.ModuleMaps.{entries_of as function_entries, entry_of, map_of, member_places, records_at, records_from, records_of}
+use Rattle.stackmap_write.proofs.AppendLemmas.{all_joined}
 use Rattle.stackmap_write.proofs.EntryLemmas.{counted_step, entries_short, length-laid_from}
 use Rattle.stackmap_write.proofs.PlaceFitLaws.{constant_fits, members_fit, all_taken, places_fit}
 use Rattle.stackmap_write.proofs.GroupLaws.{Head, run_count}

@@ -1,7 +1,6 @@
 -- The results and relocates behind a statepoint of a target module are parts of its group, so they are few.
 use Rattle.std.proofs.Common.{◌≡◌, ◌∙◌, ℕ, zero, suc, ◌+◌, ◌*◌, ◌<◌, ◌≤◌, ◌⊎◌, inl, inr, Bool, true, false, cond, ◌&&◌, List, [], ◌∷◌, ◌++◌, length, take, filter, Option, Some, slice_get, IfSome, refl, ap, sym, subst, arith, append_assoc, eq-eqb, length-append}
 use Rattle.std.specs.List.{flat_map, prefix_len}
-use Rattle.std.proofs.lemmas.List.Elements.{filter-append}
 use Rattle.std.proofs.Math.Bool.{and-true}
 use Rattle.list_laws.proofs.Places.{cases_below, get_middle}
 use Rattle.ir_ast.specs.declared.ops.Op.{Op}

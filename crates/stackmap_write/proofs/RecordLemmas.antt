@@ -1,6 +1,6 @@
 -- Records of joined instructions: a group ends before the terminator of its block.
-use Rattle.std.proofs.Common.{◌≡◌, ◌∙◌, ℕ, suc, ◌+◌, ◌*◌, ◌<◌, ◌≤◌, Bool, true, cond, List, [], ◌∷◌, ◌++◌, length, take, drop, get_or, map, refl, ap, sym, subst, arith, append_assoc}
-use Rattle.std.specs.List.{flat_map, prefix_len, AllByRecursion}
+use Rattle.std.proofs.Common.{◌≡◌, ◌∙◌, ℕ, suc, ◌+◌, ◌*◌, ◌<◌, true, List, [], ◌∷◌, ◌++◌, length, take, drop, get_or, map, refl, ap, sym, subst, arith, append_assoc}
+use Rattle.std.specs.List.{flat_map, AllByRecursion}
 use Rattle.std.proofs.lemmas.List.{take-append-le, length-map}
 use Rattle.std.proofs.Math.ListN.{get_or-map}
 use Rattle.std.proofs.lemmas.Grind.{flat_map-append}
@@ -11,9 +11,8 @@ use Rattle.ir_ast.specs.Insts.{Instruction}
 use Rattle.ir_ast.specs.Ops.{is_terminator}
 use Rattle.ir_ast.specs.Blocks.{BasicBlock, EndsAtTerminator}
 use Rattle.ir_ast.specs.Funcs.{Function, LinedFunction, content_of, instructions_of}
-use Rattle.object_meaning.specs.Frames.{is_member}
 use Rattle.frame_forms.specs.Groups.{group_size}
-use Rattle.frame_forms.proofs.ReturnLemmas.{group_stops, group_within, no_group}
+use Rattle.frame_forms.proofs.ReturnLemmas.{group_stops, group_within}
 use Rattle.map_bytes.specs.Maps.{MapRecord, record_bytes}
 use Rattle.map_bytes.specs.Fits.{RecordFits}
 use Rattle.stackmap_write.specs.ModuleMaps.{records_at, records_from, records_of, statepoint_record}

@@ -1,5 +1,4 @@
 use Rattle.std.proofs.Common.{◌∙◌, ap, arith, refl, ◌*◌}
-use Rattle.frame_forms.specs.ModuleLayouts.{statepoints_of}
 use Rattle.std.specs.Prelude.{count_by}
 use Rattle.ir_ast.specs.Faults.GroupShape.{is_statepoint}
 use Rattle.ir_ast.specs.Funcs.{instructions_of}

@@ -1,4 +1,4 @@
-use Rattle.std.proofs.Common.{◌≡◌, ◌∙◌, ◌+◌, ◌++◌, ap, arith, drop, length}
+use Rattle.std.proofs.Common.{◌∙◌, ◌+◌, ◌++◌, ap, arith, drop, length}
 use Rattle.ir_ast.specs.Funcs.{instructions_of}
 use Rattle.frame_forms.specs.CodeAddresses.{returns_from}
 use Rattle.frame_slots.proofs.BlockLemmas.{returns_step, length_step}

@@ -1,4 +1,4 @@
-use Rattle.std.proofs.Common.{◌∙◌, ◌++◌, ℕ, List, ap, sym, append_assoc}
+use Rattle.std.proofs.Common.{append_assoc}
 use Rattle.std.proofs.lemmas.List.{append-nil}
 use Rattle.map_bytes.specs.Maps.{record_bytes_then}
 use Rattle.map_bytes.proofs.PartLaws.{record_bytes-parts}
