@@ -6,7 +6,6 @@ use Rattle.std.proofs.lemmas.Bool.{cases_Bool, false≢true}
 use Rattle.std.proofs.lemmas.List.{length-map, length-append}
 use Rattle.std.proofs.lemmas.List.Elements.{All-nil, All-cons, All-head, All-tail, filter_map-append}
 use Rattle.list_laws.proofs.Contents.{all_front, all_back}
-use Rattle.sp_ids.specs.declared.ids.BlockId.{BlockId}
 use Rattle.ir_ast.specs.declared.funcs.Arg.{Arg}
 use Rattle.ir_ast.specs.declared.types.Ty.{Ty}
 use Rattle.ir_ast.specs.declared.types.Ty.TheVariants.{Void, Int as Integer, Ptr}
@@ -31,12 +30,11 @@ use Rattle.object_meaning.specs.Accesses.{cell_of}
 use Rattle.base_forms.specs.DerivedMarks.{derived_marks, uses_marked}
 use Rattle.base_forms.specs.Inserted.{is_merged, is_negated, inserted_number, new_number, renumbered}
 use Rattle.base_forms.specs.Bases.{base_of}
-use Rattle.base_forms.specs.Lines.{Insertion, operand_at, numbered_name, kept_line, merged_bases, base_line, check, same_call, negation, compared, merged, lines_for, based_insts, based_blocks}
+use Rattle.base_forms.specs.Lines.{Insertion, operand_at, numbered_name, kept_line, merged_bases, base_line, check, same_call, compared, merged, lines_for, based_insts, based_blocks}
 use Rattle.base_forms.specs.Based.{rank_of, insertion, based}
-use Rattle.base_tables.specs.Kinds.{any_marked}
 use Rattle.base_tables.specs.Origins.{named}
 use Rattle.base_tables.specs.Tables.{tables_of, now_by, base_by, tabled}
-use Rattle.base_tables.proofs.DefinitionLemmas.{marked_by, merge_quiet}
+use Rattle.base_tables.proofs.DefinitionLemmas.{marked_by}
 use Rattle.base_tables.proofs.TableLemmas.{IsKnown, at_value}
 use Rattle.base_infer.proofs.LineLemmas.{after-append, after_up}
 

@@ -1,7 +1,7 @@
 -- The lines of functions with bases, over any knowledge of their values.
-use Rattle.std.proofs.Common.{◌≡◌, ◌∙◌, ℕ, zero, suc, ◌+◌, ◌*◌, ◌<◌, ◌≤◌, ◌^◌, Bool, true, false, not, ◌&&◌, if◌then◌else◌, List, [], ◌∷◌, ◌++◌, length, get_or, take, drop, is_some, refl, ap, sym, subst, arith, append-nil, append_assoc, inl, inr}
+use Rattle.std.proofs.Common.{◌≡◌, ◌∙◌, ℕ, suc, ◌+◌, ◌*◌, ◌<◌, ◌≤◌, ◌^◌, Bool, true, false, not, ◌&&◌, if◌then◌else◌, List, [], ◌∷◌, ◌++◌, length, get_or, take, drop, is_some, refl, ap, sym, arith, append-nil, append_assoc, inl, inr}
 use Rattle.std.specs.Prelude.{map}
-use Rattle.std.specs.List.{flat_map, list_all}
+use Rattle.std.specs.List.{list_all}
 use Rattle.std.proofs.lemmas.Bool.{cases_Bool, false≢true}
 use Rattle.std.proofs.lemmas.List.{length-append, take_more, take-append-drop}
 use Rattle.std.proofs.lemmas.List.Folds.{list_all-append}
@@ -17,7 +17,7 @@ use Rattle.ir_ast.specs.Funcs.{IsSmall, instructions_of}
 use Rattle.ir_ast.specs.Derived.{is_merge}
 use Rattle.ir_ast.specs.Ops.{is_terminator}
 use Rattle.object_meaning.specs.Lines.{following, after_all}
-use Rattle.base_forms.specs.Lines.{Insertion, kept_line, merged, compared, lines_for, based_insts, based_blocks}
+use Rattle.base_forms.specs.Lines.{Insertion, kept_line, compared, lines_for, based_insts, based_blocks}
 
 -- ---- values after lines
 
@@ -60,10 +60,10 @@ within_blocks blocks yielded block so_far turn =
     let n = length yielded in
     let same : yielded ≡ take n blocks = sym (map_same yielded) ∙ so_far in
     let front : instructions_of (take (n + 1) blocks) ≡ instructions_of (take n blocks) ++ (get_or blocks n block).insts =
-        ap instructions_of (take_more blocks n block turn.0) ∙ flat_map-append (λ (b : BasicBlock). b.insts) (take n blocks) (get_or blocks n block ∷ [])
-        ∙ ap (λ (zs : List Instruction). instructions_of (take n blocks) ++ zs) (append-nil (get_or blocks n block).insts) in
+    ap instructions_of (take_more blocks n block turn.0) ∙ flat_map-append (λ (b : BasicBlock). b.insts) (take n blocks) (get_or blocks n block ∷ [])
+    ∙ ap (λ (zs : List Instruction). instructions_of (take n blocks) ++ zs) (append-nil (get_or blocks n block).insts) in
     let whole : instructions_of blocks ≡ instructions_of (take (n + 1) blocks) ++ instructions_of (drop (n + 1) blocks) =
-        ap instructions_of (sym (take-append-drop (n + 1) blocks)) ∙ flat_map-append (λ (b : BasicBlock). b.insts) (take (n + 1) blocks) (drop (n + 1) blocks) in
+    ap instructions_of (sym (take-append-drop (n + 1) blocks)) ∙ flat_map-append (λ (b : BasicBlock). b.insts) (take (n + 1) blocks) (drop (n + 1) blocks) in
     omega (
       arith,
       ap length whole,

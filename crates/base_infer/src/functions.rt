@@ -58,12 +58,7 @@ fn insert_all(
     Ok(after)
 }
 
-fn insert_in(
-    alloc: Global,
-    tables: &Tables,
-    next: usize,
-    block: Block,
-) -> Result<Block, Memory>
+fn insert_in(alloc: Global, tables: &Tables, next: usize, block: Block) -> Result<Block, Memory>
     requires { next + length block.insts < 2 ^ 64 }
     ensures { IfOk result (λ after. after ≡ record block { insts = based_insts (tabled tables.now) next block.insts }) }
 {
@@ -107,7 +102,11 @@ fn following(next: usize, inst: &Inst) -> usize
     requires { next + 1 < 2 ^ 64 }
     ensures { result ≡ following next inst.now }
 {
-    if inst.result().is_some() { next + 1 } else { next }
+    if inst.result().is_some() {
+        next + 1
+    } else {
+        next
+    }
 }
 
 // Room for as many lines as these instructions can have at most.

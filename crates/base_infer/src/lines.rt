@@ -6,9 +6,7 @@ ghost use Rattle.base_forms.specs.Lines.{operand_at, kept_line, merged, base_lin
 ghost use Rattle.base_tables.specs.Tables.{tabled};
 ghost use Rattle.base_tables.specs.Kinds.{any_marked};
 
-use crate::parts::{
-    base_line, check_line, kept, name, negation, operand_at, same_line,
-};
+use crate::parts::{base_line, check_line, kept, name, negation, operand_at, same_line};
 use base_tables::Tables;
 use ir_ast::{Inst, Op, Pred};
 use sp_ids::Memory;
