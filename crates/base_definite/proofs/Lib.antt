@@ -9,3 +9,4 @@ pub mod BasedUses
 pub mod DefiniteInstance
 pub mod SpreadLaws
 pub mod NameLaws
+pub mod BasesInstance

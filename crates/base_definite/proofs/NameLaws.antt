@@ -1,6 +1,6 @@
 -- The names of the values of a function with bases: those that the function had, with the inserted ones between.
-use Rattle.std.proofs.Common.{◌≡◌, ℕ, zero, suc, ◌+◌, ◌≤◌, Bool, true, false, ◌&&◌, ◌||◌, if◌then◌else◌, List, [], ◌∷◌, ◌++◌, length, map, take, refl, sym, ap, subst, ◌∙◌, append_assoc, append-nil, arith}
-use Rattle.std.specs.Prelude.{Option, Some, None, is_some, filter, count_by, unwrap_or}
+use Rattle.std.proofs.Common.{◌≡◌, ℕ, ◌+◌, ◌≤◌, Bool, true, false, ◌&&◌, if◌then◌else◌, List, [], ◌∷◌, ◌++◌, length, map, take, refl, sym, ap, subst, ◌∙◌, append_assoc, arith}
+use Rattle.std.specs.Prelude.{Option, is_some, filter, count_by, unwrap_or}
 use Rattle.std.specs.List.{All, fold}
 use Rattle.std.proofs.lemmas.List.{length-append, length-map, map-append}
 use Rattle.ir_ast.specs.declared.funcs.Arg.{Arg}
@@ -18,11 +18,10 @@ use Rattle.object_meaning.specs.Lines.{following}
 use Rattle.base_forms.specs.DerivedMarks.{derived_marks, uses_marked}
 use Rattle.base_forms.specs.Inserted.{by_line, is_merged, is_negated, is_unequal}
 use Rattle.base_forms.specs.Lines.{operand_at}
-use Rattle.base_forms.specs.Based.{base_line, based, based_insts, compared, kept_line, lines_for, negation, rank_of, same_call}
+use Rattle.base_forms.specs.Based.{based, based_insts, compared, kept_line, lines_for, negation, rank_of, same_call}
 use Rattle.renaming_laws.specs.Renamed.{Renaming}
 use Rattle.renaming_laws.proofs.ListLaws.{all_first, all_rest}
 use Rattle.base_laws.proofs.PlacedLaws.{has_result}
-use Rattle.base_laws.proofs.TypeLaws.{IsTypedLine}
 use Rattle.base_laws.proofs.LineLaws.{IsReady}
 use Rattle.base_laws.proofs.BlockLaws.{given_append, given_by}
 use Rattle.base_relations.proofs.GroupLaws.{text_is}
