@@ -79,9 +79,9 @@ module _ (given : Insertion) where
   }
 
   -- `%x = xor i1 %sp.sN, true`
-  abbrev pub negation : ℕ → Instruction → Instruction
-  negation next inst = record {
-    result = inst.result;
+  abbrev pub negated_line : ℕ → Option (List ℕ) → Instruction
+  negated_line next result = record {
+    result = result;
     op = Xor;
     ty = Integer 1;
     operands = Value (record { 0 = given.inserted next }) ∷ Int 1 ∷ [];
@@ -89,12 +89,21 @@ module _ (given : Insertion) where
     bundle = [];
   }
 
-  -- a compare with a derived operand
-  abbrev pub compared : ℕ → Instruction → Pred → List Instruction
-  compared next inst Eq = same_call inst.result (operand_at inst 0) (operand_at inst 1) ∷ []
-  compared next inst Ne =
+  abbrev pub negation : ℕ → Instruction → Instruction
+  negation next inst = negated_line next inst.result
+
+  abbrev pub compared_equal : Instruction → List Instruction
+  compared_equal inst = same_call inst.result (operand_at inst 0) (operand_at inst 1) ∷ []
+
+  abbrev pub compared_unequal : ℕ → Instruction → List Instruction
+  compared_unequal next inst =
       same_call (Some (numbered_name (codes "sp.s") (given.same_rank next))) (operand_at inst 0) (operand_at inst 1)
       ∷ negation next inst ∷ []
+
+  -- a compare with a derived operand
+  abbrev pub compared : ℕ → Instruction → Pred → List Instruction
+  compared next inst Eq = compared_equal inst
+  compared next inst Ne = compared_unequal next inst
   compared next inst pred = kept_line inst ∷ []
 
   -- a phi or select

@@ -1,2 +1,3 @@
 pub mod PlacedLemmas
 pub mod PointLemmas
+pub mod ReadyLemmas

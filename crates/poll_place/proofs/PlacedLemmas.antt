@@ -121,7 +121,7 @@ few_behind number (block ∷ blocks) =
       length-append block.insts (instructions_of blocks),
     )
 
-few_placed : (blocks : List BasicBlock) → length (instructions_of (placed_from 0 blocks)) ≤ 2 * length (instructions_of blocks) + 1
+pub few_placed : (blocks : List BasicBlock) → length (instructions_of (placed_from 0 blocks)) ≤ 2 * length (instructions_of blocks) + 1
 few_placed [] = omega arith
 few_placed (block ∷ blocks) =
     omega (

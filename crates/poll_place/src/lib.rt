@@ -5,5 +5,5 @@ mod blocks;
 mod laws;
 mod polls;
 
-pub use laws::polls_stand_at_points;
+pub use laws::{polls_stand_at_points, sources_are_ready};
 pub use polls::place;

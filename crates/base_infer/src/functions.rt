@@ -1,0 +1,128 @@
+ghost use Rattle.std.specs.Prelude.{◌≡◌, ◌+◌, ◌<◌, ◌^◌, length, IfOk};
+ghost use Rattle.std.specs.List.{All};
+ghost use Rattle.ir_ast.specs.Blocks.{EndsAtTerminator};
+ghost use Rattle.ir_ast.specs.Funcs.{instructions_of};
+ghost use Rattle.ir_ast.specs.Lines.{IsLine};
+ghost use Rattle.ir_ast.specs.Faults.UnknownName.{LocalNamesAreKnown};
+ghost use Rattle.object_meaning.specs.Lines.{following, after_all};
+ghost use Rattle.base_forms.specs.Lines.{based_insts, based_blocks};
+ghost use Rattle.base_forms.specs.Based.{based, base_table};
+ghost use Rattle.base_tables.specs.Tables.{tabled};
+ghost use Rattle.base_infer.specs.Zeros.{zeros_of};
+
+use crate::lines::push_lines;
+use base_tables::Tables;
+use ir_ast::{BaseTable, Block, Func, Inst, Op, Pred};
+use sp_ids::Memory;
+use std::alloc::Global;
+
+/// The function with its bases and checks, and the base of each of its values. Directly before each derived phi and select
+/// stands the same line over the bases, named `%sp.bN`; before each load and store a `gc_check` with base, address and kind;
+/// and a compare with a derived operand is a call of `gc_same`, for `ne` named `%sp.sN` and negated (Garbage Collection
+/// Safepoints in LLVM, "Base & Derived Pointers", "RewriteStatepointsForGC"). Each line has number 0. Where memory is
+/// wanted the function is gone.
+///
+/// The lines are line forms and name values of the function, as those of a typed module are after its polls were placed.
+pub fn insert(alloc: Global, func: Func) -> Result<(Func, BaseTable), Memory>
+    requires lines { All IsLine (instructions_of func.content.blocks) }
+    requires known { LocalNamesAreKnown func.content }
+    requires few { length (instructions_of func.content.blocks) < 2 ^ 29 }
+    ensures based { IfOk result (λ made. made.0.content ≡ based func.content) }
+    ensures zeros { IfOk result (λ made. made.0.lines ≡ zeros_of made.0.content) }
+    ensures table { IfOk result (λ made. made.1 ≡ base_table func.content) }
+{
+    let tables = Tables::of(alloc, &func)?;
+    let table = tables.base_table(alloc)?;
+    let (name, answer, args, blocks) = func.into_parts();
+    let with_bases = insert_all(alloc, &tables, args.len(), blocks)?;
+    Ok((Func::of(name, answer, args, with_bases), table))
+}
+
+// The blocks, of which the first result is the value `start`.
+fn insert_all(
+    alloc: Global,
+    tables: &Tables,
+    start: usize,
+    blocks: Vec<Block>,
+) -> Result<Vec<Block>, Memory>
+    requires { start + length (instructions_of blocks.items) < 2 ^ 63 }
+    ensures { IfOk result (λ after. after.items ≡ based_blocks (tabled tables.now) start blocks.items) }
+{
+    let mut after = Vec::with_capacity(alloc, blocks.len())?;
+    let mut next = start;
+    for block in blocks {
+        let behind = value_after(next, block.insts());
+        after.push(insert_in(alloc, tables, next, block)?)?;
+        next = behind;
+    }
+    Ok(after)
+}
+
+fn insert_in(alloc: Global, tables: &Tables, next: usize, block: Block) -> Result<Block, Memory>
+    requires { next + length block.insts < 2 ^ 64 }
+    ensures { IfOk result (λ after. after ≡ record block { insts = based_insts (tabled tables.now) next block.insts }) }
+{
+    let (name, insts) = block.into_parts();
+    let lines = all_lines(alloc, tables, next, insts)?;
+    Ok(Block::of(name, lines))
+}
+
+fn all_lines(
+    alloc: Global,
+    tables: &Tables,
+    start: usize,
+    insts: Vec<Inst>,
+) -> Result<Vec<Inst>, Memory>
+    requires { start + length insts.items < 2 ^ 64 }
+    ensures { IfOk result (λ lines. lines.items ≡ based_insts (tabled tables.now) start insts.items) }
+{
+    let mut lines = Vec::with_capacity(alloc, room_for(insts.as_slice()))?;
+    let mut next = start;
+    for inst in insts {
+        let behind = following(next, &inst);
+        push_lines(alloc, tables, next, inst, &mut lines)?;
+        next = behind;
+    }
+    Ok(lines)
+}
+
+// The value after the results of these instructions.
+fn value_after(start: usize, insts: &[Inst]) -> usize
+    requires { start + length insts.now < 2 ^ 64 }
+    ensures { result ≡ after_all start insts.now }
+{
+    let mut next = start;
+    for inst in insts {
+        next = following(next, inst);
+    }
+    next
+}
+
+fn following(next: usize, inst: &Inst) -> usize
+    requires { next + 1 < 2 ^ 64 }
+    ensures { result ≡ following next inst.now }
+{
+    if inst.result().is_some() {
+        next + 1
+    } else {
+        next
+    }
+}
+
+// Room for as many lines as these instructions can have at most.
+fn room_for(insts: &[Inst]) -> usize {
+    let mut room = insts.len();
+    for inst in insts {
+        if can_have_two(inst.op()) {
+            room = room.saturating_add(1);
+        }
+    }
+    room
+}
+
+fn can_have_two(op: &Op) -> bool {
+    matches!(
+        op,
+        Op::Phi | Op::Select | Op::Load | Op::Store | Op::Icmp(Pred::Ne)
+    )
+}

@@ -1,0 +1,182 @@
+//! The lines that stand for one instruction.
+
+ghost use Rattle.std.specs.Prelude.{◌≡◌, ◌++◌, [], ◌∷◌, if◌then◌else◌, IfOk};
+ghost use Rattle.ir_ast.specs.declared.ops.Op.{Op};
+ghost use Rattle.base_forms.specs.Lines.{operand_at, kept_line, merged, base_line, check, compared_equal, compared_unequal, lines_for};
+ghost use Rattle.base_tables.specs.Tables.{tabled};
+ghost use Rattle.base_tables.specs.Kinds.{any_marked};
+
+use crate::parts::{base_line, check_line, kept, name, negation, operand_at, same_line};
+use base_tables::Tables;
+use ir_ast::{Inst, Op, Pred};
+use sp_ids::Memory;
+use std::alloc::Global;
+
+/// Adds the lines for an instruction; its own result or the next one is the value `next`.
+pub(crate) fn push_lines(
+    alloc: Global,
+    tables: &Tables,
+    next: usize,
+    inst: Inst,
+    lines: &mut Vec<Inst>,
+) -> Result<(), Memory>
+    ensures { IfOk result (λ _. lines.new.items ≡ lines.old.items ++ lines_for (tabled tables.now) next inst inst.op) }
+{
+    match inst.op() {
+        Op::Phi => push_merge(alloc, tables, next, false, inst, lines),
+        Op::Select => push_merge(alloc, tables, next, true, inst, lines),
+        Op::Icmp(pred) => {
+            let relation = *pred;
+            push_compare(alloc, tables, next, relation, inst, lines)
+        }
+        Op::Load => push_checked(alloc, tables, 0, inst, lines),
+        Op::Store => push_checked(alloc, tables, 1, inst, lines),
+        Op::Add
+        | Op::Sub
+        | Op::Mul
+        | Op::Udiv
+        | Op::Sdiv
+        | Op::Urem
+        | Op::Srem
+        | Op::And
+        | Op::Or
+        | Op::Xor
+        | Op::Shl
+        | Op::Lshr
+        | Op::Ashr
+        | Op::Trunc(_)
+        | Op::Zext(_)
+        | Op::Sext(_)
+        | Op::Gep { .. }
+        | Op::Call { .. }
+        | Op::Statepoint { .. }
+        | Op::GcResult
+        | Op::GcRelocate
+        | Op::Br
+        | Op::CondBr
+        | Op::Switch
+        | Op::Ret
+        | Op::Unreachable => push_kept(alloc, tables, inst, lines),
+    }
+}
+
+fn push_kept(
+    alloc: Global,
+    tables: &Tables,
+    inst: Inst,
+    lines: &mut Vec<Inst>,
+) -> Result<(), Memory>
+    ensures { IfOk result (λ _. lines.new.items ≡ lines.old.items ++ kept_line (tabled tables.now) inst ∷ []) }
+{
+    lines.push(kept(alloc, tables, inst)?)?;
+    Ok(())
+}
+
+fn push_merge(
+    alloc: Global,
+    tables: &Tables,
+    next: usize,
+    is_select: bool,
+    inst: Inst,
+    lines: &mut Vec<Inst>,
+) -> Result<(), Memory>
+    requires { inst.op ≡ (if is_select then Op.Select else Op.Phi) }
+    ensures { IfOk result (λ _. lines.new.items ≡ lines.old.items ++ merged (tabled tables.now) next inst) }
+{
+    push_base(alloc, tables, next, is_select, &inst, lines)?;
+    push_kept(alloc, tables, inst, lines)
+}
+
+// The base of a phi or select, where that is derived.
+fn push_base(
+    alloc: Global,
+    tables: &Tables,
+    next: usize,
+    is_select: bool,
+    inst: &Inst,
+    lines: &mut Vec<Inst>,
+) -> Result<(), Memory>
+    requires { inst.now.op ≡ (if is_select then Op.Select else Op.Phi) }
+    ensures { IfOk result (λ _. lines.new.items ≡ lines.old.items
+        ++ (if any_marked tables.now.derived inst.now.operands then base_line (tabled tables.now) next inst.now ∷ [] else [])) }
+{
+    if tables.any_derived(inst.operands()) {
+        lines.push(base_line(alloc, tables, next, is_select, inst)?)?;
+    }
+    Ok(())
+}
+
+fn push_compare(
+    alloc: Global,
+    tables: &Tables,
+    next: usize,
+    pred: Pred,
+    inst: Inst,
+    lines: &mut Vec<Inst>,
+) -> Result<(), Memory>
+    ensures { IfOk result (λ _. lines.new.items ≡ lines.old.items ++ lines_for (tabled tables.now) next inst (Op.Icmp pred)) }
+{
+    if !tables.any_derived(inst.operands()) {
+        return push_kept(alloc, tables, inst, lines);
+    }
+    match pred {
+        Pred::Eq => push_equal(alloc, tables, inst, lines),
+        Pred::Ne => push_unequal(alloc, tables, next, inst, lines),
+        Pred::Ugt
+        | Pred::Uge
+        | Pred::Ult
+        | Pred::Ule
+        | Pred::Sgt
+        | Pred::Sge
+        | Pred::Slt
+        | Pred::Sle => push_kept(alloc, tables, inst, lines),
+    }
+}
+
+fn push_equal(
+    alloc: Global,
+    tables: &Tables,
+    inst: Inst,
+    lines: &mut Vec<Inst>,
+) -> Result<(), Memory>
+    ensures { IfOk result (λ _. lines.new.items ≡ lines.old.items ++ compared_equal (tabled tables.now) inst) }
+{
+    let first = operand_at(inst.operands(), 0);
+    let second = operand_at(inst.operands(), 1);
+    let (named, _op, _ty, _operands, _labels, _bundle) = inst.into_parts();
+    lines.push(same_line(alloc, tables, named, first, second)?)?;
+    Ok(())
+}
+
+fn push_unequal(
+    alloc: Global,
+    tables: &Tables,
+    next: usize,
+    inst: Inst,
+    lines: &mut Vec<Inst>,
+) -> Result<(), Memory>
+    ensures { IfOk result (λ _. lines.new.items ≡ lines.old.items ++ compared_unequal (tabled tables.now) next inst) }
+{
+    let first = operand_at(inst.operands(), 0);
+    let second = operand_at(inst.operands(), 1);
+    let (named, _op, _ty, _operands, _labels, _bundle) = inst.into_parts();
+    let own = name(alloc, b"sp.s", tables.same_rank(next))?;
+    lines.push(same_line(alloc, tables, Some(own), first, second)?)?;
+    lines.push(negation(alloc, tables, next, named)?)?;
+    Ok(())
+}
+
+fn push_checked(
+    alloc: Global,
+    tables: &Tables,
+    place: usize,
+    inst: Inst,
+    lines: &mut Vec<Inst>,
+) -> Result<(), Memory>
+    ensures { IfOk result (λ _. lines.new.items ≡ lines.old.items
+        ++ check (tabled tables.now) inst (operand_at inst place) ∷ kept_line (tabled tables.now) inst ∷ []) }
+{
+    let address = operand_at(inst.operands(), place);
+    lines.push(check_line(alloc, tables, &inst, address)?)?;
+    push_kept(alloc, tables, inst, lines)
+}

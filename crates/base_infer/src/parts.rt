@@ -1,0 +1,259 @@
+//! The lines that are put in, and the old ones over new numbers.
+
+ghost use Rattle.std.specs.Prelude.{◌≡◌, [], ◌∷◌, if◌then◌else◌, map, slice_index_or, IfOk};
+ghost use Rattle.ir_ast.specs.declared.types.Ty.{Ty};
+ghost use Rattle.ir_ast.specs.declared.ops.Op.{Op};
+ghost use Rattle.ir_ast.specs.declared.ops.Operand.{Operand};
+ghost use Rattle.ir_ast.specs.Cells.{kind_of};
+ghost use Rattle.object_meaning.specs.Accesses.{cell_of};
+ghost use Rattle.base_forms.specs.Lines.{kept_line, merged_bases, base_line, check, same_call, negated_line, numbered_name};
+ghost use Rattle.base_tables.specs.Tables.{now_by, base_by, tabled};
+
+use base_tables::Tables;
+use ir_ast::{Callee, Cell, Inst, Name, Op, Operand, Operands, Ty, Types};
+use itoa::Buffer;
+use smallvec::SmallVec;
+use sp_ids::Memory;
+use std::alloc::Global;
+
+/// The instruction itself, over the new numbers.
+pub(crate) fn kept(alloc: Global, tables: &Tables, inst: Inst) -> Result<Inst, Memory>
+    ensures { IfOk result (λ line. line ≡ kept_line (tabled tables.now) inst) }
+{
+    let (named, op, ty, old_operands, labels, old_bundle) = inst.into_parts();
+    let operands = renumbered(alloc, tables, old_operands.as_slice())?;
+    let bundle = renumbered_bundle(alloc, tables, old_bundle.as_slice())?;
+    Ok(Inst::of(named, op, ty, operands, labels, bundle))
+}
+
+fn renumbered(alloc: Global, tables: &Tables, operands: &[Operand]) -> Result<Operands, Memory>
+    ensures { IfOk result (λ after. after.items ≡ map (now_by tables.now) operands.now) }
+{
+    let mut after = SmallVec::new(alloc);
+    for operand in operands {
+        after.push(tables.operand(*operand))?;
+    }
+    Ok(after)
+}
+
+fn renumbered_bundle(
+    alloc: Global,
+    tables: &Tables,
+    entries: &[(Ty, Operand)],
+) -> Result<Vec<(Ty, Operand)>, Memory>
+    ensures { IfOk result (λ after. after.items ≡ map (λ entry. (entry.0, now_by tables.now entry.1)) entries.now) }
+{
+    let mut after = Vec::new(alloc);
+    for (ty, operand) in entries {
+        after.push((*ty, tables.operand(*operand)))?;
+    }
+    Ok(after)
+}
+
+/// The phi of the bases of a phi's operands, or the select of those of a select's.
+pub(crate) fn base_line(
+    alloc: Global,
+    tables: &Tables,
+    next: usize,
+    is_select: bool,
+    inst: &Inst,
+) -> Result<Inst, Memory>
+    requires { inst.now.op ≡ (if is_select then Op.Select else Op.Phi) }
+    ensures { IfOk result (λ line. line ≡ base_line (tabled tables.now) next inst.now) }
+{
+    let named = name(alloc, b"sp.b", tables.base_rank(next))?;
+    let operands = bases(alloc, tables, is_select, inst.operands())?;
+    let labels = Vec::from_slice(alloc, inst.labels())?;
+    Ok(Inst::of(
+        Some(named),
+        merge_op(is_select),
+        *inst.ty(),
+        operands,
+        labels,
+        Vec::new(alloc),
+    ))
+}
+
+fn merge_op(is_select: bool) -> Op
+    ensures { result ≡ (if is_select then Op.Select else Op.Phi) }
+{
+    if is_select { Op::Select } else { Op::Phi }
+}
+
+fn bases(
+    alloc: Global,
+    tables: &Tables,
+    is_select: bool,
+    operands: &[Operand],
+) -> Result<Operands, Memory>
+    ensures { IfOk result (λ bases. bases.items ≡ merged_bases (tabled tables.now) (if is_select then Op.Select else Op.Phi) operands.now) }
+{
+    if is_select {
+        select_bases(alloc, tables, operands)
+    } else {
+        all_bases(alloc, tables, operands)
+    }
+}
+
+fn all_bases(alloc: Global, tables: &Tables, operands: &[Operand]) -> Result<Operands, Memory>
+    ensures { IfOk result (λ bases. bases.items ≡ map (base_by tables.now) operands.now) }
+{
+    let mut bases = SmallVec::new(alloc);
+    for operand in operands {
+        bases.push(tables.base(*operand))?;
+    }
+    Ok(bases)
+}
+
+fn select_bases(alloc: Global, tables: &Tables, operands: &[Operand]) -> Result<Operands, Memory>
+    ensures { IfOk result (λ bases. bases.items ≡ merged_bases (tabled tables.now) Op.Select operands.now) }
+{
+    match operands.split_first() {
+        None => Ok(SmallVec::new(alloc)),
+        Some((condition, pointers)) => conditional(alloc, tables, *condition, pointers),
+    }
+}
+
+// The condition stays.
+fn conditional(
+    alloc: Global,
+    tables: &Tables,
+    condition: Operand,
+    pointers: &[Operand],
+) -> Result<Operands, Memory>
+    ensures { IfOk result (λ bases. bases.items ≡ now_by tables.now condition ∷ map (base_by tables.now) pointers.now) }
+{
+    let mut bases = SmallVec::new(alloc);
+    bases.push(tables.operand(condition))?;
+    for pointer in pointers {
+        bases.push(tables.base(*pointer))?;
+    }
+    Ok(bases)
+}
+
+/// `call void @gc_check(P base, P address, i64 kind)`, before an access.
+pub(crate) fn check_line(
+    alloc: Global,
+    tables: &Tables,
+    inst: &Inst,
+    address: Operand,
+) -> Result<Inst, Memory>
+    ensures { IfOk result (λ line. line ≡ check (tabled tables.now) inst.now address) }
+{
+    let op = Op::Call {
+        callee: Callee::Check,
+        types: check_types(alloc)?,
+    };
+    let mut operands = SmallVec::new(alloc);
+    operands.push(tables.base(address))?;
+    operands.push(tables.operand(address))?;
+    operands.push(Operand::Int(kind(inst.ty())))?;
+    Ok(Inst::of(
+        None,
+        op,
+        Ty::Void,
+        operands,
+        Vec::new(alloc),
+        Vec::new(alloc),
+    ))
+}
+
+fn check_types(alloc: Global) -> Result<Types, Memory>
+    ensures { IfOk result (λ types. types ≡ Ty.Ptr ∷ Ty.Ptr ∷ Ty.Int 64 ∷ []) }
+{
+    let mut types = Vec::with_capacity(alloc, 3)?;
+    types.push(Ty::Ptr)?;
+    types.push(Ty::Ptr)?;
+    types.push(Ty::Int(64))?;
+    Ok(Types::of(types))
+}
+
+// The kind of the cell that an access of this type has.
+fn kind(ty: &Ty) -> u64
+    ensures { result ≡ kind_of (cell_of ty.now) }
+{
+    match ty {
+        Ty::Ptr => Cell::Ptr.kind(),
+        Ty::Void | Ty::Int(_) | Ty::Token => Cell::I64.kind(),
+    }
+}
+
+/// `%x = call i1 @gc_same(P base 1, P address 1, P base 2, P address 2)`.
+pub(crate) fn same_line(
+    alloc: Global,
+    tables: &Tables,
+    named: Option<Name>,
+    first: Operand,
+    second: Operand,
+) -> Result<Inst, Memory>
+    ensures { IfOk result (λ line. line ≡ same_call (tabled tables.now) named first second) }
+{
+    let op = Op::Call {
+        callee: Callee::Same,
+        types: same_types(alloc)?,
+    };
+    let mut operands = SmallVec::new(alloc);
+    operands.push(tables.base(first))?;
+    operands.push(tables.operand(first))?;
+    operands.push(tables.base(second))?;
+    operands.push(tables.operand(second))?;
+    Ok(Inst::of(
+        named,
+        op,
+        Ty::Int(1),
+        operands,
+        Vec::new(alloc),
+        Vec::new(alloc),
+    ))
+}
+
+fn same_types(alloc: Global) -> Result<Types, Memory>
+    ensures { IfOk result (λ types. types ≡ Ty.Ptr ∷ Ty.Ptr ∷ Ty.Ptr ∷ Ty.Ptr ∷ []) }
+{
+    let mut types = Vec::with_capacity(alloc, 4)?;
+    types.push(Ty::Ptr)?;
+    types.push(Ty::Ptr)?;
+    types.push(Ty::Ptr)?;
+    types.push(Ty::Ptr)?;
+    Ok(Types::of(types))
+}
+
+/// `%x = xor i1 %sp.sN, true`.
+pub(crate) fn negation(
+    alloc: Global,
+    tables: &Tables,
+    next: usize,
+    named: Option<Name>,
+) -> Result<Inst, Memory>
+    ensures { IfOk result (λ line. line ≡ negated_line (tabled tables.now) next named) }
+{
+    let mut operands = SmallVec::new(alloc);
+    operands.push(Operand::Value(tables.inserted(next)))?;
+    operands.push(Operand::Int(1))?;
+    Ok(Inst::of(
+        named,
+        Op::Xor,
+        Ty::Int(1),
+        operands,
+        Vec::new(alloc),
+        Vec::new(alloc),
+    ))
+}
+
+/// A name of this front and a number.
+pub(crate) fn name(alloc: Global, front: &[u8], rank: u32) -> Result<Name, Memory>
+    ensures { IfOk result (λ name. name ≡ numbered_name front.now rank) }
+{
+    let mut buffer = Buffer::new();
+    let mut bytes = Vec::with_capacity(alloc, 16)?;
+    bytes.extend_from_slice(front)?;
+    bytes.extend_from_slice(buffer.format(rank).as_bytes())?;
+    Ok(Name::of(bytes))
+}
+
+/// The operand at a place, or `null` where there is none.
+pub(crate) fn operand_at(operands: &[Operand], place: usize) -> Operand
+    ensures { result ≡ slice_index_or operands.now place Operand.Null }
+{
+    operands.get(place).copied().unwrap_or(Operand::Null)
+}

@@ -1,0 +1,5 @@
+pub mod UserLemmas
+pub mod OriginLemmas
+pub mod ShapeLemmas
+pub mod DefinitionLemmas
+pub mod TableLemmas

@@ -1,0 +1,267 @@
+-- Users of values, and the marks of a search along them.
+use Rattle.std.proofs.Common.{◌≡◌, ◌∙◌, ℕ, zero, suc, ◌<◌, ◌≤◌, ◌+◌, Bool, List, [], ◌∷◌, ◌++◌, length, get_or, set, take, replicate, Option, Some, None, slice_get, refl, ap, sym, subst, arith, inl, inr, ◌⊎◌}
+use Rattle.std.specs.Prelude.{map}
+use Rattle.std.specs.List.{Contains, filter_map}
+use Rattle.std.specs.Option.{option_to_list}
+use Rattle.std.proofs.lemmas.List.{length-set, take_more, length-replicate}
+use Rattle.std.proofs.lemmas.List.Elements.{Contains-append_left, Contains-append_right, Contains-append_cases, filter_map-append}
+use Rattle.std.proofs.lemmas.Option.{none-some, same_Some, slice_get-get_or}
+use Rattle.list_laws.proofs.Places.{cases_below, get_front, get_middle, get_pushed, get_map}
+use Rattle.list_laws.proofs.Contents.{contains_none, contains_one, contains_first}
+use Rattle.graph_search.specs.Edges.{Edge, AreInside}
+use Rattle.graph_search.specs.Paths.{MarksReached}
+use Rattle.ir_ast.specs.declared.ops.Operand.{Operand}
+use Rattle.ir_ast.specs.Operands.{value_in}
+use Rattle.base_tables.specs.Kinds.{Kind, plain, steps, merges, differs}
+use Rattle.base_tables.specs.Users.{AddsUsers, Notes, UsedBy, StepsAt, AreSources, AreMarks}
+
+pub set-map : {X Y : Type 0} (f : X → Y) (xs : List X) (k : ℕ) (x : X) → map f (set xs k x) ≡ set (map f xs) k (f x)
+set-map f [] k x = refl
+set-map f (y ∷ ys) zero x = refl
+set-map f (y ∷ ys) (suc k) x = ap (λ zs. f y ∷ zs) (set-map f ys k x)
+
+-- ---- adding users
+
+pub adds_none : (user : ℕ) (rows : List (List ℕ)) → AddsUsers [] user rows rows
+adds_none user rows = record {
+  whole = refl;
+  kept = λ value one used. used;
+  added = λ value there below. absurd (contains_none value there);
+  source = λ value one used. inl used;
+}
+
+pub adds_past : (value user : ℕ) (rows : List (List ℕ)) → length rows ≤ value → AddsUsers (value ∷ []) user rows rows
+adds_past value user rows past = record {
+  whole = refl;
+  kept = λ v one used. used;
+  added = λ v there below. let same = contains_one value v there in absurd (omega (arith, same, below));
+  source = λ v one used. inl used;
+}
+
+abbrev pushed : List (List ℕ) → ℕ → ℕ → List (List ℕ)
+pushed rows value user = set rows value (get_or rows value [] ++ user ∷ [])
+
+pushed-kept : (rows : List (List ℕ)) (value user v one : ℕ) → Edge rows v one → Edge (pushed rows value user) v one
+pushed-kept [] value user v one used = used
+pushed-kept (r ∷ rs) zero user zero one used =
+    record { number = used.number; leads = get_front r (user ∷ []) used.number one used.leads }
+pushed-kept (r ∷ rs) zero user (suc v) one used = record { number = used.number; leads = used.leads }
+pushed-kept (r ∷ rs) (suc value) user zero one used = record { number = used.number; leads = used.leads }
+pushed-kept (r ∷ rs) (suc value) user (suc v) one used =
+    let more = pushed-kept rs value user v one (record { number = used.number; leads = used.leads }) in
+    record { number = more.number; leads = more.leads }
+
+pushed-added : (rows : List (List ℕ)) (value user : ℕ) → value < length rows → Edge (pushed rows value user) value user
+pushed-added [] value user below = absurd (let b : value < 0 = below in omega arith)
+pushed-added (r ∷ rs) zero user below = record { number = length r; leads = get_middle r user [] }
+pushed-added (r ∷ rs) (suc value) user below =
+    let more = pushed-added rs value user (let b : suc value < length (r ∷ rs) = below in omega arith) in
+    record { number = more.number; leads = more.leads }
+
+later-source : (r : List ℕ) (rs : List (List ℕ)) (value user v one : ℕ) → Edge rs v one ⊎ ((v ≡ value) × (one ≡ user))
+    → Edge (r ∷ rs) (suc v) one ⊎ ((suc v ≡ suc value) × (one ≡ user))
+later-source r rs value user v one (inl used) = inl (record { number = used.number; leads = used.leads })
+later-source r rs value user v one (inr e) = inr (ap suc e.0, e.1)
+
+first-source : (r : List ℕ) (rs : List (List ℕ)) (user one number : ℕ) → (slice_get r number ≡ Some one) ⊎ (one ≡ user)
+    → Edge (r ∷ rs) 0 one ⊎ ((zero ≡ zero) × (one ≡ user))
+first-source r rs user one number (inl there) = inl (record { number = number; leads = there })
+first-source r rs user one number (inr e) = inr (refl, e)
+
+pushed-source : (rows : List (List ℕ)) (value user v one : ℕ) → Edge (pushed rows value user) v one
+    → Edge rows v one ⊎ ((v ≡ value) × (one ≡ user))
+pushed-source [] value user v one used = inl used
+pushed-source (r ∷ rs) zero user zero one used = first-source r rs user one used.number (get_pushed r user used.number one used.leads)
+pushed-source (r ∷ rs) zero user (suc v) one used = inl (record { number = used.number; leads = used.leads })
+pushed-source (r ∷ rs) (suc value) user zero one used = inl (record { number = used.number; leads = used.leads })
+pushed-source (r ∷ rs) (suc value) user (suc v) one used =
+    later-source r rs value user v one (pushed-source rs value user v one (record { number = used.number; leads = used.leads }))
+
+pub adds_one : (value user : ℕ) (rows new : List (List ℕ)) → value < length rows → new ≡ set rows value (get_or rows value [] ++ user ∷ [])
+    → AddsUsers (value ∷ []) user rows new
+adds_one value user rows new below is = subst (λ (n : List (List ℕ)). AddsUsers (value ∷ []) user rows n) (sym is) (record {
+  whole = length-set rows value (get_or rows value [] ++ user ∷ []);
+  kept = λ v one used. pushed-kept rows value user v one used;
+  added = λ v there inside. subst (λ (w : ℕ). Edge (pushed rows value user) w user) (contains_one value v there) (pushed-added rows value user below);
+  source = λ v one used. source v one (pushed-source rows value user v one used);
+})
+  where
+    source : (v one : ℕ) → Edge rows v one ⊎ ((v ≡ value) × (one ≡ user)) → Edge rows v one ⊎ (Contains (value ∷ []) v × (one ≡ user))
+    source v one (inl used) = inl used
+    source v one (inr t) = inr (subst (λ (w : ℕ). Contains (value ∷ []) w) (sym t.0) (contains_first value []), t.1)
+
+adds_append : (front back : List ℕ) (user : ℕ) (old rows new : List (List ℕ)) → AddsUsers front user old rows → AddsUsers back user rows new
+    → AddsUsers (front ++ back) user old new
+adds_append front back user old rows new first then = record {
+  whole = then.whole ∙ first.whole;
+  kept = λ v one used. then.kept v one (first.kept v one used);
+  added = λ v there below. added v below (Contains-append_cases front back v there);
+  source = λ v one used. source v one (then.source v one used);
+}
+  where
+    added : (v : ℕ) → v < length old → Contains front v ⊎ Contains back v → Edge new v user
+    added v below (inl there) = then.kept v user (first.added v there below)
+    added v below (inr there) = then.added v there (omega (arith, first.whole, below))
+
+    earlier : (v one : ℕ) → Edge old v one ⊎ (Contains front v × (one ≡ user)) → Edge old v one ⊎ (Contains (front ++ back) v × (one ≡ user))
+    earlier v one (inl used) = inl used
+    earlier v one (inr t) = inr (Contains-append_left front back v t.0, t.1)
+
+    source : (v one : ℕ) → Edge rows v one ⊎ (Contains back v × (one ≡ user)) → Edge old v one ⊎ (Contains (front ++ back) v × (one ≡ user))
+    source v one (inl used) = earlier v one (first.source v one used)
+    source v one (inr t) = inr (Contains-append_right front back v t.0, t.1)
+
+one_value : (o : Option ℕ) → option_to_list o ≡ filter_map (λ (x : Option ℕ). x) (o ∷ [])
+one_value None = refl
+one_value (Some value) = refl
+
+one_operand : (operand : Operand) → option_to_list (value_in operand) ≡ filter_map value_in (operand ∷ [])
+one_operand operand = by (value_in operand) refl
+  where
+    by : (o : Option ℕ) → value_in operand ≡ o → option_to_list (value_in operand) ≡ filter_map value_in (operand ∷ [])
+    by None is = rw is refl
+    by (Some value) is = rw is refl
+
+-- one operand more
+pub adds_operand : (operands : List Operand) (i : ℕ) (operand : Operand) (user : ℕ) (old rows new : List (List ℕ)) → i < length operands
+    → AddsUsers (filter_map value_in (take i operands)) user old rows
+    → AddsUsers (option_to_list (value_in (get_or operands i operand))) user rows new
+    → AddsUsers (filter_map value_in (take (i + 1) operands)) user old new
+adds_operand operands i operand user old rows new below first then =
+    rw (take_more operands i operand below, filter_map-append value_in (take i operands) (get_or operands i operand ∷ []))
+    (adds_append (filter_map value_in (take i operands)) (filter_map value_in (get_or operands i operand ∷ [])) user old rows new first
+    (subst (λ (vs : List ℕ). AddsUsers vs user rows new) (one_operand (get_or operands i operand)) then))
+
+-- ---- the sources of some values
+
+none-used : (n v u : ℕ) → ¬ Edge (replicate n []) v u
+none-used zero v u used = none-some u used.leads
+none-used (suc n) zero u used = none-some u used.leads
+none-used (suc n) (suc v) u used = none-used n v u (record { number = used.number; leads = used.leads })
+
+pub sources_start : (kinds : List Kind) (users : List (List ℕ)) (n : ℕ) → users ≡ replicate n [] → n ≡ length kinds → AreSources kinds 0 [] users
+sources_start kinds users n is size = record {
+  whole = rw is (length-replicate n [] ∙ size);
+  step_found = λ value there. absurd (contains_none value there);
+  step_kept = λ value below at. absurd (omega (arith, below));
+  use_found = λ value user used. absurd (none-used n value user (subst (λ (rows : List (List ℕ)). Edge rows value user) is used));
+  use_kept = λ value user below used inside. absurd (omega (arith, below));
+}
+
+module _ (kinds : List Kind) (count : ℕ) (found more : List ℕ) (users rows : List (List ℕ)) (before : AreSources kinds count found users) where
+  -- a value that is no step and no merge adds nothing
+  goes_by : (kind : Kind) → slice_get kinds count ≡ Some kind → ((o : Option Operand) → kind ≡ steps o → ⊥) → ((os : List Operand) → kind ≡ merges os → ⊥)
+      → more ≡ found → rows ≡ users → AreSources kinds (count + 1) more rows
+  goes_by kind at no_step no_merge same_found same_users =
+      rw (same_found, same_users)
+      (record {
+        whole = before.whole;
+        step_found = λ value there. let f = before.step_found value there in (omega (arith, f.0), f.1);
+        step_kept = λ value below is. step_kept value is (cases_below value count below);
+        use_found = λ value user used. let f = before.use_found value user used in (omega (arith, f.0), f.1);
+        use_kept = λ value user below used inside. use_kept value user used inside (cases_below user count below);
+      })
+    where
+      step_kept : (value : ℕ) → StepsAt kinds value → (value < count) ⊎ (value ≡ count) → Contains found value
+      step_kept value is (inl below) = before.step_kept value below is
+      step_kept value is (inr same) =
+          absurd (no_step is.before (same_Some kind (steps is.before) (sym at ∙ ap (λ n. slice_get kinds n) (sym same) ∙ is.stands)))
+
+      use_kept : (value user : ℕ) → UsedBy kinds value user → value < length kinds → (user < count) ⊎ (user ≡ count) → Edge users value user
+      use_kept value user used inside (inl below) = before.use_kept value user below used inside
+      use_kept value user used inside (inr same) =
+          absurd (no_merge used.operands (same_Some kind (merges used.operands) (sym at ∙ ap (λ n. slice_get kinds n) (sym same) ∙ used.stands)))
+
+  steps_by : (o : Option Operand) → slice_get kinds count ≡ Some (steps o) → more ≡ found ++ count ∷ [] → rows ≡ users
+      → AreSources kinds (count + 1) more rows
+  steps_by o at is_more same_users =
+      rw (is_more, same_users)
+      (record {
+        whole = before.whole;
+        step_found = λ value there. step_found value (Contains-append_cases found (count ∷ []) value there);
+        step_kept = λ value below is. step_kept value is (cases_below value count below);
+        use_found = λ value user used. let f = before.use_found value user used in (omega (arith, f.0), f.1);
+        use_kept = λ value user below used inside. use_kept value user used inside (cases_below user count below);
+      })
+    where
+      step_found : (value : ℕ) → Contains found value ⊎ Contains (count ∷ []) value → (value < count + 1) × StepsAt kinds value
+      step_found value (inl there) = let f = before.step_found value there in (omega (arith, f.0), f.1)
+      step_found value (inr there) =
+          let same = contains_one count value there in
+          (omega (arith, same), record { before = o; stands = ap (λ n. slice_get kinds n) (sym same) ∙ at })
+
+      step_kept : (value : ℕ) → StepsAt kinds value → (value < count) ⊎ (value ≡ count) → Contains (found ++ count ∷ []) value
+      step_kept value is (inl below) = Contains-append_left found (count ∷ []) value (before.step_kept value below is)
+      step_kept value is (inr same) =
+          Contains-append_right found (count ∷ []) value (subst (λ (n : ℕ). Contains (count ∷ []) n) (sym same) (contains_first count []))
+
+      use_kept : (value user : ℕ) → UsedBy kinds value user → value < length kinds → (user < count) ⊎ (user ≡ count) → Edge users value user
+      use_kept value user used inside (inl below) = before.use_kept value user below used inside
+      use_kept value user used inside (inr same) =
+          let bad : steps o ≡ merges used.operands = same_Some (steps o) (merges used.operands) (sym at ∙ ap (λ n. slice_get kinds n) (sym same) ∙ used.stands) in
+          cc
+
+  merges_by : (os : List Operand) → slice_get kinds count ≡ Some (merges os) → more ≡ found → AddsUsers (filter_map value_in os) count users rows
+      → AreSources kinds (count + 1) more rows
+  merges_by os at same_found adds =
+      rw same_found
+      (record {
+        whole = adds.whole ∙ before.whole;
+        step_found = λ value there. let f = before.step_found value there in (omega (arith, f.0), f.1);
+        step_kept = λ value below is. step_kept value is (cases_below value count below);
+        use_found = λ value user used. use_found value user (adds.source value user used);
+        use_kept = λ value user below used inside. use_kept value user used inside (cases_below user count below);
+      })
+    where
+      step_kept : (value : ℕ) → StepsAt kinds value → (value < count) ⊎ (value ≡ count) → Contains found value
+      step_kept value is (inl below) = before.step_kept value below is
+      step_kept value is (inr same) =
+          let bad : merges os ≡ steps is.before = same_Some (merges os) (steps is.before) (sym at ∙ ap (λ n. slice_get kinds n) (sym same) ∙ is.stands) in
+          cc
+
+      use_found : (value user : ℕ) → Edge users value user ⊎ (Contains (filter_map value_in os) value × (user ≡ count))
+          → (user < count + 1) × UsedBy kinds value user
+      use_found value user (inl used) = let f = before.use_found value user used in (omega (arith, f.0), f.1)
+      use_found value user (inr t) =
+          (omega (arith, t.1), record { operands = os; stands = ap (λ n. slice_get kinds n) t.1 ∙ at; used = t.0 })
+
+      use_kept : (value user : ℕ) → UsedBy kinds value user → value < length kinds → (user < count) ⊎ (user ≡ count) → Edge rows value user
+      use_kept value user used inside (inl below) = adds.kept value user (before.use_kept value user below used inside)
+      use_kept value user used inside (inr same) =
+          let alike : merges used.operands ≡ merges os = same_Some (merges used.operands) (merges os) (sym used.stands ∙ ap (λ n. slice_get kinds n) same ∙ at) in
+          let same_operands : used.operands ≡ os = cc in
+          subst (λ (n : ℕ). Edge rows value n) (sym same)
+          (adds.added value (subst (λ (o : List Operand). Contains (filter_map value_in o) value) same_operands used.used) (omega (arith, before.whole, inside)))
+
+  -- one value more
+  pub sources_more : (kind : Kind) → slice_get kinds count ≡ Some kind → Notes kind count found more users rows → AreSources kinds (count + 1) more rows
+  sources_more plain at notes = goes_by plain at (λ o e. let bad : plain ≡ steps o = e in cc) (λ os e. let bad : plain ≡ merges os = e in cc) notes.0 notes.1
+  sources_more (steps o) at notes = steps_by o at notes.0 notes.1
+  sources_more (merges os) at notes = merges_by os at notes.0 notes.1
+  sources_more (differs os) at notes =
+      goes_by (differs os) at (λ o e. let bad : differs os ≡ steps o = e in cc) (λ qs e. let bad : differs os ≡ merges qs = e in cc) notes.0 notes.1
+
+pub sources_next : {A : Type 0} (seen : A → Kind) (xs : List A) (count : ℕ) (x : A) (found more : List ℕ) (users rows : List (List ℕ)) → count < length xs
+    → AreSources (map seen xs) count found users → Notes (seen (get_or xs count x)) count found more users rows
+    → AreSources (map seen xs) (count + 1) more rows
+sources_next seen xs count x found more users rows below before notes =
+    let at = get_map seen xs count (get_or xs count x) (slice_get-get_or xs count x below) in
+    sources_more (map seen xs) count found more users rows before (seen (get_or xs count x)) at notes
+
+-- ---- what the search needs
+
+pub sources_inside : (kinds : List Kind) (count : ℕ) (found : List ℕ) (users : List (List ℕ)) → count ≡ length kinds → AreSources kinds count found users
+    → AreInside users found
+sources_inside kinds count found users size sources = record {
+  starts_inside = λ node there. let f = sources.step_found node there in omega (arith, f.0, sources.whole);
+  edges_inside = λ from to edge. let f = sources.use_found from to edge in omega (arith, f.0, sources.whole);
+}
+
+pub are_marks : (kinds : List Kind) (count : ℕ) (found : List ℕ) (users : List (List ℕ)) (marks : List Bool) → count ≡ length kinds
+    → AreSources kinds count found users → MarksReached users found marks → AreMarks kinds marks
+are_marks kinds count found users marks size sources reached = record {
+  found = found;
+  users = users;
+  sources = subst (λ (n : ℕ). AreSources kinds n found users) size sources;
+  reached = reached;
+}

@@ -1,0 +1,46 @@
+-- The users of values, by number, and the marks that a search along them leaves.
+use Rattle.std.specs.Prelude.{◌≡◌, ℕ, ◌<◌, ◌⊎◌, Bool, List, [], ◌∷◌, ◌++◌, length, Option, Some, slice_get}
+use Rattle.std.specs.List.{Contains, filter_map}
+use Rattle.graph_search.specs.Edges.{Edge}
+use Rattle.graph_search.specs.Paths.{MarksReached}
+use Rattle.ir_ast.specs.declared.ops.Operand.{Operand}
+use Rattle.ir_ast.specs.Operands.{value_in}
+use Rattle.base_tables.specs.Kinds.{Kind, steps, merges}
+
+-- the user is added to those of these values, as far as the values have rows
+pub record AddsUsers (values : List ℕ) (user : ℕ) (old new : List (List ℕ)) : Type 0 where
+  pub whole : length new ≡ length old
+  pub kept : (value one : ℕ) → Edge old value one → Edge new value one
+  pub added : (value : ℕ) → Contains values value → value < length old → Edge new value user
+  pub source : (value one : ℕ) → Edge new value one → Edge old value one ⊎ (Contains values value × (one ≡ user))
+
+-- what a value of this kind adds to the steps and to the users
+abbrev pub Notes : Kind → ℕ → List ℕ → List ℕ → List (List ℕ) → List (List ℕ) → Type 0
+Notes (steps before) value old new rows more = (new ≡ old ++ value ∷ []) × (more ≡ rows)
+Notes (merges operands) value old new rows more = (new ≡ old) × AddsUsers (filter_map value_in operands) value rows more
+Notes kind value old new rows more = (new ≡ old) × (more ≡ rows)
+
+-- a phi or select uses the value
+pub record UsedBy (kinds : List Kind) (value user : ℕ) : Type 0 where
+  pub operands : List Operand
+  pub stands : slice_get kinds user ≡ Some (merges operands)
+  pub used : Contains (filter_map value_in operands) value
+
+pub record StepsAt (kinds : List Kind) (value : ℕ) : Type 0 where
+  pub before : Option Operand
+  pub stands : slice_get kinds value ≡ Some (steps before)
+
+-- the steps and the users among so many values
+pub record AreSources (kinds : List Kind) (count : ℕ) (found : List ℕ) (users : List (List ℕ)) : Type 0 where
+  pub whole : length users ≡ length kinds
+  pub step_found : (value : ℕ) → Contains found value → (value < count) × StepsAt kinds value
+  pub step_kept : (value : ℕ) → value < count → StepsAt kinds value → Contains found value
+  pub use_found : (value user : ℕ) → Edge users value user → (user < count) × UsedBy kinds value user
+  pub use_kept : (value user : ℕ) → user < count → UsedBy kinds value user → value < length kinds → Edge users value user
+
+-- the marks of a search from the steps along the users
+pub record AreMarks (kinds : List Kind) (marks : List Bool) : Type 0 where
+  pub found : List ℕ
+  pub users : List (List ℕ)
+  pub sources : AreSources kinds (length kinds) found users
+  pub reached : MarksReached users found marks
