@@ -7,3 +7,6 @@ pub mod UseLaws
 pub mod PolledUses
 pub mod BasedUses
 pub mod DefiniteInstance
+pub mod SpreadLaws
+pub mod NameLaws
+pub mod BasesInstance

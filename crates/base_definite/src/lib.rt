@@ -1,9 +1,20 @@
-//! The law that uses stay definite in the function with bases. No code.
+//! The laws that uses and bases stay definite in the function with bases. No code.
 #![tactic(auto)]
 
-ghost use Rattle.base_definite.specs.Statements.{BasedIsDefinite};
+ghost use Rattle.base_definite.specs.Statements.{BasedBasesStay, BasedHasDefiniteBases, BasedIsDefinite};
 
 /// In the module with polls and bases of a source module every path to a use meets the definition before it.
 pub fn based_is_definite()
     ensures { BasedIsDefinite }
+{}
+
+/// In each of its functions without unreached blocks, derived phis and selects have their bases directly before them, the
+/// values have names of their own, and uses are definite.
+pub fn based_has_definite_bases()
+    ensures { BasedHasDefiniteBases }
+{}
+
+/// So there no path comes to a use of a derived pointer with its base defined since the pointer was.
+pub fn based_bases_stay()
+    ensures { BasedBasesStay }
 {}
