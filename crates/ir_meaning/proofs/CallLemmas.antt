@@ -1,32 +1,29 @@
 -- Jumps, calls, returns, new objects and tasks: what the interpreter does is the step of the meaning.
-use Rattle.std.proofs.Common.{◌≡◌, ℕ, ℤ, pos, zero, suc, ◌+◌, ◌-◌, ◌<◌, ◌≤◌, Bool, true, false, List, [], ◌∷◌, ◌++◌, length, map, take, drop, set, replicate, Option, Some, None, Result, Ok, Err, refl, sym, ap, subst, ◌∙◌, lt-ltb}
-use Rattle.std.specs.Prelude.{slice_get, unwrap_or, int_lt, unsigned_abs, if◌then◌else◌, ◌==◌}
+use Rattle.std.proofs.Common.{◌≡◌, ℕ, ℤ, pos, zero, suc, ◌+◌, ◌-◌, ◌<◌, ◌≤◌, true, false, List, [], ◌∷◌, ◌++◌, length, map, drop, set, replicate, Option, Some, None, refl, sym, ap, subst, ◌∙◌, lt-ltb}
+use Rattle.std.specs.Prelude.{slice_get, unwrap_or, int_lt, unsigned_abs, ◌==◌}
 use Rattle.std.specs.List.{position}
 use Rattle.std.specs.Option.{option_map_or}
 use Rattle.std.specs.Int.{w64, cast_unsigned}
 use Rattle.std.proofs.lemmas.Bool.{le-ltb}
 use Rattle.std.proofs.lemmas.List.{map-append, length-map, map-set}
 use Rattle.sp_ids.specs.Numbers.{signed}
-use Rattle.sp_ids.specs.declared.ends.End.{End}
 use Rattle.sp_ids.specs.declared.ends.End.TheVariants.{Trap, OutOfSteps}
 use Rattle.sp_ids.specs.declared.ends.Trap.TheVariants.{Unreachable, Depth, Count, Full, Input, Tasks}
 use Rattle.ir_ast.specs.declared.ops.Callee.TheVariants as callees
-use Rattle.ir_ast.specs.declared.ops.Op.{Op}
-use Rattle.ir_ast.specs.declared.ops.Op.TheVariants as ops
 use Rattle.ir_ast.specs.declared.ops.Operand.{Operand}
 use Rattle.ir_ast.specs.declared.ops.Operand.TheVariants.{Int}
 use Rattle.ir_ast.specs.Insts.{Instruction}
 use Rattle.ir_ast.specs.Layouts.{ObjectLayout}
-use Rattle.ir_ast.specs.Objects.{Datum, number, pointer, Object}
+use Rattle.ir_ast.specs.Objects.{Datum, pointer, Object}
 use Rattle.move_plan.specs.declared.plan_lines.PlanLine.{PlanLine}
-use Rattle.object_meaning.specs.Calls.{called, stepped, entering, allocating, made, taking, function_in}
-use Rattle.object_meaning.specs.Effects.{Effect, goes_on, prints, ends}
+use Rattle.object_meaning.specs.Calls.{stepped, entering, allocating, made, taking, function_in}
+use Rattle.object_meaning.specs.Effects.{goes_on, prints, ends}
 use Rattle.object_meaning.specs.Frames.{entered, passed, resumed}
 use Rattle.object_meaning.specs.Jumps.{incoming, phi_write, phi_count, arrived, jumped, label_at, branch_taken, case_taken}
 use Rattle.object_meaning.specs.Lines.{Line, poll, insts_of, lines_of, lines_from, register_count}
 use Rattle.object_meaning.specs.Numbers.{width_of}
-use Rattle.object_meaning.specs.Registers.{nothing, value, operand, number_in, is_set, Write, put, put_all}
-use Rattle.object_meaning.specs.States.{Frame, State, Setting}
+use Rattle.object_meaning.specs.Registers.{nothing, value, operand, number_in, Write, put_all}
+use Rattle.object_meaning.specs.States.{Frame, State}
 use Rattle.object_meaning.specs.Steps.{step, acts, returned}
 use Rattle.object_meaning.specs.Tasks.{started, with_event, task_ended}
 use Rattle.object_meaning.proofs.StepLaws.{step_at_end}
@@ -41,16 +38,11 @@ use Rattle.flat_code.specs.declared.lines.Segment.{Segment}
 use Rattle.flat_code.specs.Codes.{FlatModule, defined_at, block_at, front_lines, HasFront, Begins}
 use Rattle.flat_code.specs.Edges.{chosen, copy_of, block_lines, phis_in, IsEdge}
 use Rattle.flat_code.specs.Flats.{operand_at}
-use Rattle.flat_code.specs.Segments.{Calls}
 use Rattle.flat_code.specs.Spots.{insts_at, first_at}
-use Rattle.flat_code.specs.Straight.{Passes, IsAlike}
 use Rattle.flat_code.proofs.PhiLemmas.{phi_rest}
 use Rattle.flat_code.proofs.StraightLemmas.{passes_here, passes_more}
 use Rattle.tool_io.specs.Counts.{raised}
-use Rattle.ir_meaning.specs.declared.machine.Did.{Did}
 use Rattle.ir_meaning.specs.declared.machine.Did.TheVariants.{GoesOn, Prints, Ends}
-use Rattle.ir_meaning.specs.declared.stacks.Move.{Move}
-use Rattle.ir_meaning.specs.declared.stacks.Spot.{Spot}
 use Rattle.ir_meaning.specs.Stacks.{Seen, Frames, word, front_frame, exit_frame, passed_frame, entered_frames, move_of, moved, arrived_frames}
 use Rattle.ir_meaning.specs.Machines.{Rest, state_from, exit_from, state_with, task_frames, waiting_frames, today, StandsAt, LeadsAlong, SwitchesAt, Turned}
 use Rattle.ir_meaning.proofs.MachineLemmas.{turned_goes, turned_prints, turned_ends, out_of_steps, step_left, stands_block, passed_at, exit_step, call_step}

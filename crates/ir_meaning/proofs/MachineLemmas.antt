@@ -1,17 +1,15 @@
 -- Turns, the lines at which frames stand, and frames that go on.
-use Rattle.std.proofs.Common.{◌≡◌, ℕ, zero, suc, ◌+◌, ◌-◌, ◌<◌, ◌≤◌, List, [], ◌∷◌, ◌++◌, length, map, take, drop, set, replicate, Option, Some, None, Result, Ok, Err, refl, sym, ap, subst, ◌∙◌, lt-ltb}
-use Rattle.std.specs.Prelude.{MatchOption, slice_get, unwrap_or, if◌then◌else◌, nat_lt}
+use Rattle.std.proofs.Common.{◌≡◌, ℕ, zero, suc, ◌+◌, ◌<◌, ◌≤◌, List, [], ◌∷◌, map, set, Option, Some, None, refl, sym, ap, ◌∙◌, lt-ltb}
+use Rattle.std.specs.Prelude.{slice_get, unwrap_or}
 use Rattle.std.specs.Option.{option_map, option_map_or}
 use Rattle.std.proofs.lemmas.Bool.{le-ltb}
-use Rattle.std.proofs.lemmas.List.{map-append, length-map, map-set}
+use Rattle.std.proofs.lemmas.List.{map-set}
 use Rattle.sp_ids.specs.declared.ends.End.{End}
 use Rattle.sp_ids.specs.declared.ends.End.TheVariants.{Trap, OutOfSteps}
 use Rattle.sp_ids.specs.declared.ends.Trap.TheVariants.{Unreachable}
 use Rattle.ir_ast.specs.declared.ops.Callee.{Callee}
 use Rattle.ir_ast.specs.declared.ops.Op.{Op}
-use Rattle.ir_ast.specs.declared.ops.Operand.{Operand}
 use Rattle.ir_ast.specs.Funcs.{Function as IrFunction}
-use Rattle.ir_ast.specs.Insts.{Instruction}
 use Rattle.ir_ast.specs.Objects.{Datum}
 use Rattle.move_plan.specs.declared.plan_lines.PlanLine.{PlanLine}
 use Rattle.object_meaning.specs.Calls.{called, stepped}
@@ -22,21 +20,21 @@ use Rattle.object_meaning.specs.Registers.{nothing, put}
 use Rattle.object_meaning.specs.States.{Frame, State, Setting}
 use Rattle.object_meaning.specs.Steps.{step, acts}
 use Rattle.object_meaning.specs.Tasks.{handed_over, switched, switched_to}
-use Rattle.object_meaning.proofs.StepLaws.{step_is, step_at_end}
+use Rattle.object_meaning.proofs.StepLaws.{step_is}
 use Rattle.object_store.specs.declared.words.Word.{Word}
-use Rattle.object_store.specs.Words.{datum, number_word}
+use Rattle.object_store.specs.Words.{datum}
 use Rattle.flat_code.specs.declared.lines.Exit.{Exit}
 use Rattle.flat_code.specs.declared.lines.Exit.TheVariants.{Poll, Enter, New, Print, Read, Start, Jump, Branch, Switch, Return, Unreachable as Stops}
 use Rattle.flat_code.specs.declared.lines.Segment.{Segment}
-use Rattle.flat_code.specs.Codes.{FlatModule, defined_at, segment_at, block_at, front_lines, exit_lines, Leaves}
+use Rattle.flat_code.specs.Codes.{FlatModule, defined_at, block_at, front_lines, exit_lines}
 use Rattle.flat_code.specs.Segments.{Calls, IsExit}
 use Rattle.flat_code.specs.Spots.{lines_at}
 use Rattle.flat_code.specs.Straight.{Passes, IsAlike}
-use Rattle.flat_code.proofs.StraightLemmas.{passes_here, passes_more, reaches_by, alike_same}
+use Rattle.flat_code.proofs.StraightLemmas.{passes_here, reaches_by}
 use Rattle.ir_meaning.specs.declared.machine.Did.{Did}
 use Rattle.ir_meaning.specs.declared.machine.Did.TheVariants.{GoesOn, Prints, Ends}
-use Rattle.ir_meaning.specs.Stacks.{Seen, Frames, front_frame, exit_frame, frame_at, passed_frame}
-use Rattle.ir_meaning.specs.Machines.{Rest, Whole, state_from, exit_from, state_with, task_frames, waiting_frames, switched_so, gone_to, today, StandsAt, effect_of, IsAfter, Turned, Does}
+use Rattle.ir_meaning.specs.Stacks.{Frames, front_frame, exit_frame, passed_frame}
+use Rattle.ir_meaning.specs.Machines.{Rest, Whole, state_from, exit_from, state_with, waiting_frames, switched_so, gone_to, today, StandsAt, Turned, Does}
 use Rattle.ir_meaning.proofs.WordLemmas.{put_is}
 
 -- ---- turns

@@ -19,9 +19,8 @@ use Rattle.ir_ast.specs.Modules.{ModuleContent}
 use Rattle.ir_cfg.specs.SourceModules.{IsSourceModule}
 use Rattle.flat_code.specs.declared.spots.Due.{Due}
 use Rattle.flat_code.specs.declared.spots.Due.TheVariants.{Front, Line as Next, Behind}
-use Rattle.object_meaning.specs.Lines.{poll, numbered, following, retreats, lines_from, insts_in, insts_of}
+use Rattle.object_meaning.specs.Lines.{poll, numbered, following, retreats, lines_from, insts_in}
 use Rattle.object_meaning.specs.States.{State}
-use Rattle.flat_code.specs.declared.lines.Segment.{Segment}
 use Rattle.flat_code.specs.Codes.{FlatModule, IsReadyModule, defined_at, segment_at, exit_lines}
 use Rattle.flat_code.specs.Spots.{IsReady, AllReady, insts_at, lines_at, lines_due}
 use Rattle.ir_meaning.specs.Stacks.{Seen, exit_frame}

@@ -13,7 +13,6 @@ use Rattle.flat_code.proofs.StraightLemmas.{reaches_by}
 use Rattle.sp_ids.specs.declared.ends.End.TheVariants.{Trap}
 use Rattle.ir_meaning.specs.Machines.{effect_of, IsAfter, Turned}
 use Rattle.object_meaning.specs.Effects.{Effect}
-use Rattle.object_meaning.specs.States.{Frame}
 use Rattle.object_meaning.specs.Texts.{bundle_lines}
 use Rattle.ir_meaning.specs.declared.interpret.Ran.{Ran}
 use Rattle.object_meaning.specs.Runs.{Reaches}

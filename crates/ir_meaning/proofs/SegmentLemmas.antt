@@ -1,27 +1,24 @@
 -- The lines of a segment, as a part of the run.
-use Rattle.std.proofs.Common.{◌≡◌, ℕ, List, [], ◌∷◌, ◌++◌, map, Option, Some, None, Result, Ok, Err, refl, sym, ap, subst, ◌∙◌}
+use Rattle.std.proofs.Common.{◌≡◌, ℕ, List, [], map, Option, Some, None, Ok, Err, refl, sym, ap, subst, ◌∙◌}
 use Rattle.std.specs.Prelude.{MatchOption}
 use Rattle.std.specs.Option.{option_map_or}
 use Rattle.sp_ids.specs.declared.ends.End.TheVariants.{Trap as Trapped}
 use Rattle.sp_ids.specs.declared.ends.Trap.{Trap}
 use Rattle.sp_ids.specs.declared.ends.Trap.TheVariants.{Unreachable}
 use Rattle.ir_ast.specs.Layouts.{ObjectLayout}
-use Rattle.ir_ast.specs.Objects.{Datum, Object}
+use Rattle.ir_ast.specs.Objects.{Object}
 use Rattle.move_plan.specs.declared.plan_lines.PlanLine.{PlanLine}
-use Rattle.object_meaning.specs.Effects.{goes_on, ends}
 use Rattle.object_meaning.specs.Frames.{resumed}
 use Rattle.object_meaning.specs.Lines.{Line}
-use Rattle.object_meaning.specs.States.{Frame, State}
 use Rattle.object_meaning.proofs.StepLaws.{step_at_end}
 use Rattle.object_store.specs.declared.words.Word.{Word}
 use Rattle.object_store.specs.Words.{datum}
 use Rattle.flat_code.specs.declared.lines.Exit.{Exit}
-use Rattle.flat_code.specs.declared.lines.FlatLine.{FlatLine}
 use Rattle.flat_code.specs.declared.lines.Segment.{Segment}
 use Rattle.flat_code.specs.Codes.{FlatModule, defined_at, segment_at, front_lines, exit_lines, Fits, Leaves}
 use Rattle.flat_code.specs.Flats.{Held, flat_lines, lines_done}
 use Rattle.flat_code.specs.Spots.{lines_at}
-use Rattle.flat_code.specs.Straight.{Passes, IsAlike, stood}
+use Rattle.flat_code.specs.Straight.{Passes, stood}
 use Rattle.flat_code.proofs.StraightLemmas.{straight_passes, straight_traps}
 use Rattle.ir_meaning.specs.declared.machine.Did.TheVariants.{Ends}
 use Rattle.ir_meaning.specs.Stacks.{Frames, exit_frame, passed_frame}

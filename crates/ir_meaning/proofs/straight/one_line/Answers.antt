@@ -1,7 +1,7 @@
-use Rattle.std.proofs.Common.{◌≡◌, List, Ok, Err, map, refl, sym, ap, ◌∙◌}
+use Rattle.std.proofs.Common.{◌≡◌, List, Ok, map, refl, sym, ap, ◌∙◌}
 use Rattle.std.specs.Prelude.{Result}
 use Rattle.sp_ids.specs.declared.ends.Trap.{Trap}
-use Rattle.ir_ast.specs.Objects.{Datum, Object}
+use Rattle.ir_ast.specs.Objects.{Datum}
 use Rattle.object_meaning.specs.Accesses.{accessed}
 use Rattle.object_meaning.specs.Registers.{value, pointer_in, put}
 use Rattle.object_store.specs.declared.words.Word.{Word}

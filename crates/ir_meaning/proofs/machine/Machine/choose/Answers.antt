@@ -4,7 +4,6 @@ use Rattle.ir_ast.specs.Objects.{Datum}
 use Rattle.object_meaning.specs.Jumps.{case_taken, label_at}
 use Rattle.object_meaning.specs.Registers.{operand}
 use Rattle.object_store.specs.Words.{datum}
-use Rattle.flat_code.specs.declared.lines.Edge.{Edge}
 use Rattle.flat_code.specs.Codes.{defined_at}
 use Rattle.flat_code.specs.Edges.{IsEdge}
 use Rattle.ir_meaning.specs.Machines.{rest_of}

@@ -1,6 +1,4 @@
-use Rattle.std.proofs.Common.{◌≡◌, List, ap, sym, ◌∙◌}
 use Rattle.std.proofs.lemmas.Result.{IfOk-weaker}
-use Rattle.flat_code.specs.declared.lines.FlatLine.{FlatLine}
 use Rattle.ir_meaning.specs.declared.machine.Did.{Did}
 use Rattle.ir_meaning.specs.Machines.{rest_of, exit_from, state_of, today, Turned}
 use Rattle.ir_meaning.proofs.MachineLemmas.{turned_behind}
