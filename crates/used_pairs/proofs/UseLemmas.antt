@@ -3,10 +3,10 @@ use Rattle.std.proofs.Common.{◌≡◌, ◌∙◌, ◌⊎◌, inl, inr, ℕ, ze
 use Rattle.std.specs.Prelude.{slice_index}
 use Rattle.std.specs.List.{Contains}
 use Rattle.std.specs.Option.{option_map_or}
-use Rattle.std.proofs.lemmas.Bool.{false≢true, cases_Bool, cases_lt}
+use Rattle.std.proofs.lemmas.Bool.{cases_Bool, cases_lt}
 use Rattle.std.proofs.lemmas.List.Elements.{Contains-append_left, Contains-append_right, Contains-append_cases}
 use Rattle.std.proofs.lemmas.Option.{none-some, same_Some, slice_get_within, slice_get-get_or, slice_get_past}
-use Rattle.list_laws.proofs.Contents.{contains_none, contains_first, contains_one, contains_map, contains_image, IsImage}
+use Rattle.list_laws.proofs.Contents.{contains_none, contains_first, contains_one, contains_map, contains_image}
 use Rattle.ir_ast.specs.declared.types.Ty.{Ty}
 use Rattle.ir_ast.specs.declared.types.Ty.TheVariants.{Void, Int, Ptr, Token}
 use Rattle.ir_ast.specs.declared.ops.Operand.{Operand}
@@ -17,7 +17,7 @@ use Rattle.ir_ast.specs.Faults.GroupShape.{entries_of, is_statepoint}
 use Rattle.object_meaning.specs.Lines.{Line, registers_of, insts_in}
 use Rattle.object_meaning.specs.Frames.{is_member}
 use Rattle.pair_facts.specs.Lines.{lines_at, line_in, no_line, head_at, head_here, is_relocate}
-use Rattle.pair_facts.specs.Uses.{Use, Uses, relocates, checks, compares, escapes, Relocates, entries_used, entries_at, own_use, checked, compared, escaping, pointers_of}
+use Rattle.pair_facts.specs.Uses.{Use, Uses, relocates, checks, compares, escapes, Relocates, entries_used, entries_at, checked, compared, escaping, pointers_of}
 use Rattle.base_facts.specs.Homes.{IsBefore}
 use Rattle.base_facts.specs.Notes.{head_before}
 use Rattle.base_facts.proofs.LineLemmas.{plain_at, insts_are, length-plain_lines}
@@ -128,9 +128,11 @@ head_used func block place head line pair (Some statepoint) stands in_group at w
     let own = use_with block place head 2 (entries_pair line.inst (entries_of statepoint)) in
     elim (cases_Bool (is_relocate line.inst.op)) [
       | inl is ↦ (let only : own ≡ pair = contains_one own pair (subst (λ b. Contains (cond b (own ∷ []) []) pair) is within) in
-          subst (Here func block place) only
-          (subst (λ (i : Instruction). Uses (lines_at func block) place 2 head (entries_used line (entries_of i))) (inst_at func block head statepoint at)
-          (relocates head line (record { stands = stands; relocate = is; in_group = in_group })), (refl, refl)))
+          subst (Here func block place) only (
+            subst (λ (i : Instruction). Uses (lines_at func block) place 2 head (entries_used line (entries_of i))) (inst_at func block head statepoint at)
+                (relocates head line (record { stands = stands; relocate = is; in_group = in_group })),
+            (refl, refl),
+          ))
       | inr none ↦ absurd (contains_none pair (subst (λ b. Contains (cond b (own ∷ []) []) pair) none within))
     ]
 
