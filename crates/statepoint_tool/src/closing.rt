@@ -20,7 +20,13 @@ pub(crate) fn close<O: Sink>(code: &Module, ran: Ran, out: &mut O) -> Result<Sta
     ensures failed { OnErr result (Rose (O.faults out.old) (O.faults out.new)) }
     ensures count { O.faults out.old ≤ O.faults out.new }
 {
-    closing(ran.end, function_name(code, ran.func), ran.steps, ran.events, out)?;
+    closing(
+        ran.end,
+        function_name(code, ran.func),
+        ran.steps,
+        ran.events,
+        out,
+    )?;
     Ok(status_of(ran.end))
 }
 
