@@ -19,15 +19,15 @@ use Rattle.ir_lines.specs.Statements.{Line, Statement, store, call, ret}
 use Rattle.ir_lines.specs.Parts.{gives, is_step, is_merge, uses, local_name, leaving, passed_value}
 use Rattle.ir_lines.specs.Places.{place_in}
 use Rattle.ir_lines.specs.Sections.{Definition, Naming, arguments_named, result_named}
-use Rattle.type_checks.specs.FunctionFaults.{is_number, Escapes, EscapeAt}
+use Rattle.line_checks.specs.FunctionFaults.{is_number, Escapes, EscapeAt}
 use Rattle.ir_lines.specs.Faults.DerivedEscapes.{StandsFor, Derived, by_step, by_merge}
 use Rattle.graph_search.specs.Edges.{Edge, AreInside}
 use Rattle.graph_search.specs.Paths.{ReachedFrom, at_start, along, MarksReached}
 use Rattle.type_checks.specs.Follows.{AddsUsers}
 use Rattle.type_checks.specs.Derivations.{names_given, gives_first, count_given, one_if, all_if, numbers_used, steps_given, merged_given, IsStepAt, IsMergeAt, AreSources, MarksDerived, is_true, has_mark, is_marked, given_marked, lets_out}
-use Rattle.type_checks.proofs.CaseNotes.{eq-same, eq-itself, taken-more}
+use Rattle.line_checks.proofs.CaseNotes.{eq-same, eq-itself, taken-more}
 use Rattle.list_laws.proofs.Places.{cases_below, get_front, get_middle, get_pushed, split_at}
-use Rattle.type_checks.proofs.Founds.{IsWholeAt, whole-at}
+use Rattle.line_checks.proofs.Founds.{IsWholeAt, whole-at}
 use Rattle.ir_lines.proofs.LawNames.{position-cons}
 use Rattle.list_laws.proofs.Contents.{contains_cons, contains_first, contains_later, contains_none, contains_one}
 use Rattle.ir_lines.proofs.NoteLemmas.{notes-same}

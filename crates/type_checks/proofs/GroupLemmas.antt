@@ -22,14 +22,14 @@ use Rattle.ir_lines.specs.Sections.{Definition, Naming, values_of}
 use Rattle.ir_lines.specs.Scope.{Scope, scope_of, value_named}
 use Rattle.ir_lines.specs.Types.{same_type, fits}
 use Rattle.ir_lines.specs.Faults.GroupShape.{is_token, names_token, uses_token, is_count, is_entry, statepoint_is_wrong, misshapes, is_part, Group, ResultIsWrong, RelocateIsWrong, PartIsWrong, apart, late, other_type, base_outside, derived_outside, derived_null}
-use Rattle.type_checks.specs.FunctionFaults.{is_number, ShapeAt}
-use Rattle.type_checks.specs.LineFaults.{Tables, AreTables}
+use Rattle.line_checks.specs.FunctionFaults.{is_number, ShapeAt}
+use Rattle.line_checks.specs.LineFaults.{Tables, AreTables}
 use Rattle.type_checks.specs.Derivations.{names_given}
 use Rattle.type_checks.specs.Groups.{Open, is_token_type, names_token_in, any_token, is_any_part, misuses_token, misfits_live, misshapes_in, is_of, kept_open, open_behind, result_misses, is_null, relocates, relocate_misses, part_misses, shape_misses}
-use Rattle.type_checks.proofs.CaseNotes.{eq-itself}
-use Rattle.type_checks.proofs.Founds.{IsWholeAt, whole-at}
+use Rattle.line_checks.proofs.CaseNotes.{eq-itself}
+use Rattle.line_checks.proofs.Founds.{IsWholeAt, whole-at}
 use Rattle.type_checks.proofs.DerivedLemmas.{name_of, gives_names, front, names-split, number-same, place-front, place-first, place-name}
-use Rattle.type_checks.proofs.ScopeLemmas.{fits-same}
+use Rattle.line_checks.proofs.ScopeLemmas.{fits-same}
 use Rattle.ir_lines.proofs.NoteLemmas.{notes-same}
 use Rattle.ir_lines.proofs.PlaceLemmas.{at-name, bytes_eq-self}
 

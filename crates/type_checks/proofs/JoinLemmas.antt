@@ -3,18 +3,18 @@ use Rattle.std.proofs.Common.{List}
 use Rattle.std.specs.Prelude.{Option, Result, Ok, Err, OnOk}
 use Rattle.ir_ast.specs.declared.modules.Form.{Form}
 use Rattle.ir_lines.specs.declared.faults.Fault.{Fault}
-use Rattle.type_checks.specs.declared.lines.Scope.{Scope as ScopeTable}
+use Rattle.line_checks.specs.declared.lines.Scope.{Scope as ScopeTable}
 use Rattle.ir_lines.specs.Statements.{Line}
 use Rattle.ir_lines.specs.Notes.{Notes}
 use Rattle.ir_lines.specs.Sections.{Definition, blocks_of}
 use Rattle.ir_lines.specs.Scope.{Scope, scope_of}
 use Rattle.ir_lines.specs.Tables.{IsTop, IsLocal}
 use Rattle.ir_lines.specs.Again.{FoundByNames}
-use Rattle.type_checks.specs.LineFaults.{Tables, AreTables, tables_in}
-use Rattle.type_checks.specs.FunctionFaults.{LineInAt, LineAt, LinesIn, LinesOf, CasesOf, PhisOf, FoundByForm, FoundWithin, FoundInFunction}
+use Rattle.line_checks.specs.LineFaults.{Tables, AreTables, tables_in}
+use Rattle.line_checks.specs.FunctionFaults.{LineInAt, LineAt, LinesIn, LinesOf, CasesOf, PhisOf, FoundByForm, FoundWithin, FoundInFunction}
 use Rattle.ir_lines.proofs.NoteLemmas.{Either, notes-then}
-use Rattle.type_checks.proofs.Founds.{notes-alike}
-use Rattle.type_checks.proofs.ScopeLemmas.{line-in, line-of}
+use Rattle.line_checks.proofs.Founds.{notes-alike}
+use Rattle.line_checks.proofs.ScopeLemmas.{line-in, line-of}
 
 pub tables-of : (lines : List Line) (func : Definition) (scope : ScopeTable) → IsTop lines scope.top.now → IsLocal func scope.local.now
     → AreTables (scope_of lines func) (tables_in scope)

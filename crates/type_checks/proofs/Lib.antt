@@ -1,13 +1,6 @@
-pub mod TypeLists
-pub mod ExternalLemmas
-pub mod OuterLemmas
-pub mod Founds
 pub mod Contained
 pub mod Heads
-pub mod CodeLemmas
-pub mod ScopeLemmas
 pub mod JoinLemmas
-pub mod CaseNotes
 pub mod Union
 pub mod DerivedLemmas
 pub mod GroupLemmas

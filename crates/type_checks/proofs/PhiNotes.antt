@@ -12,10 +12,10 @@ use Rattle.ir_lines.specs.Sections.{BlockLines}
 use Rattle.ir_lines.specs.Scope.{Scope, value_names}
 use Rattle.ir_lines.specs.Notes.{Notes, Is}
 use Rattle.ir_lines.specs.Faults.PhiEdges.{PhiIsWrong, late, uncounted, differ, edges}
-use Rattle.type_checks.specs.FunctionFaults.{StatementIsWrong, PhiAt, PhisOfBlock, BlockAt}
+use Rattle.line_checks.specs.FunctionFaults.{StatementIsWrong, PhiAt, PhisOfBlock, BlockAt}
 use Rattle.type_checks.specs.Edges.{times, IsWrongBeside, is_late, PhiBeside, PhisBeside}
 use Rattle.ir_lines.proofs.NoteLemmas.{notes-same}
-use Rattle.type_checks.proofs.Founds.{notes-alike}
+use Rattle.line_checks.proofs.Founds.{notes-alike}
 use Rattle.list_laws.proofs.Contents.{contains_first, contains_later}
 
 -- ---- lines that are no phis

@@ -14,10 +14,10 @@ use Rattle.ir_lines.specs.Sections.{Head, Definition, Naming, BlockLines, head_s
 use Rattle.ir_lines.specs.Scope.{Scope, scope_of}
 use Rattle.ir_lines.specs.InBody.{InBody}
 use Rattle.ir_lines.specs.Again.{TopAgain, NamesFound, FoundByNames, named_values, named_blocks}
-use Rattle.type_checks.specs.TopFaults.{OuterFault, OuterFaults, LacksMain, DeclareFault, DefineFault, FoundByTop}
-use Rattle.type_checks.specs.Founds.{Found}
-use Rattle.type_checks.specs.LineFaults.{unknown_name as coded_name, type_clash as coded_clash, entry_has_pred as coded_entry, pointer_order as coded_order, pointer_cast as coded_cast, LineFault}
-use Rattle.type_checks.specs.FunctionFaults.{LinesOf, CasesOf, CasesBehind, CaseIsWrong, PhisOf, PhisOfBlock, StatementIsWrong, EscapesOf, Escapes, ShapesOf, FoundByForm, FoundWithin, FoundInFunction, InFunctions}
+use Rattle.line_checks.specs.TopFaults.{OuterFault, OuterFaults, LacksMain, DeclareFault, DefineFault, FoundByTop}
+use Rattle.line_checks.specs.Founds.{Found}
+use Rattle.line_checks.specs.LineFaults.{unknown_name as coded_name, type_clash as coded_clash, entry_has_pred as coded_entry, pointer_order as coded_order, pointer_cast as coded_cast, LineFault}
+use Rattle.line_checks.specs.FunctionFaults.{LinesOf, CasesOf, CasesBehind, CaseIsWrong, PhisOf, PhisOfBlock, StatementIsWrong, EscapesOf, Escapes, ShapesOf, FoundByForm, FoundWithin, FoundInFunction, InFunctions}
 use Rattle.ir_lines.specs.PlainFaults.{HasPlainFault, name_twice, unknown_name, type_clash, entry_has_pred, phi_edges, derived_escapes, no_strategy, no_main, unknown_extern, bad_layout, reserved, pointer_order, pointer_cast, group_shape}
 use Rattle.ir_lines.specs.Faults.NameTwice.{NameTwice, DeclaresDefined, layout_again, head_again, declares_defined, label_again, value_again}
 use Rattle.ir_lines.specs.Faults.TypeClash.{TypeClash, CaseClash, by_line, by_case}

@@ -8,7 +8,7 @@ use Rattle.ir_lines.specs.Statements.{Statement, store, call, ret}
 use Rattle.ir_lines.specs.Parts.{gives, is_step, is_merge, values_named, uses, local_name}
 use Rattle.ir_lines.specs.Places.{place_in}
 use Rattle.ir_lines.specs.Sections.{Definition, values_of}
-use Rattle.type_checks.specs.FunctionFaults.{is_number}
+use Rattle.line_checks.specs.FunctionFaults.{is_number}
 use Rattle.ir_lines.specs.Faults.DerivedEscapes.{StandsFor, Derived}
 use Rattle.graph_search.specs.Edges.{Edge}
 use Rattle.graph_search.specs.Paths.{Marked}

@@ -9,7 +9,7 @@ use Rattle.ir_lines.specs.Parts.{targets, is_phi}
 use Rattle.ir_lines.specs.Places.{number_in}
 use Rattle.ir_lines.specs.Sections.{BlockLines}
 use Rattle.ir_lines.specs.Modules.{operand_in}
-use Rattle.type_checks.specs.Founds.{Found}
+use Rattle.line_checks.specs.Founds.{Found}
 
 -- how often a number stands among others
 abbrev pub times : ℕ → List ℕ → ℕ

@@ -13,8 +13,8 @@ use Rattle.ir_lines.specs.Parts.{uses, token_type}
 use Rattle.ir_lines.specs.Places.{place_in}
 use Rattle.ir_lines.specs.Again.{at_name}
 use Rattle.ir_lines.specs.Types.{same_type}
-use Rattle.type_checks.specs.FunctionFaults.{is_number}
-use Rattle.type_checks.specs.LineFaults.{fits_in}
+use Rattle.line_checks.specs.FunctionFaults.{is_number}
+use Rattle.line_checks.specs.LineFaults.{fits_in}
 use Rattle.ir_lines.specs.Faults.GroupShape.{is_count, is_entry}
 use Rattle.std.specs.Prelude.{map}
 

@@ -3,7 +3,7 @@
 ghost use Rattle.std.specs.Prelude.{◌≡◌, None, IfOk, OnOk, List, [], map};
 ghost use Rattle.line_parts.specs.Seen.{seen_argument};
 ghost use Rattle.ir_lines.specs.PlainFaults.{HasPlainFault};
-ghost use Rattle.type_checks.specs.FunctionFaults.{FoundByForm, FoundWithin, FoundInFunction, InFunctions};
+ghost use Rattle.line_checks.specs.FunctionFaults.{FoundByForm, FoundWithin, FoundInFunction, InFunctions};
 ghost use Rattle.ir_lines.specs.Notes.{Notes};
 ghost use Rattle.ir_lines.specs.Scope.{scope_of};
 ghost use Rattle.ir_lines.specs.Sections.{arguments_named, blocks_of};
@@ -11,18 +11,18 @@ ghost use Rattle.ir_lines.specs.Statements.{Line};
 ghost use Rattle.ir_lines.specs.Tables.{seen_definition, seen_block, IsTop, IsLocal};
 ghost use Rattle.ir_lines.specs.Views.{seen_lines};
 
-use crate::cases::note_cases;
 use crate::derived::note_escapes;
 use crate::groups::note_shapes;
-use crate::lines::Scope;
 use crate::phis::note_phis;
-use crate::tops::{note_lines, note_main};
 use ir_ast::Form;
 use ir_lines::best::First;
 use ir_lines::faults::Fault;
 use ir_lines::scope::{Local, Top};
 use ir_lines::sections::{BlockLines, Definition, HeadNames, blocks, definitions};
 use ir_reader::NumberedReading;
+use line_checks::cases::note_cases;
+use line_checks::lines::Scope;
+use line_checks::tops::{note_lines, note_main};
 use std::alloc::{AllocError, Global};
 
 // Notes the faults that only one of the two forms has: derived values that leave, or groups out of shape.

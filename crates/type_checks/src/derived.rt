@@ -5,7 +5,7 @@ ghost use Rattle.std.specs.List.{Contains, cons_option, list_any};
 ghost use Rattle.line_parts.specs.Seen.{seen_value, seen_passed};
 ghost use Rattle.type_checks.specs.Derivations.{gives_first, count_given, one_if, all_if, number_named, numbers_used, steps_given, merged_given, AreSources, MarksDerived, is_true, has_mark, is_marked, given_marked, lets_out};
 ghost use Rattle.type_checks.specs.Follows.{AddsUsers};
-ghost use Rattle.type_checks.specs.FunctionFaults.{EscapesOf, is_number};
+ghost use Rattle.line_checks.specs.FunctionFaults.{EscapesOf, is_number};
 ghost use Rattle.ir_lines.specs.Notes.{Notes};
 ghost use Rattle.ir_lines.specs.Parts.{gives, uses, local_name};
 ghost use Rattle.ir_lines.specs.Tables.{seen_definition, IsLocal};

@@ -4,9 +4,9 @@ ghost use Rattle.std.specs.Prelude.{◌≡◌, ◌&&◌, ◌<◌, not, map, leng
 ghost use Rattle.line_parts.specs.Seen.{seen_value};
 ghost use Rattle.group_parts.specs.Seen.{seen_guarded};
 ghost use Rattle.ir_lines.specs.Faults.GroupShape.{is_count, is_entry};
-ghost use Rattle.type_checks.specs.FunctionFaults.{ShapesOf};
+ghost use Rattle.line_checks.specs.FunctionFaults.{ShapesOf};
 ghost use Rattle.type_checks.specs.Groups.{is_token_type, names_token_in, any_token, is_any_part, misuses_token, misfits_live, statepoint_misses, misshapes_in, seen_open, is_of, kept_open, open_behind, result_misses, is_null, relocates, relocate_misses, part_misses, shape_misses};
-ghost use Rattle.type_checks.specs.LineFaults.{seen_use};
+ghost use Rattle.line_checks.specs.LineFaults.{seen_use};
 ghost use Rattle.ir_lines.specs.Notes.{Notes};
 ghost use Rattle.ir_lines.specs.Parts.{uses};
 ghost use Rattle.ir_lines.specs.Scope.{scope_of};
@@ -15,14 +15,14 @@ ghost use Rattle.ir_lines.specs.Tables.{seen_definition, IsLocal};
 ghost use Rattle.ir_lines.specs.Views.{said, seen_lines};
 
 use crate::derived::{count_given, is_number};
-use crate::fits::fits;
-use crate::lines::is_field;
 use ir_lines::best::First;
 use ir_lines::literals::same_type;
 use ir_lines::parts::{TOKEN, uses};
 use ir_lines::scope::Local;
 use ir_lines::sections::Definition;
 use ir_reader::{Literal, NumberedReading, Reading, StatepointCall, TypeWord, Value};
+use line_checks::fits::fits;
+use line_checks::lines::is_field;
 use std::alloc::{AllocError, Global};
 
 // ---- a line by itself

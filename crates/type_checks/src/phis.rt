@@ -8,7 +8,7 @@ ghost use Rattle.ir_ast.specs.declared.ops.Operand.{Operand};
 ghost use Rattle.indexmap.specs.IndexMap.{get, Updates};
 ghost use Rattle.line_parts.specs.Seen.{seen_entry, seen_value};
 ghost use Rattle.type_checks.specs.Edges.{times, labels_of, AddsEdges, AreEdges, AreUncounted, Differ, EntriesAreWrong, IsWrongBeside, PhisBeside};
-ghost use Rattle.type_checks.specs.FunctionFaults.{PhisOf};
+ghost use Rattle.line_checks.specs.FunctionFaults.{PhisOf};
 ghost use Rattle.ir_lines.specs.Modules.{operand_in};
 ghost use Rattle.ir_lines.specs.Notes.{Notes};
 ghost use Rattle.ir_lines.specs.Parts.{targets, is_phi};

@@ -4,7 +4,7 @@ use Rattle.ir_ast.specs.declared.modules.Form.{Form}
 use Rattle.ir_lines.specs.Notes.{Notes}
 use Rattle.ir_lines.specs.Scope.{scope_of}
 use Rattle.ir_lines.specs.Tables.{seen_definition}
-use Rattle.type_checks.specs.FunctionFaults.{FoundByForm}
+use Rattle.line_checks.specs.FunctionFaults.{FoundByForm}
 use Rattle.type_checks.proofs.checks.note_by_form.Goals as goal
 
 pub returns-in-Rewritten : goal.returns-in-Rewritten

@@ -2,8 +2,8 @@ use Rattle.std.proofs.Common.{◌≡◌, ◌∙◌, sym, length, arith}
 use Rattle.std.specs.Prelude.{map}
 use Rattle.std.proofs.lemmas.List.{length-map}
 use Rattle.ir_lines.specs.Tables.{seen_definition}
-use Rattle.type_checks.specs.FunctionFaults.{FunctionAt}
-use Rattle.type_checks.proofs.Founds.{notes-start, notes-turn, notes-all, seen-at}
+use Rattle.line_checks.specs.FunctionFaults.{FunctionAt}
+use Rattle.line_checks.proofs.Founds.{notes-start, notes-turn, notes-all, seen-at}
 use Rattle.type_checks.proofs.checks.note_functions.Goals as goal
 
 pub loop-func-init : goal.loop-func-init

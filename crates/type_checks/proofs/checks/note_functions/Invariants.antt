@@ -3,8 +3,8 @@ use Rattle.std.specs.Prelude.{map}
 use Rattle.ir_lines.specs.Statements.{Line}
 use Rattle.ir_lines.specs.Notes.{Notes}
 use Rattle.ir_lines.specs.Tables.{seen_definition, IsTop}
-use Rattle.type_checks.specs.FunctionFaults.{FunctionAt}
-use Rattle.type_checks.proofs.Founds.{FoundUpTo}
+use Rattle.line_checks.specs.FunctionFaults.{FunctionAt}
+use Rattle.line_checks.proofs.Founds.{FoundUpTo}
 use Rattle.type_checks.proofs.checks.note_functions.Given as goal
 
 abbrev pub invariant-loop-func : goal.invariant-loop-func

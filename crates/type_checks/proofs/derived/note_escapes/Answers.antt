@@ -3,8 +3,8 @@ use Rattle.std.proofs.lemmas.List.{length-map}
 use Rattle.ir_lines.specs.Tables.{seen_definition}
 use Rattle.ir_lines.specs.Views.{seen_line, seen_lines}
 use Rattle.type_checks.specs.Derivations.{lets_out}
-use Rattle.type_checks.specs.FunctionFaults.{EscapeAt}
-use Rattle.type_checks.proofs.Founds.{notes-turn, notes-all, seen-at}
+use Rattle.line_checks.specs.FunctionFaults.{EscapeAt}
+use Rattle.line_checks.proofs.Founds.{notes-turn, notes-all, seen-at}
 use Rattle.type_checks.proofs.DerivedLemmas.{notes-escape}
 use Rattle.type_checks.proofs.derived.note_escapes.Goals as goal
 

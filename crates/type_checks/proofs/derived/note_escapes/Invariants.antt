@@ -1,8 +1,8 @@
 use Rattle.ir_lines.specs.Notes.{Notes}
 use Rattle.ir_lines.specs.Tables.{seen_definition}
 use Rattle.ir_lines.specs.Views.{seen_lines}
-use Rattle.type_checks.specs.FunctionFaults.{EscapeAt}
-use Rattle.type_checks.proofs.Founds.{FoundUpTo}
+use Rattle.line_checks.specs.FunctionFaults.{EscapeAt}
+use Rattle.line_checks.proofs.Founds.{FoundUpTo}
 use Rattle.type_checks.proofs.derived.note_escapes.Given as goal
 
 abbrev pub invariant-loop-line : goal.invariant-loop-line

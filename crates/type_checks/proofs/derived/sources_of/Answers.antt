@@ -7,7 +7,7 @@ use Rattle.ir_lines.specs.Tables.{seen_definition}
 use Rattle.ir_lines.specs.Views.{seen_line}
 use Rattle.type_checks.specs.Follows.{AddsUsers}
 use Rattle.type_checks.specs.Derivations.{names_given, steps_given, merged_given, count_given}
-use Rattle.type_checks.proofs.Founds.{seen-at}
+use Rattle.line_checks.proofs.Founds.{seen-at}
 use Rattle.type_checks.proofs.DerivedLemmas.{number-start, number-more, number-below, number_at, sources-start, sources-more, sources-all}
 use Rattle.type_checks.proofs.derived.sources_of.Goals as goal
 

@@ -1,7 +1,7 @@
 use Rattle.std.proofs.Common.{◌≡◌, drop}
 use Rattle.std.specs.Prelude.{map}
 use Rattle.type_checks.specs.Groups.{any_token}
-use Rattle.type_checks.specs.LineFaults.{seen_use}
+use Rattle.line_checks.specs.LineFaults.{seen_use}
 use Rattle.type_checks.proofs.groups.any_token.Given as goal
 
 abbrev pub invariant-loop-one : goal.invariant-loop-one

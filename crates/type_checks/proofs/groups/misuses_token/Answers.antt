@@ -4,7 +4,7 @@ use Rattle.line_parts.specs.declared.readings.TypeWord.{TypeWord}
 use Rattle.line_parts.specs.declared.readings.Value.{Value}
 use Rattle.ir_lines.specs.Views.{said}
 use Rattle.type_checks.specs.Groups.{any_token}
-use Rattle.type_checks.specs.LineFaults.{seen_use}
+use Rattle.line_checks.specs.LineFaults.{seen_use}
 use Rattle.type_checks.proofs.GroupLemmas.{part-misuses, other-misuses}
 use Rattle.type_checks.proofs.groups.misuses_token.Goals as goal
 

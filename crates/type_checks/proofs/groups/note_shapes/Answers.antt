@@ -9,11 +9,11 @@ use Rattle.ir_lines.specs.Statements.{Line}
 use Rattle.ir_lines.specs.Tables.{seen_definition}
 use Rattle.ir_lines.specs.Views.{seen_line, seen_lines}
 use Rattle.type_checks.specs.Derivations.{names_given, count_given}
-use Rattle.type_checks.specs.FunctionFaults.{ShapeAt}
+use Rattle.line_checks.specs.FunctionFaults.{ShapeAt}
 use Rattle.type_checks.specs.Groups.{Open, seen_open, open_behind}
-use Rattle.type_checks.proofs.CaseNotes.{taken-more}
+use Rattle.line_checks.proofs.CaseNotes.{taken-more}
 use Rattle.list_laws.proofs.Places.{split_at}
-use Rattle.type_checks.proofs.Founds.{notes-start, notes-turn, notes-all, seen-at}
+use Rattle.line_checks.proofs.Founds.{notes-start, notes-turn, notes-all, seen-at}
 use Rattle.type_checks.proofs.DerivedLemmas.{number-start, number-more, number-below, number_at}
 use Rattle.type_checks.proofs.GroupLemmas.{Opened, opened-start, opened-more, notes-shape}
 use Rattle.type_checks.proofs.groups.note_shapes.Goals as goal

@@ -6,10 +6,10 @@ use Rattle.ir_lines.specs.Statements.{Line}
 use Rattle.ir_lines.specs.Tables.{seen_definition}
 use Rattle.ir_lines.specs.Views.{seen_lines}
 use Rattle.type_checks.specs.Derivations.{names_given}
-use Rattle.type_checks.specs.FunctionFaults.{ShapeAt}
+use Rattle.line_checks.specs.FunctionFaults.{ShapeAt}
 use Rattle.type_checks.specs.Groups.{seen_open}
 use Rattle.type_checks.proofs.DerivedLemmas.{number_at}
-use Rattle.type_checks.proofs.Founds.{FoundUpTo}
+use Rattle.line_checks.proofs.Founds.{FoundUpTo}
 use Rattle.type_checks.proofs.GroupLemmas.{Opened}
 use Rattle.type_checks.proofs.groups.note_shapes.Given as goal
 

@@ -4,7 +4,7 @@ use Rattle.ir_lines.specs.Parts.{targets}
 use Rattle.type_checks.specs.Edges.{AddsEdges, labels_of}
 use Rattle.ir_lines.specs.Views.{said, seen_line, seen_lines}
 use Rattle.type_checks.proofs.EdgeLemmas.{adds-then, labels-more, labels-all}
-use Rattle.type_checks.proofs.Founds.{seen-at}
+use Rattle.line_checks.proofs.Founds.{seen-at}
 use Rattle.std.proofs.lemmas.List.{length-map}
 use Rattle.type_checks.proofs.phis.add_edges_of.Goals as goal
 

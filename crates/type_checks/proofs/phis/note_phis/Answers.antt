@@ -5,9 +5,9 @@ use Rattle.std.proofs.lemmas.Option.{slice_get_within}
 use Rattle.ir_lines.specs.Sections.{BlockLines, blocks_of}
 use Rattle.ir_lines.specs.Scope.{scope_of}
 use Rattle.ir_lines.specs.Tables.{seen_definition, seen_block}
-use Rattle.type_checks.specs.FunctionFaults.{BlockAt}
+use Rattle.line_checks.specs.FunctionFaults.{BlockAt}
 use Rattle.type_checks.specs.Edges.{times, AreEdges}
-use Rattle.type_checks.proofs.Founds.{notes-start, notes-turn, notes-all, seen-at}
+use Rattle.line_checks.proofs.Founds.{notes-start, notes-turn, notes-all, seen-at}
 use Rattle.type_checks.proofs.PhiNotes.{notes-block, notes-at-block}
 use Rattle.type_checks.proofs.phis.note_phis.Goals as goal
 

@@ -1,11 +1,11 @@
 use Rattle.std.proofs.Common.{List}
 use Rattle.ir_lines.specs.Statements.{Line}
 use Rattle.ir_lines.specs.Notes.{Notes}
-use Rattle.type_checks.specs.FunctionFaults.{BlockAt}
+use Rattle.line_checks.specs.FunctionFaults.{BlockAt}
 use Rattle.ir_lines.specs.Scope.{scope_of}
 use Rattle.ir_lines.specs.Sections.{blocks_of}
 use Rattle.ir_lines.specs.Tables.{seen_definition}
-use Rattle.type_checks.proofs.Founds.{FoundUpTo}
+use Rattle.line_checks.proofs.Founds.{FoundUpTo}
 use Rattle.type_checks.proofs.phis.note_phis.Given as goal
 
 abbrev pub invariant-loop-i : goal.invariant-loop-i

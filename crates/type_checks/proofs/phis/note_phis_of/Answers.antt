@@ -3,7 +3,7 @@ use Rattle.std.proofs.lemmas.List.{length-map}
 use Rattle.ir_lines.specs.Parts.{is_phi}
 use Rattle.ir_lines.specs.Views.{seen_line, seen_lines}
 use Rattle.type_checks.specs.Edges.{PhiBeside}
-use Rattle.type_checks.proofs.Founds.{notes-turn, notes-all, seen-at}
+use Rattle.line_checks.proofs.Founds.{notes-turn, notes-all, seen-at}
 use Rattle.type_checks.proofs.PhiNotes.{late-more, note-line}
 use Rattle.type_checks.proofs.phis.note_phis_of.Goals as goal
 

@@ -2,7 +2,7 @@ use Rattle.std.proofs.Common.{◌≡◌, take}
 use Rattle.ir_lines.specs.Notes.{Notes}
 use Rattle.ir_lines.specs.Views.{seen_lines}
 use Rattle.type_checks.specs.Edges.{is_late, PhiBeside}
-use Rattle.type_checks.proofs.Founds.{FoundUpTo}
+use Rattle.line_checks.proofs.Founds.{FoundUpTo}
 use Rattle.type_checks.proofs.phis.note_phis_of.Given as goal
 
 abbrev pub invariant-loop-line : goal.invariant-loop-line

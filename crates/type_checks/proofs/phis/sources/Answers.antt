@@ -3,7 +3,7 @@ use Rattle.std.specs.Prelude.{map}
 use Rattle.std.proofs.lemmas.List.{length-map}
 use Rattle.ir_lines.specs.Tables.{seen_block}
 use Rattle.type_checks.proofs.EdgeLemmas.{no-edges, edges-more, edges-all}
-use Rattle.type_checks.proofs.Founds.{seen-at}
+use Rattle.line_checks.proofs.Founds.{seen-at}
 use Rattle.type_checks.proofs.phis.sources.Goals as goal
 
 pub loop-from-init : goal.loop-from-init

@@ -1,0 +1,218 @@
+-- The tests of a line over tables are those over what its function can name.
+use Rattle.std.proofs.Common.{◌≡◌, ◌∙◌, ℕ, ◌<◌, Bool, true, false, cond, ◌&&◌, ◌||◌, List, [], ◌∷◌, ◌++◌, length, refl, ap, sym, subst, arith}
+use Rattle.std.specs.Prelude.{Option, Some, None, map, filter_map, find, slice_get, option_map, is_none, not, nat_lt, codes, ◌==◌}
+use Rattle.std.specs.Option.{option_and_then}
+use Rattle.std.specs.List.{list_any, cons_option, position_or_len}
+use Rattle.std.specs.Str.{bytes_eq}
+use Rattle.std.proofs.lemmas.List.Folds.{list_any-append}
+use Rattle.std.proofs.lemmas.Option.{slice_get-get_or}
+use Rattle.std.proofs.lemmas.Bool.Decides.{nat_tests}
+use Rattle.line_parts.specs.declared.readings.TypeWord.{TypeWord}
+use Rattle.line_parts.specs.declared.readings.TypeWord.TheVariants.{Void, Int}
+use Rattle.line_tokens.specs.declared.literals.Literal.{Literal}
+use Rattle.line_parts.specs.Parts.{Val}
+use Rattle.line_parts.specs.Parts as values
+use Rattle.line_parts.specs.Lists.{Given, given, function}
+use Rattle.group_parts.specs.Statepoints.{Guarded}
+use Rattle.ir_ast.specs.declared.modules.Form.{Form}
+use Rattle.ir_lines.specs.Statements.{Statement, phi, layout_step, call, ret_void, ret, statepoint}
+use Rattle.ir_lines.specs.TextForms.{is_source}
+use Rattle.ir_lines.specs.Parts.{uses, local_name, values_named, targets, entry_labels, passed_function, functions_named, layouts_named}
+use Rattle.ir_lines.specs.Places.{place_in, number_in}
+use Rattle.ir_lines.specs.Sections.{LayoutLine, Head, Naming}
+use Rattle.ir_lines.specs.Scope.{Scope, layout_named, head_named, value_named, block_named}
+use Rattle.ir_lines.specs.Types.{same_type, literal_fits, naming_fits, fits}
+use Rattle.ir_lines.specs.Again.{at_name}
+use Rattle.ir_lines.specs.Faults.UnknownName.{names_unknown}
+use Rattle.ir_lines.specs.Faults.TypeClash.{misfits, place_fits, is_task, starts_task, checks_kind, takes_operands, agrees, call_agrees, takes_types, statepoint_agrees, keeps_rule, clashes}
+use Rattle.ir_lines.specs.Faults.EntryHasPred.{names_entry}
+use Rattle.line_checks.specs.LineFaults.{Tables, AreTables, LineFault, LineFaultIn, Coded, is_missing, misses, misses_used, misses_label, misses_label_of_phi, misses_entry, misses_function, misses_name, type_fits, fits_in, misfits_in, count_fits, task_starts, operands_fit, call_fits, statepoint_fits, rule_kept, clashes_in, targets_first}
+use Rattle.ir_lines.specs.Faults.PointerOrder.{orders_pointers}
+use Rattle.ir_lines.specs.Faults.PointerCast.{is_cast}
+use Rattle.ir_lines.proofs.PlaceLemmas.{at-name}
+
+-- ---- names
+
+is_none-map : {X Y : Type 0} (f : X → Y) (o : Option X) → is_none (option_map f o) ≡ is_none o
+is_none-map f None = refl
+is_none-map f (Some x) = refl
+
+missing-at : (names : List (List ℕ)) (name : List ℕ) → is_none (place_in names name) ≡ is_none (at_name names names name)
+missing-at names name = by (nat_lt (position_or_len (λ other. bytes_eq name other) names) (length names)) refl
+  where
+    by : (t : Bool) → nat_lt (position_or_len (λ other. bytes_eq name other) names) (length names) ≡ t
+        → is_none (place_in names name) ≡ is_none (at_name names names name)
+    by true is =
+        let n = position_or_len (λ other. bytes_eq name other) names in
+        let below : n < length names = grind (arith, nat_tests) in
+        ap (λ t. is_none (cond t (Some n) None)) is
+        ∙ sym (ap is_none (slice_get-get_or names n [] below))
+        ∙ sym (ap (λ t. is_none (option_and_then (slice_get names) (cond t (Some n) None))) is)
+    by false is =
+        let n = position_or_len (λ other. bytes_eq name other) names in
+        ap (λ t. is_none (cond t (Some n) None)) is
+        ∙ sym (ap (λ t. is_none (option_and_then (slice_get names) (cond t (Some n) None))) is)
+
+pub missing-same : {X : Type 0} (name_of : X → List ℕ) (xs : List X) (names : List (List ℕ)) → names ≡ map name_of xs → (name : List ℕ)
+    → is_none (place_in names name) ≡ is_none (find (λ one. bytes_eq name (name_of one)) xs)
+missing-same name_of xs names e name =
+    ap (λ ns. is_none (place_in ns name)) e
+    ∙ missing-at (map name_of xs) name
+    ∙ ap is_none (at-name name_of name_of xs name)
+    ∙ is_none-map name_of (find (λ one. bytes_eq name (name_of one)) xs)
+
+misses-same : (names : List (List ℕ)) (q : List ℕ → Bool) → ((name : List ℕ) → is_none (place_in names name) ≡ q name)
+    → (wanted : List (List ℕ)) → misses names wanted ≡ list_any q wanted
+misses-same names q h wanted = λ i. list_any (λ name. h name i) wanted
+
+misses-step : (names : List (List ℕ)) (o : Option (List ℕ)) (more : List (List ℕ)) (rest : Bool) → rest ≡ misses names more
+    → (is_missing names o || rest) ≡ misses names (cons_option o more)
+misses-step names None more rest e = e
+misses-step names (Some name) more rest e = ap (λ b. is_none (place_in names name) || b) e
+
+pub misses-filter_map : {X : Type 0} (names : List (List ℕ)) (f : X → Option (List ℕ)) (xs : List X)
+    → list_any (λ x. is_missing names (f x)) xs ≡ misses names (filter_map f xs)
+misses-filter_map names f [] = refl
+misses-filter_map names f (x ∷ xs) =
+    misses-step names (f x) (filter_map f xs) (list_any (λ x. is_missing names (f x)) xs) (misses-filter_map names f xs)
+
+functions-missing : (names : List (List ℕ)) (what : Statement) → misses_function names what ≡ misses names (functions_named what)
+functions-missing names (call result answer callee passed) =
+    ap (λ b. is_none (place_in names callee) || b) (misses-filter_map names passed_function passed)
+functions-missing names (statepoint result made live) =
+    ap (λ b. is_none (place_in names made.callee) || b) (misses-filter_map names passed_function made.passed)
+functions-missing names _ = refl
+
+entries-missing : (names : List (List ℕ)) (entries : List (Val × List ℕ)) → misses_entry names entries ≡ misses names (map (λ entry. entry.1) entries)
+entries-missing names [] = refl
+entries-missing names (entry ∷ entries) = ap (λ b. is_none (place_in names entry.1) || b) (entries-missing names entries)
+
+labels-missing : (names : List (List ℕ)) (what : Statement) → misses_label_of_phi names what ≡ misses names (entry_labels what)
+labels-missing names (phi result ty entries) = entries-missing names entries
+labels-missing names _ = refl
+
+or-same : (a b c d : Bool) → a ≡ b → c ≡ d → (a || c) ≡ (b || d)
+or-same a b c d e f = ap (λ x. x || c) e ∙ ap (λ x. b || x) f
+
+unknown-same : (scope : Scope) (tables : Tables) (what : Statement) → AreTables scope tables → misses_name tables what ≡ names_unknown scope what
+unknown-same scope tables what t =
+    let values = λ (name : List ℕ). is_none (value_named scope name) in
+    let blocks = λ (name : List ℕ). is_none (block_named scope name) in
+    let heads = λ (name : List ℕ). is_none (head_named scope name) in
+    let layouts = λ (name : List ℕ). is_none (layout_named scope name) in
+    let used : misses_used tables.values (uses what) ≡ list_any values (values_named what)
+    = misses-filter_map tables.values (λ one. local_name one.0) (uses what)
+    ∙ misses-same tables.values values (missing-same (λ one. one.name) scope.values tables.values t.values) (values_named what) in
+    let blocked = misses-same tables.blocks blocks (missing-same (λ one. one.name) scope.blocks tables.blocks t.blocks) in
+    let labelled : misses_label tables.blocks what ≡ list_any blocks (targets what ++ entry_labels what)
+    = or-same _ _ _ _ (blocked (targets what)) (labels-missing tables.blocks what ∙ blocked (entry_labels what)) ∙ sym (list_any-append blocks (targets what) (entry_labels what)) in
+    let called : misses_function tables.heads what ≡ list_any heads (functions_named what)
+    = functions-missing tables.heads what
+    ∙ misses-same tables.heads heads (missing-same (λ one. one.name) scope.heads tables.heads t.heads) (functions_named what) in
+    let laid : misses tables.layouts (layouts_named what) ≡ list_any layouts (layouts_named what)
+    = misses-same tables.layouts layouts (missing-same (λ one. one.name) scope.layouts tables.layouts t.layouts) (layouts_named what) in
+    or-same _ _ _ _ (or-same _ _ _ _ (or-same _ _ _ _ used labelled) called) laid
+
+-- ---- types
+
+typed-same : (ty : TypeWord) (found : Option Naming) → type_fits ty (option_map (λ one. one.ty) found) ≡ naming_fits ty found
+typed-same ty None = refl
+typed-same ty (Some one) = refl
+
+pub fits-same : (scope : Scope) (tables : Tables) → AreTables scope tables → (ty : TypeWord) (value : Val)
+    → fits_in tables.values tables.types ty value ≡ fits scope ty value
+fits-same scope tables t ty (values.local name) =
+    ap (λ ns. type_fits ty (at_name ns tables.types name)) t.values
+    ∙ ap (λ ts. type_fits ty (at_name (map (λ one. one.name) scope.values) ts name)) t.types
+    ∙ ap (type_fits ty) (at-name (λ (one : Naming). one.name) (λ (one : Naming). one.ty) scope.values name)
+    ∙ typed-same ty (value_named scope name)
+fits-same scope tables t ty (values.number literal) = refl
+fits-same scope tables t ty (values.truth said) = refl
+fits-same scope tables t ty values.null = refl
+
+misfits-same : (scope : Scope) (tables : Tables) (what : Statement) → AreTables scope tables → misfits_in tables what ≡ misfits scope what
+misfits-same scope tables what t =
+    λ i. list_any (λ (used : Val × TypeWord). not (fits-same scope tables t used.1 used.0 i)) (uses what)
+
+placed-same : (place : Option Literal) (found : Option LayoutLine) → count_fits place (option_map (λ one. length one.fields) found) ≡ place_fits place found
+placed-same None None = refl
+placed-same None (Some layout) = refl
+placed-same (Some place) None = refl
+placed-same (Some place) (Some layout) = refl
+
+map-itself : {X : Type 0} (xs : List X) → map (λ x. x) xs ≡ xs
+map-itself [] = refl
+map-itself (x ∷ xs) = ap (λ ys. x ∷ ys) (map-itself xs)
+
+option_map-itself : {X : Type 0} (o : Option X) → option_map (λ x. x) o ≡ o
+option_map-itself None = refl
+option_map-itself (Some x) = refl
+
+head-same : (scope : Scope) (tables : Tables) → AreTables scope tables → (name : List ℕ)
+    → at_name tables.heads tables.head_list name ≡ head_named scope name
+head-same scope tables t name =
+    ap (λ ns. at_name ns tables.head_list name) t.heads
+    ∙ ap (λ hs. at_name (map (λ one. one.name) scope.heads) hs name) (t.head_list ∙ sym (map-itself scope.heads))
+    ∙ at-name (λ (one : Head). one.name) (λ (one : Head). one) scope.heads name
+    ∙ option_map-itself (head_named scope name)
+
+starts-same : (scope : Scope) (tables : Tables) → AreTables scope tables → (passed : List Given) → task_starts tables passed ≡ starts_task scope passed
+starts-same scope tables t [] = refl
+starts-same scope tables t (given ty value ∷ passed) = refl
+starts-same scope tables t (function name ∷ passed) = ap is_task (head-same scope tables t name)
+
+operands-same : (form : Form) (scope : Scope) (tables : Tables) → AreTables scope tables → (callee : List ℕ) (passed : List Given)
+    → operands_fit form tables callee passed ≡ takes_operands form scope callee passed
+operands-same form scope tables t callee passed =
+    ap
+    (λ b. (not (bytes_eq callee (codes "task_start")) || b) && (is_source form || not (bytes_eq callee (codes "gc_check")) || checks_kind passed))
+    (starts-same scope tables t passed)
+
+call-same : (form : Form) (scope : Scope) (tables : Tables) → AreTables scope tables → (answer : TypeWord) (callee : List ℕ) (passed : List Given)
+    → call_fits form tables answer callee passed ≡ call_agrees form scope answer callee passed
+call-same form scope tables t answer callee passed =
+    ap (λ found. agrees answer passed found && operands_fit form tables callee passed) (head-same scope tables t callee)
+    ∙ ap (λ b. agrees answer passed (head_named scope callee) && b) (operands-same form scope tables t callee passed)
+
+statepoint-same : (form : Form) (scope : Scope) (tables : Tables) → AreTables scope tables → (made : Guarded)
+    → statepoint_fits form tables made ≡ statepoint_agrees form scope made
+statepoint-same form scope tables t made =
+    ap
+    (λ b. b && (takes_types made.signature.parameters (at_name tables.heads tables.head_list made.callee) && literal_fits (Int 32) made.count))
+    (call-same form scope tables t made.signature.answer made.callee made.passed)
+    ∙ ap
+    (λ found. call_agrees form scope made.signature.answer made.callee made.passed && (takes_types made.signature.parameters found && literal_fits (Int 32) made.count))
+    (head-same scope tables t made.callee)
+
+rule-same : (form : Form) (scope : Scope) (tables : Tables) (what : Statement) → AreTables scope tables → rule_kept form tables what ≡ keeps_rule form scope what
+rule-same form scope tables (layout_step result named address width index place) t =
+    ap (λ ns. count_fits place (at_name ns tables.fields named)) t.layouts
+    ∙ ap (λ fs. count_fits place (at_name (map (λ one. one.name) scope.layouts) fs named)) t.fields
+    ∙ ap (count_fits place) (at-name (λ (one : LayoutLine). one.name) (λ (one : LayoutLine). length one.fields) scope.layouts named)
+    ∙ placed-same place (layout_named scope named)
+rule-same form scope tables (call result answer callee passed) t = call-same form scope tables t answer callee passed
+rule-same form scope tables (statepoint result made live) t = statepoint-same form scope tables t made
+rule-same form scope tables ret_void t = ap (same_type Void) t.answer
+rule-same form scope tables (ret ty value) t = ap (same_type ty) t.answer
+rule-same form scope tables _ t = refl
+
+clash-same : (form : Form) (scope : Scope) (tables : Tables) (what : Statement) → AreTables scope tables → clashes_in form tables what ≡ clashes form scope what
+clash-same form scope tables what t =
+    or-same _ _ _ _ (misfits-same scope tables what t) (ap not (rule-same form scope tables what t))
+
+entry-same : (scope : Scope) (tables : Tables) (what : Statement) → AreTables scope tables → targets_first tables what ≡ names_entry scope what
+entry-same scope tables what t = ap (λ (blocks : List (List ℕ)). list_any (λ name. number_in blocks name == 0) (targets what)) t.blocks
+
+-- ---- the codes of a line
+
+coded-same : (form : Form) (scope : Scope) (tables : Tables) (what : Statement) (code : ℕ) → AreTables scope tables → LineFaultIn form tables what code ≡ LineFault form scope what code
+coded-same form scope tables what code t =
+    ap (λ b. Coded b (clashes_in form tables what) (targets_first tables what) (orders_pointers what) (is_cast what) code) (unknown-same scope tables what t)
+    ∙ ap (λ b. Coded (names_unknown scope what) b (targets_first tables what) (orders_pointers what) (is_cast what) code) (clash-same form scope tables what t)
+    ∙ ap (λ b. Coded (names_unknown scope what) (clashes form scope what) b (orders_pointers what) (is_cast what) code) (entry-same scope tables what t)
+
+pub line-in : (form : Form) (scope : Scope) (tables : Tables) (what : Statement) (code : ℕ) → AreTables scope tables → LineFaultIn form tables what code → LineFault form scope what code
+line-in form scope tables what code t f = subst (λ (F : Type 0). F) (coded-same form scope tables what code t) f
+
+pub line-of : (form : Form) (scope : Scope) (tables : Tables) (what : Statement) (code : ℕ) → AreTables scope tables → LineFault form scope what code → LineFaultIn form tables what code
+line-of form scope tables what code t f = subst (λ (F : Type 0). F) (sym (coded-same form scope tables what code t)) f

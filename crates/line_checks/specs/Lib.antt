@@ -1,0 +1,4 @@
+pub mod TopFaults
+pub mod LineFaults
+pub mod Founds
+pub mod FunctionFaults
