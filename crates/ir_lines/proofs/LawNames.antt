@@ -10,7 +10,7 @@ use Rattle.ir_ast.specs.Lists.{Distinct}
 use Rattle.ir_lines.specs.Places.{place_in, number_of, number_in}
 use Rattle.ir_lines.specs.InBody.{Repeats}
 use Rattle.list_laws.proofs.Places
-use Rattle.ir_lines.proofs.Positions.{bytes_eq-same}
+use Rattle.name_chains.proofs.Places.{bytes_eq-same}
 pub use Rattle.list_laws.proofs.Places.{get_some, get_taken}
 pub use Rattle.list_laws.proofs.Contents.{contains_get, get_contained, contains_first, contains_later, contains_cons, contains_middle, contains_map}
 

@@ -1,5 +1,4 @@
 pub mod Powers
-pub mod Positions
 pub mod Samples
 pub mod NoteLemmas
 pub mod LawNames

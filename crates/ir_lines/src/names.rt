@@ -5,29 +5,27 @@ ghost use Rattle.std.specs.List.{Contains};
 ghost use Rattle.std.specs.Str.{bytes_eq};
 ghost use Rattle.ir_lines.specs.Places.{place_in, number_of, number_in};
 
-use indexmap::IndexMap;
+use name_chains::Chains;
 use std::alloc::{AllocError, Global};
 use std::marker::Model;
 
 /// A list of names, in which each name stands for its first place. Contracts see a list of lists of bytes.
 #[derive(Drop)]
 pub struct Names<'n> {
+    alloc: Global,
     list: Vec<&'n [u8]>,
-    first: IndexMap<&'n [u8], usize>,
+    chains: Chains,
 }
 
 impl<'n> Model for Names<'n> {
-    ghost use Rattle.std.specs.Prelude.{◌≡◌, ℕ, List, map};
-    ghost use Rattle.std.specs.Str.{bytes_eq};
-    ghost use Rattle.std.specs.HashMap.{get_by};
-    ghost use Rattle.ir_lines.specs.Places.{place_in};
+    ghost use Rattle.std.specs.Prelude.{ℕ, List, map};
+    ghost use Rattle.name_chains.specs.Chains.{IsChained};
 
     ghost Value = { List (List ℕ) };
 
     ghost view = { λ names. map (λ name. name.now) names.list.items };
 
-    ghost invariant = { λ names. (name : List ℕ)
-        → get_by (λ key. bytes_eq name key.now) names.first ≡ place_in (map (λ one. one.now) names.list.items) name };
+    ghost invariant = { λ names. IsChained (map (λ one. one.now) names.list.items) names.chains };
 }
 
 /// The number of a place, or 2^32 - 1 for none.
@@ -46,9 +44,21 @@ impl<'n> Names<'n> {
         ensures { result ≡ [] }
     {
         Names {
+            alloc,
             list: Vec::new(alloc),
-            first: IndexMap::new(alloc),
+            chains: Chains::none(alloc),
         }
+    }
+
+    /// No names, with room for so many.
+    pub fn with_room(alloc: Global, room: usize) -> Result<Names<'n>, AllocError>
+        ensures { IfOk result (λ names. names ≡ []) }
+    {
+        Ok(Names {
+            alloc,
+            list: Vec::with_capacity(alloc, room)?,
+            chains: Chains::with_room(alloc, room)?,
+        })
     }
 
     /// Adds a name behind the others, and answers whether none of them is the same.
@@ -56,22 +66,19 @@ impl<'n> Names<'n> {
         ensures added { OnOk result (self.new ≡ self.old ++ name.now ∷ []) }
         ensures is_new { IfOk result (λ is_new. is_new ≡ is_none (place_in self.old name.now)) }
     {
-        let place = self.list().len();
-        if self.find(name).is_some() {
-            self.list.push(name)?;
-            return Ok(false);
-        }
-        self.first.reserve(1)?;
-        self.list.push(name)?;
-        self.first.insert(name, place)?;
-        Ok(true)
+        let is_new = self.find(name).is_none();
+        self.chains.make_room(self.alloc, self.list.as_slice())?;
+        self.list.reserve(1)?;
+        self.chains.link(self.list.as_slice(), name, is_new)?;
+        self.list.push(name).unwrap();
+        Ok(is_new)
     }
 
     /// The place of the first of these names.
     pub fn find(&self, name: &[u8]) -> Option<usize>
         ensures { result ≡ place_in self.now name.now }
     {
-        self.first.get(&name).copied()
+        self.chains.find(self.list.as_slice(), name)
     }
 
     /// Whether one of these names is this.
@@ -104,5 +111,5 @@ const NOWHERE: u32 = u32::MAX;
 pub fn is_text(name: &[u8], text: &[u8]) -> bool
     ensures { result ≡ bytes_eq name.now text.now }
 {
-    name == text
+    line_tokens::is_text(name, text)
 }

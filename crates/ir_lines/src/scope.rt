@@ -243,10 +243,11 @@ impl<'n> Local<'n> {
         ensures is { IfOk result (λ local. IsLocal (seen_definition func.now) local) }
         ensures noted { OnOk result (Notes first.old.found first.new.found (FoundByNames form (seen_definition func.now))) }
     {
+        let room = func.arguments.len() + func.body.len();
         let mut local = Local {
-            values: Names::new(alloc),
-            types: Vec::new(alloc),
-            blocks: Names::new(alloc),
+            values: Names::with_room(alloc, room)?,
+            types: Vec::with_capacity(alloc, room)?,
+            blocks: Names::with_room(alloc, blocks.len())?,
             answer: func.answer,
         };
         local.add_arguments(

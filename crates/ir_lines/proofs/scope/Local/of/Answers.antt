@@ -19,11 +19,11 @@ returns-clause-noted c =
     let h = c.add_results.new.first.found in
     let i = c.add_blocks.new.first.found in
     let known : c.add_arguments.new.self.values ≡ map (λ (one : Naming). one.name) args
-    = c.in_ok-add_arguments.ensures.added.values ∙ ap (λ (names : List (List ℕ)). names ++ map (λ (one : Naming). one.name) args) c.new.ensures in
+    = c.in_ok-add_arguments.ensures.added.values ∙ ap (λ (names : List (List ℕ)). names ++ map (λ (one : Naming). one.name) args) c.in_ok-with_room.ensures in
     let unlabelled : c.add_results.new.self.blocks ≡ []
-    = c.in_ok-add_results.ensures.added.blocks ∙ c.in_ok-add_arguments.ensures.added.blocks ∙ c.new-3.ensures in
+    = c.in_ok-add_results.ensures.added.blocks ∙ c.in_ok-add_arguments.ensures.added.blocks ∙ c.in_ok-with_room-2.ensures in
     names-noted c.args.form (seen_definition func) args results f g h i c.add_arguments.new.self.values refl known
-    (subst (λ (names : List (List ℕ)). Notes f g (FoundAfter (IsBadName c.args.form) names (named_values args))) c.new.ensures c.in_ok-add_arguments.ensures.noted)
+    (subst (λ (names : List (List ℕ)). Notes f g (FoundAfter (IsBadName c.args.form) names (named_values args))) c.in_ok-with_room.ensures c.in_ok-add_arguments.ensures.noted)
     c.in_ok-add_results.ensures.noted
     (subst (λ (blocks : List BlockLines). Notes h i (FoundAfter (IsBadName c.args.form) [] (named_blocks blocks))) c.requires.blocks
     (subst (λ (names : List (List ℕ)). Notes h i (FoundAfter (IsBadName c.args.form) names (named_blocks (map seen_block c.args.blocks.now)))) unlabelled
