@@ -1,0 +1,8 @@
+pub mod RegisterLaws
+pub mod Keepings
+pub mod PhiLaws
+pub mod Related
+pub mod FrameLaws
+pub mod CallLaws
+pub mod StepLaws
+pub mod RunLaws
