@@ -6,3 +6,5 @@ pub mod FrameLaws
 pub mod CallLaws
 pub mod StepLaws
 pub mod RunLaws
+pub mod BlockLines
+pub mod ModuleLaws
