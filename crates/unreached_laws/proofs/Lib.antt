@@ -8,3 +8,5 @@ pub mod StepLaws
 pub mod RunLaws
 pub mod BlockLines
 pub mod ModuleLaws
+pub mod MeaningLaws
+mod Samples

@@ -1,5 +1,15 @@
 //! The laws that blocks which no path reaches are of no matter to what a module does. No code.
 #![tactic(auto)]
 
-/// Nothing yet.
-pub fn nothing_yet() {}
+ghost use Rattle.unreached_laws.specs.Statements.{BasesKeepReachedMeaning, UnreachedAreNoMatter};
+
+/// A module without its unreached blocks does what the module does.
+pub fn unreached_are_no_matter()
+    ensures { UnreachedAreNoMatter }
+{}
+
+/// The module with bases, checks and polls that is made of a module without its unreached blocks does, on objects that never
+/// move, what the module does.
+pub fn bases_keep_reached_meaning()
+    ensures { BasesKeepReachedMeaning }
+{}
