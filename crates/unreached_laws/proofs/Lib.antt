@@ -9,4 +9,5 @@ pub mod RunLaws
 pub mod BlockLines
 pub mod ModuleLaws
 pub mod MeaningLaws
+pub mod ReachedLaws
 mod Samples

@@ -1,7 +1,7 @@
 //! The laws that blocks which no path reaches are of no matter to what a module does. No code.
 #![tactic(auto)]
 
-ghost use Rattle.unreached_laws.specs.Statements.{BasesKeepReachedMeaning, UnreachedAreNoMatter};
+ghost use Rattle.unreached_laws.specs.Statements.{BasesKeepReachedMeaning, UnreachedAreGone, UnreachedAreNoMatter};
 
 /// A module without its unreached blocks does what the module does.
 pub fn unreached_are_no_matter()
@@ -12,4 +12,9 @@ pub fn unreached_are_no_matter()
 /// move, what the module does.
 pub fn bases_keep_reached_meaning()
     ensures { BasesKeepReachedMeaning }
+{}
+
+/// A path leads to each block of a module without its unreached blocks.
+pub fn unreached_are_gone()
+    ensures { UnreachedAreGone }
 {}
