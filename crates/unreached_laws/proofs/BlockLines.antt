@@ -1,9 +1,9 @@
 -- The lines of a kept block under their new numbers are those of the block of the function without its unreached blocks.
-use Rattle.std.proofs.Common.{◌≡◌, ℕ, zero, suc, ◌+◌, ◌-◌, ◌<◌, ◌≤◌, Bool, true, false, ◌&&◌, if◌then◌else◌, List, [], ◌∷◌, ◌++◌, length, map, take, replicate, refl, sym, ap, subst, ◌∙◌, arith}
-use Rattle.std.specs.Prelude.{Option, Some, None, is_some, nat_le, slice_get, slice_index, filter}
+use Rattle.std.proofs.Common.{◌≡◌, ℕ, zero, suc, ◌+◌, ◌<◌, ◌≤◌, Bool, true, false, ◌&&◌, if◌then◌else◌, List, [], ◌∷◌, ◌++◌, length, map, replicate, refl, sym, ap, subst, ◌∙◌, arith}
+use Rattle.std.specs.Prelude.{Some, None, is_some, nat_le, slice_get, slice_index, filter}
 use Rattle.std.specs.List.{All, list_any}
 use Rattle.std.specs.Option.{option_map, IfSome}
-use Rattle.std.proofs.lemmas.Bool.{false≢true, true≢false}
+use Rattle.std.proofs.lemmas.Bool.{false≢true}
 use Rattle.std.proofs.lemmas.Bool.Decides.{nat_tests}
 use Rattle.std.proofs.lemmas.List.{length-append, length-map, length-replicate, map-append}
 use Rattle.std.proofs.lemmas.List.Elements.{All-append, All-cons, All-nil}
@@ -13,10 +13,8 @@ use Rattle.sp_ids.specs.declared.ids.BlockId.{BlockId}
 use Rattle.graph_search.specs.Paths.{Marked}
 use Rattle.ir_ast.specs.declared.ops.Op.{Op}
 use Rattle.ir_ast.specs.declared.ops.Op.TheVariants.{Phi}
-use Rattle.ir_ast.specs.declared.ops.Operand.{Operand}
 use Rattle.ir_ast.specs.Insts.{Instruction}
 use Rattle.ir_ast.specs.Blocks.{BasicBlock}
-use Rattle.ir_ast.specs.Faults.PhiEdges.{is_phi}
 use Rattle.ir_ast.specs.Ops.{is_terminator}
 use Rattle.ir_cfg.specs.Unreached.{Kept, block_kept, inst_kept, kept_of, label_kept, labels_kept, result_count, result_marks}
 use Rattle.ir_cfg.proofs.KeepsPlaces.{before_mono, before_past_falses, before_past_trues, before_same, marks_before, number_of_marked}
@@ -83,8 +81,11 @@ module _ (keeping : Keeping) (block : ℕ) (marked : Marked keeping.blocks block
   any_same [] all = refl
   any_same (label ∷ labels) all =
       let here : Marked keeping.blocks label.0 = all_first (λ (each : BlockId). Marked keeping.blocks each.0) label labels all in
-      rw (number_of_marked keeping.blocks label.0 here, same_order keeping.blocks label.0 block here marked,
-      any_same labels (all_rest (λ (each : BlockId). Marked keeping.blocks each.0) label labels all)) refl
+      rw (
+        number_of_marked keeping.blocks label.0 here,
+        same_order keeping.blocks label.0 block here marked,
+        any_same labels (all_rest (λ (each : BlockId). Marked keeping.blocks each.0) label labels all),
+      ) refl
 
   ends_same : (op : Op) (labels : List BlockId) → All (λ (label : BlockId). Marked keeping.blocks label.0) (labels_left K op labels)
       → (is_terminator op && list_any (λ label. nat_le label.0 new_block) (labels_kept K op labels)) ≡ (is_terminator op && list_any (λ label. nat_le label.0 block) labels)

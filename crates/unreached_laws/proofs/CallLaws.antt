@@ -1,5 +1,5 @@
 -- Calls, returns and ends of tasks: what the run does, the run of the kept blocks does.
-use Rattle.std.proofs.Common.{◌≡◌, ◌==◌, ℕ, zero, suc, ◌+◌, ◌≤◌, Bool, true, false, if◌then◌else◌, List, [], ◌∷◌, ◌++◌, length, map, refl, sym, ap, ◌∙◌, subst, arith}
+use Rattle.std.proofs.Common.{◌≡◌, ◌==◌, ℕ, ◌+◌, Bool, true, false, if◌then◌else◌, List, [], ◌∷◌, ◌++◌, length, map, refl, sym, ap, ◌∙◌, arith}
 use Rattle.std.specs.Prelude.{Option, Some, None, slice_get, slice_set, ℤ, pos, nat_lt, int_lt, unsigned_abs, Result, Ok, Err}
 use Rattle.std.specs.Int.{w64, cast_unsigned}
 use Rattle.std.specs.List.{All, sum_by}
@@ -20,17 +20,17 @@ use Rattle.ir_cfg.specs.Unreached.{operand_kept}
 use Rattle.object_meaning.specs.Accesses.{Place, accessed, cell_named}
 use Rattle.object_meaning.specs.Calls.{allocated, allocating, called, checked, entering, function_in, made, stepped, taking}
 use Rattle.object_meaning.specs.Comparisons.{bit, same_pointer}
-use Rattle.object_meaning.specs.Effects.{Effect, goes_on, prints, ends}
+use Rattle.object_meaning.specs.Effects.{Effect, goes_on, ends}
 use Rattle.object_meaning.specs.Frames.{entered}
 use Rattle.object_meaning.specs.Lines.{Line}
 use Rattle.object_meaning.specs.Registers.{nothing, number_in, operand, pointer_in, value}
 use Rattle.object_meaning.specs.States.{Frame, State, Setting}
 use Rattle.object_meaning.specs.Steps.{returned}
-use Rattle.object_meaning.specs.Tasks.{handed_over, polled, started, task_ended, with_event}
+use Rattle.object_meaning.specs.Tasks.{handed_over, started, task_ended, with_event}
 use Rattle.renaming_laws.proofs.ListLaws.{all_first, all_rest}
 use Rattle.unreached_laws.proofs.RegisterLaws.{OperandStays, function_same, operand_same, values_same}
 use Rattle.unreached_laws.proofs.Keepings.{CalleeTakes, Keeping, KeepsBlocks, Takes, numbers, with_lines}
-use Rattle.unreached_laws.proofs.Related.{EffectKept, FrameStays, Goes, Stays, TaskStays, both_end, both_go, both_print, image, image_built, image_of}
+use Rattle.unreached_laws.proofs.Related.{EffectKept, FrameStays, Goes, Stays, TaskStays, both_end, both_go, both_print, image, image_of}
 use Rattle.unreached_laws.proofs.FrameLaws.{entered_is, entered_stays, event_goes, polled_goes, resumed_goes}
 
 module _ (keepings : ℕ → Keeping) (one : Setting) (lines : ℕ → ℕ → List Line) (registers : ℕ → ℕ) (law : KeepsBlocks keepings one lines registers) where

@@ -1,5 +1,5 @@
 -- Frames that go on, that are entered and that arrive at a block, and the tasks that run by turns.
-use Rattle.std.proofs.Common.{◌≡◌, ◌==◌, ℕ, zero, suc, ◌+◌, ◌-◌, ◌<◌, ◌≤◌, Bool, true, false, if◌then◌else◌, List, [], ◌∷◌, ◌++◌, length, map, take, drop, replicate, refl, sym, ap, subst, ◌∙◌, arith}
+use Rattle.std.proofs.Common.{◌≡◌, ℕ, Bool, true, false, if◌then◌else◌, List, [], ◌∷◌, ◌++◌, length, map, take, refl, sym, ap, subst, ◌∙◌, arith}
 use Rattle.std.specs.Prelude.{Option, Some, None, slice_get, slice_set}
 use Rattle.std.specs.List.{All}
 use Rattle.std.specs.Option.{option_map, option_map_or}
@@ -12,9 +12,8 @@ use Rattle.graph_search.specs.Paths.{Marked}
 use Rattle.ir_ast.specs.declared.ops.Op.{Op}
 use Rattle.ir_ast.specs.declared.ops.Op.TheVariants as ops
 use Rattle.ir_ast.specs.Objects.{Datum}
-use Rattle.ir_cfg.specs.Unreached.{kept_of}
 use Rattle.ir_cfg.proofs.KeepsPlaces.{marks_before}
-use Rattle.object_meaning.specs.Frames.{answered, answered_at, answered_by, entered, resumed}
+use Rattle.object_meaning.specs.Frames.{answered_at, answered_by, entered, resumed}
 use Rattle.object_meaning.specs.Jumps.{arrived, phi_count, phi_write}
 use Rattle.object_meaning.specs.Lines.{Line}
 use Rattle.object_meaning.specs.Registers.{nothing, put, put_all}
@@ -23,8 +22,8 @@ use Rattle.object_meaning.specs.Tasks.{polled, switched, switched_to, with_event
 use Rattle.renaming_laws.proofs.ListLaws.{all_first, all_rest, before, behind, drop_behind, take_before}
 use Rattle.unreached_laws.proofs.RegisterLaws.{before_none, entered_kept, put_kept}
 use Rattle.unreached_laws.proofs.Keepings.{Keeping, KeepsBlocks, LineStays, Takes, is_grouped, line_kept, with_lines}
-use Rattle.unreached_laws.proofs.PhiLaws.{before_kept, behind_kept, is_phi_line, phis_same}
-use Rattle.unreached_laws.proofs.Related.{FrameStays, Goes, Stays, TaskStays, image, image_built, image_of}
+use Rattle.unreached_laws.proofs.PhiLaws.{behind_kept, is_phi_line, phis_same}
+use Rattle.unreached_laws.proofs.Related.{FrameStays, Goes, Stays, TaskStays, image, image_of}
 
 -- a frame behind the phis of a block
 abbrev behind_phis : Frame → ℕ → List Line → Frame
@@ -108,10 +107,6 @@ module _ (keepings : ℕ → Keeping) where
     stays = record { running = (goes.stays).running; below = (goes.stays).below; tasks = (goes.stays).tasks };
     is = ap with_event goes.is;
   }
-
-  -- the tasks once this one waits
-  pub waiting : State → List (List Frame)
-  waiting state = slice_set state.tasks state.task (state.running ∷ state.below)
 
   set_tasks : (tasks : List (List Frame)) (place : ℕ) (task : List Frame)
       → slice_set (map (map (image keepings)) tasks) place (map (image keepings) task) ≡ map (map (image keepings)) (slice_set tasks place task)

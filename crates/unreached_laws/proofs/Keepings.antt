@@ -1,20 +1,18 @@
 -- A function and those of its blocks and registers that are kept; its lines under their new numbers, and what a line asks for.
-use Rattle.std.proofs.Common.{◌≡◌, ℕ, zero, suc, ◌<◌, ◌≤◌, Bool, true, false, List, [], ◌∷◌, ◌++◌, length, map, refl, sym, ap, subst, ◌∙◌, arith}
-use Rattle.std.specs.Prelude.{⊤, Option, Some, None, slice_get, slice_index}
-use Rattle.std.specs.List.{All, prefix_len}
-use Rattle.std.specs.Option.{option_map, option_map_or, IfSome}
+use Rattle.std.proofs.Common.{◌≡◌, ℕ, zero, suc, ◌<◌, ◌≤◌, Bool, true, false, List, [], ◌∷◌, length, map, refl, sym, subst}
+use Rattle.std.specs.Prelude.{⊤, slice_get}
+use Rattle.std.specs.List.{All}
+use Rattle.std.specs.Option.{option_map, IfSome}
 use Rattle.std.proofs.lemmas.Bool.{true≢false}
 use Rattle.sp_ids.specs.declared.ids.BlockId.{BlockId}
 use Rattle.graph_search.specs.Paths.{Marked}
-use Rattle.ir_ast.specs.declared.types.Ty.{Ty}
 use Rattle.ir_ast.specs.declared.ops.Callee.{Callee}
 use Rattle.ir_ast.specs.declared.ops.Callee.TheVariants.{Fun, TaskStart}
 use Rattle.ir_ast.specs.declared.ops.Op.{Op}
 use Rattle.ir_ast.specs.declared.ops.Op.TheVariants.{Call, Phi, Statepoint, GcResult, GcRelocate}
 use Rattle.ir_ast.specs.declared.ops.Operand.{Operand}
-use Rattle.ir_ast.specs.Insts.{Instruction}
 use Rattle.ir_ast.specs.Faults.PhiEdges.{is_phi}
-use Rattle.ir_cfg.specs.Unreached.{Kept, kept_of, label_kept, labels_kept, new_numbers, operand_kept, operands_kept, inst_kept}
+use Rattle.ir_cfg.specs.Unreached.{Kept, label_kept, labels_kept, new_numbers, operand_kept, operands_kept, inst_kept}
 use Rattle.ir_cfg.proofs.KeepsPlaces.{marks_before, number_of_marked}
 use Rattle.ir_cfg.proofs.KeepsLines.{labels_left, operands_left}
 use Rattle.object_meaning.specs.Calls.{function_in}

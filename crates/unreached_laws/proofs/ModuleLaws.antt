@@ -1,10 +1,9 @@
 -- A source module and the module without its unreached blocks: what the run of the kept blocks asks for.
 use Rattle.std.proofs.Common.{◌≡◌, ℕ, zero, suc, ◌+◌, ◌-◌, ◌<◌, ◌≤◌, Bool, true, false, not, if◌then◌else◌, List, [], ◌∷◌, ◌++◌, length, map, replicate, refl, sym, ap, subst, ◌∙◌, arith}
-use Rattle.std.specs.Prelude.{ℤ, ◌↔◌, Option, Some, None, is_some, slice_get, slice_index, codes, nat_lt, unwrap_or, filter}
+use Rattle.std.specs.Prelude.{ℤ, ◌↔◌, Option, Some, None, slice_get, slice_index, codes, nat_lt, unwrap_or}
 use Rattle.std.specs.List.{All, AllZip, filter_map, prefix_len}
 use Rattle.std.specs.Option.{option_map, option_map_or}
 use Rattle.std.specs.Str.{bytes_eq}
-use Rattle.std.proofs.lemmas.Bool.{false≢true}
 use Rattle.std.proofs.lemmas.Bool.Decides.{nat_tests}
 use Rattle.std.proofs.lemmas.List.{length-append, length-map, length-replicate}
 use Rattle.std.proofs.lemmas.List.Elements.{All-cons, All-nil, length_all_zip}
@@ -25,8 +24,7 @@ use Rattle.ir_ast.specs.declared.ops.Operand.{Operand}
 use Rattle.ir_ast.specs.declared.ops.Operand.TheVariants as operands
 use Rattle.ir_ast.specs.Insts.{Instruction}
 use Rattle.ir_ast.specs.Blocks.{BasicBlock}
-use Rattle.ir_ast.specs.Layouts.{ObjectLayout}
-use Rattle.ir_ast.specs.Funcs.{Function, instructions_of}
+use Rattle.ir_ast.specs.Funcs.{Function}
 use Rattle.ir_ast.specs.Modules.{ModuleContent}
 use Rattle.ir_ast.specs.Lines.{IsCall, IsLine, LineOf, is_argument, is_rewritten}
 use Rattle.ir_ast.specs.Operands.{value_in}
@@ -39,15 +37,14 @@ use Rattle.ir_cfg.specs.Marks.{MarksReached}
 use Rattle.ir_cfg.specs.DefiniteUses.{Stands, UsesAreDefinite}
 use Rattle.ir_cfg.specs.SourceModules.{IsSourceModule}
 use Rattle.ir_cfg.specs.TypedModules.{IsTypedFunction}
-use Rattle.ir_cfg.specs.Unreached.{Kept, DropsUnreached, ModuleDropsUnreached, block_kept, function_kept, inst_kept, kept_by, kept_of, result_count, result_marks, value_marks}
-use Rattle.ir_cfg.proofs.KeptLemmas.{of_map}
+use Rattle.ir_cfg.specs.Unreached.{DropsUnreached, ModuleDropsUnreached, block_kept, function_kept, inst_kept, kept_by, kept_of, result_marks, value_marks}
 use Rattle.ir_cfg.proofs.KeepsPlaces.{before_mono, before_past_trues, marks_before}
-use Rattle.ir_cfg.proofs.KeepsLines.{IsKept, block_forth, inst_left, labels_left, line_at, operands_left}
+use Rattle.ir_cfg.proofs.KeepsLines.{block_forth, inst_left, labels_left, line_at, operands_left}
 use Rattle.ir_cfg.proofs.KeepsValues.{argument_marked}
 use Rattle.ir_cfg.proofs.KeepsPaths.{entry_marked, marked_block, marks_whole}
 use Rattle.ir_cfg.proofs.KeepsUses.{Lasts, lasts}
 use Rattle.object_meaning.specs.Calls.{function_in}
-use Rattle.object_meaning.specs.Lines.{Line, first_register, insts_in, insts_of, lines_from, lines_of, main_of, poll, register_count, registers_of}
+use Rattle.object_meaning.specs.Lines.{first_register, insts_in, insts_of, lines_from, lines_of, main_of, poll, register_count, registers_of}
 use Rattle.object_meaning.specs.Outcomes.{Gives, Outcome}
 use Rattle.object_meaning.specs.SourceRuns.{SourceGives, source_setting}
 use Rattle.object_meaning.specs.States.{Setting}

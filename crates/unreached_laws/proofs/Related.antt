@@ -1,5 +1,5 @@
 -- A frame, a state and an effect, and what they are where only kept blocks and registers are there.
-use Rattle.std.proofs.Common.{◌≡◌, ℕ, List, [], ◌∷◌, map}
+use Rattle.std.proofs.Common.{◌≡◌, ℕ, List, map}
 use Rattle.std.specs.List.{All}
 use Rattle.sp_ids.specs.declared.ends.End.{End}
 use Rattle.graph_search.specs.Paths.{Marked}
@@ -45,8 +45,3 @@ module _ (keepings : ℕ → Keeping) where
     both_go : (state there : State) → Goes state there → EffectKept (goes_on state) (goes_on there)
     both_print : (word : ℕ) (state there : State) → Goes state there → EffectKept (prints word state) (prints word there)
     both_end : (end : End) (state there : State) → Goes state there → EffectKept (ends end state) (ends end there)
-
-  -- the image of a state whose parts are known
-  pub image_built : (state : State) (running : Frame) (below : List Frame) (tasks : List (List Frame)) → running ≡ image state.running → below ≡ map image state.below
-      → tasks ≡ map (map image) state.tasks → (let built : State = record state { running = running; below = below; tasks = tasks } in built) ≡ image_of state
-  image_built state running below tasks first second third = λ i. record state { running = first i; below = second i; tasks = third i }

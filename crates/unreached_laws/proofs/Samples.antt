@@ -1,5 +1,5 @@
 -- A module with an unreached block, from which a phi loses an entry: both modules are run by the definitions.
-use Rattle.std.proofs.Common.{◌≡◌, ℕ, true, false, Bool, List, [], ◌∷◌, map, Option, Some, None, refl, codes, pos}
+use Rattle.std.proofs.Common.{◌≡◌, ℕ, true, false, List, [], ◌∷◌, map, Option, Some, None, refl, codes, pos}
 use Rattle.sp_ids.specs.declared.ends.End.TheVariants as ended
 use Rattle.ir_ast.specs.declared.modules.Form.TheVariants as form
 use Rattle.ir_ast.specs.declared.ops.Callee.TheVariants as callees
@@ -61,24 +61,24 @@ module_of func = record { layouts = []; funcs = func ∷ []; form = form.Source 
 abbrev whole : Function
 whole =
     main (
-      block (codes "entry") (read ∷ jump 2 ∷ [])
-      ∷ block (codes "dead") (add (codes "d") 0 5 ∷ jump 2 ∷ [])
-      ∷ block (codes "loop")
-      (line (Some (codes "x")) ops.Phi (Int 64) (value 0 ∷ value 1 ∷ value 3 ∷ []) (0 ∷ 1 ∷ 2 ∷ [])
-      ∷ print 2 ∷ add (codes "y") 2 1 ∷ below 3 3 ∷ line None ops.CondBr (Int 1) (value 4 ∷ []) (2 ∷ 3 ∷ []) ∷ [])
-      ∷ block (codes "out") (line None ops.Ret (Int 64) (value 3 ∷ []) [] ∷ [])
-      ∷ []
+    block (codes "entry") (read ∷ jump 2 ∷ [])
+    ∷ block (codes "dead") (add (codes "d") 0 5 ∷ jump 2 ∷ [])
+    ∷ block (codes "loop")
+    (line (Some (codes "x")) ops.Phi (Int 64) (value 0 ∷ value 1 ∷ value 3 ∷ []) (0 ∷ 1 ∷ 2 ∷ [])
+    ∷ print 2 ∷ add (codes "y") 2 1 ∷ below 3 3 ∷ line None ops.CondBr (Int 1) (value 4 ∷ []) (2 ∷ 3 ∷ []) ∷ [])
+    ∷ block (codes "out") (line None ops.Ret (Int 64) (value 3 ∷ []) [] ∷ [])
+    ∷ []
     )
 
 abbrev without : Function
 without =
     main (
-      block (codes "entry") (read ∷ jump 1 ∷ [])
-      ∷ block (codes "loop")
-      (line (Some (codes "x")) ops.Phi (Int 64) (value 0 ∷ value 2 ∷ []) (0 ∷ 1 ∷ [])
-      ∷ print 1 ∷ add (codes "y") 1 1 ∷ below 2 3 ∷ line None ops.CondBr (Int 1) (value 3 ∷ []) (1 ∷ 2 ∷ []) ∷ [])
-      ∷ block (codes "out") (line None ops.Ret (Int 64) (value 2 ∷ []) [] ∷ [])
-      ∷ []
+    block (codes "entry") (read ∷ jump 1 ∷ [])
+    ∷ block (codes "loop")
+    (line (Some (codes "x")) ops.Phi (Int 64) (value 0 ∷ value 2 ∷ []) (0 ∷ 1 ∷ [])
+    ∷ print 1 ∷ add (codes "y") 1 1 ∷ below 2 3 ∷ line None ops.CondBr (Int 1) (value 3 ∷ []) (1 ∷ 2 ∷ []) ∷ [])
+    ∷ block (codes "out") (line None ops.Ret (Int 64) (value 2 ∷ []) [] ∷ [])
+    ∷ []
     )
 
 blocks_dropped : function_kept (true ∷ false ∷ true ∷ true ∷ []) whole ≡ without

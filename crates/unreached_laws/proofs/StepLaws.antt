@@ -1,8 +1,7 @@
 -- One step of a run, and that of the run of the kept blocks.
-use Rattle.std.proofs.Common.{◌≡◌, ℕ, zero, suc, ◌+◌, Bool, true, false, not, if◌then◌else◌, List, [], ◌∷◌, ◌++◌, length, map, take, drop, refl, sym, ap, subst, ◌∙◌, arith}
-use Rattle.std.specs.Prelude.{Option, Some, None, slice_get, nat_lt, Result, Ok, Err}
+use Rattle.std.proofs.Common.{◌≡◌, ℕ, ◌+◌, true, false, not, List, [], ◌∷◌, map, drop, refl, sym, ap, subst, ◌∙◌}
+use Rattle.std.specs.Prelude.{Result, Ok, Err}
 use Rattle.std.specs.List.{All, prefix_len}
-use Rattle.std.specs.Option.{option_map, option_map_or}
 use Rattle.std.proofs.lemmas.Bool.{true≢false}
 use Rattle.std.proofs.lemmas.List.{drop-map, length-map}
 use Rattle.sp_ids.specs.declared.ends.End.TheVariants as ended
@@ -15,20 +14,20 @@ use Rattle.ir_ast.specs.declared.ops.Operand.{Operand}
 use Rattle.ir_ast.specs.declared.ops.Operand.TheVariants as operands
 use Rattle.ir_ast.specs.Faults.PhiEdges.{is_phi}
 use Rattle.ir_ast.specs.Objects.{Datum}
-use Rattle.ir_cfg.specs.Unreached.{Kept, label_kept, operand_kept}
+use Rattle.ir_cfg.specs.Unreached.{Kept, operand_kept}
 use Rattle.ir_cfg.proofs.KeepsPlaces.{marks_before}
 use Rattle.object_meaning.specs.Accesses.{Place, accessed, cell_of, loaded, stored}
 use Rattle.object_meaning.specs.Calls.{called, stepped}
 use Rattle.object_meaning.specs.Computing.{computed, value_of_line}
-use Rattle.object_meaning.specs.Effects.{Effect, goes_on, ends}
+use Rattle.object_meaning.specs.Effects.{Effect, ends}
 use Rattle.object_meaning.specs.Frames.{passed}
 use Rattle.object_meaning.specs.Jumps.{arrived, branch_taken, case_taken, is_case, jumped, label_at}
 use Rattle.object_meaning.specs.Lines.{Line}
 use Rattle.object_meaning.specs.Numbers.{width_of}
 use Rattle.object_meaning.specs.Registers.{nothing, number_in, operand, pointer_in}
-use Rattle.object_meaning.specs.States.{Frame, State, Setting}
+use Rattle.object_meaning.specs.States.{State, Setting}
 use Rattle.object_meaning.specs.Steps.{accesses, acts, loading, returned, settled, skipped, steps_at, storing}
-use Rattle.object_meaning.specs.Traces.{access_of, accesses_at, event_of, events_at, reading, writing}
+use Rattle.object_meaning.specs.Traces.{access_of, accesses_at, events_at, reading, writing}
 use Rattle.renaming_laws.proofs.ListLaws.{all_first, all_rest}
 use Rattle.unreached_laws.proofs.RegisterLaws.{operand_same, put_kept}
 use Rattle.unreached_laws.proofs.Keepings.{ArgumentsFit, Keeping, KeepsBlocks, LineStays, is_grouped, leads_same, leads_to, line_kept, numbers, plain_labels, plain_leads, plain_operands, plain_stay, with_lines}
