@@ -23,13 +23,13 @@ module _ (marks : List Bool) (func : Function) (reached : MarksReached (graph_of
   abbrev new : ℕ → ℕ
   new block = marks_before marks block
 
-  abbrev after : Graph
-  after = graph_of (function_kept marks func)
+  abbrev new_graph : Graph
+  new_graph = graph_of (function_kept marks func)
 
   abbrev kept : Kept
   kept = kept_by marks func
 
-  edge_forth : (from to : ℕ) → Marked marks from → Edge (graph_of func) from to → Edge after (new from) (new to)
+  edge_forth : (from to : ℕ) → Marked marks from → Edge (graph_of func) from to → Edge new_graph (new from) (new to)
   edge_forth from to marked edge =
       let block = marked_block marks func from reached marked in
       let forth = block_forth marks func from block.0 marked block.1 in
@@ -43,10 +43,10 @@ module _ (marks : List Bool) (func : Function) (reached : MarksReached (graph_of
             ∙ (get_map (label_kept kept) (targets block.0) edge.number (block_at to) leads ∙ ap (λ n. Some (block_at n)) (number_of_marked marks to there));
       }
 
-  path_forth : (blocks : List ℕ) (last : ℕ) → Path (graph_of func) blocks last → Path after (map (marks_before marks) blocks) (new last)
-  path_forth _ _ at_entry = subst (λ (n : ℕ). Path after (n ∷ []) n) (sym (before_none marks)) at_entry
+  path_forth : (blocks : List ℕ) (last : ℕ) → Path (graph_of func) blocks last → Path new_graph (map (marks_before marks) blocks) (new last)
+  path_forth _ _ at_entry = subst (λ (n : ℕ). Path new_graph (n ∷ []) n) (sym (before_none marks)) at_entry
   path_forth _ _ (along blocks from to path edge) =
-      subst (λ (all : List ℕ). Path after all (new to)) (sym (map-append (marks_before marks) blocks (to ∷ [])))
+      subst (λ (all : List ℕ). Path new_graph all (new to)) (sym (map-append (marks_before marks) blocks (to ∷ [])))
       (along (map (marks_before marks) blocks) (new from) (new to) (path_forth blocks from path) (edge_forth from to (reached.complete from (blocks, path)) edge))
 
   each_reached : EachIsReached (function_kept marks func)
@@ -54,14 +54,14 @@ module _ (marks : List Bool) (func : Function) (reached : MarksReached (graph_of
       let found = get_some (function_kept marks func).blocks block within in
       let origin = block_back marks func block found.0 found.1 in
       let path = reached.sound origin.place origin.marked in
-      subst (Reached after) origin.same (map (marks_before marks) path.0, path_forth path.0 origin.place path.1)
+      subst (Reached new_graph) origin.same (map (marks_before marks) path.0, path_forth path.0 origin.place path.1)
 
 all_reached : (funcs after : List Function) → AllZip DropsUnreached funcs after → All EachIsReached after
 all_reached [] [] zip = All-nil EachIsReached
-all_reached [] (new ∷ after) zip = absurd zip
+all_reached [] (first ∷ after) zip = absurd zip
 all_reached (func ∷ funcs) [] zip = absurd zip
-all_reached (func ∷ funcs) (new ∷ after) zip =
-    All-cons EachIsReached new after (subst EachIsReached (sym zip.0.rest) (each_reached zip.0.marks func zip.0.reached)) (all_reached funcs after zip.1)
+all_reached (func ∷ funcs) (first ∷ after) zip =
+    All-cons EachIsReached first after (subst EachIsReached (sym zip.0.rest) (each_reached zip.0.marks func zip.0.reached)) (all_reached funcs after zip.1)
 
 pub unreached_are_gone : UnreachedAreGone
 unreached_are_gone content after drops = all_reached content.funcs after.funcs drops.functions
