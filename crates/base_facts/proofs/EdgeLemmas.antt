@@ -12,10 +12,10 @@ use Rattle.pair_facts.specs.Lines.{lines_at, line_in, phis_in, gives, named}
 use Rattle.pair_facts.specs.Pairs.{incoming, value_along}
 use Rattle.pair_facts.proofs.BoolLemmas.{both, joined}
 use Rattle.pair_facts.proofs.GroupLaws.{gives_is, given_is}
-use Rattle.base_facts.specs.declared.homes.Home.{Home}
-use Rattle.base_facts.specs.Homes.{GivesAt, home_at, home_in, KnowsHomes}
+use Rattle.fact_tables.specs.declared.homes.Home.{Home}
+use Rattle.fact_tables.specs.Homes.{GivesAt, home_at, home_in, KnowsHomes}
 use Rattle.base_facts.specs.Edges.{IsPhiOf, FindsPhi, place_below}
-use Rattle.base_facts.proofs.TableLemmas.{home_found, given_once}
+use Rattle.fact_tables.proofs.TableLemmas.{home_found, given_once}
 
 not_given : (line : Line) (value : ℕ) → (line.to ≡ Some value → ⊥) → gives line value ≡ false
 not_given line value other = elim (cases_Bool (gives line value)) [

@@ -15,8 +15,8 @@ use Rattle.pair_facts.specs.Lines.{lines_at, line_in, no_line, head_at, group_in
 use Rattle.pair_facts.specs.Pairs.{relocates_base, has_base}
 use Rattle.pair_facts.proofs.BoolLemmas.{or_first, or_second}
 use Rattle.pair_facts.proofs.GroupLaws.{members_between, members_head, member_stands, stands_member, list_any_none_at}
-use Rattle.base_facts.proofs.LineLemmas.{insts_are, length-plain_lines}
-use Rattle.base_facts.proofs.NoteLemmas.{inst_at}
+use Rattle.fact_tables.proofs.LineLemmas.{insts_are, length-plain_lines}
+use Rattle.fact_tables.proofs.NoteLemmas.{inst_at}
 
 -- ---- an instruction of a block
 

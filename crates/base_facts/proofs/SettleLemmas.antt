@@ -33,7 +33,7 @@ use Rattle.base_facts.specs.declared.facts.Wanted.TheVariants as bases
 use Rattle.base_facts.specs.declared.facts.Fact.{Fact}
 use Rattle.base_facts.specs.declared.settle.Answer.TheVariants.{Never, Asks}
 use Rattle.base_facts.specs.Facts.{operand_in, base_in}
-use Rattle.base_facts.specs.Tables.{IsPlace, first_of, IsWithin, FindsWithin}
+use Rattle.fact_tables.specs.Tables.{IsPlace, first_of, IsWithin, FindsWithin}
 use Rattle.base_facts.specs.Members.{member_named}
 use Rattle.base_facts.specs.Settled.{Decides, SettlesBy, Settles, IsNotGiven, finds_wanted, settled_defined, named_under, with_base}
 

@@ -14,7 +14,7 @@ use Rattle.base_facts.specs.declared.search.Asked.{Asked}
 use Rattle.base_facts.specs.declared.steps.Step.{Step}
 use Rattle.base_facts.specs.declared.steps.Step.TheVariants.{Known, One, Two}
 use Rattle.base_facts.specs.Facts.{operand_in, base_in, holds}
-use Rattle.base_facts.specs.Tables.{IsPlace}
+use Rattle.fact_tables.specs.Tables.{IsPlace}
 use Rattle.base_facts.specs.Asked.{IsReached, MissesFact, IsFact, Asks, Grows, IsAsked, MissedBy, Answered}
 
 -- the facts for which a fact asks in a block hold on a path

@@ -3,7 +3,7 @@ use Rattle.std.specs.Prelude.{◌≡◌, ℕ, ◌<◌, ◌==◌, ◌&&◌, nat_l
 use Rattle.object_meaning.specs.Lines.{Line}
 use Rattle.object_meaning.specs.Jumps.{phi_count}
 use Rattle.pair_facts.specs.Lines.{line_in}
-use Rattle.base_facts.specs.declared.homes.Home.{Home}
+use Rattle.fact_tables.specs.declared.homes.Home.{Home}
 
 -- only the phi at this place gives the value
 pub record IsPhiOf (lines : List Line) (value at : ℕ) : Type 0 where

@@ -1,6 +1,3 @@
-pub mod Homes
-pub mod Notes
-pub mod Tables
 pub mod Facts
 pub mod Members
 pub mod Settled

@@ -15,7 +15,7 @@ use Rattle.base_facts.specs.declared.facts.Fact.{Fact}
 use Rattle.base_facts.specs.declared.settle.Answer.{Answer}
 use Rattle.base_facts.specs.declared.settle.Answer.TheVariants.{Always, Never, Asks}
 use Rattle.base_facts.specs.Facts.{operand_in, base_in, holds}
-use Rattle.base_facts.specs.Tables.{first_of, FindsWithin}
+use Rattle.fact_tables.specs.Tables.{first_of, FindsWithin}
 use Rattle.base_facts.specs.Members.{member_named}
 
 -- whatever stands behind the phis of its block, the fact has this answer

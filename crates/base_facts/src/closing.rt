@@ -2,7 +2,7 @@ ghost use Rattle.std.specs.Prelude.{◌≡◌, ◌<◌, length, IfOk, slice_get}
 ghost use Rattle.ir_cfg.specs.Graphs.{graph_of, Edge};
 ghost use Rattle.object_meaning.specs.Jumps.{phi_count};
 ghost use Rattle.pair_facts.specs.Lines.{lines_at};
-ghost use Rattle.base_facts.specs.Tables.{AreTables};
+ghost use Rattle.fact_tables.specs.Tables.{AreTables};
 ghost use Rattle.base_facts.specs.Settled.{IsDefined};
 ghost use Rattle.base_facts.specs.Asked.{IsReached, IsAsked, IsFact};
 ghost use Rattle.base_facts.specs.Closing.{AskedAlong, HasClosed, AllClosed, CanStep, HasStepped};
@@ -11,7 +11,7 @@ use crate::edges::{along_edge, holds_at_entry};
 use crate::facts::{Fact, Pointer};
 use crate::search::{Asked, ask, fail};
 use crate::steps::{Step, step_of};
-use crate::tables::{Tables, front_of};
+use fact_tables::tables::{Tables, front_of};
 use ir_ast::Func;
 use ir_cfg::Cfg;
 use sp_ids::{BlockId, Memory};

@@ -2,14 +2,14 @@ ghost use Rattle.std.specs.Prelude.{◌≡◌, ◌<◌, ◌==◌, length, positi
 ghost use Rattle.pair_facts.specs.Lines.{lines_at, phis_in};
 ghost use Rattle.pair_facts.specs.Pairs.{at_entry, null_pairs, is_pointer_argument, incoming, value_along, along, base_along};
 ghost use Rattle.base_facts.specs.Facts.{operand_in, base_in, fact_at};
-ghost use Rattle.base_facts.specs.Tables.{AreTables};
+ghost use Rattle.fact_tables.specs.Tables.{AreTables};
 ghost use Rattle.base_facts.specs.Edges.{FindsPhi, place_below};
 
 use crate::facts::{Fact, Pointer, Wanted, fact_at};
-use crate::homes::{Home, home_of};
 use crate::members::{inst_at, is_pointer, operand_at};
 use crate::steps::is_own;
-use crate::tables::{Tables, front_of};
+use fact_tables::homes::{Home, home_of};
+use fact_tables::tables::{Tables, front_of};
 use ir_ast::{Func, Inst, Operand};
 use pair_facts::Base;
 use sp_ids::{BlockId, ValueId};

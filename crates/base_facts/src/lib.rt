@@ -5,13 +5,10 @@ mod asks;
 mod closing;
 mod edges;
 mod facts;
-mod homes;
 mod members;
 mod missed;
-mod notes;
 mod search;
 mod settle;
 mod steps;
-mod tables;
 
 pub use asks::{Ask, Facts};

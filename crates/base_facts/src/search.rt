@@ -1,12 +1,12 @@
 ghost use Rattle.std.specs.Prelude.{◌≡◌, ◌<◌, [], false, length, IfOk};
 ghost use Rattle.object_meaning.specs.Frames.{is_member};
 ghost use Rattle.pair_facts.specs.Lines.{lines_at, line_in};
-ghost use Rattle.base_facts.specs.Tables.{AreTables, IsPlace};
+ghost use Rattle.fact_tables.specs.Tables.{AreTables, IsPlace};
 ghost use Rattle.base_facts.specs.Asked.{IsReached, MissesFact, IsAsked, IsFact, IsNumbered, HasFailed, HasAsked, MissedBy, AddsAsker};
 
 use crate::facts::Fact;
 use crate::settle::{Answer, settled};
-use crate::tables::Tables;
+use fact_tables::tables::Tables;
 use indexmap::IndexSet;
 use ir_ast::Func;
 use sp_ids::Memory;

@@ -1,12 +1,12 @@
 ghost use Rattle.std.specs.Prelude.{◌≡◌, ◌<◌, false, Some, length};
 ghost use Rattle.object_meaning.specs.Frames.{is_member};
 ghost use Rattle.pair_facts.specs.Lines.{lines_at, line_in, head_at};
-ghost use Rattle.base_facts.specs.Tables.{AreTables, IsPlace, IsWithin};
+ghost use Rattle.fact_tables.specs.Tables.{AreTables, IsPlace, IsWithin};
 ghost use Rattle.base_facts.specs.Settled.{Settles, Decides, IsNotGiven, IsLostBehind, FindsBase, known, settled_defined, with_base};
 
 use crate::facts::{Fact, Pointer, Wanted};
 use crate::members::{is_based_member, is_fresh_member, is_null_member};
-use crate::tables::{Tables, front_of, head_at, start_at, within};
+use fact_tables::tables::{Tables, front_of, head_at, start_at, within};
 use ir_ast::Func;
 
 /// What a fact comes to in its block.

@@ -2,13 +2,13 @@ ghost use Rattle.std.specs.Prelude.{◌≡◌, ◌<◌, ◌==◌, ◌&&◌, leng
 ghost use Rattle.pair_facts.specs.Lines.{lines_at, line_in, line_before, same_operand};
 ghost use Rattle.pair_facts.specs.Pairs.{is_named, is_base_named, own_pairs};
 ghost use Rattle.base_facts.specs.Facts.{base_in};
-ghost use Rattle.base_facts.specs.Tables.{AreTables};
+ghost use Rattle.fact_tables.specs.Tables.{AreTables};
 ghost use Rattle.base_facts.specs.Steps.{asked_without, one_of, two_of, own_step, follow_step, select_step, step_for, is_merge_of, merged, GivesBefore};
 
 use crate::facts::{Fact, Wanted, fact_at};
-use crate::homes::{Home, home_of};
 use crate::members::{inst_at, is_pointer, operand_at};
-use crate::tables::Tables;
+use fact_tables::homes::{Home, home_of};
+use fact_tables::tables::Tables;
 use ir_ast::{Func, Inst, Op, Operand};
 use pair_facts::Base;
 use sp_ids::ValueId;

@@ -35,8 +35,8 @@ impl Model for Layouts {
 impl Layouts {
     /// The layout of a module of at most 4,096 functions.
     pub fn of(alloc: Global, module: &Module) -> Result<Layouts, Memory>
-        requires few_functions { length module.now.content.funcs ≤ 4096 }
-        ensures value { IfOk result (λ layouts. layouts ≡ layout_of module.now.content) }
+        requires few_functions { length «module».now.content.funcs ≤ 4096 }
+        ensures value { IfOk result (λ layouts. layouts ≡ layout_of «module».now.content) }
     {
         let funcs = module.funcs();
         let mut entries = Vec::with_capacity(alloc, funcs.len())?;

@@ -19,20 +19,20 @@ use std::alloc::Global;
 /// The bytes of the stack map of a target module without "deopt" bundles (LLVM, "Stack maps and patch points",
 /// "Stack Map Format", version 3). The layouts are those of the module.
 pub fn write(alloc: Global, module: &Module, layouts: &Layouts) -> Result<Vec<u8>, Memory>
-    requires target { IsTargetModule module.now.content }
-    requires no_bundle { All HasNoBundle module.now.content.funcs }
-    requires of_module { layouts.now ≡ layout_of module.now.content }
-    ensures value { IfOk result (λ bytes. bytes.items ≡ map_bytes (map_of module.now.content)) }
-    ensures is_map { IfOk result (λ bytes. IsMapOf bytes.items (map_of module.now.content)) }
+    requires target { IsTargetModule «module».now.content }
+    requires no_bundle { All HasNoBundle «module».now.content.funcs }
+    requires of_module { layouts.now ≡ layout_of «module».now.content }
+    ensures value { IfOk result (λ bytes. bytes.items ≡ map_bytes (map_of «module».now.content)) }
+    ensures is_map { IfOk result (λ bytes. IsMapOf bytes.items (map_of «module».now.content)) }
 {
     write_fitting(alloc, module, layouts)
 }
 
 // The bytes of a map whose numbers fit in their fields.
 fn write_fitting(alloc: Global, module: &Module, layouts: &Layouts) -> Result<Vec<u8>, Memory>
-    requires of_module { layouts.now ≡ layout_of module.now.content }
-    requires fits { MapFits (map_of module.now.content) }
-    ensures { IfOk result (λ bytes. bytes.items ≡ map_bytes (map_of module.now.content)) }
+    requires of_module { layouts.now ≡ layout_of «module».now.content }
+    requires fits { MapFits (map_of «module».now.content) }
+    ensures { IfOk result (λ bytes. bytes.items ≡ map_bytes (map_of «module».now.content)) }
 {
     let funcs = module.funcs();
     let mut bytes = Vec::new(alloc);

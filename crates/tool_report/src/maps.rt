@@ -140,13 +140,13 @@ impl Piece for RecordLine<'_> {
 }
 
 // Puts a line for each pair of locations behind the first three.
-fn put_pairs<W: PieceSink>(record: &RecordRef<'_>, out: &mut W) -> Result<(), Failed>
-    ensures ok { OnOk result (W.took out.old out.new (pair_lines (drop 3 (seen record.now).one.places))) }
-    ensures err { OnErr result (W.failed_within out.old out.new (pair_lines (drop 3 (seen record.now).one.places))) }
+fn put_pairs<W: PieceSink>(site: &RecordRef<'_>, out: &mut W) -> Result<(), Failed>
+    ensures ok { OnOk result (W.took out.old out.new (pair_lines (drop 3 (seen site.now).one.places))) }
+    ensures err { OnErr result (W.failed_within out.old out.new (pair_lines (drop 3 (seen site.now).one.places))) }
 {
-    for pair in 0..record.places().saturating_sub(3) / 2 {
-        let base = record.place(3 + 2 * pair);
-        let derived = record.place(4 + 2 * pair);
+    for pair in 0..site.places().saturating_sub(3) / 2 {
+        let base = site.place(3 + 2 * pair);
+        let derived = site.place(4 + 2 * pair);
         PairLine(base, derived).put_into(out)?;
     }
     Ok(())

@@ -18,10 +18,10 @@ use Rattle.object_meaning.specs.Lines.{Line, registers_of, insts_in}
 use Rattle.object_meaning.specs.Frames.{is_member}
 use Rattle.pair_facts.specs.Lines.{lines_at, line_in, no_line, head_at, head_here, is_relocate}
 use Rattle.pair_facts.specs.Uses.{Use, Uses, relocates, checks, compares, escapes, Relocates, entries_used, entries_at, checked, compared, escaping, pointers_of}
-use Rattle.base_facts.specs.Homes.{IsBefore}
-use Rattle.base_facts.specs.Notes.{head_before}
-use Rattle.base_facts.proofs.LineLemmas.{plain_at, insts_are, length-plain_lines}
-use Rattle.base_facts.proofs.NoteLemmas.{inst_at}
+use Rattle.fact_tables.specs.Homes.{IsBefore}
+use Rattle.fact_tables.specs.Notes.{head_before}
+use Rattle.fact_tables.proofs.LineLemmas.{plain_at, insts_are, length-plain_lines}
+use Rattle.fact_tables.proofs.NoteLemmas.{inst_at}
 use Rattle.used_pairs.specs.declared.uses.UsedPair.{UsedPair}
 use Rattle.used_pairs.specs.Places.{is_pointer_at, entries_pair}
 use Rattle.used_pairs.specs.Lists.{use_in, use_with, IsUse, AreUsed, own_used, of_head, relocated_used, checked_used, compared_used, listed}

@@ -7,7 +7,7 @@ use Rattle.ir_ast.specs.Funcs.{Function}
 use Rattle.ir_ast.specs.Faults.GroupShape.{entries_of}
 use Rattle.pair_facts.specs.Lines.{lines_at, is_relocate}
 use Rattle.pair_facts.specs.Uses.{Use, Uses, checked, compared, escaping}
-use Rattle.base_facts.specs.Homes.{IsBefore}
+use Rattle.fact_tables.specs.Homes.{IsBefore}
 use Rattle.used_pairs.specs.declared.helpers.Pair.{Pair}
 use Rattle.used_pairs.specs.declared.uses.UsedPair.{UsedPair}
 use Rattle.used_pairs.specs.Places.{pair_of, entries_pair}

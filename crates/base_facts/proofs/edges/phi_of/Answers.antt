@@ -1,7 +1,7 @@
 use Rattle.std.proofs.Common.{◌≡◌, ◌∙◌, ap, sym, subst, List, Option, Some, None}
 use Rattle.pair_facts.specs.Lines.{lines_at}
-use Rattle.base_facts.specs.declared.homes.Home.{Home}
-use Rattle.base_facts.specs.Homes.{home_in}
+use Rattle.fact_tables.specs.declared.homes.Home.{Home}
+use Rattle.fact_tables.specs.Homes.{home_in}
 use Rattle.base_facts.specs.Edges.{FindsPhi, place_below}
 use Rattle.base_facts.proofs.EdgeLemmas.{finds_phi, finds_no_phi}
 use Rattle.base_facts.proofs.edges.phi_of.Goals as goal

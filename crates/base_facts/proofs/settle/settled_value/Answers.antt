@@ -4,7 +4,7 @@ use Rattle.pair_facts.specs.Pairs.{after_group}
 use Rattle.pair_facts.specs.Uses.{entries_at}
 use Rattle.base_facts.specs.declared.facts.Pointer.{Pointer}
 use Rattle.base_facts.specs.Facts.{operand_in, base_in}
-use Rattle.base_facts.specs.Tables.{FindsWithin}
+use Rattle.fact_tables.specs.Tables.{FindsWithin}
 use Rattle.base_facts.proofs.SettleLemmas.{value_lost}
 use Rattle.base_facts.proofs.settle.settled_value.Goals as goal
 

@@ -3,7 +3,7 @@ use Rattle.ir_ast.specs.Insts.{Instruction}
 use Rattle.object_meaning.specs.Lines.{Line}
 use Rattle.pair_facts.specs.Lines.{lines_at, line_in}
 use Rattle.base_facts.specs.Steps.{follow_step, merged}
-use Rattle.base_facts.proofs.TableLemmas.{last_line}
+use Rattle.fact_tables.proofs.TableLemmas.{last_line}
 use Rattle.base_facts.proofs.steps.follow_step.Goals as goal
 
 pub returns : goal.returns

@@ -1,7 +1,7 @@
 use Rattle.std.proofs.Common.{◌≡◌, ◌∙◌, ◌-◌, ap, sym, List, Option, Some, None}
-use Rattle.base_facts.specs.declared.homes.Home.{Home}
-use Rattle.base_facts.specs.Homes.{home_in}
-use Rattle.base_facts.proofs.TableLemmas.{home_gives, no_home_gives}
+use Rattle.fact_tables.specs.declared.homes.Home.{Home}
+use Rattle.fact_tables.specs.Homes.{home_in}
+use Rattle.fact_tables.proofs.TableLemmas.{home_gives, no_home_gives}
 use Rattle.base_facts.proofs.steps.gives_before.Goals as goal
 
 pub returns-in-Some : goal.returns-in-Some

@@ -1,7 +1,7 @@
 use Rattle.std.proofs.Common.{◌≡◌, ◌∙◌, ◌++◌, ap, sym, [], ◌∷◌, List, ℕ, Vec, Global, set, get_or}
 use Rattle.std.specs.Prelude.{map}
 use Rattle.std.proofs.lemmas.List.{get_or-map}
-use Rattle.base_tables.proofs.UserLemmas.{set-map}
+use Rattle.edge_rows.proofs.Rows.{set-map}
 use Rattle.base_tables.proofs.derived.push_user.Goals as goal
 
 pub returns : goal.returns

@@ -6,4 +6,4 @@ use Rattle.tool_report.proofs.maps.put_pairs.Given as goal
 
 abbrev pub invariant-loop-pair : goal.invariant-loop-pair
 invariant-loop-pair g l =
-    TookBefore g.W.PieceSink.took l.initial.out l.out (pair_lines (drop 3 (seen l.record).one.places)) (pair_lines (drop (3 + 2 * l.pair) (seen l.record).one.places))
+    TookBefore g.W.PieceSink.took l.initial.out l.out (pair_lines (drop 3 (seen l.site).one.places)) (pair_lines (drop (3 + 2 * l.pair) (seen l.site).one.places))

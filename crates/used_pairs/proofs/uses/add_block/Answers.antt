@@ -4,8 +4,8 @@ use Rattle.ir_ast.specs.declared.ops.Op.{Op}
 use Rattle.ir_ast.specs.Insts.{Instruction}
 use Rattle.object_meaning.specs.Lines.{insts_in}
 use Rattle.pair_facts.specs.Lines.{lines_at, head_here}
-use Rattle.base_facts.specs.Notes.{head_before}
-use Rattle.base_facts.proofs.LineLemmas.{insts_are}
+use Rattle.fact_tables.specs.Notes.{head_before}
+use Rattle.fact_tables.proofs.LineLemmas.{insts_are}
 use Rattle.used_pairs.specs.Lists.{AreUsed}
 use Rattle.used_pairs.proofs.UseLemmas.{head_more, used_more, used_next}
 use Rattle.used_pairs.proofs.uses.add_block.Goals as goal

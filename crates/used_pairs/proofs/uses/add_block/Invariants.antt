@@ -1,6 +1,6 @@
 use Rattle.std.proofs.Common.{◌≡◌}
 use Rattle.pair_facts.specs.Lines.{lines_at}
-use Rattle.base_facts.specs.Notes.{head_before}
+use Rattle.fact_tables.specs.Notes.{head_before}
 use Rattle.used_pairs.specs.Lists.{AreUsed}
 use Rattle.used_pairs.proofs.uses.add_block.Given as goal
 

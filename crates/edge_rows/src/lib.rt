@@ -1,0 +1,2 @@
+//! Laws of the rows of a graph to which edges are added one at a time.
+#![tactic(auto)]

@@ -1,0 +1,4 @@
+pub mod LineLemmas
+pub mod HomeLemmas
+pub mod NoteLemmas
+pub mod TableLemmas

@@ -1,0 +1,19 @@
+use Rattle.std.proofs.Common.{ap, length, arith, ◌∙◌}
+use Rattle.pair_facts.specs.Lines.{lines_at, head_at}
+use Rattle.fact_tables.proofs.NoteLemmas.{length-told}
+use Rattle.fact_tables.proofs.TableLemmas.{notes_read, head_read}
+use Rattle.fact_tables.proofs.tables.head_at.Goals as goal
+
+pub index-requires-2 : goal.index-requires-2
+index-requires-2 c =
+    let func = c.args.func.now.content in
+    let lines = lines_at func c.args.block in
+    let is = notes_read func c.args.tables.now c.args.block c.index.result.now c.requires.tables c.requires.block c.index.ensures in
+    let count = ap length is.heads ∙ length-told (head_at lines) (length lines) in
+    omega (arith, count, c.index.result.now.heads.ok.0, c.requires.place)
+
+pub returns : goal.returns
+returns c =
+    let func = c.args.func.now.content in
+    let is = notes_read func c.args.tables.now c.args.block c.index.result.now c.requires.tables c.requires.block c.index.ensures in
+    head_read (lines_at func c.args.block) c.index.result.now c.args.place c.index-2.result.now is c.requires.place c.index-2.ensures
