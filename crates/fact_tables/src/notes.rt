@@ -22,12 +22,7 @@ pub struct Notes {
 }
 
 /// The notes on the block with this number.
-pub fn notes_of(
-    alloc: Global,
-    func: &Func,
-    number: usize,
-    block: &Block,
-) -> Result<Notes, Memory>
+pub fn notes_of(alloc: Global, func: &Func, number: usize, block: &Block) -> Result<Notes, Memory>
     requires { slice_get func.now.content.blocks number ≡ Some block.now }
     ensures { IfOk result (λ notes. IsNotes (lines_at func.now.content number) notes) }
 {

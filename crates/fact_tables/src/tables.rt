@@ -67,13 +67,7 @@ pub fn head_at(func: &Func, tables: &Tables, block: usize, place: usize) -> Opti
 }
 
 /// Where a value is defined behind the last statepoint before a place of a block and the block's phis, if it is.
-pub fn within(
-    func: &Func,
-    tables: &Tables,
-    block: usize,
-    place: usize,
-    value: u32,
-) -> Option<usize>
+pub fn within(func: &Func, tables: &Tables, block: usize, place: usize, value: u32) -> Option<usize>
     requires tables { AreTables func.now.content tables.now }
     requires place { IsPlace func.now.content block place }
     ensures { FindsWithin (lines_at func.now.content block) place value result }
