@@ -1,0 +1,29 @@
+ghost use Rattle.std.specs.Prelude.{◌≡◌, map, IfOk};
+ghost use Rattle.rewriting_forms.specs.Liveness.{live_lists};
+ghost use Rattle.live_sets.specs.Values.{valued};
+ghost use Rattle.statepoint_insert.specs.Groups.{group_of, groups_of};
+ghost use Rattle.statepoint_insert.specs.Marked.{IsReady, marked_of};
+
+use crate::bounds::room_for;
+use crate::groups::Group;
+use crate::indices::group;
+use crate::marked::Marked;
+use ir_ast::{BaseTable, Func, LiveTable, Operand};
+use sp_ids::{Memory, ValueId};
+use std::alloc::Global;
+
+/// The function with a statepoint group in place of each call that isn't of a leaf: the statepoint with its "gc-live" list, the call's
+/// result under its old name, and one relocate for each live pointer, in the order of the list, with the index of its base. The list
+/// begins with `null` where some live pointer has this base (Garbage Collection Safepoints in LLVM, "RewriteStatepointsForGC"). Where
+/// memory is wanted the function is gone.
+///
+/// It takes the function with bases and checks, the base of each of its values, and the pointers that are live across its calls.
+pub fn insert(alloc: Global, func: Func, live: &LiveTable, bases: &BaseTable) -> Result<Marked, Memory>
+    requires ready { IsReady func.content bases.now }
+    requires live { live.now ≡ map (map valued) (live_lists func.content bases.now) }
+    ensures { IfOk result (λ marked. marked ≡ marked_of func.content bases.now) }
+{
+    let groups = groups(alloc, live.lists(), bases.bases())?;
+    let table = Vec::from_slice(alloc, bases.bases())?;
+    Ok(Marked::of(func, BaseTable::of(table), groups))
+}
