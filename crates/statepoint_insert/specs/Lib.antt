@@ -1,3 +1,5 @@
 pub mod Groups
 pub mod Marked
 pub mod Texts
+pub mod Lines
+pub mod Ranks

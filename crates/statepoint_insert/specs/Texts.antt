@@ -1,30 +1,28 @@
 -- The lines of a group in the final text.
-use Rattle.std.specs.Prelude.{ℕ, suc, ◌+◌, Bool, if◌then◌else◌, List, [], ◌∷◌, ◌++◌, map, Option, Some, None, codes, decimal}
+use Rattle.std.specs.Prelude.{ℕ, suc, Bool, if◌then◌else◌, List, [], ◌∷◌, ◌++◌, map, Option, Some, None, codes, decimal}
 use Rattle.ir_ast.specs.declared.types.Ty.{Ty}
 use Rattle.ir_ast.specs.declared.types.Ty.TheVariants.{Ptr}
 use Rattle.ir_ast.specs.declared.ops.Callee.{Callee}
 use Rattle.ir_ast.specs.declared.ops.Operand.{Operand}
 use Rattle.ir_ast.specs.declared.ops.Operand.TheVariants.{Int, Null}
-use Rattle.ir_ast.specs.declared.ops.Op.{Op}
-use Rattle.ir_ast.specs.declared.ops.Op.TheVariants.{Call, Statepoint, GcResult, GcRelocate}
+use Rattle.ir_ast.specs.declared.ops.Op.TheVariants.{Statepoint, GcResult, GcRelocate}
 use Rattle.ir_ast.specs.Insts.{Instruction}
 use Rattle.rewriting_forms.specs.Numbered.{named}
 use Rattle.statepoint_insert.specs.declared.groups.Relocate.{Relocate}
-use Rattle.statepoint_insert.specs.declared.texts.Counts.{Counts}
-use Rattle.statepoint_insert.specs.Groups.{GroupContent}
 
 -- the entries, with the pointers by the numbers that they have there
 abbrev pub live_entries : Bool → List ℕ → List Operand
 live_entries has_null live = (if has_null then Null ∷ [] else []) ++ map (λ v. named v) live
 
-abbrev pub statepoint_line : Counts → Bool → List ℕ → Callee → List Ty → Instruction → Instruction
-statepoint_line counts has_null live callee types call = record {
-  result = Some (codes "sp.t" ++ decimal counts.tokens);
+-- the count is that among all statepoints of the text
+abbrev pub statepoint_line : (count : ℕ) → Bool → List ℕ → Callee → List Ty → Ty → List Operand → List (Ty × Operand) → Instruction
+statepoint_line count has_null live callee types ty operands bundle = record {
+  result = Some (codes "sp.t" ++ decimal count);
   op = Statepoint 2882400000 callee types;
-  ty = call.ty;
-  operands = call.operands ++ live_entries has_null live;
+  ty = ty;
+  operands = operands ++ live_entries has_null live;
   labels = [];
-  bundle = call.bundle;
+  bundle = bundle;
 }
 
 abbrev pub result_lines : ℕ → Ty → Option (List ℕ) → List Instruction
@@ -50,10 +48,3 @@ relocate_lines token count rank (relocate ∷ relocates) =
 
 abbrev pub first_rank : Bool → ℕ
 first_rank has_null = if has_null then 1 else 0
-
--- the lines for a call whose operands have their final numbers
-abbrev pub group_lines : Counts → ℕ → GroupContent → List ℕ → Instruction → Op → List Instruction
-group_lines counts token group live call (Call callee types) =
-    statepoint_line counts group.has_null live callee types call
-    ∷ (result_lines token call.ty call.result ++ relocate_lines token counts.relocates (first_rank group.has_null) group.relocates)
-group_lines counts token group live call _ = call ∷ []

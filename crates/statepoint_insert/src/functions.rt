@@ -1,7 +1,7 @@
-ghost use Rattle.std.specs.Prelude.{◌≡◌, map, IfOk};
+ghost use Rattle.std.specs.Prelude.{◌≡◌, ◌<◌, ◌-◌, ◌^◌, length, map, IfOk};
+ghost use Rattle.std.specs.List.{All};
 ghost use Rattle.rewriting_forms.specs.Liveness.{live_lists};
-ghost use Rattle.live_sets.specs.Values.{valued};
-ghost use Rattle.statepoint_insert.specs.Groups.{group_of, groups_of};
+ghost use Rattle.statepoint_insert.specs.Groups.{valued, numbers_in, group_of};
 ghost use Rattle.statepoint_insert.specs.Marked.{IsReady, marked_of};
 
 use crate::bounds::room_for;
@@ -26,4 +26,21 @@ pub fn insert(alloc: Global, func: Func, live: &LiveTable, bases: &BaseTable) ->
     let groups = groups(alloc, live.lists(), bases.bases())?;
     let table = Vec::from_slice(alloc, bases.bases())?;
     Ok(Marked::of(func, BaseTable::of(table), groups))
+}
+
+// The groups of calls with these live lists.
+fn groups(
+    alloc: Global,
+    lists: &[Vec<ValueId>],
+    bases: &[Operand],
+) -> Result<Vec<Group>, Memory>
+    requires { All (λ list. length list.items < 2 ^ 32 - 1) lists.now }
+    ensures { IfOk result (λ groups. groups.items ≡ map (λ list. group_of bases.now (numbers_in list.items)) lists.now) }
+{
+    let mut row = vec![in alloc; 0_u32; room_for(lists)]?;
+    let mut groups = Vec::with_capacity(alloc, lists.len())?;
+    for list in lists {
+        groups.push(group(alloc, bases, list.as_slice(), &mut row)?)?;
+    }
+    Ok(groups)
 }

@@ -8,8 +8,12 @@ mod functions;
 mod groups;
 mod indices;
 mod marked;
+mod push;
+mod texts;
 
 pub use counting::count;
 pub use functions::insert;
 pub use groups::{Group, Relocate};
 pub use marked::Marked;
+pub use push::push_group;
+pub use texts::{Call, Counts};
