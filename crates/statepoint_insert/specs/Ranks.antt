@@ -1,5 +1,5 @@
 -- Rows of indices by value.
-use Rattle.std.specs.Prelude.{◌≡◌, ℕ, suc, ◌==◌, false, if◌then◌else◌, List, [], ◌∷◌, slice_index}
+use Rattle.std.specs.Prelude.{◌≡◌, ℕ, suc, ◌==◌, Bool, false, if◌then◌else◌, List, [], ◌∷◌, slice_index}
 use Rattle.std.specs.List.{list_any}
 use Rattle.sp_ids.specs.declared.ids.ValueId.{ValueId}
 use Rattle.ir_ast.specs.declared.ops.Operand.{Operand}
@@ -7,14 +7,14 @@ use Rattle.ir_ast.specs.declared.ops.Operand.TheVariants.{Value}
 use Rattle.rewriting_forms.specs.Numbered.{base_at}
 use Rattle.statepoint_insert.specs.declared.groups.Relocate.{Relocate}
 
--- the rank of the first of these that is the value, counted from `rank`, or 0
-abbrev pub rank_from : ℕ → List ValueId → ℕ → ℕ
-rank_from rank [] v = 0
-rank_from rank (value ∷ values) v = if value.0 == v then rank else rank_from (suc rank) values v
+-- the rank of the first that passes, counted from `rank`, or 0
+abbrev pub placed : {A : Type 0} → (A → Bool) → ℕ → List A → ℕ
+placed test rank [] = 0
+placed test rank (x ∷ xs) = if test x then rank else placed test (suc rank) xs
 
 -- the row has the ranks of these values, and 0 elsewhere
 pub record HasRanks (rank : ℕ) (values : List ValueId) (row : List ℕ) : Type 0 where
-  pub each : (v : ℕ) → slice_index row v ≡ rank_from rank values v
+  pub each : (v : ℕ) → slice_index row v ≡ placed (λ value. value.0 == v) rank values
 
 pub record IsBlank (row : List ℕ) : Type 0 where
   pub each : (v : ℕ) → slice_index row v ≡ 0
