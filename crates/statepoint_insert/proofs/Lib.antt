@@ -1,2 +1,4 @@
 pub mod RankLaws
 pub mod ListLaws
+pub mod BoundLaws
+pub mod LineLaws

@@ -3,7 +3,7 @@ use Rattle.std.proofs.Common.{◌≡◌, ◌≢◌, ℕ, zero, suc, ◌+◌, ◌
 use Rattle.std.specs.Prelude.{slice_index}
 use Rattle.std.specs.List.{list_any, position, position_or_len, All}
 use Rattle.std.specs.Option.{option_map_or}
-use Rattle.std.proofs.lemmas.Bool.{cases_Bool, cases_eq, cases_lt, eq-eqb, ne_eqb, false≢true}
+use Rattle.std.proofs.lemmas.Bool.{cases_Bool, cases_eq, cases_lt, lt-ltb, le-ltb, eq-eqb, ne_eqb, false≢true}
 use Rattle.std.proofs.lemmas.List.{get_or-set_same, get_or-set_other, get_or-replicate}
 use Rattle.std.proofs.Math.ListN.{get_or-eq_default}
 use Rattle.std.proofs.lemmas.List.{length-replicate}
@@ -14,7 +14,7 @@ use Rattle.ir_ast.specs.declared.ops.Operand.TheVariants.{Value, Int, Null, Fun}
 use Rattle.rewriting_forms.specs.Numbered.{named, base_at}
 use Rattle.rewriting_forms.specs.Rewritten.{is_null, same_operand}
 use Rattle.statepoint_insert.specs.declared.groups.Relocate.{Relocate}
-use Rattle.statepoint_insert.specs.Groups.{valued, numbers_in, has_null_base, entries_of, index_in, relocate_in, group_of}
+use Rattle.statepoint_insert.specs.Groups.{GroupContent, valued, numbers_in, has_null_base, entries_of, index_in, relocate_in, group_of}
 use Rattle.statepoint_insert.specs.Texts.{first_rank}
 use Rattle.statepoint_insert.specs.Ranks.{placed, HasRanks, IsBlank, IsBlankBeside, index_by, relocate_by}
 
@@ -23,14 +23,18 @@ use Rattle.statepoint_insert.specs.Ranks.{placed, HasRanks, IsBlank, IsBlankBesi
 pub placed_is : {A : Type 0} (test : A → Bool) (rank : ℕ) (xs : List A) → placed test rank xs ≡ option_map_or (λ place. rank + place) (position test xs) 0
 placed_is test rank [] = refl
 placed_is test rank (x ∷ xs) = elim (cases_Bool (test x)) [
-  | inl passes ↦ rw passes (omega arith)
+  | inl passes ↦ rw (passes, lt-ltb 0 (length (x ∷ xs)) (omega arith)) (omega arith)
   | inr fails ↦
-      let e : 1 + position_or_len test xs ≡ suc (position_or_len test xs) = omega arith in
-      let rest = placed_is test (suc rank) xs in
-      rw (fails, e) (elim (cases_Bool (ltb (position_or_len test xs) (length xs))) [
-        | inl below ↦ rw below (let h = rw below at rest in omega (arith, h))
-        | inr beyond ↦ rw beyond (let h = rw beyond at rest in h)
-      ])
+      let n = position_or_len test xs in
+      let e : 1 + n ≡ suc n = omega arith in
+      elim (cases_lt n (length xs)) [
+        | inl below ↦
+            let rest = rw (lt-ltb n (length xs) below) at (placed_is test (suc rank) xs) in
+            rw (fails, e, lt-ltb (suc n) (length (x ∷ xs)) (omega (arith, below))) (omega (arith, rest))
+        | inr beyond ↦
+            let rest = rw (le-ltb n (length xs) beyond) at (placed_is test (suc rank) xs) in
+            rw (fails, e, le-ltb (suc n) (length (x ∷ xs)) (omega (arith, beyond))) rest
+      ]
 ]
 
 from_zero : (o : Option ℕ) → option_map_or (λ place. 0 + place) o 0 ≡ option_map_or (λ place. place) o 0
@@ -121,7 +125,7 @@ null_any table (value ∷ values) = elim (cases_Bool (is_null (base_at table val
 -- the group that is made by a row is that of the list
 pub group_made : (table : List Operand) (values : List ValueId) (row : List ℕ) (has_null : Bool) (relocates : List Relocate)
     → has_null ≡ list_any (λ value. is_null (base_at table value.0)) values → HasRanks (first_rank has_null) values row
-    → relocates ≡ map (relocate_by table row) values → record { has_null = has_null; relocates = relocates } ≡ group_of table (numbers_in values)
+    → relocates ≡ map (relocate_by table row) values → (let made : GroupContent = record { has_null = has_null; relocates = relocates } in made) ≡ group_of table (numbers_in values)
 group_made table values row has_null relocates null_is ranks made =
     let same = null_is ∙ null_any table values in
     let ranked : HasRanks (first_rank (has_null_base table (numbers_in values))) values row = rw same at ranks in
@@ -134,7 +138,7 @@ pub blank_row : (n : ℕ) → IsBlank (replicate n 0)
 blank_row n = record {
   each = λ v. elim (cases_lt v n) [
     | inl below ↦ get_or-replicate n v 0 0 below
-    | inr beyond ↦ get_or-eq_default (replicate n 0) 0 (let h = length-replicate n 0 in omega (arith, h, beyond))
+    | inr beyond ↦ get_or-eq_default (replicate n 0) 0 (let h = length-replicate {A = ℕ} n 0 in omega (arith, h, beyond))
   ];
 }
 

@@ -21,10 +21,15 @@ fn room_with(room: usize, list: &[ValueId]) -> usize
 {
     let mut most = room;
     for value in list {
-        let number = value.0 as usize;
-        if most <= number {
-            most = number + 1;
-        }
+        most = above(most, *value);
     }
     most
+}
+
+fn above(most: usize, value: ValueId) -> usize
+    ensures grows { most ≤ result }
+    ensures room { value.0 < result }
+{
+    let number = value.0 as usize;
+    if most <= number { number + 1 } else { most }
 }

@@ -3,6 +3,7 @@ ghost use Rattle.std.specs.List.{All, list_any};
 ghost use Rattle.rewriting_forms.specs.Numbered.{base_at};
 ghost use Rattle.rewriting_forms.specs.Rewritten.{is_null};
 ghost use Rattle.statepoint_insert.specs.Groups.{numbers_in, group_of};
+ghost use Rattle.statepoint_insert.specs.Texts.{first_rank};
 ghost use Rattle.statepoint_insert.specs.Ranks.{HasRanks, IsBlank, IsBlankBeside, index_by, relocate_by};
 
 use crate::groups::{Group, Relocate};
@@ -25,11 +26,17 @@ pub(crate) fn group(
     ensures whole { IfOk result (λ _. length row.new.items ≡ length row.old.items) }
 {
     let has_null = has_null(bases, list);
-    let first = if has_null { 1 } else { 0 };
-    set_ranks(list, first, row);
+    set_ranks(list, first_rank(has_null), row);
     let relocates = relocates(alloc, bases, list, row.as_slice())?;
     clear(list, row);
     Ok(Group::of(has_null, relocates))
+}
+
+/// The index of the first pointer in a "gc-live" list.
+pub(crate) fn first_rank(has_null: bool) -> u32
+    ensures { result ≡ first_rank has_null }
+{
+    if has_null { 1 } else { 0 }
 }
 
 // Whether some value's base is `null`.

@@ -17,6 +17,7 @@ pub struct Marked {
 }
 
 impl Model for Marked {
+    ghost use Rattle.std.specs.Prelude.{◌≡◌};
     ghost use Rattle.statepoint_insert.specs.Groups.{groups_of};
     ghost use Rattle.statepoint_insert.specs.Marked.{MarkedFunction, IsReady};
 

@@ -5,6 +5,7 @@ ghost use Rattle.rewriting_forms.specs.Numbered.{named};
 ghost use Rattle.statepoint_insert.specs.Texts.{live_entries, statepoint_line, result_lines, relocate_line, relocate_lines, first_rank};
 
 use crate::groups::{Group, Relocate};
+use crate::indices::first_rank;
 use ir_ast::{Callee, Inst, Name, Op, Operand, Operands, Ty, Types};
 use itoa::Buffer;
 use smallvec::SmallVec;
@@ -116,19 +117,13 @@ pub(crate) fn push_relocates(
     ensures { IfOk result (λ _. lines.new.items ≡ lines.old.items ++ relocate_lines token first (first_rank group.now.has_null) group.now.relocates) }
 {
     let mut count = first;
-    let mut rank = first_rank(group.has_null());
+    let mut rank = first_rank(group.has_null()) as u64;
     for relocate in group.relocates() {
         lines.push(relocate_line(alloc, token, count, rank, *relocate)?)?;
         count += 1;
         rank += 1;
     }
     Ok(())
-}
-
-fn first_rank(has_null: bool) -> u64
-    ensures { result ≡ first_rank has_null }
-{
-    if has_null { 1 } else { 0 }
 }
 
 fn relocate_line(
