@@ -2,3 +2,4 @@ pub mod RankLaws
 pub mod ListLaws
 pub mod BoundLaws
 pub mod LineLaws
+pub mod CallLaws

@@ -3,3 +3,4 @@ pub mod Marked
 pub mod Texts
 pub mod Lines
 pub mod Ranks
+pub mod Calls

@@ -23,8 +23,8 @@ pub fn insert(alloc: Global, func: Func, live: &LiveTable, bases: &BaseTable) ->
     requires live { live.now ≡ map (map valued) (live_lists func.content bases.now) }
     ensures { IfOk result (λ marked. marked ≡ marked_of func.content bases.now) }
 {
-    let groups = groups(alloc, live.lists(), bases.bases())?;
     let table = Vec::from_slice(alloc, bases.bases())?;
+    let groups = groups(alloc, live.lists(), table.as_slice())?;
     Ok(Marked::of(func, BaseTable::of(table), groups))
 }
 
