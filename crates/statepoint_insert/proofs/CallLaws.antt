@@ -1,10 +1,10 @@
 -- The live list of a call is that at its place among the calls.
-use Rattle.std.proofs.Common.{◌≡◌, ℕ, zero, suc, ◌+◌, ◌<◌, Bool, true, false, if◌then◌else◌, List, [], ◌∷◌, ◌++◌, length, take, refl, ap, sym, arith, Some, slice_get, inl, inr, ◌∙◌}
+use Rattle.std.proofs.Common.{◌≡◌, ℕ, zero, suc, cond, ◌+◌, ◌<◌, Bool, true, false, if◌then◌else◌, List, [], ◌∷◌, ◌++◌, length, take, refl, ap, sym, arith, Some, slice_get, inl, inr, ◌∙◌}
 use Rattle.std.specs.Prelude.{count_by}
 use Rattle.std.specs.List.{sum_by, flat_map, range_with_len}
 use Rattle.std.proofs.lemmas.Bool.{cases_Bool}
 use Rattle.std.proofs.lemmas.List.{length-append}
-use Rattle.std.proofs.lemmas.List.Sums.{sum_by-cons, count_by-cons}
+use Rattle.std.proofs.lemmas.List.Sums.{sum_by-cons}
 use Rattle.list_laws.proofs.Places.{get_front, get_past}
 use Rattle.ir_ast.specs.declared.ops.Operand.{Operand}
 use Rattle.ir_ast.specs.Funcs.{Function}
@@ -13,18 +13,21 @@ use Rattle.rewriting_forms.specs.Numbered.{lines_at, calls}
 use Rattle.rewriting_forms.specs.Liveness.{live_list, lists_from, live_lists}
 use Rattle.statepoint_insert.specs.Calls.{calls_in, calls_before}
 
+count_cons : (line : Line) (lines : List Line) → count_by calls (line ∷ lines) ≡ cond (calls line) 1 0 + count_by calls lines
+count_cons line lines = sum_by-cons (λ (l : Line). cond (calls l) 1 0) line lines
+
 module _ (func : Function) (table : List Operand) where
   pub lists_count : (b k : ℕ) (lines : List Line) → length (lists_from func table b k lines) ≡ count_by calls lines
   lists_count b k [] = refl
   lists_count b k (line ∷ lines) = elim (cases_Bool (calls line)) [
     | inl is ↦
         let rest = lists_count b (suc k) lines in
-        let one = count_by-cons calls line lines in
+        let one = count_cons line lines in
         let g = rw is at one in
         rw is (omega (arith, rest, g))
     | inr other ↦
         let rest = lists_count b (suc k) lines in
-        let one = count_by-cons calls line lines in
+        let one = count_cons line lines in
         let g = rw other at one in
         rw other (omega (arith, rest, g))
   ]
@@ -41,7 +44,7 @@ module _ (func : Function) (table : List Operand) where
   list_in b first (suc k) line (one ∷ lines) stands is =
       let rest = list_in b (suc first) k line lines stands is in
       let at : suc first + k ≡ first + suc k = omega arith in
-      let count = count_by-cons calls one (take k lines) in
+      let count = count_cons one (take k lines) in
       let tail = rest ∙ ap (λ (n : ℕ). Some (live_list func table b n)) at in
       elim (cases_Bool (calls one)) [
         | inl here ↦

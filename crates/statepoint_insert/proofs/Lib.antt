@@ -3,3 +3,5 @@ pub mod ListLaws
 pub mod BoundLaws
 pub mod LineLaws
 pub mod CallLaws
+pub mod TextLaws
+pub mod OldNames

@@ -67,7 +67,7 @@ placed_none test rank (x ∷ xs) none = elim (cases_Bool (test x)) [
   | inr fails ↦ rw fails (placed_none test (suc rank) xs (let h = rw fails at none in h))
 ]
 
-null_first : (test : Operand → Bool) (has_null : Bool) (list : List ℕ) → test Null ≡ false
+pub null_first : (test : Operand → Bool) (has_null : Bool) (list : List ℕ) → test Null ≡ false
     → placed test 0 ((if has_null then Null ∷ [] else []) ++ map (λ v. named v) list) ≡ placed test (first_rank has_null) (map (λ v. named v) list)
 null_first test true list fails = rw fails refl
 null_first test false list fails = refl
