@@ -5,3 +5,5 @@ pub mod LineLaws
 pub mod CallLaws
 pub mod TextLaws
 pub mod OldNames
+pub mod PlainLaws
+mod Example

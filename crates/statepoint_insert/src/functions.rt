@@ -18,7 +18,12 @@ use std::alloc::Global;
 /// memory is wanted the function is gone.
 ///
 /// It takes the function with bases and checks, the base of each of its values, and the pointers that are live across its calls.
-pub fn insert(alloc: Global, func: Func, live: &LiveTable, bases: &BaseTable) -> Result<Marked, Memory>
+pub fn insert(
+    alloc: Global,
+    func: Func,
+    live: &LiveTable,
+    bases: &BaseTable,
+) -> Result<Marked, Memory>
     requires ready { IsReady func.content bases.now }
     requires live { live.now ≡ map (map valued) (live_lists func.content bases.now) }
     ensures { IfOk result (λ marked. marked ≡ marked_of func.content bases.now) }
@@ -29,11 +34,7 @@ pub fn insert(alloc: Global, func: Func, live: &LiveTable, bases: &BaseTable) ->
 }
 
 // The groups of calls with these live lists.
-fn groups(
-    alloc: Global,
-    lists: &[Vec<ValueId>],
-    bases: &[Operand],
-) -> Result<Vec<Group>, Memory>
+fn groups(alloc: Global, lists: &[Vec<ValueId>], bases: &[Operand]) -> Result<Vec<Group>, Memory>
     requires { All (λ list. length list.items < 2 ^ 32 - 1) lists.now }
     ensures { IfOk result (λ groups. groups.items ≡ map (λ list. group_of bases.now (numbers_in list.items)) lists.now) }
 {

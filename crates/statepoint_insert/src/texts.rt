@@ -51,14 +51,7 @@ pub(crate) fn statepoint(
         callee,
         types,
     };
-    Ok(Inst::of(
-        Some(named),
-        op,
-        ty,
-        entries,
-        Vec::new(alloc),
-        bundle,
-    ))
+    Ok(Inst::of(Some(named), op, ty, entries, Vec::new(alloc), bundle))
 }
 
 fn with_entries(operands: Operands, has_null: bool, live: &[u32]) -> Result<Operands, Memory>
