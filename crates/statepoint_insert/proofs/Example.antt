@@ -1,14 +1,13 @@
 -- A worked function: a field of an argument and a derived pointer over `null`, both used behind a call and one behind another; its groups and its
 -- lines.
-use Rattle.std.proofs.Common.{◌≡◌, ℕ, true, false, List, [], ◌∷◌, map, Option, Some, None, refl}
+use Rattle.std.proofs.Common.{◌≡◌, ℕ, true, false, List, [], ◌∷◌, Option, Some, None, refl}
 use Rattle.std.specs.Prelude.{codes}
-use Rattle.sp_ids.specs.declared.ids.BlockId.{BlockId}
 use Rattle.ir_ast.specs.declared.types.Ty.{Ty}
 use Rattle.ir_ast.specs.declared.types.Ty.TheVariants.{Void, Int as Integer, Ptr}
 use Rattle.ir_ast.specs.declared.funcs.Arg.{Arg}
 use Rattle.ir_ast.specs.declared.ops.Elem.TheVariants.{Int as Bits, Layout}
 use Rattle.ir_ast.specs.declared.ops.Operand.{Operand}
-use Rattle.ir_ast.specs.declared.ops.Operand.TheVariants.{Value, Int, Null}
+use Rattle.ir_ast.specs.declared.ops.Operand.TheVariants.{Int, Null}
 use Rattle.ir_ast.specs.declared.ops.Callee.TheVariants.{New, Poll, Print, Check}
 use Rattle.ir_ast.specs.declared.ops.Op.{Op}
 use Rattle.ir_ast.specs.declared.ops.Op.TheVariants.{Gep, Load, Call, Statepoint, GcResult, GcRelocate, Ret}
@@ -18,7 +17,7 @@ use Rattle.rewriting_forms.specs.Numbered.{named}
 use Rattle.rewriting_forms.specs.Names.{Name, own, relocated, token}
 use Rattle.rewriting_forms.specs.Rewritten.{Piece}
 use Rattle.statepoint_insert.specs.declared.groups.Relocate.{Relocate}
-use Rattle.statepoint_insert.specs.Groups.{GroupContent, groups_of}
+use Rattle.statepoint_insert.specs.Groups.{groups_of}
 use Rattle.statepoint_insert.specs.Marked.{grouped}
 use Rattle.statepoint_insert.specs.Calls.{calls_before}
 

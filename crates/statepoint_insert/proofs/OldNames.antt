@@ -9,7 +9,7 @@ use Rattle.ir_ast.specs.Insts.{Instruction}
 use Rattle.ir_ast.specs.Blocks.{BasicBlock}
 use Rattle.ir_ast.specs.Funcs.{Function, instructions_of}
 use Rattle.ir_ast.specs.Values.{Definition, argument, outcome, definition_name, definitions_of}
-use Rattle.object_meaning.specs.Lines.{Line, after_all, first_registers, following, numbered, registers_of, insts_in}
+use Rattle.object_meaning.specs.Lines.{Line, after_all, first_registers, following, numbered}
 use Rattle.object_meaning.specs.TargetRuns.{plain_lines}
 use Rattle.rewriting_forms.specs.Numbered.{lines_at}
 use Rattle.rewriting_forms.specs.Rewritten.{old_name}

@@ -1,20 +1,19 @@
 -- The indices of bases, by a row that has the ranks of the listed values.
-use Rattle.std.proofs.Common.{◌≡◌, ◌≢◌, ℕ, zero, suc, ◌+◌, ◌<◌, ◌≤◌, Bool, true, false, eqb, ltb, not, if◌then◌else◌, List, [], ◌∷◌, ◌++◌, length, map, drop, get_or, set, replicate, refl, ap, sym, arith, Some, None, Option, inl, inr, ◌∙◌}
+use Rattle.std.proofs.Common.{◌≡◌, ℕ, suc, ◌+◌, ◌<◌, Bool, true, false, eqb, if◌then◌else◌, List, [], ◌∷◌, ◌++◌, length, map, set, replicate, refl, ap, sym, arith, Some, None, Option, inl, inr, ◌∙◌}
 use Rattle.std.specs.Prelude.{slice_index}
-use Rattle.std.specs.List.{list_any, position, position_or_len, All}
+use Rattle.std.specs.List.{list_any, position, position_or_len}
 use Rattle.std.specs.Option.{option_map_or}
 use Rattle.std.proofs.lemmas.Bool.{cases_Bool, cases_eq, cases_lt, lt-ltb, le-ltb, eq-eqb, ne_eqb, false≢true}
 use Rattle.std.proofs.lemmas.List.{get_or-set_same, get_or-set_other, get_or-replicate}
 use Rattle.std.proofs.Math.ListN.{get_or-eq_default}
 use Rattle.std.proofs.lemmas.List.{length-replicate}
-use Rattle.list_laws.proofs.Places.{drop_item}
 use Rattle.sp_ids.specs.declared.ids.ValueId.{ValueId}
 use Rattle.ir_ast.specs.declared.ops.Operand.{Operand}
 use Rattle.ir_ast.specs.declared.ops.Operand.TheVariants.{Value, Int, Null, Fun}
 use Rattle.rewriting_forms.specs.Numbered.{named, base_at}
 use Rattle.rewriting_forms.specs.Rewritten.{is_null, same_operand}
 use Rattle.statepoint_insert.specs.declared.groups.Relocate.{Relocate}
-use Rattle.statepoint_insert.specs.Groups.{GroupContent, valued, numbers_in, has_null_base, entries_of, index_in, relocate_in, group_of}
+use Rattle.statepoint_insert.specs.Groups.{GroupContent, numbers_in, has_null_base, entries_of, index_in, relocate_in, group_of}
 use Rattle.statepoint_insert.specs.Texts.{first_rank}
 use Rattle.statepoint_insert.specs.Ranks.{placed, HasRanks, IsBlank, IsBlankBeside, index_by, relocate_by}
 

@@ -1,29 +1,26 @@
 -- The lines of a group are those of the rewritten function's definition.
-use Rattle.std.proofs.Common.{◌≡◌, ℕ, zero, suc, ◌+◌, ◌<◌, ◌≤◌, Bool, true, false, not, ◌&&◌, eqb, if◌then◌else◌, List, [], ◌∷◌, ◌++◌, length, map, filter, refl, ap, sym, arith, Some, None, Option, slice_get, inl, inr, ◌∙◌, codes}
+use Rattle.std.proofs.Common.{◌≡◌, ℕ, zero, suc, ◌+◌, ◌≤◌, Bool, true, false, not, ◌&&◌, if◌then◌else◌, List, [], ◌∷◌, ◌++◌, length, map, filter, refl, ap, sym, arith, Some, None, Option, slice_get, inl, inr, ◌∙◌, codes}
 use Rattle.std.specs.Prelude.{decimal}
-use Rattle.std.specs.List.{list_any, range_with_len, position}
+use Rattle.std.specs.List.{range_with_len}
 use Rattle.std.specs.Option.{option_map, option_map_or}
 use Rattle.std.proofs.lemmas.Bool.{cases_Bool, eq-eqb, ne_eqb}
 use Rattle.std.proofs.lemmas.List.{map-append}
 use Rattle.ir_ast.specs.declared.types.Ty.{Ty}
-use Rattle.ir_ast.specs.declared.types.Ty.TheVariants.{Ptr}
-use Rattle.ir_ast.specs.declared.ops.Callee.{Callee}
 use Rattle.ir_ast.specs.declared.ops.Operand.{Operand}
-use Rattle.ir_ast.specs.declared.ops.Operand.TheVariants.{Value, Int, Null, Fun}
-use Rattle.ir_ast.specs.declared.ops.Op.TheVariants.{GcRelocate, GcResult, Statepoint}
+use Rattle.ir_ast.specs.declared.ops.Operand.TheVariants.{Null}
+use Rattle.ir_ast.specs.declared.ops.Op.TheVariants.{Statepoint}
 use Rattle.ir_ast.specs.Insts.{Instruction}
 use Rattle.ir_ast.specs.Funcs.{Function}
 use Rattle.ir_ast.specs.Types.{is_pointer}
 use Rattle.ir_ast.specs.Values.{value_types}
 use Rattle.object_meaning.specs.Lines.{Line}
-use Rattle.rewriting_forms.specs.Numbered.{named, base_at, line_at, gives, pointers}
+use Rattle.rewriting_forms.specs.Numbered.{named, line_at, gives, pointers}
 use Rattle.rewriting_forms.specs.Liveness.{is_live_after, live_list}
 use Rattle.rewriting_forms.specs.Names.{Name, Names, relocated, token, Naming, names_at}
-use Rattle.rewriting_forms.specs.Rewritten.{place_in, renamed, Piece, is_null, same_operand, entries, index_of, statepoint, result_of, relocate_of, group, is_token, is_relocated, old_name, spelled, piece_inst}
-use Rattle.statepoint_insert.specs.declared.groups.Relocate.{Relocate}
+use Rattle.rewriting_forms.specs.Rewritten.{place_in, renamed, Piece, same_operand, entries, index_of, statepoint, result_of, relocate_of, group, is_relocated, old_name, spelled, piece_inst}
 use Rattle.statepoint_insert.specs.declared.texts.Call.{Call}
 use Rattle.statepoint_insert.specs.declared.texts.Counts.{Counts}
-use Rattle.statepoint_insert.specs.Groups.{valued, has_null_base, relocate_in, group_of}
+use Rattle.statepoint_insert.specs.Groups.{has_null_base, relocate_in, group_of}
 use Rattle.statepoint_insert.specs.Texts.{live_entries, statepoint_line, result_lines, relocate_line, relocate_lines, first_rank}
 use Rattle.statepoint_insert.specs.Lines.{group_lines}
 use Rattle.statepoint_insert.specs.Renumbered.{IsRenumbered, AreCounted}

@@ -1,4 +1,4 @@
-use Rattle.std.proofs.Common.{◌≡◌, ◌∙◌, List, map, ap, sym, subst}
+use Rattle.std.proofs.Common.{◌∙◌, List, map, ap, sym, subst}
 use Rattle.std.specs.Global.{Vec}
 use Rattle.sp_ids.specs.declared.ids.ValueId.{ValueId}
 use Rattle.ir_ast.specs.declared.ops.Operand.{Operand}

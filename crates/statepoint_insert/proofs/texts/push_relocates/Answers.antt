@@ -1,4 +1,4 @@
-use Rattle.std.proofs.Common.{arith, ◌∙◌, ap}
+use Rattle.std.proofs.Common.{arith}
 use Rattle.statepoint_insert.specs.Texts.{first_rank}
 use Rattle.statepoint_insert.proofs.LineLaws.{line_added}
 use Rattle.statepoint_insert.proofs.texts.push_relocates.Goals as goal
