@@ -122,7 +122,7 @@ module _ (func : Function) (table : List Operand) (naming : Naming) where
     | inl null ↦ absurd (no_null _ place u null)
     | inr there ↦
         let before = map_back (λ (v : ℕ). named v) (live_list func table b k) there.0 (named u) there.2 in
-        let both : named u ≡ named before.before = before.is in
+        let both : Some u ≡ Some before.before = ap value_in before.is in
         let same : before.before ≡ u = cc in
         any_at (λ (x : ℕ). eqb x u) (live_list func table b k) there.0 before.before before.stands (eq-eqb before.before u same)
   ]
@@ -214,7 +214,7 @@ module _ (func : Function) (table : List Operand) (naming : Naming) where
         → Contains (values_used (piece_inst (text func table naming) (plain func table naming to b k line))) m → ⊥
     plain_use b k line stands no_phi clean within =
         let here = subst (λ (t : Bool). Contains (filter_map value_in ((if t then phi_operands func table naming to line.inst.labels line.inst.operands else map (renamed to (names_here b k)) line.inst.operands)
-            ++ map entry_operand (map (λ (entry : Ty × Operand). (entry.0, renamed to (names_here b k) entry.1)) line.inst.bundle))) m) no_phi within in
+        ++ map entry_operand (map (λ (entry : Ty × Operand). (entry.0, renamed to (names_here b k) entry.1)) line.inst.bundle))) m) no_phi within in
         let from = renamed_used to (names_here b k) line.inst.operands line.inst.bundle m here in
         no_line_use b k from.0 line stands no_phi clean from.2 from.1
 
@@ -316,7 +316,7 @@ module _ (func : Function) (table : List Operand) (naming : Naming) where
         let label_here : option_label (slice_get line.inst.labels e) label.0 ≡ true = ap (λ (l : Option BlockId). option_label l label.0) label_at ∙ eq-eqb label.0 label.0 refl in
         let has_succ = edge_contains func label.0 b own_edge in
         let walk = liveness.entry label.0 (length (lines_at func label.0)) b k line (named u) refl has_succ stands one
-            (record { place = e; label = label_here; operand_is = before.1 ∙ ap (λ o. Some o) value.1 }) (inl refl) in
+        (record { place = e; label = label_here; operand_is = before.1 ∙ ap (λ o. Some o) value.1 }) (inl refl) in
         let alive = in_table func table label.0 (length (lines_at func label.0)) u (live_complete func table u (phis_agree func phis) label.0 (length (lines_at func label.0)) walk) in
         let undefined = undefined_live label.0 (length (lines_at func label.0)) u clean alive value.2 in
         undefined_unused func has.definite u undefined.0 (text_place func b k) label.0 (length block.0.insts)
@@ -348,6 +348,7 @@ module _ (func : Function) (table : List Operand) (naming : Naming) where
           | is_one callee types op other ↦
               no_phi_in_group b k i line callee types piece (ap (λ (ps : List Piece). slice_get ps i) (sym (call_pieces func table naming to b k line callee types false op other)) ∙ at) one
         ]
+
     pub no_use : (line value b j : ℕ) → Uses (now func table naming) line value b j → value ≡ m → Undefined (now func table naming) m b j → ⊥
     no_use _ _ _ _ (by_line b j value inst stands no_phi within) is undefined =
         no_use_by_line b j inst stands no_phi (subst (λ (v : ℕ). Contains (values_used inst) v) is within) (came_to func table naming fits m b j undefined)

@@ -83,7 +83,7 @@ module _ (content : ModuleContent) (is : IsReachedSource content) (number : ℕ)
   definite_there fits room numbers =
       let definite_bases = all_at (λ (each : Function). IsReached each → HasDefiniteBases (based (placed each)) before) content.funcs number func (based_has_definite_bases content is.source) found reached in
       let table = (all_at (λ (each : Function). IsReached each → HasBases (based (placed each)) before × IsBaseTable (based (placed each)) before (base_table (placed each))) content.funcs number func
-          (table_has_bases content is.source) found reached).1 in
+      (table_has_bases content is.source) found reached).1 in
       definite_now made (base_table (placed func)) (naming_of made (base_table (placed func))) fits room numbers before definite_bases table
       (phis_are_right func no_fault.phis typed_function.lines (graph_now func) (in_shape content is.source number func found).phis)
       (phis_are_bare func no_fault.phis typed_function.lines)

@@ -66,7 +66,7 @@ module _ (func : Function) (table : List Operand) (naming : Naming) (number : Na
       let front = result_of func table naming number b k line line.to in (
         length front + place.0,
         get_past front (map (relocate_of func table naming number b k) (live_list func table b k)) place.0
-        ∙ get_map (relocate_of func table naming number b k) (live_list func table b k) place.0 v place.1,
+            ∙ get_map (relocate_of func table naming number b k) (live_list func table b k) place.0 v place.1,
       )
 
   -- where the lines for the line at a place begin
