@@ -200,7 +200,7 @@ module _ (before now : List Ty) where
     line_as (ops.Statepoint id callee types) line = statepoint_carried callee types line
     line_as ops.GcResult line = (has_carried _ _ _ _ line.0, token_carried inst.operands other.operands [] carries.operands refl line.1)
     line_as ops.GcRelocate line =
-        (has_carried _ _ _ _ line.0, line.1.0, line.1.1, token_carried inst.operands other.operands (operands.Int line.1.0 ∷ operands.Int line.1.1 ∷ []) carries.operands refl line.1.2)
+        (has_carried _ _ _ _ line.0, (line.1.0, line.1.1, token_carried inst.operands other.operands (operands.Int line.1.0 ∷ operands.Int line.1.1 ∷ []) carries.operands refl line.1.2))
     line_as ops.Br line = has_carried _ _ _ _ line
     line_as ops.CondBr line = has_carried _ _ _ _ line
     line_as ops.Switch line =
