@@ -1,2 +1,4 @@
 pub mod CarryLaws
 pub mod NamedLaws
+pub mod KeptLaws
+pub mod PassLaws

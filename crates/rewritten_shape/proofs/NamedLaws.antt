@@ -193,7 +193,7 @@ module _ (func : Function) (table : List Operand) (naming : Naming) where
         line_piece_type b k 0 line (statepoint func table naming to b k whole.0 whole.1 line.inst) (forms.token b k) at (ap (λ (ps : List Piece). slice_get ps 0) whole.2) refl
 
   -- the type of a name is that of its value
-  owner_type : (name : Name) (v : ℕ) → InText name → owner_of name ≡ Some v → type_of name ≡ slice_get (value_types func) v
+  pub owner_type : (name : Name) (v : ℕ) → InText name → owner_of name ≡ Some v → type_of name ≡ slice_get (value_types func) v
   owner_type _ v (an_argument w below) is = let same : w ≡ v = cc in ap (slice_get (value_types func)) same
   owner_type _ v (a_result b k w line at to_is) is = let same : w ≡ v = cc in ap (slice_get (value_types func)) same
   owner_type _ v (a_relocate b k w line at call listed) is =
