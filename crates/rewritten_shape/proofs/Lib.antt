@@ -2,3 +2,4 @@ pub mod CarryLaws
 pub mod NamedLaws
 pub mod KeptLaws
 pub mod PassLaws
+pub mod GroupLaws

@@ -55,7 +55,7 @@ pub listed_pointer : (func : Function) (table : List Operand) (b k v : ℕ) → 
 listed_pointer func table b k v listed = (among_filter (λ (x : ℕ). is_live_after func table b k x && not (gives (line_at func b k) x)) v (pointers func) listed).0
 
 -- the block and place of an instruction of the text
-text_back : (blocks : List BasicBlock) (place : ℕ) (inst : Instruction) → slice_get (instructions_of blocks) place ≡ Some inst
+pub text_back : (blocks : List BasicBlock) (place : ℕ) (inst : Instruction) → slice_get (instructions_of blocks) place ≡ Some inst
     → (b : ℕ) × (k : ℕ) × (block : BasicBlock) × (slice_get blocks b ≡ Some block) × (slice_get block.insts k ≡ Some inst) × (length (instructions_of (take b blocks)) + k ≡ place)
 text_back [] place inst at = absurd cc
 text_back (block ∷ blocks) place inst at = elim (split_place block.insts (instructions_of blocks) place inst at) [

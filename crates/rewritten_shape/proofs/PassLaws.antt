@@ -35,9 +35,10 @@ use Rattle.ir_ast.specs.Widths.{IsWidth, line_widths, operator_widths, type_widt
 use Rattle.ir_ast.specs.Faults.PhiEdges.{is_phi}
 use Rattle.ir_ast.specs.Faults.TypeClash.{Fits, IsCallOf, IsTyped, RuleOf, TakesOperands, asked}
 use Rattle.ir_ast.specs.Faults.UnknownName.{NamesOfModule}
-use Rattle.ir_ast.specs.Faults.GroupShape.{number_at}
+use Rattle.ir_ast.specs.Faults.GroupShape.{is_statepoint, number_at}
 use Rattle.ir_cfg.specs.DefiniteUses.{text_place}
 use Rattle.ir_cfg.specs.Graphs.{graph_of, preds_of}
+use Rattle.object_meaning.specs.Frames.{is_member}
 use Rattle.object_meaning.specs.Lines.{Line}
 use Rattle.rewriting_forms.specs.Numbered.{among, base_at, calls, gives, line_at, lines_at, named, pointers, preds}
 use Rattle.rewriting_forms.specs.Liveness.{is_live_after, live_list, live_table}
@@ -270,6 +271,11 @@ pub record IsNamed (content other : ModuleContent) (func : Function) (table : Li
   pub lines : (b k : ℕ) (line : Line) → slice_get (lines_at func b) k ≡ Some line → IsWellFormed content func line.inst
   pub reached : laws.IsReached func
   pub few : length (definitions_of func) < 16384
+  pub tokens : (v : ℕ) → slice_get (value_types func) v ≡ Some Token → ⊥
+  pub arguments : (b k : ℕ) (line : Line) (callee : Callee) (types : List Ty) → slice_get (lines_at func b) k ≡ Some line → line.inst.op ≡ ops.Call callee types
+      → length types ≡ length line.inst.operands
+  pub no_statepoint : (b k : ℕ) (line : Line) → slice_get (lines_at func b) k ≡ Some line → is_statepoint line.inst.op ≡ false
+  pub no_member : (b k : ℕ) (line : Line) → slice_get (lines_at func b) k ≡ Some line → is_member line.inst.op ≡ false
 
 module _ (content other : ModuleContent) (func : Function) (table : List Operand) (naming : Naming) (room : ℕ) (is : IsNamed content other func table naming room) where
   abbrev to : Name → ℕ
@@ -320,7 +326,7 @@ module _ (content other : ModuleContent) (func : Function) (table : List Operand
   phi_labels inst ops.Phi same line one = ((subst (λ (o : Op). LineOf o inst) same line).0).label_count
   phi_labels inst op same line one = absurd cc
 
-  plain_carries : (b k : ℕ) (line : Line) → slice_get (lines_at func b) k ≡ Some line → LineCarries before after line.inst (piece_inst (text func table naming) (plain func table naming to b k line))
+  pub plain_carries : (b k : ℕ) (line : Line) → slice_get (lines_at func b) k ≡ Some line → LineCarries before after line.inst (piece_inst (text func table naming) (plain func table naming to b k line))
   plain_carries b k line at = record {
     op = refl;
     ty = refl;
@@ -377,7 +383,7 @@ module _ (content other : ModuleContent) (func : Function) (table : List Operand
         rule = tt;
       } in
       record {
-        line = (record { result = refl; type = first_class; operand_count = refl; values = refl; label_count = refl; no_bundle = refl }, record { 0 = to (forms.token b k) }, refl);
+        line = (record { result = refl; type = first_class; operand_count = refl; values = refl; label_count = refl; no_bundle = refl }, (record { 0 = to (forms.token b k) }, refl));
         typed = typed;
         local = record { values = values_known other (now func table naming) result typed; blocks = All-nil (λ (label : BlockId). label.0 < length (now func table naming).blocks) };
         global = record { layouts = All-nil (λ layout. layout < length other.layouts); functions = All-nil (λ named. named < length other.funcs) };
@@ -408,7 +414,7 @@ module _ (content other : ModuleContent) (func : Function) (table : List Operand
           (all_front IsWidth (operator_widths line.inst.op ++ type_widths line.inst.ty) (flat_map (λ (entry : Ty × Operand). type_widths entry.0) line.inst.bundle) (is.lines b k line at).widths)
 
   -- an index of an entry is below their number
-  index_within : (b k : ℕ) (o : Operand) → 0 < length (entries func table b k) → index_of func table b k o < length (entries func table b k)
+  pub index_within : (b k : ℕ) (o : Operand) → 0 < length (entries func table b k) → index_of func table b k o < length (entries func table b k)
   index_within b k o some = elim (cases_Bool (ltb (position_or_len (λ (entry : Operand). same_operand entry o) (entries func table b k)) (length (entries func table b k)))) [
     | inl within ↦ rw within (ltb-true (position_or_len (λ (entry : Operand). same_operand entry o) (entries func table b k)) (length (entries func table b k)) within)
     | inr past ↦ rw past some
