@@ -40,6 +40,7 @@ use Rattle.rewriting_forms.specs.Rewritten.{Piece, entries, group, index_of, ins
 use Rattle.rewriting_laws.proofs.JumpLemmas.{one_piece}
 use Rattle.rewriting_laws.proofs.LiveLaws.{any_at}
 use Rattle.rewriting_laws.proofs.NameLemmas.{among_filter, call_or_not, found, is_none, is_one}
+use Rattle.rewritten_definite.proofs.LineLaws.{line_from}
 use Rattle.rewritten_definite.proofs.NowLaws.{block_forth, block_now, defines_piece, insts_now, now, number, pieces, text}
 use Rattle.rewritten_definite.proofs.PieceLaws.{PieceFrom, among_at, call_pieces, from_join, from_line, offset, piece_at, piece_from, pieces_for, result_piece, split_place}
 use Rattle.rewritten_shape.specs.WellFormed.{Carries, IsWellFormed, LineCarries}
@@ -253,3 +254,142 @@ module _ (content other : ModuleContent) (func : Function) (table : List Operand
       subst (All (λ entry. Fits (value_types after) entry Ptr)) (sym entries_now)
           (all_from_at (λ entry. Fits (value_types after) entry Ptr) (map (renamed to (names_at func table naming b k)) (entries func table b k)) entry_fits_now),
     )
+
+    -- where the statepoint stands in the text, and each member behind it
+    own_block : (block : BasicBlock) × (slice_get func.blocks b ≡ Some block)
+    own_block = let from = (line_from func b k line at).stands in (from.block, from.in_function)
+
+    stands_now : (j : ℕ) (piece : Piece) → slice_get (pieces func table naming b) j ≡ Some piece → Stands after b j (written piece)
+    stands_now j piece there = record {
+      block = record { name = (own_block.0).name; insts = insts_now func table naming b };
+      in_function = block_forth func table naming b own_block.0 own_block.1;
+      in_block = get_map (piece_inst (text func table naming)) (pieces func table naming b) j piece there;
+    }
+
+    whole : pieces_for func table naming to b k line ≡ statepoint func table naming to b k callee types line.inst ∷ group func table naming to b k line
+    whole = call_pieces func table naming to b k line callee types false op no_leaf
+
+    abbrev start : ℕ
+    start = offset func table naming to b k
+
+    head_piece : slice_get (pieces func table naming b) (start + 0) ≡ Some (statepoint func table naming to b k callee types line.inst)
+    head_piece = piece_at func table naming to b k 0 line (statepoint func table naming to b k callee types line.inst) at (ap (λ (ps : List Piece). slice_get ps 0) whole)
+
+    member_piece : (i : ℕ) (piece : Piece) → slice_get (group func table naming to b k line) i ≡ Some piece → slice_get (pieces func table naming b) (start + suc i) ≡ Some piece
+    member_piece i piece there = piece_at func table naming to b k (suc i) line piece at (ap (λ (ps : List Piece). slice_get ps (suc i)) whole ∙ there)
+
+    part_is : (i : ℕ) (piece : Piece) → MemberOf b k i line piece → is_part (to (forms.token b k)) (written piece) ≡ true
+    part_is i piece (is_result v given first same) =
+        subst (λ (p : Piece). is_part (to (forms.token b k)) (written p) ≡ true) (sym same) (eq-eqb (to (forms.token b k)) (to (forms.token b k)) refl)
+    part_is i piece (is_relocate v listed same) =
+        subst (λ (p : Piece). is_part (to (forms.token b k)) (written p) ≡ true) (sym same) (eq-eqb (to (forms.token b k)) (to (forms.token b k)) refl)
+
+    group_long : (i j : ℕ) (piece : Piece) → slice_get (group func table naming to b k line) i ≡ Some piece → j < i → (other_piece : Piece) × (slice_get (group func table naming to b k line) j ≡ Some other_piece)
+    group_long i j piece there below =
+        let within = slice_get_within (group func table naming to b k line) i piece there in
+        get_some (group func table naming to b k line) j (omega arith)
+
+    -- the group of a member
+    abbrev pub group_of : (i : ℕ) (piece : Piece) → slice_get (group func table naming to b k line) i ≡ Some piece → Group after (to (forms.token b k)) (text_place after b (start + suc i))
+    group_of i piece there = record {
+      head = text_place after b (start + 0);
+      statepoint = head;
+      stands = stands_in_text after b (start + 0) head (stands_now (start + 0) (statepoint func table naming to b k callee types line.inst) head_piece);
+      op = refl;
+      gives = (defines_piece func table naming b (start + 0) (to (forms.token b k)) own_block.0 (statepoint func table naming to b k callee types line.inst) (forms.token b k) own_block.1 head_piece refl refl).numbered;
+      before = omega arith;
+      between = λ p past early.
+          let j = p - suc (text_place after b (start + 0)) in
+          let member = group_long i j piece there (omega arith) in
+          let here : text_place after b (start + suc j) ≡ p = omega arith in
+          let stands = stands_in_text after b (start + suc j) (written member.0) (stands_now (start + suc j) member.0 (member_piece j member.0 member.1)) in
+          subst (λ (found : Option Instruction). IfSome found (λ inst. is_part (to (forms.token b k)) inst ≡ true)) (sym (ap (slice_get (instructions_of after.blocks)) (sym here) ∙ stands))
+          (part_is j member.0 (member_of b k j line member.0 member.1));
+    }
+
+    entries_count : length (entries_of head) ≡ length (entries func table b k)
+    entries_count = ap length entries_now ∙ length-map (entries func table b k) (renamed to (names_at func table naming b k))
+
+    same_value : (o : Operand) (v : ℕ) → same_operand o (named v) ≡ true → (value : ValueId) × (renamed to (names_at func table naming b k) o ≡ operands.Value value)
+    same_value (operands.Value value) v same = (record { 0 = to (names_at func table naming b k value.0) }, refl)
+    same_value (operands.Int word) v same = absurd (false≢true same)
+    same_value operands.Null v same = absurd (false≢true same)
+    same_value (operands.Fun called) v same = absurd (false≢true same)
+
+    entry_stands : (v : ℕ) → among v (live_list func table b k) ≡ true → (place : ℕ) × (slice_get (entries func table b k) place ≡ Some (named v))
+    entry_stands v listed =
+        let place = among_at v (live_list func table b k) listed in
+        let front : List Operand = if list_any (λ (x : ℕ). is_null (base_at table x)) (live_list func table b k) then operands.Null ∷ [] else [] in
+        (length front + place.0, get_past front (map (λ (x : ℕ). named x) (live_list func table b k)) place.0 ∙ get_map (λ (x : ℕ). named x) (live_list func table b k) place.0 v place.1)
+
+    derived_entry : (v : ℕ) → among v (live_list func table b k) ≡ true
+        → (value : ValueId) × (slice_get (entries_of head) (index_of func table b k (named v)) ≡ Some (operands.Value value))
+    derived_entry v listed =
+        let place = entry_stands v listed in
+        let first = found (λ (entry : Operand). same_operand entry (named v)) (entries func table b k) place.0 (named v) place.1 (eq-eqb v v refl) in
+        let index : index_of func table b k (named v) ≡ first.0 = ap (λ (at : Option ℕ). option_map_or (λ place. place) at 0) first.2 in
+        let value = same_value first.1 v first.4 in
+        (value.0,
+          ap (λ (all : List Operand). slice_get all (index_of func table b k (named v))) entries_now
+          ∙ (ap (slice_get (map (renamed to (names_at func table naming b k)) (entries func table b k))) index
+          ∙ (get_map (renamed to (names_at func table naming b k)) (entries func table b k) first.0 first.1 first.3 ∙ ap (λ o. Some o) value.1)))
+
+    member_shape : (i : ℕ) (piece : Piece) → slice_get (group func table naming to b k line) i ≡ Some piece → MemberOf b k i line piece
+        → ShapeOf after (text_place after b (start + suc i)) (written piece) (written piece).op
+    member_shape i piece there (is_result v given first same) =
+        let next : (start + 0) + 1 ≡ start + suc i = omega arith in
+        let shape : ResultInShape after (text_place after b (start + suc i)) (written (result_piece func table naming to b k line v)) = record {
+          token = record { 0 = to (forms.token b k) };
+          operands = refl;
+          group = group_of i piece there;
+          directly = omega arith;
+          type = refl;
+        } in
+        subst (λ (p : Piece). ShapeOf after (text_place after b (start + suc i)) (written p) (written p).op) (sym same) shape
+    member_shape i piece there (is_relocate v listed same) =
+        let count = entries_count in
+        let some = listed_some func table b k v listed in
+        let below = index_within content other func table naming room is b k (base_at table v) some in
+        let shape : RelocateInShape after (text_place after b (start + suc i)) (written (relocate_of func table naming to b k v)) = record {
+          token = record { 0 = to (forms.token b k) };
+          base = index_of func table b k (base_at table v);
+          derived = index_of func table b k (named v);
+          operands = refl;
+          group = group_of i piece there;
+          base_entry = omega (arith, count, below);
+          derived_entry = derived_entry v listed;
+        } in
+        subst (λ (p : Piece). ShapeOf after (text_place after b (start + suc i)) (written p) (written p).op) (sym same) shape
+
+  -- ---- the groups of the function
+
+  group_shape : (b k i : ℕ) (line : Line) (piece : Piece) (callee : Callee) (types : List Ty) → slice_get (lines_at func b) k ≡ Some line → line.inst.op ≡ ops.Call callee types
+      → is_leaf callee ≡ false → slice_get (statepoint func table naming to b k callee types line.inst ∷ group func table naming to b k line) i ≡ Some piece
+      → ShapeOf after (text_place after b (offset func table naming to b k + i)) (written piece) (written piece).op
+  group_shape b k zero line piece callee types at op no_leaf there =
+      let same : statepoint func table naming to b k callee types line.inst ≡ piece = cc in
+      subst (λ (p : Piece). ShapeOf after (text_place after b (offset func table naming to b k + 0)) (written p) (written p).op) same (statepoint_shape b k line callee types at op no_leaf)
+  group_shape b k (suc i) line piece callee types at op no_leaf there = member_shape b k line callee types at op no_leaf i piece there (member_of b k i line piece there)
+
+  piece_shape : (b j : ℕ) (block : BasicBlock) (piece : Piece) → slice_get func.blocks b ≡ Some block → PieceFrom func table naming to b j piece
+      → ShapeOf after (text_place after b j) (written piece) (written piece).op
+  piece_shape b j block piece in_function (from_join v at same) =
+      let parts = among_filter (naming.joins b) v (pointers func) (any_at (λ (x : ℕ). eqb x v) (joined_at func naming b) j v at (eq-eqb v v refl)) in
+      let below = slice_get_within func.blocks b block in_function in
+      subst (λ (p : Piece). ShapeOf after (text_place after b j) (written p) (written p).op) (sym same) (join_shape b v (text_place after b j) below parts.1)
+  piece_shape b j block piece in_function (from_line k i line at place there) = elim (call_or_not line.inst.op) [
+    | is_none plain_op ↦
+        let same = only_one (plain func table naming to b k line) piece i (ap (λ (ps : List Piece). slice_get ps i) (sym (one_piece func table naming to b k line line.inst.op plain_op)) ∙ there) in
+        subst (λ (p : Piece). ShapeOf after (text_place after b j) (written p) (written p).op) same (plain_shape b k (text_place after b j) line at)
+    | is_one callee types op no_leaf ↦
+        subst (λ (n : ℕ). ShapeOf after (text_place after b n) (written piece) (written piece).op) (sym place)
+        (group_shape b k i line piece callee types at op no_leaf (ap (λ (ps : List Piece). slice_get ps i) (sym (call_pieces func table naming to b k line callee types false op no_leaf)) ∙ there))
+  ]
+
+  pub groups_in_shape : GroupsInShape after
+  groups_in_shape place inst at =
+      let there = text_back after.blocks place inst at in
+      let one = from_piece there.0 there.1 inst (record { block = there.2; in_function = there.3; in_block = there.4 }) in
+      subst (λ (n : ℕ). ShapeOf after n inst inst.op) there.5
+      (subst (λ (i : Instruction). ShapeOf after (text_place after there.0 there.1) i i.op) (sym one.is_written)
+      (piece_shape there.0 there.1 one.own_block one.piece one.in_function one.from))
