@@ -48,7 +48,7 @@ use Rattle.rewritten_shape.proofs.KeptLaws.{carried_all, used_type}
 use Rattle.rewritten_shape.proofs.NamedLaws.{listed_pointer, pointer_is, text_back}
 use Rattle.rewritten_shape.proofs.PassLaws.{IsNamed, entry_of, index_within, listed_some, named_type, phi_well, plain_carries, plain_well, point_of, point_well, relocate_well, result_well, statepoint_carries, statepoint_well}
 
-only_one : {A : Type 0} (x y : A) (i : ℕ) → slice_get (x ∷ []) i ≡ Some y → x ≡ y
+pub only_one : {A : Type 0} (x y : A) (i : ℕ) → slice_get (x ∷ []) i ≡ Some y → x ≡ y
 only_one x y zero is = cc
 only_one x y (suc i) is = absurd cc
 
@@ -107,7 +107,7 @@ module _ (content other : ModuleContent) (func : Function) (table : List Operand
   call_is line callee types op no_leaf = ap is_call op ∙ ap not no_leaf
 
   -- a member of a group is its call's result or a relocate of a listed pointer
-  data MemberOf (b k i : ℕ) (line : Line) (piece : Piece) : Type 0 where
+  pub data MemberOf (b k i : ℕ) (line : Line) (piece : Piece) : Type 0 where
     is_result : (v : ℕ) → line.to ≡ Some v → i ≡ 0 → piece ≡ result_piece func table naming to b k line v → MemberOf b k i line piece
     is_relocate : (v : ℕ) → among v (live_list func table b k) ≡ true → piece ≡ relocate_of func table naming to b k v → MemberOf b k i line piece
 
@@ -117,7 +117,7 @@ module _ (content other : ModuleContent) (func : Function) (table : List Operand
       let same : result_piece func table naming to b k line v ≡ piece = cc in is_result v given refl (sym same)
   result_of_is b k (suc i) line piece (Some v) given at = absurd cc
 
-  member_of : (b k i : ℕ) (line : Line) (piece : Piece) → slice_get (group func table naming to b k line) i ≡ Some piece → MemberOf b k i line piece
+  pub member_of : (b k i : ℕ) (line : Line) (piece : Piece) → slice_get (group func table naming to b k line) i ≡ Some piece → MemberOf b k i line piece
   member_of b k i line piece at =
       elim (split_place (result_of func table naming to b k line line.to) (map (relocate_of func table naming to b k) (live_list func table b k)) i piece at) [
         | inl result ↦ result_of_is b k i line piece line.to refl result
@@ -153,15 +153,15 @@ module _ (content other : ModuleContent) (func : Function) (table : List Operand
         group_well b k i line piece callee types at op no_leaf (ap (λ (ps : List Piece). slice_get ps i) (sym (call_pieces func table naming to b k line callee types false op no_leaf)) ∙ there)
   ]
 
-  record FromPiece (b j : ℕ) (inst : Instruction) : Type 0 where
-    own_block : BasicBlock
-    in_function : slice_get func.blocks b ≡ Some own_block
-    piece : Piece
-    stands : slice_get (pieces func table naming b) j ≡ Some piece
-    from : PieceFrom func table naming to b j piece
-    is_written : inst ≡ written piece
+  pub record FromPiece (b j : ℕ) (inst : Instruction) : Type 0 where
+    pub own_block : BasicBlock
+    pub in_function : slice_get func.blocks b ≡ Some own_block
+    pub piece : Piece
+    pub stands : slice_get (pieces func table naming b) j ≡ Some piece
+    pub from : PieceFrom func table naming to b j piece
+    pub is_written : inst ≡ written piece
 
-  from_piece : (b j : ℕ) (inst : Instruction) → Stands after b j inst → FromPiece b j inst
+  pub from_piece : (b j : ℕ) (inst : Instruction) → Stands after b j inst → FromPiece b j inst
   from_piece b j inst stands =
       let here = block_now func table naming b stands.block stands.in_function in
       let back = map_back (piece_inst (text func table naming)) (pieces func table naming b) j inst (ap (λ (x : BasicBlock). slice_get x.insts j) (sym here.is) ∙ stands.in_block) in
@@ -290,7 +290,7 @@ module _ (content other : ModuleContent) (func : Function) (table : List Operand
         get_some (group func table naming to b k line) j (omega arith)
 
     -- the group of a member
-    abbrev pub group_of : (i : ℕ) (piece : Piece) → slice_get (group func table naming to b k line) i ≡ Some piece → Group after (to (forms.token b k)) (text_place after b (start + suc i))
+    abbrev group_of : (i : ℕ) (piece : Piece) → slice_get (group func table naming to b k line) i ≡ Some piece → Group after (to (forms.token b k)) (text_place after b (start + suc i))
     group_of i piece there = record {
       head = text_place after b (start + 0);
       statepoint = head;

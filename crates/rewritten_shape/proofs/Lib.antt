@@ -3,3 +3,4 @@ pub mod NamedLaws
 pub mod KeptLaws
 pub mod PassLaws
 pub mod GroupLaws
+pub mod EndLaws
