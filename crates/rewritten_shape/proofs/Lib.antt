@@ -4,3 +4,4 @@ pub mod KeptLaws
 pub mod PassLaws
 pub mod GroupLaws
 pub mod EndLaws
+pub mod SpellLaws

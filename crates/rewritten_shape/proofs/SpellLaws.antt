@@ -59,6 +59,13 @@ piece_texts : (text : Name → List ℕ) (ps : List Piece) → given_names (map 
 piece_texts text [] = refl
 piece_texts text (p ∷ ps) = one_text text p.name p.inst ps (piece_texts text ps)
 
+range_at : (from count i x : ℕ) → slice_get (range_with_len from count) i ≡ Some x → x ≡ from + i
+range_at from zero i x is = absurd cc
+range_at from (suc count) zero x is =
+    let e : from ≡ x = cc in
+    omega arith
+range_at from (suc count) (suc i) x is = let h = range_at (from + 1) count i x is in omega (arith, h)
+
 args_text : (all : List Definition) (from : ℕ) (args : List Arg) → ((i : ℕ) (arg : Arg) → slice_get args i ≡ Some arg → slice_get all (from + i) ≡ Some (argument arg))
     → map definition_name (map argument args) ≡ map (λ v. option_map_or definition_name (slice_get all v) []) (range_with_len from (length args))
 args_text all from [] each = refl
@@ -158,9 +165,6 @@ module _ (func : Function) (table : List Operand) (naming : Naming) where
       let args = length-map func.args argument in
       let all = length-append (map argument func.args) (map outcome (filter has_result (instructions_of func.blocks))) in
       subst Known (sym before.is) (omega (arith, is_place, within, long, args, all)))
-    where
-      range_at : (from count i x : ℕ) → slice_get (range_with_len from count) i ≡ Some x → x ≡ from + i
-      range_at from count i x at = ?
 
   -- an own name is that of a value there was
   pub all_known : All Known names
@@ -250,3 +254,98 @@ pub record HasFreeNames (func : Function) (table : List Operand) (naming : Namin
   pub apart : Distinct (map definition_name (definitions_of func))
   pub free : All (λ given. IsGroupName (definition_name given) → ⊥) (definitions_of func)
   pub few : length (names_of func table naming) < 2 ^ 64
+
+letters_differ : (letter other : ℕ) → letter ≡ other → eqb letter other ≡ false → ⊥
+letters_differ letter other same apart = true≢false (sym (eq-eqb letter other same) ∙ apart)
+
+module _ (func : Function) (table : List Operand) (naming : Naming) (free : HasFreeNames func table naming) where
+  given_at : (v : ℕ) → v < length (definitions_of func) → (given : Definition) × (slice_get (definitions_of func) v ≡ Some given) × (old_name func v ≡ definition_name given)
+  given_at v below =
+      let some = get_some (definitions_of func) v below in
+      (some.0, some.1, ap (λ (found : Option Definition). option_map_or definition_name found []) some.1)
+
+  numbered_named : (n : ℕ) → n < 2 ^ 64 → list_all in_name (decimal n) ≡ true
+  numbered_named n few = digits_named (decimal n) ((decimal_is_IsNumeral n few).0).1
+
+  place_few : (test : Name → Bool) (i : ℕ) (name : Name) → slice_get (names_of func table naming) i ≡ Some name → test name ≡ true → place_in (filter test (names_of func table naming)) name < 2 ^ 64
+  place_few test i name at passes =
+      let here = filtered_place test (names_of func table naming) i name (names_apart func table naming) at passes in
+      let few = before_few test (names_of func table naming) i in
+      let all = free.few in
+      omega (arith, here, few, all)
+
+  is_name_at : (i : ℕ) (name : Name) → slice_get (names_of func table naming) i ≡ Some name → IsName (text func table naming name)
+  is_name_at i (own v) at =
+      let below = all_at (Known func table naming) (names_of func table naming) i (own v) (all_known func table naming) at in
+      let given = given_at v below in
+      subst IsName (sym given.2) (all_at (λ (each : Definition). IsName (definition_name each)) (definitions_of func) v given.0 free.names given.1)
+  is_name_at i (forms.token b k) at = or_left _ _ (numbered_named _ (place_few is_token i (forms.token b k) at refl))
+  is_name_at i (forms.relocated b k v) at = or_left _ _ (numbered_named _ (place_few is_relocated i (forms.relocated b k v) at refl))
+  is_name_at i (forms.joined b v) at = or_left _ _ (numbered_named _ (place_few is_joined i (forms.joined b v) at refl))
+
+  pub names_now : All (λ given. IsName (definition_name given)) (definitions_of (now func table naming))
+  names_now = all_from_at (λ (given : Definition). IsName (definition_name given)) (definitions_of (now func table naming)) (λ i given at.
+      let there = get_map definition_name (definitions_of (now func table naming)) i given at in
+      let back = map_back (text func table naming) (names_of func table naming) i (definition_name given) (ap (λ (all : List (List ℕ)). slice_get all i) (sym (names_are func table naming)) ∙ there) in
+      subst IsName (sym back.is) (is_name_at i back.before back.stands))
+
+  -- ---- no two alike
+
+  own_free : (i v : ℕ) → slice_get (names_of func table naming) i ≡ Some (own v) → IsGroupName (old_name func v) → ⊥
+  own_free i v at group =
+      let given = given_at v (all_at (Known func table naming) (names_of func table naming) i (own v) (all_known func table naming) at) in
+      all_at (λ (each : Definition). IsGroupName (definition_name each) → ⊥) (definitions_of func) v given.0 free.free given.1 (subst IsGroupName given.2 group)
+
+  owns_apart : (i j v w : ℕ) → slice_get (names_of func table naming) i ≡ Some (own v) → slice_get (names_of func table naming) j ≡ Some (own w) → eqb v w ≡ false → old_name func v ≡ old_name func w → ⊥
+  owns_apart i j v w one other apart same =
+      let first = given_at v (all_at (Known func table naming) (names_of func table naming) i (own v) (all_known func table naming) one) in
+      let second = given_at w (all_at (Known func table naming) (names_of func table naming) j (own w) (all_known func table naming) other) in
+      let first_name = get_map definition_name (definitions_of func) v first.0 first.1 in
+      let second_name = get_map definition_name (definitions_of func) w second.0 second.1 in
+      let names_same : definition_name first.0 ≡ definition_name second.0 = sym first.2 ∙ (same ∙ second.2) in
+      let long = length-map (definitions_of func) definition_name in
+      let first_in = slice_get_within (definitions_of func) v first.0 first.1 in
+      let second_in = slice_get_within (definitions_of func) w second.0 second.1 in
+      elim (cases_lt v w) [
+        | inl less ↦ free.apart v w less (omega arith) (first_name ∙ (ap (λ name. Some name) names_same ∙ sym second_name))
+        | inr le ↦ elim (cases_lt w v) [
+          | inl more ↦ free.apart w v more (omega arith) (second_name ∙ (ap (λ name. Some name) (sym names_same) ∙ sym first_name))
+          | inr both ↦ true≢false (sym (eq-eqb v w (omega arith)) ∙ apart)
+        ]
+      ]
+
+  abbrev letter : List ℕ → ℕ
+  letter name = get_or name 3 0
+
+  spelled_apart : (i j : ℕ) (one other : Name) → i < j → slice_get (names_of func table naming) i ≡ Some one → slice_get (names_of func table naming) j ≡ Some other
+      → text func table naming one ≡ text func table naming other → ⊥
+  spelled_apart i j (own v) (own w) less one_at other_at same = owns_apart i j v w one_at other_at (names_apart func table naming i j (own v) (own w) less one_at other_at) same
+  spelled_apart i j (own v) (forms.token c l) less one_at other_at same = own_free i v one_at (inl (_, same))
+  spelled_apart i j (own v) (forms.relocated c l w) less one_at other_at same = own_free i v one_at (inr (inl (_, same)))
+  spelled_apart i j (own v) (forms.joined c w) less one_at other_at same = own_free i v one_at (inr (inr (_, same)))
+  spelled_apart i j (forms.token b k) (own w) less one_at other_at same = own_free j w other_at (inl (_, sym same))
+  spelled_apart i j (forms.relocated b k v) (own w) less one_at other_at same = own_free j w other_at (inr (inl (_, sym same)))
+  spelled_apart i j (forms.joined b v) (own w) less one_at other_at same = own_free j w other_at (inr (inr (_, sym same)))
+  spelled_apart i j (forms.token b k) (forms.token c l) less one_at other_at same =
+      places_differ is_token (names_of func table naming) i j (forms.token b k) (forms.token c l) (names_apart func table naming) free.few less one_at other_at refl refl (ap (drop 4) same)
+  spelled_apart i j (forms.relocated b k v) (forms.relocated c l w) less one_at other_at same =
+      places_differ is_relocated (names_of func table naming) i j (forms.relocated b k v) (forms.relocated c l w) (names_apart func table naming) free.few less one_at other_at refl refl (ap (drop 4) same)
+  spelled_apart i j (forms.joined b v) (forms.joined c w) less one_at other_at same =
+      places_differ is_joined (names_of func table naming) i j (forms.joined b v) (forms.joined c w) (names_apart func table naming) free.few less one_at other_at refl refl (ap (drop 4) same)
+  spelled_apart i j (forms.token b k) (forms.relocated c l w) less one_at other_at same = letters_differ 116 114 (ap letter same) refl
+  spelled_apart i j (forms.token b k) (forms.joined c w) less one_at other_at same = letters_differ 116 109 (ap letter same) refl
+  spelled_apart i j (forms.relocated b k v) (forms.token c l) less one_at other_at same = letters_differ 114 116 (ap letter same) refl
+  spelled_apart i j (forms.relocated b k v) (forms.joined c w) less one_at other_at same = letters_differ 114 109 (ap letter same) refl
+  spelled_apart i j (forms.joined b v) (forms.token c l) less one_at other_at same = letters_differ 109 116 (ap letter same) refl
+  spelled_apart i j (forms.joined b v) (forms.relocated c l w) less one_at other_at same = letters_differ 109 114 (ap letter same) refl
+
+  pub names_distinct : Distinct (map definition_name (definitions_of (now func table naming)))
+  names_distinct = subst Distinct (sym (names_are func table naming)) (λ i j less below same.
+      let long = length-map (names_of func table naming) (text func table naming) in
+      let one = get_some (names_of func table naming) i (omega arith) in
+      let other = get_some (names_of func table naming) j (omega arith) in
+      let here = get_map (text func table naming) (names_of func table naming) i one.0 one.1 in
+      let there = get_map (text func table naming) (names_of func table naming) j other.0 other.1 in
+      let both : Some (text func table naming one.0) ≡ Some (text func table naming other.0) = sym here ∙ (same ∙ there) in
+      let texts : text func table naming one.0 ≡ text func table naming other.0 = cc in
+      spelled_apart i j one.0 other.0 less one.1 other.1 texts)
