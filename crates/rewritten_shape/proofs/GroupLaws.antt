@@ -227,7 +227,7 @@ module _ (content other : ModuleContent) (func : Function) (table : List Operand
   -- ---- a statepoint and its members
 
   module _ (b k : ℕ) (line : Line) (callee : Callee) (types : List Ty) (at : slice_get (lines_at func b) k ≡ Some line) (op : line.inst.op ≡ ops.Call callee types) (no_leaf : is_leaf callee ≡ false) where
-    abbrev head : Instruction
+    abbrev pub head : Instruction
     head = written (statepoint func table naming to b k callee types line.inst)
 
     -- its entries, renamed
@@ -307,7 +307,7 @@ module _ (content other : ModuleContent) (func : Function) (table : List Operand
           (part_is j member.0 (member_of b k j line member.0 member.1));
     }
 
-    entries_count : length (entries_of head) ≡ length (entries func table b k)
+    pub entries_count : length (entries_of head) ≡ length (entries func table b k)
     entries_count = ap length entries_now ∙ length-map (entries func table b k) (renamed to (names_at func table naming b k))
 
     same_value : (o : Operand) (v : ℕ) → same_operand o (named v) ≡ true → (value : ValueId) × (renamed to (names_at func table naming b k) o ≡ operands.Value value)

@@ -5,3 +5,4 @@ pub mod PassLaws
 pub mod GroupLaws
 pub mod EndLaws
 pub mod SpellLaws
+pub mod CountLaws

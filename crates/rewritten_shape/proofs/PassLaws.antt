@@ -103,14 +103,20 @@ some_among : (x : ℕ) (xs : List ℕ) → among x xs ≡ true → 0 < length xs
 some_among x [] is = absurd (false≢true is)
 some_among x (y ∷ xs) is = omega arith
 
--- no more live pointers than values
-pub list_few : (func : Function) (table : List Operand) (b k : ℕ) → length (live_list func table b k) ≤ length (definitions_of func)
-list_few func table b k =
-    let kept = filter_few (λ (v : ℕ). is_live_after func table b k v && not (gives (line_at func b k) v)) (pointers func) in
+-- no more pointers than values
+pub pointers_few : (func : Function) → length (pointers func) ≤ length (definitions_of func)
+pointers_few func =
     let all = filter_few (λ (v : ℕ). option_map_or is_pointer (slice_get (value_types func) v) false) (range_with_len 0 (length (value_types func))) in
     let range = length-range_with_len 0 (length (value_types func)) in
     let types = length-map (definitions_of func) definition_type in
-    omega (arith, kept, all, range, types)
+    omega (arith, all, range, types)
+
+-- and so no more live ones
+pub list_few : (func : Function) (table : List Operand) (b k : ℕ) → length (live_list func table b k) ≤ length (definitions_of func)
+list_few func table b k =
+    let kept = filter_few (λ (v : ℕ). is_live_after func table b k v && not (gives (line_at func b k) v)) (pointers func) in
+    let all = pointers_few func in
+    omega (arith, kept, all)
 
 -- the entries of a live list are pointers
 module _ (func : Function) (table : List Operand) where
