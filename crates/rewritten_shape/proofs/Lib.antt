@@ -6,3 +6,4 @@ pub mod GroupLaws
 pub mod EndLaws
 pub mod SpellLaws
 pub mod CountLaws
+pub mod FunctionLaws

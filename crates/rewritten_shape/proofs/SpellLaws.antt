@@ -20,7 +20,7 @@ use Rattle.ir_ast.specs.declared.ops.Operand.{Operand}
 use Rattle.ir_ast.specs.Insts.{Instruction}
 use Rattle.ir_ast.specs.Blocks.{BasicBlock}
 use Rattle.ir_ast.specs.Funcs.{Function, instructions_of}
-use Rattle.ir_ast.specs.Lists.{Distinct, HasFront}
+use Rattle.ir_ast.specs.Lists.{Distinct}
 use Rattle.ir_ast.specs.Values.{Definition, argument, definition_name, definitions_of, outcome}
 use Rattle.ir_cfg.specs.Limits.{IsName}
 use Rattle.ir_cfg.proofs.KeepsForms.{flat_all}
@@ -35,6 +35,7 @@ use Rattle.rewriting_laws.proofs.NameLemmas.{line_is}
 use Rattle.rewriting_laws.proofs.PlaceLaws.{Apart, piece_names, pieces_names}
 use Rattle.base_paths.proofs.GivesLaws.{defines_gives}
 use Rattle.rewritten_definite.proofs.LineLaws.{given_defines}
+use Rattle.rewritten_shape.specs.WellFormed.{IsGroupName}
 use Rattle.rewritten_definite.proofs.NowLaws.{insts_now, now, number, pieces, text}
 
 abbrev has_result : Instruction → Bool
@@ -244,10 +245,6 @@ digits_named (d ∷ ds) all =
     digit_named d low high = or_right _ (leb 48 d && leb d 57) (ap (λ t. t && leb d 57) (le-leb 48 d low) ∙ le-leb d 57 high)
 
 -- ---- spelled names
-
--- no name of a value is one that relocations give
-abbrev pub IsGroupName : List ℕ → Type 0
-IsGroupName name = HasFront (codes "sp.t") name ⊎ (HasFront (codes "sp.r") name ⊎ HasFront (codes "sp.m") name)
 
 pub record HasFreeNames (func : Function) (table : List Operand) (naming : Naming) : Type 0 where
   pub names : All (λ given. IsName (definition_name given)) (definitions_of func)
