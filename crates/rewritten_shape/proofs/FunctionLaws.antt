@@ -106,7 +106,7 @@ argument_at [] insts v arg found =
 argument_at (first ∷ all) insts zero arg found = let same : first ≡ arg = cc in ap (λ x. Some x) same
 argument_at (first ∷ all) insts (suc v) arg found = argument_at all insts v arg found
 
-abbrev NoPoint : Instruction → Type 0
+abbrev pub NoPoint : Instruction → Type 0
 NoPoint inst = is_statepoint inst.op ≡ false
 
 pub no_tokens : (func : Function) → All IsLine (instructions_of func.blocks) → All NoPoint (instructions_of func.blocks) → All (λ arg. is_first_class arg.ty ≡ true) func.args

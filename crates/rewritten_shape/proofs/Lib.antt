@@ -7,3 +7,4 @@ pub mod EndLaws
 pub mod SpellLaws
 pub mod CountLaws
 pub mod FunctionLaws
+pub mod ModuleLaws
