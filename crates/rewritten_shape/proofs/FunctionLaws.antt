@@ -98,7 +98,7 @@ no_token_line (ops.Zext width) inst line none is = cc
 no_token_line (ops.Sext width) inst line none is = cc
 no_token_line (ops.Statepoint id callee given) inst line none is = true≢false none
 
-argument_at : (all : List Arg) (insts : List Instruction) (v : ℕ) (arg : Arg) → slice_get (map argument all ++ map outcome insts) v ≡ Some (argument arg) → slice_get all v ≡ Some arg
+pub argument_at : (all : List Arg) (insts : List Instruction) (v : ℕ) (arg : Arg) → slice_get (map argument all ++ map outcome insts) v ≡ Some (argument arg) → slice_get all v ≡ Some arg
 argument_at [] insts v arg found =
     let back = map_back outcome insts v (argument arg) found in
     let wrong = back.is in

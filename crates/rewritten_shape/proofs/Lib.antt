@@ -8,3 +8,4 @@ pub mod SpellLaws
 pub mod CountLaws
 pub mod FunctionLaws
 pub mod ModuleLaws
+pub mod BasedTypes
