@@ -9,3 +9,4 @@ pub mod CountLaws
 pub mod FunctionLaws
 pub mod ModuleLaws
 pub mod BasedTypes
+pub mod BasedLines
