@@ -436,3 +436,110 @@ module _ (content : ModuleContent) (source : IsSourceModule content) (number : �
       select_values (condition ∷ given) fits =
           ap (λ t. t && list_all is_value (map (base_of before_func marks) given)) (integer_value (renumbered before_func marks condition) (operand_now condition (types.Int 1) fits.0))
           ∙ all_pointer_values (map (base_of before_func marks) given) 2 (all_bases given 2 fits.1)
+
+  -- ---- the lines for an instruction
+
+  abbrev base_full : ℕ → Instruction → Op → Ty → Instruction
+  base_full next inst op ty = record { result = (base_line before_func marks next inst).result; op = op; ty = ty; operands = merged_bases (insertion before_func marks) op inst.operands; labels = inst.labels; bundle = [] }
+
+  module _ (place : ℕ) (inst : Instruction) (at : slice_get (instructions_of before_func.blocks) place ≡ Some inst) (well : IsWellFormed content before_func inst) where
+    abbrev next : ℕ
+    next = value_at before_func place
+
+    typed_line : IsTypedLine before_func inst
+    typed_line = (all_at (IsReady (renamings content) before_func) (instructions_of before_func.blocks) place inst (all_ready content source number func found) at).typed
+
+    kept : IsWellNow (kept_line before_func marks inst)
+    kept = kept_well inst well
+
+    one_line : (line : Instruction) → IsWellNow line → All IsWellNow (line ∷ [])
+    one_line line holds = All-cons IsWellNow line [] holds (All-nil IsWellNow)
+
+    line_as : (op : Op) → inst.op ≡ op → LineOf op inst
+    line_as op is = subst (λ (o : Op). LineOf o inst) is well.line
+
+    asked_as : (op : Op) → inst.op ≡ op → AllZip (Fits (value_types before_func)) inst.operands (asked op inst.ty (length inst.operands))
+    asked_as op is = subst (λ (o : Op). AllZip (Fits (value_types before_func)) inst.operands (asked o inst.ty (length inst.operands))) is typed_line.fits
+
+    is_used : is_merged marks inst ≡ true → uses_marked marks inst ≡ true
+    is_used merges = (and_parts (is_merge inst.op) (uses_marked marks inst) merges).1
+
+    phi_base : inst.op ≡ ops.Phi → is_merged marks inst ≡ true → IsWellNow (base_line before_func marks next inst)
+    phi_base is merges =
+        let ty = phi_of_pointers before_func marks (pointers content source number func found) inst typed_line (is_used merges) is in
+        subst (λ (op : Op). IsWellNow (base_full next inst op inst.ty)) (sym is)
+        (subst (λ (t : Ty). IsWellNow (base_full next inst ops.Phi t)) (sym ty)
+        (phi_base_well inst _ (line_as ops.Phi is) (subst (λ (t : Ty). AllZip (Fits (value_types before_func)) inst.operands (replicate (length inst.operands) t)) ty (asked_as ops.Phi is))
+        (well.local).blocks))
+
+    select_base : inst.op ≡ ops.Select → is_merged marks inst ≡ true → IsWellNow (base_line before_func marks next inst)
+    select_base is merges =
+        let ty = select_of_pointers before_func marks (pointers content source number func found) inst typed_line (is_used merges) is in
+        subst (λ (op : Op). IsWellNow (base_full next inst op inst.ty)) (sym is)
+        (subst (λ (t : Ty). IsWellNow (base_full next inst ops.Select t)) (sym ty)
+        (select_base_well inst _ (line_as ops.Select is) (subst (λ (t : Ty). AllZip (Fits (value_types before_func)) inst.operands (types.Int 1 ∷ t ∷ t ∷ [])) ty (asked_as ops.Select is))))
+
+    merged_well : (is_merged marks inst ≡ true → IsWellNow (base_line before_func marks next inst)) → All IsWellNow (merged before_func marks next inst)
+    merged_well base = by (is_merged marks inst) refl
+      where
+        by : (b : Bool) → is_merged marks inst ≡ b → All IsWellNow ((if b then base_line before_func marks next inst ∷ [] else []) ++ kept_line before_func marks inst ∷ [])
+        by true merges = All-cons IsWellNow (base_line before_func marks next inst) (kept_line before_func marks inst ∷ []) (base merges) (one_line (kept_line before_func marks inst) kept)
+        by false other = one_line (kept_line before_func marks inst) kept
+
+    -- the operands of a compare with a derived one are two pointers
+    compared_fits : (pred : Pred) → inst.op ≡ ops.Icmp pred → uses_marked marks inst ≡ true → (k : ℕ) → slice_get (Ptr ∷ Ptr ∷ []) k ≡ Some Ptr → Fits (value_types before_func) (operand_at inst k) Ptr
+    compared_fits pred is marked k asked_at =
+        let ty = compares_pointers before_func marks (pointers content source number func found) inst typed_line marked pred is in
+        let two = (line_as (ops.Icmp pred) is).operand_count in
+        operand_fits (value_types before_func) inst.operands (Ptr ∷ Ptr ∷ []) k Ptr
+        (subst (λ n. AllZip (Fits (value_types before_func)) inst.operands (replicate n Ptr)) two
+        (subst (λ (t : Ty). AllZip (Fits (value_types before_func)) inst.operands (replicate (length inst.operands) t)) ty (asked_as (ops.Icmp pred) is))) asked_at
+
+    same_result : (result : Option (List ℕ)) → is_some result ≡ true → Fits (value_types before_func) (operand_at inst 0) Ptr → Fits (value_types before_func) (operand_at inst 1) Ptr
+        → IsWellNow (same_call before_func marks result (operand_at inst 0) (operand_at inst 1))
+    same_result None named first second = absurd cc
+    same_result (Some name) named first second = same_well name (operand_at inst 0) (operand_at inst 1) first second
+
+    compared_well : (pred : Pred) → inst.op ≡ ops.Icmp pred → uses_marked marks inst ≡ true → All IsWellNow (compared before_func marks next inst pred)
+    compared_well preds.Eq is marked =
+        one_line (same_call before_func marks inst.result (operand_at inst 0) (operand_at inst 1))
+        (same_result inst.result (line_as (ops.Icmp preds.Eq) is).result (compared_fits preds.Eq is marked 0 refl) (compared_fits preds.Eq is marked 1 refl))
+    compared_well preds.Ne is marked =
+        All-cons IsWellNow (same_call before_func marks _ (operand_at inst 0) (operand_at inst 1)) (negation before_func marks next inst ∷ [])
+        (same_result _ refl (compared_fits preds.Ne is marked 0 refl) (compared_fits preds.Ne is marked 1 refl))
+        (one_line (negation before_func marks next inst) (negation_well next inst (line_as (ops.Icmp preds.Ne) is).result inserted_type))
+      where
+        whole : group_of before_func next inst ≡ compared before_func marks next inst preds.Ne
+        whole = ap (lines_for before_func marks next inst) is ∙ ap (λ (b : Bool). if b then compared before_func marks next inst preds.Ne else kept_line before_func marks inst ∷ []) marked
+
+        inserted_type : slice_get (value_types made) (inserted_number before_func marks next) ≡ Some (types.Int 1)
+        inserted_type =
+            let zero_is : inserted_number before_func marks next + 0 ≡ inserted_number before_func marks next = omega arith in
+            ap (slice_get (value_types made)) (sym zero_is)
+            ∙ line_type (renamings content) number before_func true (is_here content source number func found) (pointers content source number func found) (all_ready content source number func found)
+            place inst at [] (negation before_func marks next inst ∷ []) (same_call before_func marks _ (operand_at inst 0) (operand_at inst 1)) whole refl
+    compared_well pred is marked = one_line (kept_line before_func marks inst) kept
+
+    lines_as : (op : Op) → inst.op ≡ op → All IsWellNow (lines_for before_func marks next inst op)
+    lines_as ops.Phi is = merged_well (phi_base is)
+    lines_as ops.Select is = merged_well (select_base is)
+    lines_as (ops.Icmp pred) is = by (uses_marked marks inst) refl
+      where
+        by : (b : Bool) → uses_marked marks inst ≡ b → All IsWellNow (if b then compared before_func marks next inst pred else kept_line before_func marks inst ∷ [])
+        by true marked = compared_well pred is marked
+        by false unmarked = one_line (kept_line before_func marks inst) kept
+    lines_as ops.Load is =
+        All-cons IsWellNow (check before_func marks inst (operand_at inst 0)) (kept_line before_func marks inst ∷ [])
+        (check_well inst (operand_at inst 0) (operand_fits (value_types before_func) inst.operands (Ptr ∷ []) 0 Ptr (asked_as ops.Load is) refl)) (one_line (kept_line before_func marks inst) kept)
+    lines_as ops.Store is =
+        All-cons IsWellNow (check before_func marks inst (operand_at inst 1)) (kept_line before_func marks inst ∷ [])
+        (check_well inst (operand_at inst 1) (operand_fits (value_types before_func) inst.operands (inst.ty ∷ Ptr ∷ []) 1 Ptr (asked_as ops.Store is) refl)) (one_line (kept_line before_func marks inst) kept)
+    lines_as op is = one_line (kept_line before_func marks inst) kept
+
+  pub all_based_well : All (IsWellFormed content func) (instructions_of func.blocks) → All IsWellNow (instructions_of made.blocks)
+  all_based_well all =
+      let here = all_placed_well content func all in
+      all_from_at IsWellNow (instructions_of made.blocks) (λ place line at.
+      let from = located before_func place line at in
+      all_at IsWellNow (group_of before_func (value_at before_func from.from) from.inst) from.index line
+      (lines_as from.from from.inst from.stands (all_at (IsWellFormed content before_func) (instructions_of before_func.blocks) from.from from.inst here from.stands) from.inst.op refl) from.in_group)
