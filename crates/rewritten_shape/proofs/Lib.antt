@@ -10,3 +10,4 @@ pub mod FunctionLaws
 pub mod ModuleLaws
 pub mod BasedTypes
 pub mod BasedLines
+pub mod BasedModule

@@ -235,7 +235,7 @@ places_differ test names i j one other apart few less one_at other_at first seco
     let equal = decimal_injective (place_in (filter test names) one) (place_in (filter test names) other) (omega (arith, here, one_few, few)) (omega (arith, there, other_few, few)) same in
     omega (arith, here, there, more, equal)
 
-digits_named : (ds : List ℕ) → AllDigits 10 ds → list_all in_name ds ≡ true
+pub digits_named : (ds : List ℕ) → AllDigits 10 ds → list_all in_name ds ≡ true
 digits_named [] all = refl
 digits_named (d ∷ ds) all =
     let parts = tells_digits.parts d ds all in
@@ -252,7 +252,7 @@ pub record HasFreeNames (func : Function) (table : List Operand) (naming : Namin
   pub free : All (λ given. IsGroupName (definition_name given) → ⊥) (definitions_of func)
   pub few : length (names_of func table naming) < 2 ^ 64
 
-letters_differ : (letter other : ℕ) → letter ≡ other → eqb letter other ≡ false → ⊥
+pub letters_differ : (letter other : ℕ) → letter ≡ other → eqb letter other ≡ false → ⊥
 letters_differ letter other same apart = true≢false (sym (eq-eqb letter other same) ∙ apart)
 
 module _ (func : Function) (table : List Operand) (naming : Naming) (free : HasFreeNames func table naming) where
