@@ -11,3 +11,4 @@ pub mod ModuleLaws
 pub mod BasedTypes
 pub mod BasedLines
 pub mod BasedModule
+pub mod TargetLaws
