@@ -1,0 +1,14 @@
+pub mod CarryLaws
+pub mod NamedLaws
+pub mod KeptLaws
+pub mod PassLaws
+pub mod GroupLaws
+pub mod EndLaws
+pub mod SpellLaws
+pub mod CountLaws
+pub mod FunctionLaws
+pub mod ModuleLaws
+pub mod BasedTypes
+pub mod BasedLines
+pub mod BasedModule
+pub mod TargetLaws
