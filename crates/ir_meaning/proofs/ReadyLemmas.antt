@@ -23,7 +23,7 @@ use Rattle.object_meaning.specs.Lines.{poll, numbered, following, retreats, line
 use Rattle.object_meaning.specs.States.{State}
 use Rattle.flat_code.specs.Codes.{FlatModule, IsReadyModule, defined_at, segment_at, exit_lines}
 use Rattle.flat_code.specs.Spots.{IsReady, AllReady, insts_at, lines_at, lines_due}
-use Rattle.ir_meaning.specs.Stacks.{Seen, exit_frame}
+use Rattle.waiting_frames.specs.Frames.{Seen, exit_frame}
 use Rattle.object_meaning.proofs.ListLemmas.{take_front, drop_front}
 use Rattle.object_meaning.specs.Texts.{bundle_of, bundle_line, bundle_lines, closing_lines, function_name}
 

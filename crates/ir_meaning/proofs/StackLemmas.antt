@@ -1,9 +1,9 @@
 -- The frames of a stack whose registers are in one list.
 use Rattle.std.proofs.Common.{◌≡◌, ℕ, suc, List, [], ◌∷◌, ◌++◌, length, take, drop, reverse, refl, ap, ◌∙◌}
 use Rattle.std.proofs.lemmas.List.{length-reverse, reverse-append}
-use Rattle.ir_meaning.specs.declared.stacks.Saved.{Saved}
+use Rattle.waiting_frames.specs.declared.frames.Saved.{Saved}
 use Rattle.object_store.specs.declared.words.Word.{Word}
-use Rattle.ir_meaning.specs.Stacks.{frames_below}
+use Rattle.waiting_frames.specs.Frames.{frames_below}
 
 pub below_count : (saved : List Saved) (registers : List Word) → length (frames_below saved registers) ≡ length saved
 below_count [] registers = refl

@@ -3,7 +3,6 @@
 ghost use Rattle.std.specs.Prelude.{◌≡◌, ◌≤◌, ◌<◌, length, codes, IfOk, IfSome, OnErr, IsErrOf};
 ghost use Rattle.std.specs.List.{All, position};
 ghost use Rattle.std.specs.Str.{bytes_eq};
-ghost use Rattle.ir_ast.specs.Bundles.{HasNoBundle};
 ghost use Rattle.ir_cfg.specs.SourceModules.{IsSourceModule};
 ghost use Rattle.tool_io.specs.Counts.{Rose};
 ghost use Rattle.object_meaning.specs.Lines.{main_of};
@@ -11,10 +10,11 @@ ghost use Rattle.ir_meaning.specs.Machines.{state_of, today, IsOpened};
 ghost use Rattle.move_plan.specs.Plans.{go};
 ghost use Rattle.flat_code.specs.Codes.{IsReadyModule};
 ghost use Rattle.object_meaning.specs.Effects.{printed_line};
-ghost use Rattle.ir_meaning.specs.References.{IsRun, IsRunFrom, WritesFrontFrom, WritesFrontOfRun, unprinted, ended_of, Wrote, WroteFront};
+ghost use Rattle.tool_io.specs.Sink.{append_known, AppendsFront};
+ghost use Rattle.ir_meaning.specs.References.{closing_text, IsRun, IsRunFrom, WritesFrontFrom, WritesFrontOfRun, unprinted, ended_of, Wrote, WroteFront};
 
 use crate::machine::{Did, Machine};
-use crate::stacks::{Spot, Stack};
+use crate::stacks::Stack;
 use arrayvec::ArrayVec;
 use flat_code::Code;
 use ir_ast::{Func, Module};
@@ -24,6 +24,7 @@ use object_store::Objects;
 use sp_ids::{End, FuncId, Memory, sign};
 use std::alloc::Global;
 use tool_io::{Failed, Sink};
+use waiting_frames::Spot;
 
 /// How a run ended: its end, the function that ran last, the steps and events, and the number of lines that
 /// `print_i64` wrote. Events and lines stand still at 2^64 - 1.
@@ -80,7 +81,6 @@ pub fn reference<O: Sink>(
     out: &mut O,
 ) -> Result<Ran, RefFault>
     requires source { IsSourceModule «module».now.content }
-    requires no_bundle { All HasNoBundle «module».now.content.funcs }
     ensures ran { IfOk result (λ ran. IsRun «module».now.content input.now (go plan.now) steps ran (O.written out.old) (O.written out.new)) }
     ensures front { OnErr result (WritesFrontOfRun «module».now.content input.now (go plan.now) steps (O.written out.old) (O.written out.new)) }
     ensures failed { IsErrOf result RefFault.Write → Rose (O.faults out.old) (O.faults out.new) }
@@ -161,6 +161,7 @@ fn run<O: Sink>(
     for _ in 0..u64::MAX {
         let did = machine.turn(code, plan, bound)?;
         if let Some(end) = ended(did) {
+            show_end(code, end, machine, out)?;
             return Ok(how_ran(end, machine, lines));
         }
         let more = write_line(did, lines, out)?;
@@ -192,6 +193,24 @@ fn write_line<O: Sink>(did: Did, lines: u64, out: &mut O) -> Result<u64, Failed>
             Ok(lines.saturating_add(1))
         }
         _ => Ok(lines),
+    }
+}
+
+// Writes what a run shows after the last line that it prints.
+fn show_end<O: Sink>(
+    code: &Code,
+    end: End,
+    machine: &Machine,
+    out: &mut O,
+) -> Result<(), Failed>
+    ensures ok { OnOk result (O.written out.new ≡ append_known (O.written out.old) (closing_text code.now end machine.now)) }
+    ensures err { OnErr result (AppendsFront (O.written out.old) (O.written out.new) (closing_text code.now end machine.now)) }
+    ensures failed { OnErr result (Rose (O.faults out.old) (O.faults out.new)) }
+    ensures count { O.faults out.old ≤ O.faults out.new }
+{
+    match end {
+        End::Trap(_) => machine.stack.show(code, out),
+        _ => Ok(()),
     }
 }
 
