@@ -1,9 +1,8 @@
 //! The reference interpreter.
 
-ghost use Rattle.std.specs.Prelude.{◌≡◌, ◌≤◌, ◌<◌, length, codes, IfOk, IfSome, OnErr, IsErrOf};
-ghost use Rattle.std.specs.List.{All, position};
+ghost use Rattle.std.specs.Prelude.{◌≡◌, ◌≤◌, ◌<◌, length, codes, IfOk, IfSome, OnOk, OnErr, IsErrOf};
+ghost use Rattle.std.specs.List.{position};
 ghost use Rattle.std.specs.Str.{bytes_eq};
-ghost use Rattle.ir_cfg.specs.SourceModules.{IsSourceModule};
 ghost use Rattle.tool_io.specs.Counts.{Rose};
 ghost use Rattle.object_meaning.specs.Lines.{main_of};
 ghost use Rattle.ir_meaning.specs.Machines.{state_of, today, IsOpened};
@@ -67,11 +66,12 @@ impl From<Failed> for RefFault {
     }
 }
 
-/// Runs `@main` of a source module without bundles, which may take these many steps, over this input and under the `go` lines of this plan,
-/// and writes each line that it prints by one `put`.
+/// Runs `@main` of a module of the source form, as each source module is, which may take these many steps, over this input
+/// and under the `go` lines of this plan, and writes each line that it prints by one `put`; at a trap it then writes what
+/// each waiting frame shows of its call's "deopt" bundle (LLVM Language Reference, "Deoptimization Operand Bundles").
 ///
 /// `Write` comes only where the sink counted a fault. After it, and after `Memory`, a front of what the run
-/// prints was written.
+/// writes was written.
 pub fn reference<O: Sink>(
     alloc: Global,
     module: &Module,
@@ -80,7 +80,7 @@ pub fn reference<O: Sink>(
     steps: u64,
     out: &mut O,
 ) -> Result<Ran, RefFault>
-    requires source { IsSourceModule «module».now.content }
+    requires { IsReadyModule «module».now.content }
     ensures ran { IfOk result (λ ran. IsRun «module».now.content input.now (go plan.now) steps ran (O.written out.old) (O.written out.new)) }
     ensures front { OnErr result (WritesFrontOfRun «module».now.content input.now (go plan.now) steps (O.written out.old) (O.written out.new)) }
     ensures failed { IsErrOf result RefFault.Write → Rose (O.faults out.old) (O.faults out.new) }
@@ -150,8 +150,7 @@ fn run<O: Sink>(
     bound: u64,
     out: &mut O,
 ) -> Result<Ran, RefFault>
-    requires ready { IsReadyModule code.now.content }
-    requires layouts { machine.old.objects.layouts ≡ code.now.content.layouts }
+    requires { machine.old.objects.layouts ≡ code.now.content.layouts }
     ensures ran { IfOk result (λ ran. IsRunFrom (today code.now plan.now bound) (unprinted (state_of code.now machine.old)) ran (O.written out.old) (O.written out.new)) }
     ensures front { OnErr result (WritesFrontFrom (today code.now plan.now bound) (unprinted (state_of code.now machine.old)) (O.written out.old) (O.written out.new)) }
     ensures failed { IsErrOf result RefFault.Write → Rose (O.faults out.old) (O.faults out.new) }
@@ -197,12 +196,7 @@ fn write_line<O: Sink>(did: Did, lines: u64, out: &mut O) -> Result<u64, Failed>
 }
 
 // Writes what a run shows after the last line that it prints.
-fn show_end<O: Sink>(
-    code: &Code,
-    end: End,
-    machine: &Machine,
-    out: &mut O,
-) -> Result<(), Failed>
+fn show_end<O: Sink>(code: &Code, end: End, machine: &Machine, out: &mut O) -> Result<(), Failed>
     ensures ok { OnOk result (O.written out.new ≡ append_known (O.written out.old) (closing_text code.now end machine.now)) }
     ensures err { OnErr result (AppendsFront (O.written out.old) (O.written out.new) (closing_text code.now end machine.now)) }
     ensures failed { OnErr result (Rose (O.faults out.old) (O.faults out.new)) }
