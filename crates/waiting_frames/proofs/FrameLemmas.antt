@@ -1,6 +1,5 @@
 -- Frames that wait, one after the other.
-use Rattle.std.proofs.Common.{◌≡◌, ℕ, zero, suc, ◌+◌, ◌-◌, ◌<◌, ◌≤◌, List, [], ◌∷◌, ◌++◌, length, map, take, drop, reverse, get_or, min, refl, sym, ap, ◌∙◌, arith, drop-cons}
-use Rattle.std.specs.List.{concat}
+use Rattle.std.proofs.Common.{◌≡◌, ℕ, suc, ◌+◌, ◌-◌, ◌<◌, ◌≤◌, List, [], ◌∷◌, ◌++◌, length, map, take, drop, reverse, get_or, min, refl, sym, ap, ◌∙◌, arith, drop-cons}
 use Rattle.std.proofs.lemmas.List.{length-reverse, get_or-reverse, drop_all, drop_min, take_min}
 use Rattle.std.proofs.lemmas.List.Folds.{concat-append}
 use Rattle.object_meaning.specs.Texts.{function_name, bundle_of, bundle_line, bundle_lines}

@@ -1,5 +1,5 @@
 -- What registers stand for.
-use Rattle.std.proofs.Common.{◌≡◌, List, map, refl, sym}
+use Rattle.std.proofs.Common.{◌≡◌, List, map, sym}
 use lib.ListN.{get_or-map}
 use Rattle.std.specs.Prelude.{slice_index_or}
 use Rattle.object_meaning.specs.Registers.{nothing}

@@ -1,5 +1,5 @@
 -- Frames of an interpreter: the segment at which each stands, and its registers.
-use Rattle.std.specs.Prelude.{ℕ, List, [], ◌∷◌, map, take, drop}
+use Rattle.std.specs.Prelude.{List, [], ◌∷◌, map, take, drop}
 use Rattle.flat_code.specs.Codes.{FlatModule, block_at, front_lines, exit_lines}
 use Rattle.object_meaning.specs.Lines.{Line}
 use Rattle.object_meaning.specs.States.{Frame}

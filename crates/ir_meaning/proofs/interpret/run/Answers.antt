@@ -1,4 +1,4 @@
-use Rattle.std.proofs.Common.{sym, refl, ◌∙◌, arith}
+use Rattle.std.proofs.Common.{sym, ◌∙◌, arith}
 use Rattle.std.proofs.lemmas.Result.{err_from_is_err_and}
 use Rattle.ir_meaning.specs.Machines.{state_of, today}
 use Rattle.ir_meaning.specs.References.{unprinted}
@@ -32,8 +32,8 @@ returns-in_err-more-clause-front g c =
     rw p.1 (front_turned (today c.args.code.now c.args.plan.now c.args.bound) (unprinted (state_of c.args.code.now c.args.machine.now)) (state_of c.args.code.now c.loop.machine) (state_of c.args.code.now c.turn.new.self) c.in_ok-did.did c.loop.lines (g.O.Sink.written c.args.out.now) (g.O.Sink.written c.loop.out) (g.O.Sink.written c.write_line.new.out)
     c.loop.invariant.follows c.in_ok-did.ensures.turned (sym c.ended.ensures ∙ c.in_default.is) c.in_err-more.ensures.err)
 
-pub returns-in_ok-show_end-clause-ran : goal.returns-in_ok-show_end-clause-ran
-returns-in_ok-show_end-clause-ran g c =
+pub returns-in-Some-clause-ran : goal.returns-in-Some-clause-ran
+returns-in-Some-clause-ran g c =
     end_turned (today c.args.code.now c.args.plan.now c.args.bound) (unprinted (state_of c.args.code.now c.args.machine.now)) (state_of c.args.code.now c.loop.machine) (state_of c.args.code.now c.turn.new.self) c.in_ok-did.did c.in-Some.end c.loop.lines c.how_ran.result (g.O.Sink.written c.args.out.now) (g.O.Sink.written c.loop.out) (g.O.Sink.written c.show_end.new.out) c.loop.invariant.follows
     c.in_ok-did.ensures.turned (sym c.ended.ensures ∙ c.in-Some.is) c.how_ran.ensures c.in_ok-show_end.ensures.ok
 

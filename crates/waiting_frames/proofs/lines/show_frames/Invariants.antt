@@ -1,4 +1,4 @@
-use Rattle.std.proofs.Common.{◌≡◌, ◌+◌, ◌≤◌, drop, reverse}
+use Rattle.std.proofs.Common.{◌+◌, ◌≤◌, drop, reverse}
 use Rattle.tool_io.proofs.AppendLaws.{AppendsBefore}
 use Rattle.waiting_frames.specs.Frames.{frames_below}
 use Rattle.waiting_frames.specs.Shown.{frames_text}
