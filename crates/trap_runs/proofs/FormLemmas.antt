@@ -5,7 +5,7 @@ use Rattle.std.specs.List.{All}
 use Rattle.std.specs.Option.{option_map_or}
 use Rattle.std.proofs.lemmas.List.Elements.{All-nil, All-head, All-tail}
 use Rattle.ir_ast.specs.Blocks.{BasicBlock}
-use Rattle.ir_ast.specs.Funcs.{Function, LinedFunction, content_of}
+use Rattle.ir_ast.specs.Funcs.{LinedFunction, content_of}
 use Rattle.object_meaning.specs.Lines.{insts_in}
 use Rattle.flat_code.specs.Spots.{IsReady, AllReady}
 use Rattle.trap_runs.specs.Forms.{BlockIsReady, FunctionIsReady}

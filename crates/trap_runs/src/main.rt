@@ -1,10 +1,11 @@
-//! Runs of modules whose calls have bundles, into traps and other ends: one line a case, with what came and what was
+//! Runs of modules whose calls have bundles, into traps and other ends: two lines a case, with what came and what was
 //! written.
 #![tactic(auto)]
 
-mod bundles;
 mod cases;
 mod forms;
+mod lines;
+mod modules;
 
 use anyhow::Result;
 
