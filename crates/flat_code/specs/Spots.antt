@@ -55,10 +55,9 @@ behind_phis defined block = record {
   due = Next;
 }
 
--- a line of the source form without a bundle
+-- a line of the source form
 pub record IsReady (inst : Instruction) : Type 0 where
   pub source : is_rewritten inst.op ≡ false
-  pub no_bundle : inst.bundle ≡ []
 
 abbrev pub AllReady : List Instruction → Type 0
 AllReady insts = All IsReady insts

@@ -54,6 +54,13 @@ impl<'m> Code<'m> {
         self.module
     }
 
+    /// A function of its module.
+    pub fn func(&self, func: u32) -> Option<&Func>
+        ensures { option_map (λ func. func.now.content) result ≡ slice_get self.now.content.funcs func }
+    {
+        func_at(self.module, func as usize)
+    }
+
     /// The segment at a place of a function.
     pub fn segment(&self, func: u32, place: u32) -> Option<&Segment>
         ensures { MatchOption result (segment_at self.now func place ≡ None) (λ segment. Fits self.now func place segment.now) }

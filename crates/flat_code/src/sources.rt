@@ -96,7 +96,8 @@ impl<'m> Source<'m> {
     }
 }
 
-fn insts_in(func: &Func, block: u32) -> &[Inst]
+/// The instructions of a block of a function.
+pub fn insts_in(func: &Func, block: u32) -> &[Inst]
     ensures { result.now ≡ insts_in func.now.content block }
 {
     match func.blocks().get(block as usize) {
@@ -199,7 +200,7 @@ pub(crate) fn is_phi(op: &Op) -> bool
 }
 
 /// Whether a terminator has an edge to the same or an earlier place than its block.
-pub(crate) fn retreats(block: u32, inst: &Inst) -> bool
+pub fn retreats(block: u32, inst: &Inst) -> bool
     ensures { result ≡ retreats block inst.now }
 {
     inst.op().is_terminator() && any_up_to(inst.labels(), block)

@@ -43,7 +43,8 @@ use Rattle.flat_code.proofs.PhiLemmas.{phi_rest}
 use Rattle.flat_code.proofs.StraightLemmas.{passes_here, passes_more}
 use Rattle.tool_io.specs.Counts.{raised}
 use Rattle.ir_meaning.specs.declared.machine.Did.TheVariants.{GoesOn, Prints, Ends}
-use Rattle.ir_meaning.specs.Stacks.{Seen, Frames, word, front_frame, exit_frame, passed_frame, entered_frames, move_of, moved, arrived_frames}
+use Rattle.waiting_frames.specs.Frames.{Seen, front_frame, exit_frame}
+use Rattle.ir_meaning.specs.Stacks.{Frames, word, passed_frame, entered_frames, move_of, moved, arrived_frames}
 use Rattle.ir_meaning.specs.Machines.{Rest, state_from, exit_from, state_with, task_frames, waiting_frames, today, StandsAt, LeadsAlong, SwitchesAt, Turned}
 use Rattle.ir_meaning.proofs.MachineLemmas.{turned_goes, turned_prints, turned_ends, out_of_steps, step_left, stands_block, passed_at, exit_step, call_step}
 use Rattle.ir_meaning.proofs.WordLemmas.{word_is, words_are, write_of, moves_are}

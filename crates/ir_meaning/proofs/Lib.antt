@@ -1,4 +1,3 @@
-pub mod StackLemmas
 pub mod WordLemmas
 pub mod StraightLemmas
 pub mod MachineLemmas

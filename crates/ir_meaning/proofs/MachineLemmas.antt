@@ -33,7 +33,8 @@ use Rattle.flat_code.specs.Straight.{Passes, IsAlike}
 use Rattle.flat_code.proofs.StraightLemmas.{passes_here, reaches_by}
 use Rattle.ir_meaning.specs.declared.machine.Did.{Did}
 use Rattle.ir_meaning.specs.declared.machine.Did.TheVariants.{GoesOn, Prints, Ends}
-use Rattle.ir_meaning.specs.Stacks.{Frames, front_frame, exit_frame, passed_frame}
+use Rattle.waiting_frames.specs.Frames.{front_frame, exit_frame}
+use Rattle.ir_meaning.specs.Stacks.{Frames, passed_frame}
 use Rattle.ir_meaning.specs.Machines.{Rest, Whole, state_from, exit_from, state_with, waiting_frames, switched_so, gone_to, today, StandsAt, Turned, Does}
 use Rattle.ir_meaning.proofs.WordLemmas.{put_is}
 

@@ -16,8 +16,8 @@ use Rattle.object_meaning.specs.States.{Frame}
 use Rattle.object_store.specs.declared.words.Word.{Word}
 use Rattle.object_store.specs.Words.{datum, number_word}
 use Rattle.flat_code.specs.Codes.{FlatModule}
-use Rattle.ir_meaning.specs.declared.stacks.Spot.{Spot}
-use Rattle.ir_meaning.specs.Stacks.{Seen}
+use Rattle.waiting_frames.specs.declared.frames.Spot.{Spot}
+use Rattle.waiting_frames.specs.Frames.{Seen}
 use Rattle.ir_meaning.specs.Machines.{Rest, state_of, state_from, today, IsOpened}
 use Rattle.ir_meaning.proofs.CallLemmas.{zeros_are, front_is}
 

@@ -1,20 +1,14 @@
 -- What the interpreter answers is what the module's run gives.
-use Rattle.std.proofs.Common.{◌≡◌, ℕ, ℤ, List, ◌++◌, Option, sym, ap, ◌∙◌, append_assoc}
-use Rattle.std.specs.List.{concat}
-use Rattle.tool_io.specs.Sink.{append_known, AppendsFront}
-use Rattle.tool_io.proofs.AppendLaws.{AppendsFront-front, AppendsFront-same}
-use Rattle.sp_ids.specs.declared.ends.End.{End}
+use Rattle.std.proofs.Common.{◌≡◌, ℕ, ℤ, List, Option, sym, ap, ◌∙◌}
+use Rattle.tool_io.specs.Sink.{append_known}
+use Rattle.tool_io.proofs.AppendLaws.{AppendsFront-same}
 use Rattle.ir_ast.specs.Modules.{ModuleContent}
 use Rattle.ir_meaning.specs.declared.interpret.Ran.{Ran}
-use Rattle.ir_meaning.specs.References.{text_from, IsRun, IsRunFrom, WritesFrontFrom, WritesFrontOfRun}
-use Rattle.object_meaning.specs.Effects.{Progress, line_count, text_of}
-use Rattle.object_meaning.specs.Outcomes.{opening, outcome_of, proceeds, whole_text}
-use Rattle.object_meaning.specs.Runs.{Ends}
+use Rattle.ir_meaning.specs.References.{IsRun, IsRunFrom, WritesFrontFrom, WritesFrontOfRun}
+use Rattle.object_meaning.specs.Effects.{line_count}
+use Rattle.object_meaning.specs.Outcomes.{opening, outcome_of, whole_text}
 use Rattle.object_meaning.specs.SourceRuns.{source_setting}
-use Rattle.object_meaning.specs.States.{State}
-use Rattle.object_meaning.specs.Texts.{closing_lines}
-use Rattle.object_meaning.proofs.EndLaws.{run_ends}
-use Rattle.object_meaning.proofs.OutcomeLaws.{gives_end, printed_first, text_is}
+use Rattle.object_meaning.proofs.OutcomeLaws.{gives_end, text_is}
 
 ran_same : (ran : Ran) (func steps events lines : ℕ) → ran.func.0 ≡ func → ran.steps ≡ steps → ran.events ≡ events → ran.lines ≡ lines
     → ran ≡ record { end = ran.end; func = record { 0 = func }; steps = steps; events = events; lines = lines }
@@ -36,30 +30,13 @@ module _ (content : ModuleContent) (input : List ℤ) (go : ℕ → Option ℕ) 
         written = run.written ∙ ap (append_known old) (sym (text_is setting input run.run.within ran.end run.last));
       }
 
-  -- what was printed on the way is a front of what the run writes
+  -- a front of what the run writes from its opening on is one of what it writes
   pub front_is : WritesFrontFrom (source_setting content go bound) (opening (source_setting content go bound) input) old new
       → WritesFrontOfRun content input go bound old new
   front_is writes =
       let setting = source_setting content go bound in
-      let ended = run_ends setting (opening setting input) in
-      let more = printed_first setting (opening setting input) writes.now ended.last ended.end writes.reached ended.run in
-      let shown = concat (closing_lines setting.names ended.end ended.last.state) in
       record {
-        outcome = outcome_of setting input ended.run.within ended.end ended.last;
-        gives = gives_end setting input ended.end ended.last ended.run;
-        front =
-            AppendsFront-front writes.front (more.more ++ shown) (whole_text (outcome_of setting input ended.run.within ended.end ended.last))
-            (text_is setting input ended.run.within ended.end ended.last
-            ∙ (ap (λ (printed : List ℕ). printed ++ shown) more.text ∙ append_assoc (text_of writes.now.lines) more.more shown));
-      }
-
-  -- and so is a front of all that it writes, where it has ended
-  pub front_at_end : (end : End) (last : Progress State) → Ends (proceeds (source_setting content go bound)) (opening (source_setting content go bound) input) end last
-      → AppendsFront old new (text_from (source_setting content go bound) end last) → WritesFrontOfRun content input go bound old new
-  front_at_end end last run front =
-      let setting = source_setting content go bound in
-      record {
-        outcome = outcome_of setting input run.within end last;
-        gives = gives_end setting input end last run;
-        front = AppendsFront-same front (whole_text (outcome_of setting input run.within end last)) (text_is setting input run.within end last);
+        outcome = outcome_of setting input writes.run.within writes.end writes.last;
+        gives = gives_end setting input writes.end writes.last writes.run;
+        front = AppendsFront-same writes.front (whole_text (outcome_of setting input writes.run.within writes.end writes.last)) (text_is setting input writes.run.within writes.end writes.last);
       }

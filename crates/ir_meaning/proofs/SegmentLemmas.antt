@@ -21,7 +21,8 @@ use Rattle.flat_code.specs.Spots.{lines_at}
 use Rattle.flat_code.specs.Straight.{Passes, stood}
 use Rattle.flat_code.proofs.StraightLemmas.{straight_passes, straight_traps}
 use Rattle.ir_meaning.specs.declared.machine.Did.TheVariants.{Ends}
-use Rattle.ir_meaning.specs.Stacks.{Frames, exit_frame, passed_frame}
+use Rattle.waiting_frames.specs.Frames.{exit_frame}
+use Rattle.ir_meaning.specs.Stacks.{Frames, passed_frame}
 use Rattle.ir_meaning.specs.Machines.{Rest, state_from, exit_from, today, StandsAt, Turned}
 use Rattle.ir_meaning.proofs.MachineLemmas.{turned_ends, resumed_at}
 

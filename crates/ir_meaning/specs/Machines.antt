@@ -22,7 +22,8 @@ use Rattle.object_store.specs.Words.{number_word}
 use Rattle.ir_meaning.specs.declared.machine.Did.{Did}
 use Rattle.ir_meaning.specs.declared.machine.Did.TheVariants.{GoesOn, Prints, Ends}
 use Rattle.ir_meaning.specs.declared.machine.Machine.{Machine}
-use Rattle.ir_meaning.specs.Stacks.{Frames, front_frame, exit_frame}
+use Rattle.waiting_frames.specs.Frames.{front_frame, exit_frame}
+use Rattle.ir_meaning.specs.Stacks.{Frames}
 
 -- what a run has beside the frames of its running task; the frames of the other tasks by number, where they have any
 pub record Rest : Type 0 where

@@ -4,13 +4,16 @@ use Rattle.std.specs.List.{concat}
 use Rattle.tool_io.specs.Sink.{append_known, AppendsFront}
 use Rattle.sp_ids.specs.declared.ends.End.{End}
 use Rattle.ir_ast.specs.Modules.{ModuleContent}
+use Rattle.flat_code.specs.Codes.{FlatModule}
+use Rattle.ir_meaning.specs.Machines.{state_of}
 use Rattle.ir_meaning.specs.declared.interpret.Ran.{Ran}
+use Rattle.ir_meaning.specs.declared.machine.Machine.{Machine}
 use Rattle.ir_meaning.specs.declared.machine.Did.{Did}
 use Rattle.ir_meaning.specs.declared.machine.Did.TheVariants.{Prints, Ends as Finishes}
 use Rattle.object_meaning.specs.Runs.{Ends, Reaches}
 use Rattle.object_meaning.specs.States.{State, Setting}
 use Rattle.object_meaning.specs.Effects.{Progress, line_count, printed_line, text_of}
-use Rattle.object_meaning.specs.Texts.{closing_lines}
+use Rattle.object_meaning.specs.Texts.{closing_lines, function_name}
 use Rattle.object_meaning.specs.Outcomes.{Outcome, proceeds, whole_text}
 use Rattle.object_meaning.specs.SourceRuns.{SourceGives}
 
@@ -52,11 +55,16 @@ pub record IsRunFrom (setting : Setting) (start : Progress State) (ran : Ran) (o
   pub lines : ran.lines ≡ line_count last.lines
   pub written : new ≡ append_known old (text_from setting ran.end last)
 
--- a sink grew by a front of what the run has printed in some state that it comes to
+-- a sink grew by a front of what a run from a state on writes in all
 pub record WritesFrontFrom (setting : Setting) (start : Progress State) (old new : Option (List ℕ)) : Type 0 where
-  pub now : Progress State
-  pub reached : Reaches {E = End} (proceeds setting) start now
-  pub front : AppendsFront old new (text_of now.lines)
+  pub end : End
+  pub last : Progress State
+  pub run : Ends (proceeds setting) start end last
+  pub front : AppendsFront old new (text_from setting end last)
+
+-- what is written after the last printed line of a run that ends so
+abbrev pub closing_text : FlatModule → End → Machine → List ℕ
+closing_text code end machine = concat (closing_lines (function_name code.content) end (state_of code machine))
 
 -- a run that has not printed yet
 abbrev pub unprinted : State → Progress State

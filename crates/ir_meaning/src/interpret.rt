@@ -1,20 +1,19 @@
 //! The reference interpreter.
 
-ghost use Rattle.std.specs.Prelude.{◌≡◌, ◌≤◌, ◌<◌, length, codes, IfOk, IfSome, OnErr, IsErrOf};
-ghost use Rattle.std.specs.List.{All, position};
+ghost use Rattle.std.specs.Prelude.{◌≡◌, ◌≤◌, ◌<◌, length, codes, IfOk, IfSome, OnOk, OnErr, IsErrOf};
+ghost use Rattle.std.specs.List.{position};
 ghost use Rattle.std.specs.Str.{bytes_eq};
-ghost use Rattle.ir_ast.specs.Bundles.{HasNoBundle};
-ghost use Rattle.ir_cfg.specs.SourceModules.{IsSourceModule};
 ghost use Rattle.tool_io.specs.Counts.{Rose};
 ghost use Rattle.object_meaning.specs.Lines.{main_of};
 ghost use Rattle.ir_meaning.specs.Machines.{state_of, today, IsOpened};
 ghost use Rattle.move_plan.specs.Plans.{go};
 ghost use Rattle.flat_code.specs.Codes.{IsReadyModule};
 ghost use Rattle.object_meaning.specs.Effects.{printed_line};
-ghost use Rattle.ir_meaning.specs.References.{IsRun, IsRunFrom, WritesFrontFrom, WritesFrontOfRun, unprinted, ended_of, Wrote, WroteFront};
+ghost use Rattle.tool_io.specs.Sink.{append_known, AppendsFront};
+ghost use Rattle.ir_meaning.specs.References.{closing_text, IsRun, IsRunFrom, WritesFrontFrom, WritesFrontOfRun, unprinted, ended_of, Wrote, WroteFront};
 
 use crate::machine::{Did, Machine};
-use crate::stacks::{Spot, Stack};
+use crate::stacks::Stack;
 use arrayvec::ArrayVec;
 use flat_code::Code;
 use ir_ast::{Func, Module};
@@ -24,6 +23,7 @@ use object_store::Objects;
 use sp_ids::{End, FuncId, Memory, sign};
 use std::alloc::Global;
 use tool_io::{Failed, Sink};
+use waiting_frames::Spot;
 
 /// How a run ended: its end, the function that ran last, the steps and events, and the number of lines that
 /// `print_i64` wrote. Events and lines stand still at 2^64 - 1.
@@ -66,11 +66,12 @@ impl From<Failed> for RefFault {
     }
 }
 
-/// Runs `@main` of a source module without bundles, which may take these many steps, over this input and under the `go` lines of this plan,
-/// and writes each line that it prints by one `put`.
+/// Runs `@main` of a module of the source form, as each source module is, which may take these many steps, over this input
+/// and under the `go` lines of this plan, and writes each line that it prints by one `put`; at a trap it then writes what
+/// each waiting frame shows of its call's "deopt" bundle (LLVM Language Reference, "Deoptimization Operand Bundles").
 ///
 /// `Write` comes only where the sink counted a fault. After it, and after `Memory`, a front of what the run
-/// prints was written.
+/// writes was written.
 pub fn reference<O: Sink>(
     alloc: Global,
     module: &Module,
@@ -79,8 +80,7 @@ pub fn reference<O: Sink>(
     steps: u64,
     out: &mut O,
 ) -> Result<Ran, RefFault>
-    requires source { IsSourceModule «module».now.content }
-    requires no_bundle { All HasNoBundle «module».now.content.funcs }
+    requires { IsReadyModule «module».now.content }
     ensures ran { IfOk result (λ ran. IsRun «module».now.content input.now (go plan.now) steps ran (O.written out.old) (O.written out.new)) }
     ensures front { OnErr result (WritesFrontOfRun «module».now.content input.now (go plan.now) steps (O.written out.old) (O.written out.new)) }
     ensures failed { IsErrOf result RefFault.Write → Rose (O.faults out.old) (O.faults out.new) }
@@ -150,8 +150,7 @@ fn run<O: Sink>(
     bound: u64,
     out: &mut O,
 ) -> Result<Ran, RefFault>
-    requires ready { IsReadyModule code.now.content }
-    requires layouts { machine.old.objects.layouts ≡ code.now.content.layouts }
+    requires { machine.old.objects.layouts ≡ code.now.content.layouts }
     ensures ran { IfOk result (λ ran. IsRunFrom (today code.now plan.now bound) (unprinted (state_of code.now machine.old)) ran (O.written out.old) (O.written out.new)) }
     ensures front { OnErr result (WritesFrontFrom (today code.now plan.now bound) (unprinted (state_of code.now machine.old)) (O.written out.old) (O.written out.new)) }
     ensures failed { IsErrOf result RefFault.Write → Rose (O.faults out.old) (O.faults out.new) }
@@ -161,6 +160,7 @@ fn run<O: Sink>(
     for _ in 0..u64::MAX {
         let did = machine.turn(code, plan, bound)?;
         if let Some(end) = ended(did) {
+            show_end(code, end, machine, out)?;
             return Ok(how_ran(end, machine, lines));
         }
         let more = write_line(did, lines, out)?;
@@ -192,6 +192,19 @@ fn write_line<O: Sink>(did: Did, lines: u64, out: &mut O) -> Result<u64, Failed>
             Ok(lines.saturating_add(1))
         }
         _ => Ok(lines),
+    }
+}
+
+// Writes what a run shows after the last line that it prints.
+fn show_end<O: Sink>(code: &Code, end: End, machine: &Machine, out: &mut O) -> Result<(), Failed>
+    ensures ok { OnOk result (O.written out.new ≡ append_known (O.written out.old) (closing_text code.now end machine.now)) }
+    ensures err { OnErr result (AppendsFront (O.written out.old) (O.written out.new) (closing_text code.now end machine.now)) }
+    ensures failed { OnErr result (Rose (O.faults out.old) (O.faults out.new)) }
+    ensures count { O.faults out.old ≤ O.faults out.new }
+{
+    match end {
+        End::Trap(_) => machine.stack.show(code, out),
+        _ => Ok(()),
     }
 }
 

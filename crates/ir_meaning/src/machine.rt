@@ -12,7 +12,7 @@ ghost use Rattle.flat_code.specs.Codes.{Fits};
 ghost use Rattle.ir_meaning.specs.Machines.{state_of, exit_of, seen_of, switched_so, gone_to, today, StandsAt, LeadsAlong, SwitchesAt, Turned, Does};
 
 use crate::computing::is_set;
-use crate::stacks::{Move, Spot, Stack};
+use crate::stacks::{Move, Stack};
 use flat_code::{Code, Edge, Exit, Segment};
 use ir_ast::Operand;
 use move_plan::Plan;
@@ -21,6 +21,7 @@ use sp_ids::limits::{FRAMES, TASKS};
 use sp_ids::{End, Memory, Trap, sign};
 use std::alloc::Global;
 use std::mem;
+use waiting_frames::Spot;
 
 /// What a turn did.
 #[derive(Clone, Copy, Debug, PartialEq, Eq)]

@@ -1,35 +1,26 @@
 //! The frames of a task, with their registers in one list.
 
-ghost use Rattle.std.specs.Prelude.{◌≡◌, ◌-◌, ◌++◌, ◌<◌, ◌≤◌, [], ◌∷◌, length, map, replicate, IfOk, OnOk};
+ghost use Rattle.std.specs.Prelude.{◌≡◌, ◌-◌, ◌++◌, ◌<◌, ◌≤◌, [], ◌∷◌, length, map, replicate, IfOk, OnOk, OnErr};
 ghost use Rattle.std.specs.List.{All};
+ghost use Rattle.tool_io.specs.Counts.{Rose};
+ghost use Rattle.tool_io.specs.Sink.{append_known, AppendsFront};
 ghost use Rattle.object_store.specs.Words.{number_word};
 ghost use Rattle.object_meaning.specs.Registers.{put};
 ghost use Rattle.flat_code.specs.Flats.{IsSizedLine, lines_done};
+ghost use Rattle.waiting_frames.specs.Shown.{frames_text};
 ghost use Rattle.ir_meaning.specs.Straights.{held_in, outcome};
 ghost use Rattle.ir_meaning.specs.Stacks.{passed_spot, passed_frame, word, word_at, move_of, moved, entered_frames, arrived_frames};
 
 use crate::computing::word;
 use crate::straight::{put, straight};
-use flat_code::{Copied, FlatLine};
+use flat_code::{Code, Copied, FlatLine};
 use ir_ast::Operand;
 use object_store::{Objects, Word};
 use sp_ids::{Memory, Trap};
 use std::alloc::Global;
 use std::marker::Model;
-
-/// A segment of a function, by their numbers.
-#[derive(Clone, Copy, Debug, PartialEq, Eq)]
-pub struct Spot {
-    pub func: u32,
-    pub segment: u32,
-}
-
-/// A frame that waits at the exit of a segment, and its first register's place in the list.
-#[derive(Clone, Copy, Debug, PartialEq, Eq)]
-pub struct Saved {
-    pub spot: Spot,
-    pub base: u32,
-}
+use tool_io::{Failed, Sink};
+use waiting_frames::{Saved, Spot, show_frames};
 
 /// A word that a phi assigns, and the register that it goes to.
 #[derive(Clone, Copy, Debug, PartialEq, Eq)]
@@ -49,7 +40,8 @@ pub struct Stack {
 
 impl Model for Stack {
     ghost use Rattle.std.specs.Prelude.{drop, take, reverse};
-    ghost use Rattle.ir_meaning.specs.Stacks.{Frames, frames_below};
+    ghost use Rattle.waiting_frames.specs.Frames.{frames_below};
+    ghost use Rattle.ir_meaning.specs.Stacks.{Frames};
 
     ghost Value = { Frames };
 
@@ -100,6 +92,17 @@ impl Stack {
         ensures { result ≡ length self.now.below }
     {
         self.saved.len()
+    }
+
+    /// Puts what the frames that wait show at a trap.
+    pub fn show<O: Sink>(&self, code: &Code, out: &mut O) -> Result<(), Failed>
+        ensures ok { OnOk result (O.written out.new ≡ append_known (O.written out.old) (frames_text code.now 1 self.now.below)) }
+        ensures err { OnErr result (AppendsFront (O.written out.old) (O.written out.new) (frames_text code.now 1 self.now.below)) }
+        ensures failed { OnErr result (Rose (O.faults out.old) (O.faults out.new)) }
+        ensures count { O.faults out.old ≤ O.faults out.new }
+    {
+        let at = (self.base as usize).min(self.registers.len());
+        show_frames(code, self.saved.as_slice(), &self.registers[..at], out)
     }
 
     /// What an operand of the running frame's line is.

@@ -22,6 +22,7 @@ use Rattle.map_bytes.specs.Maps.{MapRecord}
 pub mod Moves
 pub mod Tasks
 pub mod Places
+pub mod Bundles
 
 -- %N = type { i64, ptr addrspace(1) }
 abbrev pub node : ObjectLayout

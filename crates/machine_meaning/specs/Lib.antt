@@ -8,3 +8,4 @@ pub mod Happenings
 pub mod Code
 pub mod MachineRuns
 pub mod Relations
+pub mod TrapLines

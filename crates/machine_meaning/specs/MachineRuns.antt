@@ -1,5 +1,5 @@
 -- The run of the address machine, and what it gives.
-use Rattle.std.specs.Prelude.{◌≡◌, ℕ, ℤ, List, [], ◌∷◌, reverse}
+use Rattle.std.specs.Prelude.{◌≡◌, ℕ, ℤ, List, [], ◌∷◌, ◌++◌, reverse}
 use Rattle.sp_ids.specs.declared.ends.End.{End}
 use Rattle.ir_ast.specs.Modules.{ModuleContent}
 use Rattle.move_plan.specs.declared.plan_lines.PlanLine.{PlanLine}
@@ -13,6 +13,7 @@ use Rattle.machine_meaning.specs.Machines.{Machine, Machinery}
 use Rattle.machine_meaning.specs.MachineTasks.{new_frame}
 use Rattle.machine_meaning.specs.MachineSteps.{machine_step}
 use Rattle.machine_meaning.specs.Happenings.{Happening, happenings_at, accesses_by}
+use Rattle.machine_meaning.specs.TrapLines.{closing_of}
 use Rattle.machine_meaning.specs.Code.{machinery_of}
 
 unfoldable pub machine_proceeds : Machinery → Progress Machine → Next End (Progress Machine)
@@ -39,7 +40,7 @@ machine_opening machinery input = record {
   lines = [];
 }
 
--- what a run gives: the lines that it prints, how it ended, the function that ran last, the steps and events, how many
+-- what a run gives: all lines that it writes, how it ended, the function that ran last, the steps and events, how many
 -- numbers it printed, its events and accesses in order, and the heap in the end
 pub record MachineOutcome : Type 0 where
   pub lines : List (List ℕ)
@@ -64,7 +65,7 @@ accesses_from machinery within next =
 -- what a run gives that has come to this end within so many steps
 abbrev pub machine_outcome : Machinery → List ℤ → ℕ → End → Progress Machine → MachineOutcome
 machine_outcome machinery input within end last = record {
-  lines = reverse last.lines;
+  lines = reverse last.lines ++ closing_of machinery end last.state;
   end = end;
   func = last.state.state.running.func;
   steps = last.state.state.steps;

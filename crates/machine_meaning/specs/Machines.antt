@@ -27,12 +27,15 @@ pub record Machine : Type 0 where
   pub heap : HeapView
 
 -- what a run is of: lines on words, code addresses by function, block and place in the block, the words of each function's
--- frames, the record that the map has at a return address, and the plan's moves
+-- frames, the record that the map has at a return address, the map's list of constants, the name of the function that has an
+-- instruction at a code address, and the plan's moves
 pub record Machinery : Type 0 where
   pub setting : Setting
   pub address : ℕ → ℕ → ℕ → ℕ
   pub frame_words : ℕ → ℕ
   pub found : ℕ → Option FrameEntry
+  pub constants : List ℕ
+  pub name_at : ℕ → Option (List ℕ)
   pub plan : MovePlan
 
 -- what a line does that touches no pointer and no frame

@@ -1,7 +1,5 @@
 //! The commands `source` and `run`: the module, the input and the plan are taken in this order, then the module runs.
 ghost use Rattle.std.specs.Prelude.{◌≡◌, ◌≤◌, ℕ, IfOk, OnErr, IsErrOf};
-ghost use Rattle.std.specs.List.{All};
-ghost use Rattle.ir_ast.specs.Bundles.{HasNoBundle};
 ghost use Rattle.ir_cfg.specs.SourceModules.{IsSourceModule};
 ghost use Rattle.tool_io.specs.Counts.{NoneFell, Rose};
 ghost use Rattle.statepoint_tool.specs.Answers.{Came, IsBegun, IsDone, Works, sink_seen};
@@ -55,7 +53,6 @@ fn run_module<F: Files, O: Sink>(
     out: &mut O,
 ) -> Result<Status, Refusal>
     requires source { IsSourceModule read.now.content }
-    requires no_bundle { All HasNoBundle read.now.content.funcs }
     ensures works { Works (MayGiveBoth (files_seen (F.contents files.old) (F.faults files.old) (F.faults files.new)) input plan)
         (after_module input plan read.now.content steps) result
         (sink_seen (O.written out.old) (O.written out.new) (O.faults out.old) (O.faults out.new)) }
@@ -78,7 +75,6 @@ fn run_with_input<F: Files, O: Sink>(
     out: &mut O,
 ) -> Result<Status, Refusal>
     requires source { IsSourceModule read.now.content }
-    requires no_bundle { All HasNoBundle read.now.content.funcs }
     ensures works { Works (MayGive (files_seen (F.contents files.old) (F.faults files.old) (F.faults files.new)) plan)
         (after_input plan read.now.content numbers.now steps) result
         (sink_seen (O.written out.old) (O.written out.new) (O.faults out.old) (O.faults out.new)) }
@@ -100,7 +96,6 @@ fn run_under_plan<O: Sink>(
     out: &mut O,
 ) -> Result<Status, Refusal>
     requires source { IsSourceModule read.now.content }
-    requires no_bundle { All HasNoBundle read.now.content.funcs }
     ensures came { Came result (Running read.now.content numbers.now plan.now steps)
         (sink_seen (O.written out.old) (O.written out.new) (O.faults out.old) (O.faults out.new)) }
     ensures out_counted { O.faults out.old ≤ O.faults out.new }
@@ -122,7 +117,6 @@ fn write_run<O: Sink>(
     out: &mut O,
 ) -> Result<Status, RefFault>
     requires source { IsSourceModule read.now.content }
-    requires no_bundle { All HasNoBundle read.now.content.funcs }
     ensures done { IfOk result (λ status. IsDone status (Running read.now.content numbers.now plan.now steps)
         (sink_seen (O.written out.old) (O.written out.new) (O.faults out.old) (O.faults out.new))) }
     ensures begun { OnErr result (IsBegun (λ output. Running read.now.content numbers.now plan.now steps (Go output))

@@ -13,18 +13,11 @@ use Rattle.move_plan.specs.Plans.{go}
 use Rattle.ir_meaning.specs.References.{IsRun, IsRunFrom, WritesFrontFrom}
 use Rattle.ir_meaning.proofs.RunLemmas.{front_none}
 use Rattle.ir_meaning.proofs.OpeningLemmas.{opening_is}
-use Rattle.ir_meaning.proofs.ReadyLemmas.{ready_module}
 use Rattle.ir_meaning.proofs.ReferenceLaws.{run_is, front_is}
 use Rattle.ir_meaning.proofs.interpret.reference.Goals as goal
 
-pub of-requires : goal.of-requires
-of-requires g c = ready_module c.args.module.now.content c.requires.source c.requires.no_bundle
-
-pub run-requires-clause-ready : goal.run-requires-clause-ready
-run-requires-clause-ready g c = rw c.in_ok-code.ensures (ready_module c.args.module.now.content c.requires.source c.requires.no_bundle)
-
-pub run-requires-clause-layouts : goal.run-requires-clause-layouts
-run-requires-clause-layouts g c = c.in_ok-machine.ensures.layouts
+pub run-requires : goal.run-requires
+run-requires g c = c.in_ok-machine.ensures.layouts
 
 pub returns-clause-ran : goal.returns-clause-ran
 returns-clause-ran g c =

@@ -1,15 +1,14 @@
-use Rattle.std.proofs.Common.{sym, refl, ◌∙◌, arith}
+use Rattle.std.proofs.Common.{sym, ◌∙◌, arith}
 use Rattle.std.proofs.lemmas.Result.{err_from_is_err_and}
 use Rattle.ir_meaning.specs.Machines.{state_of, today}
 use Rattle.ir_meaning.specs.References.{unprinted}
-use Rattle.ir_meaning.proofs.RunLemmas.{follows_start, follows_turned, follows_front, front_turned, end_turned}
-use Rattle.ir_meaning.proofs.ReadyLemmas.{quiet_end}
+use Rattle.ir_meaning.proofs.RunLemmas.{follows_start, follows_turned, follows_front, front_turned, end_turned, front_ended}
 use Rattle.ir_meaning.proofs.interpret.run.Goals as goal
 
 pub loop-init : goal.loop-init
 loop-init g c = record {
   follows = follows_start (today c.args.code.now c.args.plan.now c.args.bound) (state_of c.args.code.now c.args.machine.now) (g.O.Sink.written c.args.out.now);
-  layouts = c.requires.layouts;
+  layouts = c.requires;
   count = omega arith;
 }
 
@@ -35,9 +34,14 @@ returns-in_err-more-clause-front g c =
 
 pub returns-in-Some-clause-ran : goal.returns-in-Some-clause-ran
 returns-in-Some-clause-ran g c =
-    end_turned (today c.args.code.now c.args.plan.now c.args.bound) (unprinted (state_of c.args.code.now c.args.machine.now)) (state_of c.args.code.now c.loop.machine) (state_of c.args.code.now c.turn.new.self) c.in_ok-did.did c.in-Some.end c.loop.lines c.how_ran.result (g.O.Sink.written c.args.out.now) (g.O.Sink.written c.loop.out) c.loop.invariant.follows
-    c.in_ok-did.ensures.turned (sym c.ended.ensures ∙ c.in-Some.is) c.how_ran.ensures
-    (quiet_end c.args.code.now c.requires.ready c.in-Some.end (state_of c.args.code.now c.turn.new.self) c.turn.new.self.stack.below refl)
+    end_turned (today c.args.code.now c.args.plan.now c.args.bound) (unprinted (state_of c.args.code.now c.args.machine.now)) (state_of c.args.code.now c.loop.machine) (state_of c.args.code.now c.turn.new.self) c.in_ok-did.did c.in-Some.end c.loop.lines c.how_ran.result (g.O.Sink.written c.args.out.now) (g.O.Sink.written c.loop.out) (g.O.Sink.written c.show_end.new.out) c.loop.invariant.follows
+    c.in_ok-did.ensures.turned (sym c.ended.ensures ∙ c.in-Some.is) c.how_ran.ensures c.in_ok-show_end.ensures.ok
+
+pub returns-in_err-show_end-clause-front : goal.returns-in_err-show_end-clause-front
+returns-in_err-show_end-clause-front g c =
+    let p = err_from_is_err_and c.from_residual-in_err-show_end.result c.from_residual-in_err-show_end.ensures.1 in
+    rw p.1 (front_ended (today c.args.code.now c.args.plan.now c.args.bound) (unprinted (state_of c.args.code.now c.args.machine.now)) (state_of c.args.code.now c.loop.machine) (state_of c.args.code.now c.turn.new.self) c.in_ok-did.did c.in-Some.end c.loop.lines (g.O.Sink.written c.args.out.now) (g.O.Sink.written c.loop.out) (g.O.Sink.written c.show_end.new.out) c.loop.invariant.follows
+    c.in_ok-did.ensures.turned (sym c.ended.ensures ∙ c.in-Some.is) c.in_err-show_end.ensures.err)
 
 pub returns-clause-front : goal.returns-clause-front
 returns-clause-front g c = follows_front (today c.args.code.now c.args.plan.now c.args.bound) (unprinted (state_of c.args.code.now c.args.machine.now)) (state_of c.args.code.now c.loop.machine) c.loop.lines (g.O.Sink.written c.args.out.now) (g.O.Sink.written c.loop.out) c.loop.invariant.follows

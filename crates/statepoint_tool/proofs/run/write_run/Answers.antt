@@ -1,7 +1,11 @@
 use Rattle.tool_io.proofs.AppendLaws.{OnErr-always}
 use Rattle.statepoint_tool.specs.Answers.{sink_seen}
 use Rattle.statepoint_tool.proofs.RunLaws.{begun-closing, begun-run, done-run}
+use Rattle.ir_meaning.proofs.ReadyLemmas.{ready_module}
 use Rattle.statepoint_tool.proofs.run.write_run.Goals as goal
+
+pub reference-requires : goal.reference-requires
+reference-requires g c = ready_module c.args.read.now.content c.requires.source
 
 pub returns-in_err-ran-clause-begun : goal.returns-in_err-ran-clause-begun
 returns-in_err-ran-clause-begun g c =

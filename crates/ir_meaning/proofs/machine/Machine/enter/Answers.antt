@@ -1,6 +1,6 @@
 use Rattle.std.proofs.Common.{◌<◌, ◌≤◌, ◌+◌, length, map, arith}
 use Rattle.std.proofs.lemmas.List.{length-map}
-use Rattle.ir_meaning.specs.Stacks.{exit_frame}
+use Rattle.waiting_frames.specs.Frames.{exit_frame}
 use Rattle.ir_meaning.specs.Machines.{rest_of}
 use Rattle.ir_meaning.proofs.CallLemmas.{enter_out, enter_deep, enter_goes}
 use Rattle.ir_meaning.proofs.machine.Machine.enter.Goals as goal

@@ -1,5 +1,5 @@
 use Rattle.std.proofs.Common.{rules, take}
-use Rattle.ir_meaning.proofs.StackLemmas.{waiting_count}
+use Rattle.waiting_frames.proofs.FrameLemmas.{waiting_count}
 use Rattle.ir_meaning.proofs.stacks.Stack.waiting.Goals as goal
 
 pub returns : goal.returns

@@ -1,0 +1,3 @@
+pub mod BundleLemmas
+pub mod FrameLemmas
+pub mod WordLemmas
