@@ -1,8 +1,8 @@
 -- A source module that the laws hold of, and its rewritten text: a pointer is live across the call that makes the next.
-use Rattle.std.proofs.Common.{◌≡◌, ℕ, zero, suc, ◌<◌, ◌≤◌, true, false, List, [], ◌∷◌, ◌++◌, length, map, refl, sym, ap, subst, ◌∙◌, inl, inr, arith, lit<, codes}
+use Rattle.std.proofs.Common.{◌≡◌, ℕ, zero, suc, ◌<◌, ◌≤◌, true, false, List, [], ◌∷◌, length, map, refl, sym, ap, subst, ◌∙◌, inl, inr, arith, lit<, codes}
 use Rattle.std.specs.Prelude.{Some, None, slice_get}
 use Rattle.std.specs.Fmt.{digits}
-use Rattle.std.specs.List.{All, AllZip, Contains}
+use Rattle.std.specs.List.{All, Contains}
 use Rattle.std.proofs.lemmas.Bool.{false≢true}
 use Rattle.std.proofs.lemmas.List.Elements.{All-cons, All-nil}
 use Rattle.list_laws.proofs.Contents.{all_at, contains_cons, contains_middle, contains_none, get_contained}
@@ -23,7 +23,7 @@ use Rattle.ir_ast.specs.declared.funcs.Arg.{Arg}
 use Rattle.ir_ast.specs.Funcs.{Function, instructions_of}
 use Rattle.ir_ast.specs.Layouts.{ObjectLayout}
 use Rattle.ir_ast.specs.Lines.{IsLine, is_rewritten}
-use Rattle.ir_ast.specs.Lists.{Distinct, HasFront}
+use Rattle.ir_ast.specs.Lists.{Distinct}
 use Rattle.ir_ast.specs.Modules.{ModuleContent}
 use Rattle.ir_ast.specs.Operands.{values_used}
 use Rattle.ir_ast.specs.Scope.{scope_of}
@@ -33,12 +33,12 @@ use Rattle.ir_ast.specs.Widths.{IsWidth}
 use Rattle.ir_ast.specs.Faultless.{FunctionHasNoFault}
 use Rattle.ir_ast.specs.Faults.DerivedEscapes.{KeepsDerived}
 use Rattle.ir_ast.specs.Faults.EntryHasPred.{LeavesEntry}
-use Rattle.ir_ast.specs.Faults.PhiEdges.{PhiIsRight, PhisAreRight, is_phi}
+use Rattle.ir_ast.specs.Faults.PhiEdges.{PhisAreRight, is_phi}
 use Rattle.ir_ast.specs.Faults.PointerOrder.{orders_pointers}
-use Rattle.ir_ast.specs.Faults.Reserved.{IsExternalName, IsInsertedName, externals}
+use Rattle.ir_ast.specs.Faults.Reserved.{IsExternalName, IsInsertedName}
 use Rattle.ir_ast.specs.Faults.TypeClash.{Fits, FunctionIsTyped, IsTyped}
 use Rattle.ir_ast.specs.Faults.UnknownName.{NamesOfFunction, NamesOfModule}
-use Rattle.ir_cfg.specs.DefiniteUses.{Defines, Uses, UsesAreDefinite, by_entry, by_line, in_last}
+use Rattle.ir_cfg.specs.DefiniteUses.{Defines, UsesAreDefinite, by_entry, by_line, in_last}
 use Rattle.ir_cfg.specs.Graphs.{graph_of}
 use Rattle.ir_cfg.specs.Limits.{IsName}
 use Rattle.ir_cfg.specs.Paths.{at_entry}
