@@ -1,0 +1,4 @@
+pub mod Slots
+pub mod Versions
+pub mod Forest
+pub mod Walks

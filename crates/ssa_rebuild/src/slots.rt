@@ -1,0 +1,16 @@
+//! What the lines of a block ask of the numbers of values.
+
+use sp_ids::ValueId;
+
+/// A place of a line that has a number, or wants one.
+#[derive(Clone, Copy)]
+pub(crate) enum Slot {
+    /// A use of a value.
+    Use(ValueId),
+    /// A definition of a value, its first or a further one.
+    Give(ValueId),
+    /// A definition of a token.
+    Token,
+    /// The number that was found.
+    Number(u32),
+}
