@@ -1,8 +1,9 @@
 -- Slots that are answered one after another, and changes that are taken back.
-use Rattle.std.proofs.Common.{◌≡◌, ◌∙◌, ℕ, zero, suc, ◌<◌, ◌≤◌, ◌+◌, min, List, [], ◌∷◌, ◌++◌, length, take, drop, set, get_or, Option, Some, None, refl, ap, sym, arith, append_assoc, append-nil, length-append}
+use Rattle.std.proofs.Common.{◌≡◌, ◌∙◌, ℕ, zero, suc, ◌<◌, ◌≤◌, ◌+◌, ◌-◌, min, List, [], ◌∷◌, ◌++◌, length, take, drop, set, Option, Some, None, slice_get, refl, ap, sym, arith, append_assoc, append-nil, length-append}
 use Rattle.std.specs.Option.{option_to_list}
 use Rattle.std.proofs.lemmas.List.{take_more_set, drop-set-lt, drop-append-le, take-append-le, take-append-drop, length-take-le, length-set, drop_all, take_all, set-set, set-get_or}
-use Rattle.list_laws.proofs.Places.{drop_item}
+use Rattle.std.proofs.lemmas.Option.{slice_get_within}
+use Rattle.list_laws.proofs.Places.{drop_at}
 use Rattle.ssa_rebuild.specs.declared.slots.Slot.{Slot}
 use Rattle.ssa_rebuild.specs.declared.slots.Slot.TheVariants.{Use, Give, Token, Number}
 use Rattle.ssa_rebuild.specs.declared.versions.Change.{Change}
@@ -13,13 +14,14 @@ use Rattle.ssa_rebuild.specs.Versions.{IsLogged}
 -- ---- one slot more
 
 pub answered_more : (current later : List ℕ) (next after number : ℕ) (all row : List Slot) (place : ℕ) (slot : Slot)
-    → place < length row → slot ≡ get_or row place slot → number ≡ given current next slot → after ≡ next_after next slot → later ≡ current_after current next slot
+    → slice_get row place ≡ Some slot → number ≡ given current next slot → after ≡ next_after next slot → later ≡ current_after current next slot
     → all ≡ take place row ++ answered current next (drop place row)
     → all ≡ take (place + 1) (set row place (Number number)) ++ answered later after (drop (place + 1) (set row place (Number number)))
-answered_more current later next after number all row place slot below read number_is after_is later_is is =
+answered_more current later next after number all row place slot stands number_is after_is later_is is =
     let y : Slot = Number number in
+    let below = slice_get_within row place slot stands in
     let here : answered current next (drop place row) ≡ y ∷ answered later after (drop (place + 1) row) =
-    ap (answered current next) (drop_item row place slot below read) ∙ rw (number_is, after_is, later_is) refl in
+    ap (answered current next) (drop_at row place slot stands) ∙ rw (number_is, after_is, later_is) refl in
     let front = take_more_set row place y below in
     let back = drop-set-lt (place + 1) row place y (omega arith) in
     is ∙ ap (λ (ss : List Slot). take place row ++ ss) here
@@ -28,12 +30,12 @@ answered_more current later next after number all row place slot below read numb
     ∙ sym (ap (λ (ss : List Slot). take (place + 1) (set row place y) ++ answered later after ss) back)
 
 pub behind_more : (current later : List ℕ) (next after : ℕ) (all : List ℕ) (row : List Slot) (place : ℕ) (slot y : Slot)
-    → place < length row → slot ≡ get_or row place slot → after ≡ next_after next slot → later ≡ current_after current next slot
+    → slice_get row place ≡ Some slot → after ≡ next_after next slot → later ≡ current_after current next slot
     → all ≡ current_behind current next (drop place row)
     → all ≡ current_behind later after (drop (place + 1) (set row place y))
-behind_more current later next after all row place slot y below read after_is later_is is =
+behind_more current later next after all row place slot y stands after_is later_is is =
     let here : current_behind current next (drop place row) ≡ current_behind later after (drop (place + 1) row) =
-    ap (current_behind current next) (drop_item row place slot below read) ∙ rw (after_is, later_is) refl in
+    ap (current_behind current next) (drop_at row place slot stands) ∙ rw (after_is, later_is) refl in
     is ∙ here ∙ sym (ap (current_behind later after) (drop-set-lt (place + 1) row place y (omega arith)))
 
 pub next_le : (next : ℕ) (slot : Slot) → next_after next slot ≤ next + 1
@@ -117,3 +119,10 @@ takes_on count log rest last current now below split back =
       kept = sym (ap (take count) split ∙ take-append-le count rest (option_to_list last) within);
       back = sym (back_over count rest log (option_to_list last) now current within split (sym back));
     }
+
+pub on_and_on : (count : ℕ) (first log rest : List Change) (start current now : List ℕ) → TakesOn count first log start current → TakesOn count log rest current now
+    → TakesOn count first rest start now
+on_and_on count first log rest start current now before next = record { kept = next.kept ∙ before.kept; back = next.back ∙ before.back }
+
+pub one_less : (log rest : List Change) (count : ℕ) → 0 < length log → count ≡ length log → rest ≡ take (count - 1) log → length rest < length log
+one_less log rest count some all is = let size = ap length is ∙ length-take-le (count - 1) log (omega (arith, all)) in omega (arith, size, all, some)
