@@ -2,12 +2,12 @@
 #![tactic(auto)]
 
 mod ends;
-mod joins;
 mod lists;
 mod numbers;
+mod phis;
 mod starts;
 mod uses;
 mod values;
 
-pub use joins::joins;
 pub use lists::live;
+pub use phis::joins;

@@ -1,3 +1,5 @@
 pub mod SlotLemmas
 pub mod ForestLemmas
 pub mod WalkLemmas
+pub mod NumberLemmas
+pub mod VersionLemmas

@@ -2,3 +2,4 @@ pub mod Slots
 pub mod Versions
 pub mod Forest
 pub mod Walks
+pub mod Rows

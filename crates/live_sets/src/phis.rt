@@ -1,11 +1,16 @@
 //! Where phis are inserted.
 
-ghost use Rattle.std.specs.Prelude.{◌≡◌, ◌<◌, ◌≤◌, ◌+◌, ◌++◌, ◌&&◌, [], ◌∷◌, if◌then◌else◌, length, slice_index_or, IfOk};
+ghost use Rattle.std.specs.Prelude.{◌≡◌, ◌<◌, ◌≤◌, ◌+◌, ◌++◌, ◌&&◌, [], ◌∷◌, if◌then◌else◌, length, map, slice_index_or, IfOk};
+ghost use Rattle.ir_ast.specs.Types.{is_pointer};
+ghost use Rattle.ir_ast.specs.Values.{value_types};
+ghost use Rattle.object_meaning.specs.Lines.{registers_of};
+ghost use Rattle.rewriting_forms.specs.Numbered.{pointers};
+ghost use Rattle.live_sets.specs.Starts.{AreStarts};
 ghost use Rattle.ir_ast.specs.Formed.{IsFormed};
 ghost use Rattle.ir_cfg.specs.Graphs.{graph_of};
 ghost use Rattle.graph_search.specs.Edges.{AreInside};
 ghost use Rattle.rewriting_forms.specs.Names.{is_many};
-ghost use Rattle.live_sets.specs.Values.{has_mark};
+ghost use Rattle.live_sets.specs.Values.{has_mark, valued};
 ghost use Rattle.live_sets.specs.Ends.{backward_rows, numbers_of, GrownAtIf};
 ghost use Rattle.live_sets.specs.Joins.{AreListed, AddsJoins, AreJoins};
 
@@ -39,6 +44,39 @@ pub fn joins(
     let values = marked(alloc, marks.as_slice())?;
     let firsts = first_numbers(alloc, func)?;
     let starts = starts(alloc, func, marks.as_slice(), bases, firsts.as_slice())?;
+    all_joins(
+        alloc,
+        func,
+        cfg,
+        marks.as_slice(),
+        firsts,
+        values.as_slice(),
+        starts.as_slice(),
+        bases,
+        listed,
+    )
+}
+
+fn all_joins(
+    alloc: Global,
+    func: &Func,
+    cfg: &Cfg,
+    marks: &[bool],
+    firsts: Vec<usize>,
+    values: &[ValueId],
+    starts: &[Vec<usize>],
+    bases: &[Operand],
+    listed: &[bool],
+) -> Result<Vec<Vec<ValueId>>, Memory>
+    requires formed { IsFormed func.now.content }
+    requires cfg { cfg.now ≡ graph_of func.now.content }
+    requires marks { marks.now ≡ map is_pointer (value_types func.now.content) }
+    requires firsts { firsts.items ≡ registers_of func.now.content }
+    requires values { values.now ≡ map valued (pointers func.now.content) }
+    requires starts { AreStarts func.now.content marks.now bases.now starts.now }
+    requires listed { AreListed func.now.content bases.now listed.now }
+    ensures { IfOk result (λ joins. AreJoins func.now.content bases.now joins.items) }
+{
     let fronts = fronts(alloc, func, cfg)?;
     let mut joins = empty_lists(alloc, fronts.len())?;
     let mut places = Backward {
@@ -46,14 +84,15 @@ pub fn joins(
         firsts,
         value: 0,
     };
-    for value in values.as_slice() {
+    for value in values {
         let number = value.0 as usize;
         places.value = number;
+        let wanted = is_listed(listed, number);
         add_joins(
             alloc,
             &places,
             *value,
-            is_listed(listed, number),
+            wanted,
             starts[number].as_slice(),
             &mut joins,
         )?;

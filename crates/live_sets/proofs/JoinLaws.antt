@@ -1,0 +1,109 @@
+-- The phis of each block, a pointer at a time.
+use Rattle.std.proofs.Common.{◌≡◌, ◌∙◌, ℕ, zero, suc, ◌+◌, ◌<◌, ◌≤◌, Bool, true, false, ◌&&◌, ◌==◌, nat_lt, if◌then◌else◌, List, [], ◌∷◌, ◌++◌, length, map, filter, take, get_or, replicate, refl, ap, sym, arith, inl, inr, Some, slice_get, append-nil}
+use Rattle.std.specs.Global.{Vec}
+use Rattle.std.proofs.lemmas.Bool.{cases_eq, eq-eqb, ne_eqb}
+use Rattle.std.proofs.lemmas.Bool.Decides.{nat_tests}
+use Rattle.std.proofs.lemmas.List.{map-append, take_all}
+use Rattle.std.proofs.lemmas.List.Elements.{filter-append}
+use Rattle.std.proofs.lemmas.Option.{get_or_from_slice_get, slice_get_within}
+use Rattle.std.proofs.Math.Seq.{take-suc}
+use Rattle.sp_ids.specs.declared.ids.ValueId.{ValueId}
+use Rattle.ir_ast.specs.declared.ops.Operand.{Operand}
+use Rattle.ir_ast.specs.Funcs.{Function}
+use Rattle.graph_search.specs.Paths.{MarksReached}
+use Rattle.list_laws.proofs.Contents.{contains_get}
+use Rattle.rewriting_forms.specs.Numbered.{among, pointers, preds}
+use Rattle.rewriting_forms.specs.Liveness.{is_live}
+use Rattle.rewriting_forms.specs.Names.{stands_in_list, is_many, joins_of}
+use Rattle.live_sets.specs.Values.{has_mark, valued}
+use Rattle.live_sets.specs.Starts.{list_at}
+use Rattle.live_sets.specs.Joins.{AddsJoins}
+use Rattle.live_sets.proofs.EdgeLemmas.{among_has}
+
+-- one block more
+pub joined_more : (test : ℕ → Bool) (value : ValueId) (place b : ℕ) (old mid new : List ValueId)
+    → mid ≡ old ++ (if nat_lt b place && test b then value ∷ [] else [])
+    → new ≡ mid ++ (if test place && (place == b) then value ∷ [] else [])
+    → new ≡ old ++ (if nat_lt b (place + 1) && test b then value ∷ [] else [])
+joined_more test value place b old mid new first second = elim (cases_eq place b) [
+  | inl e ↦
+      let low : nat_lt b place ≡ false = grind (arith, nat_tests) in
+      let high : nat_lt b (place + 1) ≡ true = grind (arith, nat_tests) in
+      let was : mid ≡ old = first ∙ ap (λ (t : Bool). old ++ (if t && test b then value ∷ [] else [])) low ∙ append-nil old in
+      second ∙ ap (λ (xs : List ValueId). xs ++ (if test place && (place == b) then value ∷ [] else [])) was
+      ∙ ap (λ (t : Bool). old ++ (if test place && t then value ∷ [] else [])) (eq-eqb place b e)
+      ∙ ap (λ (t : Bool). old ++ (if t then value ∷ [] else [])) (and_true (test place) ∙ ap test e)
+      ∙ sym (ap (λ (t : Bool). old ++ (if t && test b then value ∷ [] else [])) high)
+  | inr ne ↦
+      let same : nat_lt b (place + 1) ≡ nat_lt b place = grind (arith, nat_tests) in
+      second ∙ ap (λ (t : Bool). mid ++ (if test place && t then value ∷ [] else [])) (ne_eqb place b ne)
+      ∙ ap (λ (t : Bool). mid ++ (if t then value ∷ [] else [])) (and_none (test place)) ∙ append-nil mid ∙ first
+      ∙ sym (ap (λ (t : Bool). old ++ (if t && test b then value ∷ [] else [])) same)
+]
+  where
+    and_true : (t : Bool) → (t && true) ≡ t
+    and_true true = refl
+    and_true false = refl
+
+    and_none : (t : Bool) → (t && false) ≡ false
+    and_none true = refl
+    and_none false = refl
+
+-- nothing is added where the pointer isn't wanted
+pub joins_none : (rows fronts : List (List ℕ)) (count : ℕ) (starts : List ℕ) (value : ValueId) (marks : List Bool) (wanted : Bool) (joins : List (Vec ValueId))
+    → ((node : ℕ) → (wanted && has_mark marks node) ≡ false) → (wanted ≡ true → MarksReached rows starts marks)
+    → AddsJoins rows fronts count starts wanted value joins joins
+joins_none rows fronts count starts value marks wanted joins none reached = record {
+  marks = marks;
+  reached = reached;
+  whole = refl;
+  each = λ block below. sym (rw (none (count + block)) (nothing (is_many (get_or fronts block [])) (list_at joins block)));
+}
+  where
+    nothing : (t : Bool) (xs : List ValueId) → xs ++ (if t && false then value ∷ [] else []) ≡ xs
+    nothing true xs = append-nil xs
+    nothing false xs = append-nil xs
+
+pub unmarked_at : (n node : ℕ) → has_mark (replicate n false) node ≡ false
+unmarked_at zero node = refl
+unmarked_at (suc n) zero = refl
+unmarked_at (suc n) (suc node) = unmarked_at n node
+
+-- one pointer more
+pub joins_more : (func : Function) (table : List Operand) (b i : ℕ) (value : ValueId) (old new : List ValueId) (many wanted found : Bool)
+    → slice_get (pointers func) i ≡ Some value.0 → old ≡ map valued (filter (joins_of func table b) (take i (pointers func)))
+    → many ≡ is_many (preds func b) → wanted ≡ stands_in_list func table value.0 → found ≡ is_live func table b 0 value.0
+    → new ≡ old ++ (if many && (wanted && found) then value ∷ [] else [])
+    → new ≡ map valued (filter (joins_of func table b) (take (i + 1) (pointers func)))
+joins_more func table b i value old new many wanted found at so_far many_is wanted_is found_is added =
+    let test = joins_of func table b in
+    let ptrs = pointers func in
+    let e : i + 1 ≡ suc i = omega arith in
+    let below = slice_get_within ptrs i value.0 at in
+    let item = get_or_from_slice_get ptrs i value.0 0 at in
+    let more : take (i + 1) ptrs ≡ take i ptrs ++ value.0 ∷ [] = ap (λ (n : ℕ). take n ptrs) e ∙ take-suc ptrs i 0 below ∙ ap (λ (x : ℕ). take i ptrs ++ x ∷ []) item in
+    let pointer : among value.0 ptrs ≡ true = among_has ptrs value.0 (contains_get ptrs i value.0 at) in
+    let same : (many && (wanted && found)) ≡ joins_of func table b value.0 =
+    sym (ap (λ (t : Bool). is_many (preds func b) && (t && (stands_in_list func table value.0 && is_live func table b 0 value.0))) pointer
+    ∙ rw (many_is, wanted_is, found_is) refl) in
+    added ∙ ap (λ (xs : List ValueId). xs ++ (if many && (wanted && found) then value ∷ [] else [])) so_far
+    ∙ ap (λ (t : Bool). map valued (filter test (take i ptrs)) ++ (if t then value ∷ [] else [])) same
+    ∙ sym (ap (λ (xs : List ℕ). map valued (filter test xs)) more ∙ ap (map valued) (filter-append test (take i ptrs) (value.0 ∷ []))
+    ∙ map-append valued (filter test (take i ptrs)) (filter test (value.0 ∷ []))
+    ∙ ap (λ (xs : List ValueId). map valued (filter test (take i ptrs)) ++ xs) (one (joins_of func table b value.0) refl))
+  where
+    one : (t : Bool) → joins_of func table b value.0 ≡ t → map valued (filter (joins_of func table b) (value.0 ∷ [])) ≡ (if joins_of func table b value.0 then value ∷ [] else [])
+    one true is = rw is refl
+    one false is = rw is refl
+
+pub joins_all : (func : Function) (table : List Operand) (b i : ℕ) (joins : List ValueId) → length (pointers func) ≤ i
+    → joins ≡ map valued (filter (joins_of func table b) (take i (pointers func))) → joins ≡ map valued (filter (joins_of func table b) (pointers func))
+joins_all func table b i joins past so_far = so_far ∙ ap (λ (xs : List ℕ). map valued (filter (joins_of func table b) xs)) (take_all i (pointers func) past)
+
+pub both_false : (t : Bool) → (t && false) ≡ false
+both_false true = refl
+both_false false = refl
+
+-- the only entry of a row, and the row of a block
+pub many_is : (fronts : List (List ℕ)) (list : List ℕ) (place : ℕ) → get_or fronts place [] ≡ list → is_many (get_or fronts place []) ≡ is_many list
+many_is fronts list place is = ap is_many is
