@@ -40,6 +40,7 @@ pub fn joins(
     requires listed { AreListed func.now.content bases.now listed.now }
     ensures { IfOk result (λ joins. AreJoins func.now.content bases.now joins.items) }
 {
+    let count = func.blocks().len();
     let marks = pointer_marks(alloc, func)?;
     let values = marked(alloc, marks.as_slice())?;
     let firsts = first_numbers(alloc, func)?;
@@ -48,6 +49,7 @@ pub fn joins(
         alloc,
         func,
         cfg,
+        count,
         marks.as_slice(),
         firsts,
         values.as_slice(),
@@ -61,6 +63,7 @@ fn all_joins(
     alloc: Global,
     func: &Func,
     cfg: &Cfg,
+    count: usize,
     marks: &[bool],
     firsts: Vec<usize>,
     values: &[ValueId],
@@ -70,6 +73,7 @@ fn all_joins(
 ) -> Result<Vec<Vec<ValueId>>, Memory>
     requires formed { IsFormed func.now.content }
     requires cfg { cfg.now ≡ graph_of func.now.content }
+    requires count { count ≡ length func.now.content.blocks }
     requires marks { marks.now ≡ map is_pointer (value_types func.now.content) }
     requires firsts { firsts.items ≡ registers_of func.now.content }
     requires values { values.now ≡ map valued (pointers func.now.content) }
@@ -78,7 +82,7 @@ fn all_joins(
     ensures { IfOk result (λ joins. AreJoins func.now.content bases.now joins.items) }
 {
     let fronts = fronts(alloc, func, cfg)?;
-    let mut joins = empty_lists(alloc, fronts.len())?;
+    let mut joins = empty_lists(alloc, count)?;
     let mut places = Backward {
         fronts,
         firsts,
@@ -120,7 +124,10 @@ fn add_joins(
     ensures { IfOk result (λ _. AddsJoins (backward_rows (numbers_of places.now.fronts.items) places.now.firsts.items places.now.value) (numbers_of places.now.fronts.items)
         (length joins.old.items) starts.now wanted value joins.old.items joins.new.items) }
 {
-    if !wanted || starts.is_empty() {
+    if !wanted {
+        return Ok(());
+    }
+    if starts.is_empty() {
         return Ok(());
     }
     let marks = reached_from(alloc, places, starts)?;

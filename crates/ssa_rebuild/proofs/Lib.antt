@@ -3,3 +3,5 @@ pub mod ForestLemmas
 pub mod WalkLemmas
 pub mod NumberLemmas
 pub mod VersionLemmas
+pub mod RowLemmas
+pub mod OutputLemmas
