@@ -5,3 +5,5 @@ pub mod NumberLemmas
 pub mod VersionLemmas
 pub mod RowLemmas
 pub mod OutputLemmas
+pub mod StartLaws
+pub mod RowLaws

@@ -5,7 +5,7 @@ use Rattle.std.proofs.lemmas.List.{take_more_set, drop-set-lt, drop-append-le, t
 use Rattle.std.proofs.lemmas.Option.{slice_get_within}
 use Rattle.list_laws.proofs.Places.{drop_at}
 use Rattle.ssa_rebuild.specs.declared.slots.Slot.{Slot}
-use Rattle.ssa_rebuild.specs.declared.slots.Slot.TheVariants.{Use, Give, Token, Number}
+use Rattle.ssa_rebuild.specs.declared.slots.Slot.TheVariants.{Use, Own, Give, Token, Number}
 use Rattle.ssa_rebuild.specs.declared.versions.Change.{Change}
 use Rattle.ssa_rebuild.specs.declared.versions.Versions.{Versions}
 use Rattle.ssa_rebuild.specs.Slots.{given, next_after, current_after, answered, current_behind, next_behind, taken_back}
@@ -40,6 +40,7 @@ behind_more current later next after all row place slot y stands after_is later_
 
 pub next_le : (next : ℕ) (slot : Slot) → next_after next slot ≤ next + 1
 next_le next (Use value) = omega arith
+next_le next (Own value) = omega arith
 next_le next (Give value) = omega arith
 next_le next Token = omega arith
 next_le next (Number number) = omega arith

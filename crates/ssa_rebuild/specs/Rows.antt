@@ -18,9 +18,10 @@ use Rattle.rewriting_forms.specs.Liveness.{live_list}
 use Rattle.rewriting_forms.specs.Names.{Name, own, joined, Names, Naming, names_at, names_at_end}
 use Rattle.rewriting_forms.specs.Rewritten.{joined_at, line_names, block_names}
 use Rattle.statepoint_insert.specs.Groups.{GroupContent}
+use Rattle.ssa_rebuild.specs.Slots.{next_behind}
 use Rattle.ssa_rebuild.specs.Forest.{list_at}
 use Rattle.ssa_rebuild.specs.declared.slots.Slot.{Slot}
-use Rattle.ssa_rebuild.specs.declared.slots.Slot.TheVariants.{Use, Give, Token, Number}
+use Rattle.ssa_rebuild.specs.declared.slots.Slot.TheVariants.{Use, Own, Give, Token, Number}
 
 abbrev pub valued : ℕ → ValueId
 valued number = record { 0 = number }
@@ -43,7 +44,7 @@ held_in bundle = map (λ entry. entry.1) bundle
 
 abbrev pub own_slots : Option ℕ → List Slot
 own_slots None = []
-own_slots (Some x) = give_slot x ∷ []
+own_slots (Some x) = Own (valued x) ∷ []
 
 -- what a line that is kept uses where it stands
 abbrev pub own_uses : Instruction → List Operand
@@ -188,3 +189,25 @@ module _ (func : Function) (table : List Operand) (naming : Naming) (number : Na
   block_numbers b =
       map number (map (joined b) (joined_at func naming b))
       ++ (lines_numbers b 0 (lines_at func b) ++ use_numbers (number_behind b) (entries_from func naming b))
+
+-- ---- numbers in the order of the text
+
+-- the numbers of the values that these slots define
+abbrev pub owns : ℕ → List Slot → List ℕ
+owns next [] = []
+owns next (Use value ∷ slots) = owns next slots
+owns next (Own value ∷ slots) = next ∷ owns (next + 1) slots
+owns next (Give value ∷ slots) = owns (next + 1) slots
+owns next (Token ∷ slots) = owns (next + 1) slots
+owns next (Number number ∷ slots) = owns next slots
+
+abbrev pub starts_of : ℕ → List (List Slot) → List ℕ
+starts_of next [] = []
+starts_of next (row ∷ rows) = next ∷ starts_of (next_behind next row) rows
+
+abbrev pub all_owns : ℕ → List (List Slot) → List ℕ
+all_owns next [] = []
+all_owns next (row ∷ rows) = owns next row ++ all_owns (next_behind next row) rows
+
+abbrev pub slots_in : List (Vec Slot) → List (List Slot)
+slots_in rows = map (λ row. row.items) rows

@@ -5,6 +5,7 @@ mod entries;
 mod forest;
 mod lines;
 mod lists;
+mod numbers;
 mod rows;
 mod slots;
 mod versions;

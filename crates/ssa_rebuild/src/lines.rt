@@ -134,7 +134,7 @@ fn push_own(to: Option<u32>, row: &mut Vec<Slot>) -> Result<(), Memory>
     ensures { IfOk result (λ _. row.new.items ≡ row.old.items ++ own_slots to) }
 {
     match to {
-        Some(value) => row.push(Slot::Give(ValueId(value)))?,
+        Some(value) => row.push(Slot::Own(ValueId(value)))?,
         None => {}
     }
     Ok(())

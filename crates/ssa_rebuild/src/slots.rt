@@ -7,7 +7,9 @@ use sp_ids::ValueId;
 pub(crate) enum Slot {
     /// A use of a value.
     Use(ValueId),
-    /// A definition of a value, its first or a further one.
+    /// The definition of a value.
+    Own(ValueId),
+    /// A further definition of a value, by an inserted phi or a relocate.
     Give(ValueId),
     /// A definition of a token.
     Token,

@@ -49,7 +49,7 @@ impl Versions {
     {
         match slot {
             Slot::Use(value) => Ok(at(self.current.as_slice(), value.0 as usize)),
-            Slot::Give(value) => {
+            Slot::Own(value) | Slot::Give(value) => {
                 self.give(value, next)?;
                 Ok(next)
             }
@@ -103,7 +103,7 @@ fn next_after(slot: Slot, next: u32) -> u32
     ensures { result ≡ next_after next slot }
 {
     match slot {
-        Slot::Give(_) | Slot::Token => next + 1,
+        Slot::Own(_) | Slot::Give(_) | Slot::Token => next + 1,
         Slot::Use(_) | Slot::Number(_) => next,
     }
 }
