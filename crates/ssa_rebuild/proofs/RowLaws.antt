@@ -48,7 +48,7 @@ calls_of_is call (line ∷ lines) =
     omega (arith, rest, one)
 
 range_more : (a n : ℕ) → range_with_len a (n + 1) ≡ range_with_len a n ++ (a + n) ∷ []
-range_more a zero = let e : a ≡ a + 0 = omega arith in let z : 0 + 1 ≡ 1 = omega arith in rw z (ap (λ (m : ℕ). let xs : List ℕ = m ∷ [] in xs) e)
+range_more a zero = let e : a ≡ a + 0 = omega arith in ap (λ (m : ℕ). let xs : List ℕ = m ∷ [] in xs) e
 range_more a (suc n) =
     let s : suc n + 1 ≡ suc (n + 1) = omega arith in
     let e : (a + 1) + n ≡ a + suc n = omega arith in
@@ -104,8 +104,7 @@ module _ (func : Function) (table : List Operand) where
   first_next next [] b block is = absurd (cc)
   first_next next (x ∷ blocks) zero block is =
       let e : x ≡ block = cc in
-      let z : 0 + 1 ≡ 1 = omega arith in
-      rw z (first_is (after_all next x.insts) blocks ∙ ap (λ (y : BasicBlock). after_all next y.insts) e)
+      first_is (after_all next x.insts) blocks ∙ ap (λ (y : BasicBlock). after_all next y.insts) e
     where
       first_is : (n : ℕ) (blocks : List BasicBlock) → slice_index (first_registers n blocks) 0 ≡ n
       first_is n [] = refl

@@ -98,8 +98,7 @@ entries_more from k (l ∷ labels) [] label operand one two = absurd (let h : No
 entries_more from zero (l ∷ labels) (o ∷ operands) label operand one two =
     let same_label : l ≡ label = cc in
     let same : o ≡ operand = cc in
-    let z : 0 + 1 ≡ 1 = omega arith in
-    rw (z, same_label, same) (append-nil (if eqb label.0 from then operand ∷ [] else []))
+    rw (same_label, same) (append-nil (if eqb label.0 from then operand ∷ [] else []))
 entries_more from (suc k) (l ∷ labels) (o ∷ operands) label operand one two =
     let s : suc k + 1 ≡ suc (k + 1) = omega arith in
     ap (λ (n : ℕ). entries_for from (take n (l ∷ labels)) (take n (o ∷ operands))) s

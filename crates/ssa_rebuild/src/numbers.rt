@@ -17,22 +17,24 @@ pub(crate) struct Numbers {
     pub(crate) own: Vec<u32>,
 }
 
-/// The numbers for these slots of all blocks, behind those of so many arguments. Where a number isn't below 2^32, it is want of
-/// memory.
-pub(crate) fn numbers(alloc: Global, args: u32, rows: &[Vec<Slot>]) -> Result<Numbers, Memory>
-    ensures starts { IfOk result (λ numbers. numbers.starts.items ≡ starts_of args (slots_in rows.now)) }
-    ensures own { IfOk result (λ numbers. numbers.own.items ≡ range_with_len 0 args ++ all_owns args (slots_in rows.now)) }
-    ensures room { IfOk result (λ numbers. HasRoom numbers.starts.items rows.now) }
-{
-    let mut numbers = Numbers {
-        starts: Vec::with_capacity(alloc, rows.len())?,
-        own: rising(alloc, args)?,
-    };
-    let mut next = args;
-    for row in rows {
-        next = push_row(row.as_slice(), next, &mut numbers)?;
+impl Numbers {
+    /// The numbers for these slots of all blocks, behind those of so many arguments. Where a number isn't below 2^32, it is want of
+    /// memory.
+    pub(crate) fn of(alloc: Global, args: u32, rows: &[Vec<Slot>]) -> Result<Numbers, Memory>
+        ensures starts { IfOk result (λ numbers. numbers.starts.items ≡ starts_of args (slots_in rows.now)) }
+        ensures own { IfOk result (λ numbers. numbers.own.items ≡ range_with_len 0 args ++ all_owns args (slots_in rows.now)) }
+        ensures room { IfOk result (λ numbers. HasRoom numbers.starts.items rows.now) }
+    {
+        let mut numbers = Numbers {
+            starts: Vec::with_capacity(alloc, rows.len())?,
+            own: rising(alloc, args)?,
+        };
+        let mut next = args;
+        for row in rows {
+            next = push_row(row.as_slice(), next, &mut numbers)?;
+        }
+        Ok(numbers)
     }
-    Ok(numbers)
 }
 
 fn rising(alloc: Global, count: u32) -> Result<Vec<u32>, Memory>

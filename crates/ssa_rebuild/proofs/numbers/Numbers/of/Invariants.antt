@@ -3,7 +3,7 @@ use Rattle.std.specs.Prelude.{slice_index}
 use Rattle.std.specs.List.{range_with_len}
 use Rattle.ssa_rebuild.specs.Forest.{list_at}
 use Rattle.ssa_rebuild.specs.Rows.{starts_of, all_owns, slots_in}
-use Rattle.ssa_rebuild.proofs.numbers.numbers.Given as goal
+use Rattle.ssa_rebuild.proofs.numbers.Numbers.of.Given as goal
 
 abbrev pub invariant-loop-row : goal.invariant-loop-row
 invariant-loop-row l = record {
