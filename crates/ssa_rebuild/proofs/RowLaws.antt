@@ -47,7 +47,7 @@ calls_of_is call (line ∷ lines) =
     let one = count_cons line lines in
     omega (arith, rest, one)
 
-range_more : (a n : ℕ) → range_with_len a (n + 1) ≡ range_with_len a n ++ (a + n) ∷ []
+pub range_more : (a n : ℕ) → range_with_len a (n + 1) ≡ range_with_len a n ++ (a + n) ∷ []
 range_more a zero = let e : a ≡ a + 0 = omega arith in ap (λ (m : ℕ). let xs : List ℕ = m ∷ [] in xs) e
 range_more a (suc n) =
     let s : suc n + 1 ≡ suc (n + 1) = omega arith in

@@ -1,23 +1,27 @@
 -- The rows of slots, a line and an entry at a time.
-use Rattle.std.proofs.Common.{◌≡◌, ◌∙◌, ℕ, zero, suc, ◌<◌, ◌≤◌, ◌+◌, ◌⊎◌, inl, inr, Bool, true, false, eqb, if◌then◌else◌, List, [], ◌∷◌, ◌++◌, length, map, take, drop, get_or, Option, Some, None, slice_get, refl, ap, sym, arith, append_assoc, append-nil, length-append, subst}
-use Rattle.std.specs.Prelude.{slice_set, slice_index_or}
+use Rattle.std.proofs.Common.{◌≡◌, ◌∙◌, ℕ, zero, suc, ◌<◌, ◌≤◌, ◌+◌, ◌⊎◌, inl, inr, Bool, true, false, eqb, if◌then◌else◌, List, [], ◌∷◌, ◌++◌, length, map, take, drop, get_or, Option, Some, None, is_some, slice_get, refl, ap, sym, arith, append_assoc, append-nil, length-append, subst}
+use Rattle.std.specs.Prelude.{slice_set, slice_index_or, slice_index, ◌^◌}
 use Rattle.std.specs.List.{flat_map, range_with_len}
 use Rattle.std.specs.Global.{Vec}
 use Rattle.std.proofs.lemmas.Bool.{cases_Bool, cases_eq, eq-eqb, ne_eqb}
 use Rattle.std.proofs.lemmas.Grind.{flat_map-append}
-use Rattle.std.proofs.lemmas.List.{length-set}
+use Rattle.std.proofs.lemmas.List.{length-set, take_more, map-append, get_or_push, get_or_append_left}
 use Rattle.sp_ids.specs.declared.ids.BlockId.{BlockId}
+use Rattle.sp_ids.specs.declared.ids.ValueId.{ValueId}
+use Rattle.ir_ast.specs.declared.types.Ty.{Ty}
 use Rattle.ir_ast.specs.declared.ops.Operand.{Operand}
 use Rattle.ir_ast.specs.declared.ops.Operand.TheVariants.{Value, Int, Null, Fun}
 use Rattle.ir_ast.specs.Insts.{Instruction}
-use Rattle.object_meaning.specs.Lines.{Line, following, numbered}
+use Rattle.ir_ast.specs.Blocks.{BasicBlock}
+use Rattle.object_meaning.specs.Lines.{Line, following, numbered, after_all}
 use Rattle.object_meaning.specs.TargetRuns.{plain_lines}
 use Rattle.rewriting_forms.specs.Numbered.{calls}
 use Rattle.ssa_rebuild.specs.declared.slots.Slot.{Slot}
 use Rattle.ssa_rebuild.specs.declared.slots.Slot.TheVariants.{Use, Give, Token, Number}
+use Rattle.ssa_rebuild.specs.Slots.{next_behind}
 use Rattle.ssa_rebuild.specs.Forest.{list_at}
-use Rattle.ssa_rebuild.specs.Rows.{uses_of, one_slots, listed_slots, count_of_call, calls_of, entries_for, Grows}
-use Rattle.ssa_rebuild.proofs.ForestLemmas.{at_same, at_other}
+use Rattle.ssa_rebuild.specs.Rows.{valued, values_in, held_in, uses_of, one_slots, listed_slots, count_of_call, calls_of, entries_for, inserted_entries, Grows, give_slot, body_rows, owns, starts_of, all_owns, slots_in}
+use Rattle.ssa_rebuild.proofs.ForestLemmas.{at_same, at_other, list_is}
 
 -- ---- lists that are joined
 
@@ -119,3 +123,123 @@ entries_short from zero (l ∷ labels) (o ∷ operands) (inl le) = absurd (omega
 entries_short from zero (l ∷ labels) (o ∷ operands) (inr le) = absurd (omega arith)
 entries_short from (suc n) (l ∷ labels) (o ∷ operands) (inl le) = ap (λ (os : List Operand). (if eqb l.0 from then o ∷ [] else []) ++ os) (entries_short from n labels operands (inl (omega arith)))
 entries_short from (suc n) (l ∷ labels) (o ∷ operands) (inr le) = ap (λ (os : List Operand). (if eqb l.0 from then o ∷ [] else []) ++ os) (entries_short from n labels operands (inr (omega arith)))
+
+-- ---- one more
+
+pub take_item : {A : Type 0} (xs : List A) (k : ℕ) (x : A) → k < length xs → x ≡ get_or xs k x → take (k + 1) xs ≡ take k xs ++ x ∷ []
+take_item xs k x below is = take_more xs k x below ∙ ap (λ (y : _). take k xs ++ y ∷ []) (sym is)
+
+pub inserted_more : (from : ℕ) (preds : List BlockId) (k v : ℕ) (label : BlockId) → take (k + 1) preds ≡ take k preds ++ label ∷ []
+    → inserted_entries from (map (λ block. block.0) (take (k + 1) preds)) v
+    ≡ inserted_entries from (map (λ block. block.0) (take k preds)) v ++ (if eqb label.0 from then Value (valued v) ∷ [] else [])
+inserted_more from preds k v label is =
+    let f : BlockId → ℕ = λ block. block.0 in
+    flat_more (λ (p : ℕ). let os : List Operand = if eqb p from then Value (valued v) ∷ [] else [] in os) (map f (take k preds)) (map f (take (k + 1) preds)) label.0
+    (ap (map f) is ∙ map-append f (take k preds) (label ∷ []))
+
+pub joined_more : (from : ℕ) (preds : List ℕ) (joined : List ValueId) (k : ℕ) (value : ValueId) → take (k + 1) joined ≡ take k joined ++ value ∷ []
+    → flat_map (inserted_entries from preds) (values_in (take (k + 1) joined))
+    ≡ flat_map (inserted_entries from preds) (values_in (take k joined)) ++ inserted_entries from preds value.0
+joined_more from preds joined k value is =
+    let f : ValueId → ℕ = λ value. value.0 in
+    flat_more (inserted_entries from preds) (map f (take k joined)) (map f (take (k + 1) joined)) value.0
+    (ap (map f) is ∙ map-append f (take k joined) (value ∷ []))
+
+pub held_more : (bundle : List (Ty × Operand)) (k : ℕ) (entry : Ty × Operand) → take (k + 1) bundle ≡ take k bundle ++ entry ∷ []
+    → held_in (take (k + 1) bundle) ≡ held_in (take k bundle) ++ entry.1 ∷ []
+held_more bundle k entry is = ap held_in is ∙ map-append (λ (entry : Ty × Operand). entry.1) (take k bundle) (entry ∷ [])
+
+-- the rest of the lines of a block, one line on
+pub slots_on : (lists : List (List ℕ)) (call next : ℕ) (insts rest : List Instruction) (inst : Instruction) (all old new : List Slot) (to : Option ℕ) (call' next' : ℕ)
+    → insts ≡ inst ∷ rest → to ≡ (numbered next inst).to → call' ≡ call + count_of_call (record { to = to; inst = inst }) → next' ≡ following next inst
+    → all ≡ old ++ listed_slots lists call (plain_lines next insts) → new ≡ old ++ one_slots lists call (record { to = to; inst = inst })
+    → all ≡ new ++ listed_slots lists call' (plain_lines next' rest)
+slots_on lists call next insts rest inst all old new to call' next' split to_is call_is next_is so_far added =
+    let step = slots_step lists call next inst rest in
+    let line : ◌≡◌ {A = Line} (record { to = to; inst = inst }) (numbered next inst) = ap (λ (t : Option ℕ). let l : Line = record { to = t; inst = inst } in l) to_is in
+    let one = added ∙ ap (λ (l : Line). old ++ one_slots lists call l) line in
+    let calls_are : call' ≡ call + count_of_call (numbered next inst) = call_is ∙ ap (λ (l : Line). call + count_of_call l) line in
+    so_far ∙ ap (λ (is : List Instruction). old ++ listed_slots lists call (plain_lines next is)) split
+    ∙ ap (λ (ss : List Slot). old ++ ss) step
+    ∙ sym (append_assoc old (one_slots lists call (numbered next inst)) (listed_slots lists (call + count_of_call (numbered next inst)) (plain_lines (following next inst) rest)))
+    ∙ ap (λ (ss : List Slot). ss ++ listed_slots lists (call + count_of_call (numbered next inst)) (plain_lines (following next inst) rest)) (sym one)
+    ∙ ap (λ (n : ℕ). new ++ listed_slots lists n (plain_lines (following next inst) rest)) (sym calls_are)
+    ∙ ap (λ (n : ℕ). new ++ listed_slots lists call' (plain_lines n rest)) (sym next_is)
+
+pub calls_on : (call next : ℕ) (insts rest : List Instruction) (inst : Instruction) (all : ℕ) (to : Option ℕ) (call' next' : ℕ)
+    → insts ≡ inst ∷ rest → to ≡ (numbered next inst).to → call' ≡ call + count_of_call (record { to = to; inst = inst }) → next' ≡ following next inst
+    → all ≡ calls_of call (plain_lines next insts) → all ≡ calls_of call' (plain_lines next' rest)
+calls_on call next insts rest inst all to call' next' split to_is call_is next_is so_far =
+    let line : ◌≡◌ {A = Line} (record { to = to; inst = inst }) (numbered next inst) = ap (λ (t : Option ℕ). let l : Line = record { to = t; inst = inst } in l) to_is in
+    let calls_are : call' ≡ call + count_of_call (numbered next inst) = call_is ∙ ap (λ (l : Line). call + count_of_call l) line in
+    so_far ∙ ap (λ (is : List Instruction). calls_of call (plain_lines next is)) split
+    ∙ ap (λ (n : ℕ). calls_of n (plain_lines (following next inst) rest)) (sym calls_are)
+    ∙ ap (λ (n : ℕ). calls_of call' (plain_lines n rest)) (sym next_is)
+
+pub one_call : (line : Line) → count_of_call line ≤ 1
+one_call line = elim (cases_Bool (calls line)) [ | inl is ↦ rw is (omega arith) | inr not ↦ rw not (omega arith) ]
+
+pub following_le : (next : ℕ) (inst : Instruction) → following next inst ≤ next + 1
+following_le next inst = elim (cases_Bool (is_some inst.result)) [ | inl is ↦ rw is (omega arith) | inr not ↦ rw not (omega arith) ]
+
+-- ---- rows, one on
+
+pub starts_on : (next after : ℕ) (rows rest : List (Vec Slot)) (row : Vec Slot) (read : List Slot) (all old new : List ℕ) → rows ≡ row ∷ rest → read ≡ row.items
+    → after ≡ next_behind next read → all ≡ old ++ starts_of next (slots_in rows) → new ≡ old ++ next ∷ [] → all ≡ new ++ starts_of after (slots_in rest)
+starts_on next after rows rest row read all old new split read_is after_is so_far added =
+    so_far ∙ ap (λ (rs : List (Vec Slot)). old ++ starts_of next (slots_in rs)) split
+    ∙ ap (λ (ss : List Slot). old ++ (next ∷ starts_of (next_behind next ss) (slots_in rest))) (sym read_is)
+    ∙ ap (λ (n : ℕ). old ++ (next ∷ starts_of n (slots_in rest))) (sym after_is)
+    ∙ sym (append_assoc old (next ∷ []) (starts_of after (slots_in rest)))
+    ∙ ap (λ (ns : List ℕ). ns ++ starts_of after (slots_in rest)) (sym added)
+
+pub owns_on : (next after : ℕ) (rows rest : List (Vec Slot)) (row : Vec Slot) (read : List Slot) (all old new : List ℕ) → rows ≡ row ∷ rest → read ≡ row.items
+    → after ≡ next_behind next read → all ≡ old ++ all_owns next (slots_in rows) → new ≡ old ++ owns next read → all ≡ new ++ all_owns after (slots_in rest)
+owns_on next after rows rest row read all old new split read_is after_is so_far added =
+    so_far ∙ ap (λ (rs : List (Vec Slot)). old ++ all_owns next (slots_in rs)) split
+    ∙ ap (λ (ss : List Slot). old ++ (owns next ss ++ all_owns (next_behind next ss) (slots_in rest))) (sym read_is)
+    ∙ ap (λ (n : ℕ). old ++ (owns next read ++ all_owns n (slots_in rest))) (sym after_is)
+    ∙ sym (append_assoc old (owns next read) (all_owns after (slots_in rest)))
+    ∙ ap (λ (ns : List ℕ). ns ++ all_owns after (slots_in rest)) (sym added)
+
+-- a start more, within room
+pub room_more : (rows : List (Vec Slot)) (place next : ℕ) (row : Vec Slot) (read : List Slot) (old new : List ℕ) → place < length rows → row ≡ get_or rows place row → read ≡ row.items
+    → length old ≡ place → new ≡ old ++ next ∷ [] → next + length read < 2 ^ 32
+    → ((b : ℕ) → b < place → slice_index old b + length (list_at rows b) < 2 ^ 32)
+    → (b : ℕ) → b < place + 1 → slice_index new b + length (list_at rows b) < 2 ^ 32
+room_more rows place next row read old new within row_is read_is size added room so_far b below = elim (cases_eq b place) [
+  | inl e ↦
+      let at : slice_index new b ≡ next = ap (λ (ns : List ℕ). slice_index ns b) added ∙ get_or_push old next 0 b (size ∙ sym e) in
+      let same : length (list_at rows b) ≡ length read = ap (λ (n : ℕ). length (list_at rows n)) e ∙ ap length (list_is rows place row within row_is ∙ sym read_is) in
+      omega (arith, at, same, room)
+  | inr ne ↦
+      let before : b < place = omega (arith, ne, below) in
+      let at : slice_index new b ≡ slice_index old b = ap (λ (ns : List ℕ). slice_index ns b) added ∙ get_or_append_left old (next ∷ []) 0 b (omega (arith, before, size)) in
+      let was = so_far b before in
+      omega (arith, at, was)
+]
+
+pub calls_few : (call next : ℕ) (insts : List Instruction) → calls_of call (plain_lines next insts) ≤ call + length insts
+calls_few call next [] = omega arith
+calls_few call next (inst ∷ insts) =
+    let one = one_call (numbered next inst) in
+    let rest = calls_few (call + count_of_call (numbered next inst)) (following next inst) insts in
+    omega (arith, one, rest)
+
+-- the rows of the rest of the blocks, one block on
+pub bodies_on : (lists : List (List ℕ)) (call after next behind : ℕ) (joins rest : List (List ℕ)) (join : List ℕ) (blocks others : List BasicBlock) (block : BasicBlock)
+    (all : List (List Slot)) (old new : List (List Slot)) (first row : List Slot)
+    → joins ≡ join ∷ rest → blocks ≡ block ∷ others → all ≡ old ++ body_rows lists joins call next blocks
+    → first ≡ map give_slot join → row ≡ first ++ listed_slots lists call (plain_lines next block.insts)
+    → after ≡ calls_of call (plain_lines next block.insts) → behind ≡ after_all next block.insts → new ≡ old ++ row ∷ []
+    → all ≡ new ++ body_rows lists rest after behind others
+bodies_on lists call after next behind joins rest join blocks others block all old new first row joins_are blocks_are so_far first_is row_is after_is behind_is added =
+    let whole : row ≡ map give_slot join ++ listed_slots lists call (plain_lines next block.insts) =
+    row_is ∙ ap (λ (ss : List Slot). ss ++ listed_slots lists call (plain_lines next block.insts)) first_is in
+    so_far ∙ ap (λ (js : List (List ℕ)). old ++ body_rows lists js call next blocks) joins_are
+    ∙ ap (λ (bs : List BasicBlock). old ++ body_rows lists (join ∷ rest) call next bs) blocks_are
+    ∙ ap (λ (r : List Slot). old ++ (r ∷ body_rows lists rest (calls_of call (plain_lines next block.insts)) (after_all next block.insts) others)) (sym whole)
+    ∙ ap (λ (n : ℕ). old ++ (row ∷ body_rows lists rest n (after_all next block.insts) others)) (sym after_is)
+    ∙ ap (λ (n : ℕ). old ++ (row ∷ body_rows lists rest after n others)) (sym behind_is)
+    ∙ sym (append_assoc old (row ∷ []) (body_rows lists rest after behind others))
+    ∙ ap (λ (rs : List (List Slot)). rs ++ body_rows lists rest after behind others) (sym added)

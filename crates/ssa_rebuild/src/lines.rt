@@ -124,8 +124,8 @@ pub(crate) fn push_use(operand: Operand, row: &mut Vec<Slot>) -> Result<(), Memo
 fn push_held(bundle: &[(Ty, Operand)], row: &mut Vec<Slot>) -> Result<(), Memory>
     ensures { IfOk result (λ _. row.new.items ≡ row.old.items ++ uses_of (held_in bundle.now)) }
 {
-    for (_ty, operand) in bundle {
-        push_use(*operand, row)?;
+    for entry in bundle {
+        push_use(entry.1, row)?;
     }
     Ok(())
 }
