@@ -6,6 +6,8 @@ use Rattle.std.specs.Global.{Vec}
 use Rattle.std.proofs.lemmas.Bool.{cases_Bool, cases_eq, eq-eqb, ne_eqb}
 use Rattle.std.proofs.lemmas.Grind.{flat_map-append}
 use Rattle.std.proofs.lemmas.List.{length-set, take_more, map-append, get_or_push, get_or_append_left}
+use Rattle.std.proofs.lemmas.Option.{slice_get-get_or}
+use Rattle.list_laws.proofs.Places.{drop_at, get_map}
 use Rattle.sp_ids.specs.declared.ids.BlockId.{BlockId}
 use Rattle.sp_ids.specs.declared.ids.ValueId.{ValueId}
 use Rattle.ir_ast.specs.declared.types.Ty.{Ty}
@@ -20,7 +22,7 @@ use Rattle.ssa_rebuild.specs.declared.slots.Slot.{Slot}
 use Rattle.ssa_rebuild.specs.declared.slots.Slot.TheVariants.{Use, Give, Token, Number}
 use Rattle.ssa_rebuild.specs.Slots.{next_behind}
 use Rattle.ssa_rebuild.specs.Forest.{list_at}
-use Rattle.ssa_rebuild.specs.Rows.{valued, values_in, held_in, uses_of, one_slots, listed_slots, count_of_call, calls_of, entries_for, inserted_entries, Grows, give_slot, body_rows, owns, starts_of, all_owns, slots_in}
+use Rattle.ssa_rebuild.specs.Rows.{valued, values_in, held_in, uses_of, one_slots, listed_slots, count_of_call, calls_of, entries_for, inserted_entries, Grows, give_slot, body_rows, owns, starts_of, all_owns, slots_in, entries_all, phi_entries}
 use Rattle.ssa_rebuild.proofs.ForestLemmas.{at_same, at_other, list_is}
 
 -- ---- lists that are joined
@@ -243,3 +245,37 @@ bodies_on lists call after next behind joins rest join blocks others block all o
     ∙ ap (λ (n : ℕ). old ++ (row ∷ body_rows lists rest after n others)) (sym behind_is)
     ∙ sym (append_assoc old (row ∷ []) (body_rows lists rest after behind others))
     ∙ ap (λ (rs : List (List Slot)). rs ++ body_rows lists rest after behind others) (sym added)
+
+pub bodies_start : (lists joins : List (List ℕ)) (blocks : List BasicBlock) (args count : ℕ) (rows : List (Vec Slot)) → count ≡ args → rows ≡ []
+    → body_rows lists joins 0 args blocks ≡ slots_in rows ++ body_rows lists joins 0 count blocks
+bodies_start lists joins blocks args count rows count_is none = rw (count_is, none) refl
+
+pub joins_split : (joins : List (Vec ValueId)) (place k : ℕ) (join : Vec ValueId) → place ≡ k → k < length joins → join ≡ get_or joins place join
+    → drop k (map (λ join. values_in join.items) joins) ≡ values_in join.items ∷ drop (k + 1) (map (λ join. values_in join.items) joins)
+joins_split joins place k join same within is =
+    let stands : slice_get joins k ≡ Some join = slice_get-get_or joins k join within ∙ ap Some (sym (is ∙ ap (λ (n : ℕ). get_or joins n join) same)) in
+    drop_at (map (λ join. values_in join.items) joins) k (values_in join.items) (get_map (λ join. values_in join.items) joins k join stands)
+
+pub entries_on : (before : ℕ → List ℕ) (joins : List (List ℕ)) (to : ℕ) (blocks : List BasicBlock) (k from : ℕ) (join : List ℕ) (block : BasicBlock)
+    → slice_get joins k ≡ Some join → slice_get blocks k ≡ Some block
+    → entries_all before (take (k + 1) joins) to (take (k + 1) blocks) from
+    ≡ entries_all before (take k joins) to (take k blocks) from ++ (flat_map (inserted_entries from (before (to + k))) join ++ flat_map (phi_entries from) block.insts)
+entries_on before [] to blocks k from join block one two = absurd (let h : None ≡ Some join = one in cc)
+entries_on before (j ∷ joins) to [] k from join block one two = absurd (let h : None ≡ Some block = two in cc)
+entries_on before (j ∷ joins) to (b ∷ blocks) zero from join block one two =
+    let same_join : j ≡ join = cc in
+    let same : b ≡ block = cc in
+    let at : to ≡ to + 0 = omega arith in
+    append-nil (flat_map (inserted_entries from (before to)) j ++ flat_map (phi_entries from) b.insts)
+    ∙ ap (λ (vs : List ℕ). flat_map (inserted_entries from (before to)) vs ++ flat_map (phi_entries from) b.insts) same_join
+    ∙ ap (λ (x : BasicBlock). flat_map (inserted_entries from (before to)) join ++ flat_map (phi_entries from) x.insts) same
+    ∙ ap (λ (n : ℕ). flat_map (inserted_entries from (before n)) join ++ flat_map (phi_entries from) block.insts) at
+entries_on before (j ∷ joins) to (b ∷ blocks) (suc k) from join block one two =
+    let s : suc k + 1 ≡ suc (k + 1) = omega arith in
+    let at : suc to + k ≡ to + suc k = omega arith in
+    let first = flat_map (inserted_entries from (before to)) j ++ flat_map (phi_entries from) b.insts in
+    let last = flat_map (inserted_entries from (before (suc to + k))) join ++ flat_map (phi_entries from) block.insts in
+    ap (λ (n : ℕ). entries_all before (take n (j ∷ joins)) to (take n (b ∷ blocks)) from) s
+    ∙ ap (λ (os : List Operand). first ++ os) (entries_on before joins (suc to) blocks k from join block one two)
+    ∙ sym (append_assoc first (entries_all before (take k joins) (suc to) (take k blocks) from) last)
+    ∙ ap (λ (n : ℕ). (first ++ entries_all before (take k joins) (suc to) (take k blocks) from) ++ (flat_map (inserted_entries from (before n)) join ++ flat_map (phi_entries from) block.insts)) at
