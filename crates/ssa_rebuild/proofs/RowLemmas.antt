@@ -179,10 +179,10 @@ calls_on call next insts rest inst all to call' next' split to_is call_is next_i
     ∙ ap (λ (n : ℕ). calls_of call' (plain_lines n rest)) (sym next_is)
 
 pub one_call : (line : Line) → count_of_call line ≤ 1
-one_call line = elim (cases_Bool (calls line)) [ | inl is ↦ rw is (omega arith) | inr not ↦ rw not (omega arith) ]
+one_call line = elim (cases_Bool (calls line)) [ inl is ↦ rw is (omega arith) | inr not ↦ rw not (omega arith) ]
 
 pub following_le : (next : ℕ) (inst : Instruction) → following next inst ≤ next + 1
-following_le next inst = elim (cases_Bool (is_some inst.result)) [ | inl is ↦ rw is (omega arith) | inr not ↦ rw not (omega arith) ]
+following_le next inst = elim (cases_Bool (is_some inst.result)) [ inl is ↦ rw is (omega arith) | inr not ↦ rw not (omega arith) ]
 
 -- ---- rows, one on
 

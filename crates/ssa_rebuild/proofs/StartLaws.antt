@@ -85,11 +85,12 @@ module _ (func : Function) (table : List Operand) where
       × (Rising number next (line_names func table b k) → owns next (plain_slots line) ≡ map number (own_names line))
   plain_counts number b k next line stands plain =
       let names = plain_names_are b k line stands plain in
-      let tail = uses_of (held_in line.inst.bundle) ++ own_slots line.to in
-      (uses_next next (own_uses line.inst) tail ∙ uses_next next (held_in line.inst.bundle) (own_slots line.to) ∙ own_count line.to next
-      ∙ sym (ap (λ (ns : List Name). next + length ns) names),
-      λ rises. uses_own next (own_uses line.inst) tail ∙ uses_own next (held_in line.inst.bundle) (own_slots line.to)
-      ∙ own_owned number line.to next (subst (Rising number next) names rises))
+      let tail = uses_of (held_in line.inst.bundle) ++ own_slots line.to in (
+        uses_next next (own_uses line.inst) tail ∙ uses_next next (held_in line.inst.bundle) (own_slots line.to) ∙ own_count line.to next
+            ∙ sym (ap (λ (ns : List Name). next + length ns) names),
+        λ rises. uses_own next (own_uses line.inst) tail ∙ uses_own next (held_in line.inst.bundle) (own_slots line.to)
+            ∙ own_owned number line.to next (subst (Rising number next) names rises),
+      )
 
   call_counts : (number : Name → ℕ) (b k next : ℕ) (line : Line) → slice_get (lines_at func b) k ≡ Some line → calls line ≡ true
       → (next_behind next (call_slots (live_list func table b k) line) ≡ next + length (line_names func table b k))
@@ -106,16 +107,17 @@ module _ (func : Function) (table : List Operand) where
       let list_part = gives_next (next_behind (next + 1) (own_slots line.to)) list in
       let long = length-map list (relocated b k) in
       let sum = length-append (own_names line) (map (relocated b k) list) in
-      let whole = ap length names in
-      (omega (arith, after, own_part, list_part, long, sum, whole),
-      λ rises.
-          let all = subst (Rising number next) names rises in
-          let rest = rises_back number next (token b k ∷ []) (own_names line ++ map (relocated b k) list) all in
-          uses_own next line.inst.operands (map use_slot list ++ held_tail) ∙ list_own next list held_tail
-          ∙ uses_own next (held_in line.inst.bundle) (Token ∷ gives_tail) ∙ owns_append (next + 1) (own_slots line.to) (map give_slot list)
-          ∙ ap (λ (ns : List ℕ). owns (next + 1) (own_slots line.to) ++ ns) (gives_own (next_behind (next + 1) (own_slots line.to)) list)
-          ∙ append-nil (owns (next + 1) (own_slots line.to))
-          ∙ own_owned number line.to (next + 1) (rises_front number (next + 1) (own_names line) (map (relocated b k) list) rest))
+      let whole = ap length names in (
+        omega (arith, after, own_part, list_part, long, sum, whole),
+        λ rises.
+            let all = subst (Rising number next) names rises in
+            let rest = rises_back number next (token b k ∷ []) (own_names line ++ map (relocated b k) list) all in
+            uses_own next line.inst.operands (map use_slot list ++ held_tail) ∙ list_own next list held_tail
+            ∙ uses_own next (held_in line.inst.bundle) (Token ∷ gives_tail) ∙ owns_append (next + 1) (own_slots line.to) (map give_slot list)
+            ∙ ap (λ (ns : List ℕ). owns (next + 1) (own_slots line.to) ++ ns) (gives_own (next_behind (next + 1) (own_slots line.to)) list)
+            ∙ append-nil (owns (next + 1) (own_slots line.to))
+            ∙ own_owned number line.to (next + 1) (rises_front number (next + 1) (own_names line) (map (relocated b k) list) rest),
+      )
 
   line_counts : (number : Name → ℕ) (b k next : ℕ) (line : Line) → slice_get (lines_at func b) k ≡ Some line
       → (next_behind next (line_slots func table b k line) ≡ next + length (line_names func table b k))
@@ -141,22 +143,24 @@ module _ (func : Function) (table : List Operand) where
       let later = flat_map (line_names func table b) (range_with_len (k + 1) (length lines)) in
       let sizes = length-append (line_names func table b k) later in
       let same : length (names_in b (suc k) lines) ≡ length later = ap (λ (m : ℕ). length (flat_map (line_names func table b) (range_with_len m (length lines)))) e in
-      let split = next_append next (line_slots func table b k line) (lines_slots func table b (suc k) lines) in
-      (omega (arith, split, rest.0, one.0, sizes, same),
-      λ rises.
-          let rest_rises : Rising number after (names_in b (suc k) lines) =
-          subst (λ (m : ℕ). Rising number after (flat_map (line_names func table b) (range_with_len m (length lines)))) (sym e)
-          (subst (λ (n : ℕ). Rising number n later) (sym one.0) (rises_back number next (line_names func table b k) later rises)) in
-          owns_append next (line_slots func table b k line) (lines_slots func table b (suc k) lines)
-          ∙ ap (λ (ns : List ℕ). ns ++ owns after (lines_slots func table b (suc k) lines)) (one.1 (rises_front number next (line_names func table b k) later rises))
-          ∙ ap (λ (ns : List ℕ). map number (own_names line) ++ ns) (rest.1 rest_rises)
-          ∙ sym (map-append number (own_names line) (flat_map own_names lines)))
+      let split = next_append next (line_slots func table b k line) (lines_slots func table b (suc k) lines) in (
+        omega (arith, split, rest.0, one.0, sizes, same),
+        λ rises.
+            let rest_rises : Rising number after (names_in b (suc k) lines) =
+            subst (λ (m : ℕ). Rising number after (flat_map (line_names func table b) (range_with_len m (length lines)))) (sym e)
+            (subst (λ (n : ℕ). Rising number n later) (sym one.0) (rises_back number next (line_names func table b k) later rises)) in
+            owns_append next (line_slots func table b k line) (lines_slots func table b (suc k) lines)
+            ∙ ap (λ (ns : List ℕ). ns ++ owns after (lines_slots func table b (suc k) lines)) (one.1 (rises_front number next (line_names func table b k) later rises))
+            ∙ ap (λ (ns : List ℕ). map number (own_names line) ++ ns) (rest.1 rest_rises)
+            ∙ sym (map-append number (own_names line) (flat_map own_names lines)),
+      )
 
   module _ (naming : Naming) (number : Name → ℕ) where
     uses_last : (next : ℕ) (operands : List Operand) → (next_behind next (uses_of operands) ≡ next) × (owns next (uses_of operands) ≡ [])
-    uses_last next operands =
-        (sym (ap (next_behind next) (append-nil (uses_of operands))) ∙ uses_next next operands [],
-        sym (ap (owns next) (append-nil (uses_of operands))) ∙ uses_own next operands [])
+    uses_last next operands = (
+      sym (ap (next_behind next) (append-nil (uses_of operands))) ∙ uses_next next operands [],
+      sym (ap (owns next) (append-nil (uses_of operands))) ∙ uses_own next operands [],
+    )
 
     -- behind a block
     pub block_counts : (b next : ℕ)
@@ -175,12 +179,13 @@ module _ (func : Function) (table : List Operand) where
         next_append next first (lines ++ entries) ∙ next_append body lines entries in
         let long = length-map joined_list (joined b) in
         let names = flat_map (line_names func table b) (range_with_len 0 (length (lines_at func b))) in
-        let sum = length-append (map (joined b) joined_list) names in
-        (omega (arith, split, last.0, all.0, steps, long, sum),
-        λ rises.
-            let body_is : next + length (map (joined b) joined_list) ≡ body = omega (arith, long, steps) in
-            let lines_rise = subst (λ (n : ℕ). Rising number n names) body_is (rises_back number next (map (joined b) joined_list) names rises) in
-            owns_append next first (lines ++ entries)
-            ∙ ap (λ (ns : List ℕ). ns ++ owns body (lines ++ entries)) (gives_own next joined_list)
-            ∙ owns_append body lines entries
-            ∙ ap (λ (ns : List ℕ). owns body lines ++ ns) last.1 ∙ append-nil (owns body lines) ∙ all.1 lines_rise)
+        let sum = length-append (map (joined b) joined_list) names in (
+          omega (arith, split, last.0, all.0, steps, long, sum),
+          λ rises.
+              let body_is : next + length (map (joined b) joined_list) ≡ body = omega (arith, long, steps) in
+              let lines_rise = subst (λ (n : ℕ). Rising number n names) body_is (rises_back number next (map (joined b) joined_list) names rises) in
+              owns_append next first (lines ++ entries)
+              ∙ ap (λ (ns : List ℕ). ns ++ owns body (lines ++ entries)) (gives_own next joined_list)
+              ∙ owns_append body lines entries
+              ∙ ap (λ (ns : List ℕ). owns body lines ++ ns) last.1 ∙ append-nil (owns body lines) ∙ all.1 lines_rise,
+        )

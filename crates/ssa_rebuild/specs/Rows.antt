@@ -174,8 +174,8 @@ module _ (func : Function) (table : List Operand) (naming : Naming) (number : Na
   abbrev pub line_numbers : ℕ → ℕ → Line → List ℕ
   line_numbers b k line =
       if calls line then
-          use_numbers (number_at b k) line.inst.operands ++ (map (number_at b k) (live_list func table b k)
-          ++ (use_numbers (number_at b k) (held_in line.inst.bundle) ++ map number (line_names func table b k)))
+      use_numbers (number_at b k) line.inst.operands ++ (map (number_at b k) (live_list func table b k)
+      ++ (use_numbers (number_at b k) (held_in line.inst.bundle) ++ map number (line_names func table b k)))
       else use_numbers (number_at b k) (own_uses line.inst) ++ (use_numbers (number_at b k) (held_in line.inst.bundle) ++ map number (line_names func table b k))
 
   abbrev pub lines_numbers : ℕ → ℕ → List Line → List ℕ

@@ -89,11 +89,7 @@ impl Versions {
         ensures current { self.new.current.items ≡ taken_back (option_to_list last) self.old.current.items }
     {
         if let Some(change) = last {
-            put(
-                change.value.0 as usize,
-                change.number,
-                &mut self.current,
-            );
+            put(change.value.0 as usize, change.number, &mut self.current);
         }
     }
 }

@@ -30,4 +30,4 @@ returns c = grows_same c.args.rows.now.items c.loop-place.rows.items _ _
     c.loop-place.invariant
   where
     shorter : (m n k : ℕ) → min m n ≤ k → (m ≤ k) ⊎ (n ≤ k)
-    shorter m n k le = elim (cases_lt k m) [ | inl lt ↦ inr (omega (arith, le)) | inr ge ↦ inl (omega (arith, ge)) ]
+    shorter m n k le = elim (cases_lt k m) [ inl lt ↦ inr (omega (arith, le)) | inr ge ↦ inl (omega (arith, ge)) ]

@@ -37,8 +37,8 @@ returns c =
     let all = take_all place row (omega (arith, c.loop-place-test.false, past)) in
     record {
       row = sym (c.loop-place.invariant.row
-      ∙ ap (λ (ss : List Slot). take place row ++ answered c.loop-place.self.current.items c.loop-place.next ss) none
-      ∙ append-nil (take place row) ∙ all);
+          ∙ ap (λ (ss : List Slot). take place row ++ answered c.loop-place.self.current.items c.loop-place.next ss) none
+          ∙ append-nil (take place row) ∙ all);
       current = sym (c.loop-place.invariant.current ∙ ap (current_behind c.loop-place.self.current.items c.loop-place.next) none);
       log = c.loop-place.invariant.log;
     }
