@@ -7,3 +7,6 @@ pub mod RowLemmas
 pub mod OutputLemmas
 pub mod StartLaws
 pub mod RowLaws
+pub mod TaskLaws
+pub mod InsideLaws
+pub mod SolvedLaws

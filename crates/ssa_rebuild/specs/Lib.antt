@@ -3,3 +3,4 @@ pub mod Versions
 pub mod Forest
 pub mod Walks
 pub mod Rows
+pub mod Solved
