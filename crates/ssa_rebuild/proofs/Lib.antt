@@ -10,3 +10,4 @@ pub mod RowLaws
 pub mod TaskLaws
 pub mod InsideLaws
 pub mod SolvedLaws
+pub mod MarkLemmas

@@ -4,3 +4,4 @@ pub mod Forest
 pub mod Walks
 pub mod Rows
 pub mod Solved
+pub mod Marks

@@ -4,9 +4,11 @@
 mod entries;
 mod forest;
 mod lines;
+mod listed;
 mod lists;
 mod numbers;
 mod rows;
 mod slots;
+mod solve;
 mod versions;
 mod walk;
