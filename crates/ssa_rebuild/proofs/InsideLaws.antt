@@ -138,18 +138,19 @@ module _ (func : Function) where
 
     operands_inside : (b k : ℕ) (line : Line) → slice_get (lines_at func b) k ≡ Some line → AreKnown count line.inst.operands × AreKnown count (held_in line.inst.bundle)
     operands_inside b k line stands =
-        let split = values_append line.inst.operands (held_in line.inst.bundle) in
-        (known_from count line.inst.operands (λ j x is. inst_known b k line stands j x
-        (ap (λ (vs : List ℕ). slice_get vs j) split ∙ get_front (filter_map value_in line.inst.operands) (filter_map value_in (held_in line.inst.bundle)) j x is)),
-        known_from count (held_in line.inst.bundle) (λ j x is. inst_known b k line stands (length (filter_map value_in line.inst.operands) + j) x
-        (ap (λ (vs : List ℕ). slice_get vs (length (filter_map value_in line.inst.operands) + j)) split
-        ∙ get_past (filter_map value_in line.inst.operands) (filter_map value_in (held_in line.inst.bundle)) j ∙ is)))
+        let split = values_append line.inst.operands (held_in line.inst.bundle) in (
+          known_from count line.inst.operands (λ j x is. inst_known b k line stands j x
+              (ap (λ (vs : List ℕ). slice_get vs j) split ∙ get_front (filter_map value_in line.inst.operands) (filter_map value_in (held_in line.inst.bundle)) j x is)),
+          known_from count (held_in line.inst.bundle) (λ j x is. inst_known b k line stands (length (filter_map value_in line.inst.operands) + j) x
+              (ap (λ (vs : List ℕ). slice_get vs (length (filter_map value_in line.inst.operands) + j)) split
+              ∙ get_past (filter_map value_in line.inst.operands) (filter_map value_in (held_in line.inst.bundle)) j ∙ is)),
+        )
 
     pub uses_inside : (b k : ℕ) (line : Line) → slice_get (lines_at func b) k ≡ Some line
         → AreKnown count line.inst.operands × AreKnown count (own_uses line.inst) × AreKnown count (held_in line.inst.bundle)
     uses_inside b k line stands =
         let both = operands_inside b k line stands in
-        (both.0, elim (cases_Bool (is_phi line.inst.op)) [ | inl phi ↦ rw phi tt | inr other ↦ rw other both.0 ], both.1)
+        (both.0, elim (cases_Bool (is_phi line.inst.op)) [ inl phi ↦ rw phi tt | inr other ↦ rw other both.0 ], both.1)
 
     -- ---- what entries use
 

@@ -76,95 +76,95 @@ module _ (func : Function) (table : List Operand) (formed : IsFormed func) (grap
     (owned_is : owned ≡ range_with_len 0 (length func.args) ++ all_owns (length func.args) (slots_in rows))
     (answers_are : AreAnswered parents (record { starts = starts; own = owned; rows = rows }) answers)
   where
-  abbrev naming : Naming
-  naming = naming_of func table
+    abbrev naming : Naming
+    naming = naming_of func table
 
-  abbrev joined_lists : List (List ℕ)
-  joined_lists = map (λ join. values_in join.items) joins
+    abbrev joined_lists : List (List ℕ)
+    joined_lists = map (λ join. values_in join.items) joins
 
-  joined_is : (b : ℕ) → b < length func.blocks → slice_get joined_lists b ≡ Some (joined_at func naming b)
-  joined_is b below =
-      let w = joins_are.whole in
-      join_at joins b (omega (arith, w, below)) ∙ ap (λ (vs : List ValueId). Some (values_in vs)) (joins_are.each b below)
-      ∙ ap Some (values_back (filter (joins_of func table b) (pointers func)))
+    joined_is : (b : ℕ) → b < length func.blocks → slice_get joined_lists b ≡ Some (joined_at func naming b)
+    joined_is b below =
+        let w = joins_are.whole in
+        join_at joins b (omega (arith, w, below)) ∙ ap (λ (vs : List ValueId). Some (values_in vs)) (joins_are.each b below)
+        ∙ ap Some (values_back (filter (joins_of func table b) (pointers func)))
 
-  body_is : (b : ℕ) → b < length func.blocks → list_at bodies b ≡ map give_slot (joined_at func naming b) ++ lines_slots func table b 0 (lines_at func b)
-  body_is b below =
-      let z : 0 + b ≡ b = omega arith in
-      let lists : map group_list groups ≡ live_lists func table = ap (map group_list) groups_are ∙ lists_back table (live_lists func table) in
-      let first = first_zero (length func.args) func.blocks in
-      let from = rows_from func table joined_lists b 0 (joined_at func naming b) (omega (arith, below)) (joined_is b below) in
-      at_slots bodies b (map give_slot (joined_at func naming b) ++ lines_slots func table b 0 (lines_at func b))
-      (ap (λ (rs : List (List Slot)). slice_get rs b) bodies_are
-      ∙ ap (λ (ls : List (List ℕ)). slice_get (body_rows ls joined_lists 0 (length func.args) func.blocks) b) lists
-      ∙ ap (λ (n : ℕ). slice_get (body_rows (live_lists func table) joined_lists 0 n func.blocks) b) (sym first)
-      ∙ from ∙ ap (λ (n : ℕ). Some (map give_slot (joined_at func naming b) ++ lines_slots func table n 0 (lines_at func n))) z)
-
-  row_is : (b : ℕ) → b < length func.blocks → list_at rows b ≡ block_slots func table naming b
-  row_is b below =
-      let w = joins_are.whole in
-      let long = length-map joins (λ join. values_in join.items) in
-      let entries : entries_all (preds func) joined_lists 0 func.blocks b ≡ entries_from func naming b =
-      entries_are func naming b joined_lists (length func.blocks) 0 (omega arith) (omega (arith, long, w))
-      (λ i inside. (let z : 0 + i ≡ i = omega arith in get_or_from_slice_get joined_lists i (joined_at func naming i) [] (joined_is i inside) ∙ ap (joined_at func naming) (sym z))) in
-      rows_are.each b (omega (arith, bodies_whole, below))
-      ∙ ap (λ (ss : List Slot). ss ++ uses_of (entries_all (preds func) joined_lists 0 func.blocks b)) (body_is b below)
-      ∙ append_assoc (map give_slot (joined_at func naming b)) (lines_slots func table b 0 (lines_at func b)) (uses_of (entries_all (preds func) joined_lists 0 func.blocks b))
-      ∙ ap (λ (os : List Operand). map give_slot (joined_at func naming b) ++ (lines_slots func table b 0 (lines_at func b) ++ uses_of os)) entries
-
-  rows_whole : length rows ≡ length func.blocks
-  rows_whole = rows_are.whole ∙ bodies_whole
-
-  slots_are : (i : ℕ) (row : List Slot) → slice_get (slots_in rows) i ≡ Some row → row ≡ block_slots func table naming (0 + i)
-  slots_are i row is =
-      let z : 0 + i ≡ i = omega arith in
-      let within = slice_get_within (slots_in rows) i row is in
-      let long = length-map rows (λ row. row.items) in
-      let whole = rows_whole in
-      slots_at rows i row is ∙ row_is i (omega (arith, within, long, whole)) ∙ ap (block_slots func table naming) (sym z)
-
-  start_zero : start_of func table naming 0 ≡ length func.args
-  start_zero =
-      let names = map own (range_with_len 0 (length func.args)) in
-      let one = length-append names [] in
-      let two = length-map (range_with_len 0 (length func.args)) own in
-      let three = length-range_with_len 0 (length func.args) in
-      omega (arith, one, two, three)
-
-  listed_inside : (b k v : ℕ) → among v (live_list func table b k) ≡ true → v < count func
-  listed_inside b k v is = pointers_inside func v (among_filter _ v (pointers func) is).0
-
-  slots_whole : length (slots_in rows) ≡ length func.blocks
-  slots_whole = length-map rows (λ row. row.items) ∙ rows_whole
-
-  is_task : IsTask func table graph (count func) (pointers_inside func) (results_inside func) parents (record { starts = starts; own = owned; rows = rows })
-  is_task = record {
-    whole = ap length parents_are ∙ length-map (range_with_len 0 (length func.blocks)) (λ b. only (preds func b)) ∙ length-range_with_len 0 (length func.blocks);
-    parents = λ b below.
+    body_is : (b : ℕ) → b < length func.blocks → list_at bodies b ≡ map give_slot (joined_at func naming b) ++ lines_slots func table b 0 (lines_at func b)
+    body_is b below =
         let z : 0 + b ≡ b = omega arith in
-        ap (λ (ps : List (Option ℕ)). slice_get ps b) parents_are
-        ∙ get_map (λ b. only (preds func b)) (range_with_len 0 (length func.blocks)) b b (range_get 0 (length func.blocks) b below ∙ ap Some z);
-    starts = λ b below.
-        let z : 0 + b ≡ b = omega arith in
-        ap (λ (ns : List ℕ). slice_index ns b) (starts_is ∙ ap (λ (n : ℕ). starts_of n (slots_in rows)) (sym start_zero))
-        ∙ starts_are func table naming 0 (slots_in rows) slots_are b (let w = slots_whole in omega (arith, w, below))
-        ∙ ap (start_of func table naming) z;
-    rows = row_is;
-    own = subst (Shows (place_in (names_of func table naming)) (count func) (λ v. own v))
-        (sym (owned_is ∙ ap (λ (n : ℕ). range_with_len 0 (length func.args) ++ all_owns n (slots_in rows)) (sym start_zero)))
-        (own_shows func table naming (slots_in rows) slots_are slots_whole);
-  }
+        let lists : map group_list groups ≡ live_lists func table = ap (map group_list) groups_are ∙ lists_back table (live_lists func table) in
+        let first = first_zero (length func.args) func.blocks in
+        let from = rows_from func table joined_lists b 0 (joined_at func naming b) (omega (arith, below)) (joined_is b below) in
+        at_slots bodies b (map give_slot (joined_at func naming b) ++ lines_slots func table b 0 (lines_at func b))
+        (ap (λ (rs : List (List Slot)). slice_get rs b) bodies_are
+        ∙ ap (λ (ls : List (List ℕ)). slice_get (body_rows ls joined_lists 0 (length func.args) func.blocks) b) lists
+        ∙ ap (λ (n : ℕ). slice_get (body_rows (live_lists func table) joined_lists 0 n func.blocks) b) (sym first)
+        ∙ from ∙ ap (λ (n : ℕ). Some (map give_slot (joined_at func naming b) ++ lines_slots func table n 0 (lines_at func n))) z)
 
-  pub solved : AreNumbered func table answers
-  solved = record {
-    whole = answers_are.whole ∙ rows_whole;
-    each = λ b below.
-        let begun = reached_begins func table graph (count func) (pointers_inside func) (results_inside func) parents (record { starts = starts; own = owned; rows = rows }) is_task b below (graph.blocks b below) in
-        let answer = answers_are.each b begun.0 begun.1 in
-        let shows = begins_shows func table graph (count func) (pointers_inside func) (results_inside func) parents (record { starts = starts; own = owned; rows = rows }) is_task b answer.current answer.begins in
-        answer.is
-        ∙ ap (λ (n : ℕ). answered answer.current n (list_at rows b)) (is_task.starts b below)
-        ∙ ap (answered answer.current (start_of func table naming b)) (row_is b below)
-        ∙ block_answered func table graph (count func) (pointers_inside func) (results_inside func) listed_inside (uses_inside func formed.known)
-        (λ c inside. entries_inside func formed.known naming c) b answer.current below shows;
-  }
+    row_is : (b : ℕ) → b < length func.blocks → list_at rows b ≡ block_slots func table naming b
+    row_is b below =
+        let w = joins_are.whole in
+        let long = length-map joins (λ join. values_in join.items) in
+        let entries : entries_all (preds func) joined_lists 0 func.blocks b ≡ entries_from func naming b =
+        entries_are func naming b joined_lists (length func.blocks) 0 (omega arith) (omega (arith, long, w))
+        (λ i inside. (let z : 0 + i ≡ i = omega arith in get_or_from_slice_get joined_lists i (joined_at func naming i) [] (joined_is i inside) ∙ ap (joined_at func naming) (sym z))) in
+        rows_are.each b (omega (arith, bodies_whole, below))
+        ∙ ap (λ (ss : List Slot). ss ++ uses_of (entries_all (preds func) joined_lists 0 func.blocks b)) (body_is b below)
+        ∙ append_assoc (map give_slot (joined_at func naming b)) (lines_slots func table b 0 (lines_at func b)) (uses_of (entries_all (preds func) joined_lists 0 func.blocks b))
+        ∙ ap (λ (os : List Operand). map give_slot (joined_at func naming b) ++ (lines_slots func table b 0 (lines_at func b) ++ uses_of os)) entries
+
+    rows_whole : length rows ≡ length func.blocks
+    rows_whole = rows_are.whole ∙ bodies_whole
+
+    slots_are : (i : ℕ) (row : List Slot) → slice_get (slots_in rows) i ≡ Some row → row ≡ block_slots func table naming (0 + i)
+    slots_are i row is =
+        let z : 0 + i ≡ i = omega arith in
+        let within = slice_get_within (slots_in rows) i row is in
+        let long = length-map rows (λ row. row.items) in
+        let whole = rows_whole in
+        slots_at rows i row is ∙ row_is i (omega (arith, within, long, whole)) ∙ ap (block_slots func table naming) (sym z)
+
+    start_zero : start_of func table naming 0 ≡ length func.args
+    start_zero =
+        let names = map own (range_with_len 0 (length func.args)) in
+        let one = length-append names [] in
+        let two = length-map (range_with_len 0 (length func.args)) own in
+        let three = length-range_with_len 0 (length func.args) in
+        omega (arith, one, two, three)
+
+    listed_inside : (b k v : ℕ) → among v (live_list func table b k) ≡ true → v < count func
+    listed_inside b k v is = pointers_inside func v (among_filter _ v (pointers func) is).0
+
+    slots_whole : length (slots_in rows) ≡ length func.blocks
+    slots_whole = length-map rows (λ row. row.items) ∙ rows_whole
+
+    is_task : IsTask func table graph (count func) (pointers_inside func) (results_inside func) parents (record { starts = starts; own = owned; rows = rows })
+    is_task = record {
+      whole = ap length parents_are ∙ length-map (range_with_len 0 (length func.blocks)) (λ b. only (preds func b)) ∙ length-range_with_len 0 (length func.blocks);
+      parents = λ b below.
+          let z : 0 + b ≡ b = omega arith in
+          ap (λ (ps : List (Option ℕ)). slice_get ps b) parents_are
+          ∙ get_map (λ b. only (preds func b)) (range_with_len 0 (length func.blocks)) b b (range_get 0 (length func.blocks) b below ∙ ap Some z);
+      starts = λ b below.
+          let z : 0 + b ≡ b = omega arith in
+          ap (λ (ns : List ℕ). slice_index ns b) (starts_is ∙ ap (λ (n : ℕ). starts_of n (slots_in rows)) (sym start_zero))
+          ∙ starts_are func table naming 0 (slots_in rows) slots_are b (let w = slots_whole in omega (arith, w, below))
+          ∙ ap (start_of func table naming) z;
+      rows = row_is;
+      own = subst (Shows (place_in (names_of func table naming)) (count func) (λ v. own v))
+          (sym (owned_is ∙ ap (λ (n : ℕ). range_with_len 0 (length func.args) ++ all_owns n (slots_in rows)) (sym start_zero)))
+          (own_shows func table naming (slots_in rows) slots_are slots_whole);
+    }
+
+    pub solved : AreNumbered func table answers
+    solved = record {
+      whole = answers_are.whole ∙ rows_whole;
+      each = λ b below.
+          let begun = reached_begins func table graph (count func) (pointers_inside func) (results_inside func) parents (record { starts = starts; own = owned; rows = rows }) is_task b below (graph.blocks b below) in
+          let answer = answers_are.each b begun.0 begun.1 in
+          let shows = begins_shows func table graph (count func) (pointers_inside func) (results_inside func) parents (record { starts = starts; own = owned; rows = rows }) is_task b answer.current answer.begins in
+          answer.is
+          ∙ ap (λ (n : ℕ). answered answer.current n (list_at rows b)) (is_task.starts b below)
+          ∙ ap (answered answer.current (start_of func table naming b)) (row_is b below)
+          ∙ block_answered func table graph (count func) (pointers_inside func) (results_inside func) listed_inside (uses_inside func formed.known)
+          (λ c inside. entries_inside func formed.known naming c) b answer.current below shows;
+    }

@@ -9,6 +9,5 @@ mod lists;
 mod numbers;
 mod rows;
 mod slots;
-mod solve;
 mod versions;
 mod walk;
