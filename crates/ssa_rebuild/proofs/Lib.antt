@@ -1,0 +1,13 @@
+pub mod SlotLemmas
+pub mod ForestLemmas
+pub mod WalkLemmas
+pub mod NumberLemmas
+pub mod VersionLemmas
+pub mod RowLemmas
+pub mod OutputLemmas
+pub mod StartLaws
+pub mod RowLaws
+pub mod TaskLaws
+pub mod InsideLaws
+pub mod SolvedLaws
+pub mod MarkLemmas
