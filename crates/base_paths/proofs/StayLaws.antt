@@ -171,7 +171,7 @@ merge_before func merged has pointer base merges number place defines =
     (found.0, found.1, record { inst = merges.line; stands = found.2; named = line_named; numbered = line_number ∙ merges.is })
 
 -- what isn't its own base is no argument
-derived_high : (func : Function) (merged : ℕ → ValueId) → HasBases func merged → (pointer base : ValueId) → Base func merged (Value pointer) (Value base) → (pointer.0 ≡ base.0 → ⊥)
+pub derived_high : (func : Function) (merged : ℕ → ValueId) → HasBases func merged → (pointer base : ValueId) → Base func merged (Value pointer) (Value base) → (pointer.0 ≡ base.0 → ⊥)
     → length func.args ≤ pointer.0
 derived_high func merged bases pointer base based apart = elim (steps_or_merges bases (Value pointer) (Value base) based pointer base refl refl apart) [
   | inl steps ↦ given_high func pointer.0 steps.inst steps.gives
@@ -211,7 +211,7 @@ module _ (func : Function) (merged : ℕ → ValueId) (has : HasDefiniteBases fu
       ]
 
   -- what is derived from it isn't defined either
-  base_first : (block place : ℕ) → Undefined func base.0 block place → AllUndefined block place
+  pub base_first : (block place : ℕ) → Undefined func base.0 block place → AllUndefined block place
   base_first _ _ at_first = λ pointer based apart. at_first
   base_first _ _ (behind_line block place inst before stands none) =
       let others = base_first block place before in

@@ -1,0 +1,10 @@
+pub mod LineLaws
+pub mod EdgeLaws
+pub mod BeforeLaws
+pub mod PieceLaws
+pub mod NowLaws
+pub mod CleanLaws
+pub mod UsedLaws
+pub mod DefiniteLaws
+pub mod MadeLaws
+pub mod Instance

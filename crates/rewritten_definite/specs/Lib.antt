@@ -1,0 +1,2 @@
+pub mod LeadsOut
+pub mod Statements

@@ -1,0 +1,20 @@
+//! The laws that the module with bases is ready for groups, and that the uses of the rewritten module are definite. No code.
+#![tactic(auto)]
+
+ghost use Rattle.rewritten_definite.specs.Statements.{BasedIsBefore, RewrittenIsDefinite, RewrittenKeepsMeaning};
+
+/// The module with polls and bases of a source module without unreached blocks has the form that the rewriting asks for:
+/// phis first, terminators last, each block reached, no group yet, as many arguments as each call wants.
+pub fn based_is_before()
+    ensures { BasedIsBefore }
+{}
+
+/// So the rewritten module gives, on objects that never move, what its source gives by the source meaning.
+pub fn rewritten_keeps_meaning()
+    ensures { RewrittenKeepsMeaning }
+{}
+
+/// In the rewritten module every path to a use meets the definition before it (LLVM Language Reference, "Functions").
+pub fn rewritten_is_definite()
+    ensures { RewrittenIsDefinite }
+{}
