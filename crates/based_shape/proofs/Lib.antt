@@ -1,0 +1,3 @@
+pub mod OperandLaws
+pub mod LineLaws
+pub mod FormedLaws
