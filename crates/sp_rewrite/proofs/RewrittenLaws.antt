@@ -37,7 +37,7 @@ same_marks (a ∷ one) (b ∷ other) long forth back =
 one_function : (func one other : Function) → DropsUnreached func one → DropsUnreached func other → one ≡ other
 one_function func one other first second =
     let same = same_marks first.marks second.marks ((first.reached).whole ∙ sym (second.reached).whole)
-        (λ k at. (second.reached).complete k ((first.reached).sound k at)) (λ k at. (first.reached).complete k ((second.reached).sound k at)) in
+    (λ k at. (second.reached).complete k ((first.reached).sound k at)) (λ k at. (first.reached).complete k ((second.reached).sound k at)) in
     first.rest ∙ (ap (λ (marks : List Bool). function_kept marks func) same ∙ sym second.rest)
 
 one_list : (funcs one other : List Function) → AllZip DropsUnreached funcs one → AllZip DropsUnreached funcs other → one ≡ other

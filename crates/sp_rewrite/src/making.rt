@@ -19,7 +19,10 @@ use std::alloc::Global;
 /// The layouts of a source module, and each of its functions without unreached blocks, with polls, bases and checks, and with the
 /// pointers that are live across its calls. The relocates that its groups will have are counted before any is written: with more than
 /// 4,194,304 the answer is `TooManyRelocations`. After a refusal the module is gone.
-pub fn before_groups(alloc: Global, module: Module) -> Result<(Vec<Layout>, Vec<Before>), RewriteFault>
+pub fn before_groups(
+    alloc: Global,
+    module: Module,
+) -> Result<(Vec<Layout>, Vec<Before>), RewriteFault>
     requires { IsSourceModule module.content }
     ensures before { IfOk result (λ made. IsBeforeGroups module.content made.0.items made.1.items) }
     ensures many { IfErr result (λ fault. fault ≡ faults.TooManyRelocations → HasManyRelocates module.content) }
