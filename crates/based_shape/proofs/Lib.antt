@@ -1,3 +1,0 @@
-pub mod OperandLaws
-pub mod LineLaws
-pub mod FormedLaws
