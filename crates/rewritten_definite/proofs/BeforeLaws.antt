@@ -6,7 +6,7 @@ use Rattle.std.specs.Option.{option_map_or}
 use Rattle.std.proofs.lemmas.Bool.{cases_Bool, cases_lt, ltb-true}
 use Rattle.std.proofs.lemmas.List.{get_or_past, length-append, length-map}
 use Rattle.std.proofs.lemmas.List.Elements.{All-nil}
-use Rattle.std.proofs.lemmas.Option.{get_or_from_slice_get, slice_get_within, slice_get_past}
+use Rattle.std.proofs.lemmas.Option.{get_or_from_slice_get, slice_get_within}
 use Rattle.list_laws.proofs.Contents.{all_at, all_from_at}
 use Rattle.list_laws.proofs.Places.{get_some}
 use Rattle.sp_ids.specs.declared.ids.BlockId.{BlockId}
@@ -17,7 +17,6 @@ use Rattle.ir_ast.specs.declared.ops.Op.{Op}
 use Rattle.ir_ast.specs.declared.ops.Op.TheVariants as ops
 use Rattle.ir_ast.specs.declared.ops.Operand.{Operand}
 use Rattle.ir_ast.specs.Insts.{Instruction}
-use Rattle.ir_ast.specs.Objects.{Datum}
 use Rattle.ir_ast.specs.Blocks.{BasicBlock, EndsAtTerminator}
 use Rattle.ir_ast.specs.Edges.{count_of, targets}
 use Rattle.ir_ast.specs.Funcs.{Function, instructions_of}
@@ -25,9 +24,9 @@ use Rattle.ir_ast.specs.Modules.{ModuleContent}
 use Rattle.ir_ast.specs.Ops.{is_terminator}
 use Rattle.ir_ast.specs.Values.{definitions_of, outcome}
 use Rattle.ir_ast.specs.Faults.EntryHasPred.{EntryHasNoPred, LeavesEntry}
-use Rattle.ir_ast.specs.Faults.GroupShape.{is_statepoint, number_at}
+use Rattle.ir_ast.specs.Faults.GroupShape.{number_at}
 use Rattle.ir_ast.specs.Faults.PhiEdges.{is_phi}
-use Rattle.ir_cfg.specs.DefiniteUses.{Stands, text_place}
+use Rattle.ir_cfg.specs.DefiniteUses.{text_place}
 use Rattle.ir_cfg.specs.Graphs.{block_at, graph_of, succs_of}
 use Rattle.ir_cfg.specs.Paths.{Path, along, at_entry}
 use Rattle.ir_cfg.proofs.KeepsCounts.{count_none}
@@ -35,23 +34,21 @@ use Rattle.ir_cfg.proofs.KeepsEntry.{entry_alone}
 use Rattle.ir_cfg.proofs.KeepsLines.{line_at}
 use Rattle.ir_cfg.proofs.KeepsPaths.{succs_at}
 use Rattle.object_meaning.specs.Calls.{function_in}
-use Rattle.object_meaning.specs.Frames.{is_member}
 use Rattle.object_meaning.specs.Jumps.{branch_taken, case_taken, is_case, label_at, phi_count}
 use Rattle.object_meaning.specs.Registers.{is_set, number_in}
-use Rattle.object_meaning.specs.Lines.{Line, following, insts_in, register_count, registers_of}
+use Rattle.object_meaning.specs.Lines.{Line, following, register_count, registers_of}
 use Rattle.object_meaning.specs.TargetRuns.{plain_lines}
-use Rattle.rewriting_forms.specs.Numbered.{lines_at, preds}
+use Rattle.rewriting_forms.specs.Numbered.{lines_at}
 use Rattle.rewriting_laws.specs.Laws.{Edge, IsPlain, LeadsByEdges, Reached, at_first, over}
 use Rattle.rewriting_laws.specs.Laws as laws
 use Rattle.rewriting_laws.specs.Related.{ArgumentsFit}
 use Rattle.rewriting_laws.specs.Statements.{IsBefore, func_of, no_function, rewritings}
-use Rattle.base_laws.specs.BeforeLiveness.{CallsInShape, IsBeforeLiveness, IsPlainLine, PassesArguments, PhisStandFirst, arguments_of, begins_with_phi}
+use Rattle.base_laws.specs.BeforeLiveness.{CallsInShape, IsPlainLine, PassesArguments, PhisStandFirst, arguments_of, begins_with_phi}
 use Rattle.base_laws.proofs.BlockLaws.{after_is, last_register}
 use Rattle.base_laws.proofs.NumberLaws.{definition_count}
 use Rattle.base_paths.proofs.GivesLaws.{defines_gives}
-use Rattle.base_relations.specs.Statements.{IsReached}
 use Rattle.rewritten_definite.specs.LeadsOut.{HasLabels, IsReadyForGroups, LeadsOut}
-use Rattle.rewritten_definite.proofs.LineLaws.{LineFrom, given_defines, given_from, line_from, lines_length}
+use Rattle.rewritten_definite.proofs.LineLaws.{given_defines, line_from, lines_length}
 use Rattle.rewritten_definite.proofs.EdgeLaws.{edge_to, label_edge}
 
 passes_at : {A : Type 0} (test : A → Bool) (xs : List A) (k : ℕ) (x : A) → list_all test xs ≡ true → slice_get xs k ≡ Some x → test x ≡ true

@@ -1,18 +1,17 @@
 -- Each use of the rewritten function is definite.
-use Rattle.std.proofs.Common.{◌≡◌, ℕ, zero, suc, ◌+◌, ◌<◌, ◌≤◌, Bool, true, false, not, eqb, ◌&&◌, ◌||◌, if◌then◌else◌, List, [], ◌∷◌, ◌++◌, length, map, refl, sym, ap, subst, ◌∙◌, ◌⊎◌, inl, inr, arith}
-use Rattle.std.specs.Prelude.{Option, Some, None, slice_get, filter}
-use Rattle.std.specs.List.{Contains, filter_map, list_any}
+use Rattle.std.proofs.Common.{◌≡◌, ℕ, zero, suc, ◌+◌, ◌≤◌, Bool, true, false, not, eqb, ◌&&◌, ◌||◌, if◌then◌else◌, List, [], ◌∷◌, ◌++◌, length, map, refl, sym, ap, subst, ◌∙◌, ◌⊎◌, inl, inr, arith}
+use Rattle.std.specs.Prelude.{Option, Some, None, slice_get}
+use Rattle.std.specs.List.{Contains, filter_map}
 use Rattle.std.specs.Option.{option_map_or}
-use Rattle.std.proofs.lemmas.Bool.{and_parts, cases_Bool, cases_lt, false≢true, or_cases, or_right, eq-eqb, true≢false}
+use Rattle.std.proofs.lemmas.Bool.{and_parts, cases_lt, or_cases, or_right, eq-eqb, true≢false}
 use Rattle.std.proofs.lemmas.Option.{slice_get_within}
-use Rattle.list_laws.proofs.Places.{FromItem, filter_map_back, get_map, map_back}
+use Rattle.list_laws.proofs.Places.{filter_map_back, get_map, map_back}
 use Rattle.list_laws.proofs.Contents.{contains_get, contains_one, get_contained}
 use Rattle.sp_ids.specs.declared.ids.BlockId.{BlockId}
 use Rattle.sp_ids.specs.declared.ids.ValueId.{ValueId}
 use Rattle.ir_ast.specs.declared.types.Ty.{Ty}
 use Rattle.ir_ast.specs.declared.ops.Callee.{Callee}
-use Rattle.ir_ast.specs.declared.ops.Op.{Op}
-use Rattle.ir_ast.specs.declared.ops.Op.TheVariants.{Call, GcResult}
+use Rattle.ir_ast.specs.declared.ops.Op.TheVariants.{Call}
 use Rattle.ir_ast.specs.declared.ops.Operand.{Operand}
 use Rattle.ir_ast.specs.declared.ops.Operand.TheVariants as operands
 use Rattle.ir_ast.specs.Bases.{IsBaseTable}
@@ -20,7 +19,7 @@ use Rattle.ir_ast.specs.Callees.{is_leaf}
 use Rattle.ir_ast.specs.Insts.{Instruction}
 use Rattle.ir_ast.specs.Blocks.{BasicBlock}
 use Rattle.ir_ast.specs.Funcs.{Function}
-use Rattle.ir_ast.specs.Operands.{operands_of, value_in, values_used}
+use Rattle.ir_ast.specs.Operands.{value_in, values_used}
 use Rattle.ir_ast.specs.Faults.PhiEdges.{PhisAreRight, is_phi}
 use Rattle.ir_cfg.specs.DefiniteUses.{Stands, Uses, UsesAreDefinite, by_entry, by_line, in_arguments, text_place}
 use Rattle.ir_cfg.specs.Graphs.{graph_of, preds_of}
@@ -29,7 +28,7 @@ use Rattle.rewriting_forms.specs.Numbered.{among, gives, line_at, lines_at, name
 use Rattle.rewriting_forms.specs.Liveness.{any_held, is_live, is_live_after, live_list, live_table, is_use}
 use Rattle.rewriting_forms.specs.Liveness as liveness
 use Rattle.rewriting_forms.specs.Names.{Name, Names, Naming, names_at, names_at_end, own, token}
-use Rattle.rewriting_forms.specs.Rewritten.{Piece, entries, group, inserted_phi, joined_at, phi_operands, piece_inst, plain, relocate_of, renamed, result_of, statepoint}
+use Rattle.rewriting_forms.specs.Rewritten.{Piece, entries, group, joined_at, phi_operands, piece_inst, plain, relocate_of, renamed, result_of, statepoint}
 use Rattle.rewriting_laws.specs.Laws.{Edge, Fits, IsNumbering}
 use Rattle.rewriting_laws.proofs.JumpLemmas.{one_piece}
 use Rattle.rewriting_laws.proofs.LiveExact.{any_found, live_complete, live_sound, use_is}
@@ -40,7 +39,7 @@ use Rattle.base_paths.specs.Statements.{HasDefiniteBases}
 use Rattle.base_paths.proofs.UndefinedLaws.{Undefined, behind_edge, behind_line, undefined_unused}
 use Rattle.rewritten_definite.specs.LeadsOut.{PhisAreBare}
 use Rattle.rewritten_definite.proofs.LineLaws.{gives_defines, line_from, lines_length}
-use Rattle.rewritten_definite.proofs.EdgeLaws.{edge_from, edge_to}
+use Rattle.rewritten_definite.proofs.EdgeLaws.{edge_from}
 use Rattle.rewritten_definite.proofs.PieceLaws.{PieceFrom, call_pieces, from_join, from_line, offset, piece_at, piece_from, pieces_for, split_place}
 use Rattle.rewritten_definite.proofs.NowLaws.{block_now, now, number, pieces, text}
 use Rattle.rewritten_definite.proofs.CleanLaws.{Came, Clean, came_to, clean_end, clean_there}

@@ -1,10 +1,9 @@
 -- The edges of a function, as predecessors and as labels of terminators.
-use Rattle.std.proofs.Common.{◌≡◌, ℕ, zero, suc, ◌+◌, ◌<◌, ◌≤◌, Bool, true, false, eqb, ◌||◌, if◌then◌else◌, List, [], ◌∷◌, ◌++◌, length, map, replicate, refl, sym, ap, subst, ◌∙◌, inl, inr, arith}
+use Rattle.std.proofs.Common.{◌≡◌, ℕ, zero, suc, ◌+◌, ◌<◌, ◌≤◌, Bool, true, eqb, ◌||◌, if◌then◌else◌, List, [], ◌∷◌, ◌++◌, length, map, replicate, refl, sym, ap, subst, ◌∙◌, inl, inr, arith}
 use Rattle.std.specs.Prelude.{Option, Some, None, slice_get}
 use Rattle.std.specs.List.{flat_map, range_with_len}
 use Rattle.std.specs.Option.{option_map_or}
 use Rattle.std.proofs.lemmas.Bool.{cases_eq, eq-eqb, eqb-true, or_left, or_right}
-use Rattle.std.proofs.lemmas.List.{length-map}
 use Rattle.std.proofs.lemmas.List.Folds.{list_any-append}
 use Rattle.list_laws.proofs.Contents.{contains_get, get_contained, joined_contains}
 use Rattle.list_laws.proofs.Places.{map_back}
@@ -20,7 +19,7 @@ use Rattle.ir_cfg.specs.Graphs as graphs
 use Rattle.ir_cfg.proofs.KeepsCounts.{count_found, count_some}
 use Rattle.ir_cfg.proofs.KeepsPaths.{succs_at}
 use Rattle.ir_cfg.proofs.PathLemmas.{edge_within}
-use Rattle.rewriting_forms.specs.Numbered.{among, preds, succs}
+use Rattle.rewriting_forms.specs.Numbered.{among, succs}
 use Rattle.rewriting_laws.specs.Laws.{Edge}
 use Rattle.rewriting_laws.proofs.LiveExact.{any_found}
 use Rattle.rewriting_laws.proofs.LiveLaws.{edge_succs}

@@ -1,6 +1,6 @@
 -- The laws for a source module without unreached blocks.
-use Rattle.std.proofs.Common.{◌≡◌, ℕ, ◌+◌, ◌<◌, List, length, map, refl, sym, ap, subst, ◌∙◌, arith}
-use Rattle.std.specs.Prelude.{ℤ, Option, Some, None, slice_get}
+use Rattle.std.proofs.Common.{◌≡◌, ℕ, List, length, refl, sym, ap, subst, ◌∙◌, arith}
+use Rattle.std.specs.Prelude.{Option, Some, None, slice_get}
 use Rattle.std.specs.List.{All}
 use Rattle.std.specs.Option.{option_map}
 use Rattle.std.proofs.lemmas.List.{length-map}
@@ -8,22 +8,16 @@ use Rattle.list_laws.proofs.Contents.{all_at, all_from_at}
 use Rattle.list_laws.proofs.Places.{map_back}
 use Rattle.ir_ast.specs.declared.modules.Form.TheVariants.{Source}
 use Rattle.ir_ast.specs.declared.ops.Operand.{Operand}
-use Rattle.ir_ast.specs.Blocks.{BasicBlock}
 use Rattle.ir_ast.specs.Bases.{HasBases, IsBaseTable}
 use Rattle.ir_ast.specs.Edges.{targets}
-use Rattle.ir_ast.specs.Insts.{Instruction}
 use Rattle.ir_ast.specs.Faultless.{FunctionHasNoFault}
-use Rattle.ir_ast.specs.Funcs.{Function, instructions_of}
+use Rattle.ir_ast.specs.Funcs.{Function}
 use Rattle.ir_ast.specs.Modules.{ModuleContent}
-use Rattle.ir_cfg.specs.DefiniteUses.{Stands, UsesAreDefinite}
-use Rattle.ir_cfg.specs.Graphs.{Graph, graph_of}
+use Rattle.ir_cfg.specs.DefiniteUses.{UsesAreDefinite}
+use Rattle.ir_cfg.specs.Graphs.{Graph}
 use Rattle.ir_cfg.specs.Paths.{Reached}
 use Rattle.ir_cfg.specs.TypedModules.{IsTypedFunction}
 use Rattle.ir_cfg.proofs.KeepsLines.{all_insts}
-use Rattle.object_meaning.specs.Lines.{register_count}
-use Rattle.object_meaning.specs.Outcomes.{Outcome}
-use Rattle.object_meaning.specs.SourceRuns.{SourceGives}
-use Rattle.object_meaning.specs.TargetRuns.{TargetGives}
 use Rattle.base_forms.specs.Polls.{placed}
 use Rattle.base_forms.specs.Based.{base_table, based, based_module}
 use Rattle.base_laws.proofs.MeaningLaws.{bases_keep_meaning, found_now}
@@ -33,16 +27,16 @@ use Rattle.base_relations.specs.Statements.{IsReached, before}
 use Rattle.base_relations.proofs.TableInstance.{table_has_bases}
 use Rattle.base_definite.proofs.BasesInstance.{based_has_definite_bases}
 use Rattle.rewriting_forms.specs.Names.{naming_of}
-use Rattle.rewriting_forms.specs.Rewritten.{names_of, place_in, rewritten, rewritten_module}
+use Rattle.rewriting_forms.specs.Rewritten.{names_of, place_in, rewritten}
 use Rattle.rewriting_forms.specs.Liveness.{live_table}
 use Rattle.rewriting_laws.specs.Laws.{Fits, IsNumbering}
-use Rattle.rewriting_laws.specs.Related.{IsRewriting, Rewriting}
-use Rattle.rewriting_laws.specs.Statements.{IsBefore, func_of, no_function, rewriting_of, rewritings}
+use Rattle.rewriting_laws.specs.Related.{IsRewriting}
+use Rattle.rewriting_laws.specs.Statements.{func_of, no_function, rewritings}
 use Rattle.rewriting_laws.proofs.Rewritings.{rewriting_adds, rewriting_keeps}
 use Rattle.rewriting_laws.proofs.Whole.{modules, now_get}
 use Rattle.std.proofs.lemmas.Option.{get_or_from_slice_get}
 use Rattle.rewritten_definite.specs.LeadsOut.{IsReadyForGroups, LeadsOut}
-use Rattle.rewritten_definite.specs.Statements.{BasedIsBefore, IsReachedSource, RewrittenIsDefinite, RewrittenKeepsMeaning, base_tables, rewritten_source}
+use Rattle.rewritten_definite.specs.Statements.{BasedIsBefore, FittingIsDefinite, IsReachedSource, RewrittenIsDefinite, RewrittenKeepsMeaning, base_tables, rewritten_source}
 use Rattle.rewritten_definite.proofs.BeforeLaws.{is_before}
 use Rattle.rewritten_definite.proofs.DefiniteLaws.{definite_now}
 use Rattle.rewritten_definite.proofs.MadeLaws.{leads_out, phis_are_bare, phis_are_right}
@@ -151,3 +145,7 @@ module _ (content : ModuleContent) (is : IsReachedSource content) (number : ℕ)
 pub rewritten_is_definite : RewrittenIsDefinite
 rewritten_is_definite content is =
     all_from_at UsesAreDefinite (rewritten_source content).funcs (λ number now at. definite_at content is number now (slice_get content.funcs number) refl at)
+
+pub fitting_is_definite : FittingIsDefinite
+fitting_is_definite func merged table naming has =
+    definite_now func table naming has.fits (length (names_of func table naming)) has.numbers merged has.bases has.table_bases has.phis has.bare

@@ -1,6 +1,6 @@
 -- The lines of a function, as the target meaning numbers them: which instruction each is, and which value it gives.
-use Rattle.std.proofs.Common.{◌≡◌, ℕ, zero, suc, ◌+◌, ◌<◌, ◌≤◌, Bool, true, false, eqb, if◌then◌else◌, List, [], ◌∷◌, ◌++◌, length, take, refl, sym, ap, subst, ◌∙◌, arith}
-use Rattle.std.specs.Prelude.{Option, Some, None, is_some, filter, slice_get, slice_index}
+use Rattle.std.proofs.Common.{◌≡◌, ℕ, zero, suc, ◌<◌, ◌≤◌, Bool, true, false, if◌then◌else◌, List, [], ◌∷◌, length, take, refl, sym, ap, subst, ◌∙◌, arith}
+use Rattle.std.specs.Prelude.{Option, Some, None, is_some, slice_get, slice_index}
 use Rattle.std.specs.Option.{option_map_or}
 use Rattle.std.proofs.lemmas.Bool.{eq-eqb, false≢true}
 use Rattle.std.proofs.lemmas.Option.{slice_get_within}
@@ -10,12 +10,12 @@ use Rattle.ir_ast.specs.Blocks.{BasicBlock}
 use Rattle.ir_ast.specs.Funcs.{Function, instructions_of}
 use Rattle.ir_ast.specs.Faults.GroupShape.{number_at}
 use Rattle.ir_cfg.specs.DefiniteUses.{Defines, Stands, text_place}
-use Rattle.object_meaning.specs.Lines.{Line, after_all, first_registers, following, insts_in, numbered, registers_of}
+use Rattle.object_meaning.specs.Lines.{Line, after_all, first_registers, following, numbered, registers_of}
 use Rattle.object_meaning.specs.TargetRuns.{plain_lines}
 use Rattle.rewriting_forms.specs.Numbered.{gives, is_given, lines_at}
 use Rattle.base_laws.proofs.BlockLaws.{after_append, after_is}
 use Rattle.base_laws.proofs.PlacedLaws.{has_result}
-use Rattle.base_definite.proofs.CutLaws.{number_cut, results_in}
+use Rattle.base_definite.proofs.CutLaws.{number_cut}
 
 -- ---- one list of instructions
 

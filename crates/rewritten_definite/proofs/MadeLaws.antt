@@ -2,8 +2,8 @@
 use Rattle.std.proofs.Common.{◌≡◌, ℕ, zero, suc, ◌+◌, ◌<◌, ◌≤◌, Bool, true, false, ◌&&◌, if◌then◌else◌, List, [], ◌∷◌, ◌++◌, length, map, refl, sym, ap, subst, ◌∙◌, inl, inr, append-nil, arith}
 use Rattle.std.specs.Prelude.{Option, Some, None, slice_get}
 use Rattle.std.specs.List.{All, list_all, prefix_len}
-use Rattle.std.specs.Option.{option_map, option_map_or}
-use Rattle.std.proofs.lemmas.Bool.{cases_Bool, cases_lt}
+use Rattle.std.specs.Option.{option_map}
+use Rattle.std.proofs.lemmas.Bool.{cases_lt}
 use Rattle.std.proofs.lemmas.List.{get_or_past, length-map}
 use Rattle.std.proofs.lemmas.Option.{slice_get-map}
 use Rattle.list_laws.proofs.Contents.{all_at, all_from_at, all_front}
@@ -18,23 +18,22 @@ use Rattle.ir_ast.specs.Blocks.{BasicBlock}
 use Rattle.ir_ast.specs.Edges.{count_of, edges, targets}
 use Rattle.ir_ast.specs.Funcs.{Function, instructions_of}
 use Rattle.ir_ast.specs.Lines.{IsLine, LineOf}
-use Rattle.ir_ast.specs.Faults.PhiEdges.{PhiIsRight, PhisAreRight, is_phi}
+use Rattle.ir_ast.specs.Faults.PhiEdges.{PhisAreRight, is_phi}
 use Rattle.ir_cfg.specs.DefiniteUses.{Stands}
 use Rattle.ir_cfg.specs.Graphs.{Graph, graph_of, succs_of}
 use Rattle.ir_cfg.proofs.KeepsCounts.{edges_at, edges_past}
 use Rattle.ir_cfg.proofs.KeepsLines.{line_at}
 use Rattle.ir_cfg.proofs.KeepsPaths.{succs_at}
 use Rattle.object_meaning.specs.Lines.{after_all}
-use Rattle.base_forms.specs.Polls.{placed, placed_block, placed_from, poll_call}
+use Rattle.base_forms.specs.Polls.{placed, placed_block, poll_call}
 use Rattle.base_forms.specs.DerivedMarks.{derived_marks}
 use Rattle.base_forms.specs.Bases.{base_of}
 use Rattle.base_forms.specs.Inserted.{renumbered}
 use Rattle.base_forms.specs.Lines.{merged_bases}
-use Rattle.base_forms.specs.Based.{base_line, based, based_blocks, based_insts, check, insertion, kept_line, lines_for, negation, same_call}
+use Rattle.base_forms.specs.Based.{base_line, based, based_blocks, based_insts, insertion, kept_line, lines_for}
 use Rattle.base_laws.specs.BeforeLiveness.{PhisStandFirst, begins_with_phi}
 use Rattle.base_laws.proofs.FormLaws.{all_based, each_line}
 use Rattle.base_laws.proofs.PlacedLaws.{all_placed, block_placed}
-use Rattle.renaming_laws.proofs.StepLaws.{merge_is}
 use Rattle.rewritten_definite.specs.LeadsOut.{HasLabels, LeadsOut, PhisAreBare}
 use Rattle.rewritten_definite.proofs.UsedLaws.{phi_right}
 

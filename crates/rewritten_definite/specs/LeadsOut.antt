@@ -1,5 +1,5 @@
 -- Terminators with as many labels as they take, so that each leads along an edge.
-use Rattle.std.specs.Prelude.{◌≡◌, ⊤, ℕ, ◌<◌, true, List, [], length}
+use Rattle.std.specs.Prelude.{◌≡◌, ⊤, ℕ, ◌<◌, true, [], length}
 use Rattle.std.specs.List.{All}
 use Rattle.ir_ast.specs.declared.ops.Op.{Op}
 use Rattle.ir_ast.specs.declared.ops.Op.TheVariants.{Br, CondBr, Switch}

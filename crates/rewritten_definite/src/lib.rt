@@ -1,7 +1,7 @@
 //! The laws that the module with bases is ready for groups, and that the uses of the rewritten module are definite. No code.
 #![tactic(auto)]
 
-ghost use Rattle.rewritten_definite.specs.Statements.{BasedIsBefore, RewrittenIsDefinite, RewrittenKeepsMeaning};
+ghost use Rattle.rewritten_definite.specs.Statements.{BasedIsBefore, FittingIsDefinite, RewrittenIsDefinite, RewrittenKeepsMeaning};
 
 /// The module with polls and bases of a source module without unreached blocks has the form that the rewriting asks for:
 /// phis first, terminators last, each block reached, no group yet, as many arguments as each call wants.
@@ -17,4 +17,9 @@ pub fn rewritten_keeps_meaning()
 /// In the rewritten module every path to a use meets the definition before it (LLVM Language Reference, "Functions").
 pub fn rewritten_is_definite()
     ensures { RewrittenIsDefinite }
+{}
+
+/// And so in each function whose relocated pointers have names that fit at every edge, whichever phis are inserted.
+pub fn fitting_is_definite()
+    ensures { FittingIsDefinite }
 {}

@@ -263,7 +263,7 @@ module _ (content other : ModuleContent) (func : Function) (table : List Operand
     abbrev relocates : Instruction → Bool
     relocates inst = is_relocate inst.op && is_part token_number inst
 
-    point_defines : (c l : ℕ) (there : Line) (callee : Callee) (types : List Ty) → slice_get (lines_at func c) l ≡ Some there → there.inst.op ≡ ops.Call callee types → is_leaf callee ≡ false
+    pub point_defines : (c l : ℕ) (there : Line) (callee : Callee) (types : List Ty) → slice_get (lines_at func c) l ≡ Some there → there.inst.op ≡ ops.Call callee types → is_leaf callee ≡ false
         → Defines after (to (forms.token c l)) c (start c l + 0)
     point_defines c l there callee types there_at there_op leaf =
         let from = (line_from func c l there there_at).stands in
@@ -388,7 +388,7 @@ module _ (content other : ModuleContent) (func : Function) (table : List Operand
       | inr some ↦ (let few = some.1 in let values = is.few in omega (arith, few, values))
     ]
 
-    point_small : (inst : Instruction) → inst ≡ written (statepoint func table naming to b k callee types line.inst) → (length (entries_of inst) ≤ 16384) × (relocates_of after token_number ≤ 16384)
+    pub point_small : (inst : Instruction) → inst ≡ written (statepoint func table naming to b k callee types line.inst) → (length (entries_of inst) ≤ 16384) × (relocates_of after token_number ≤ 16384)
     point_small inst same = (
       (let count = ap (λ (i : Instruction). length (entries_of i)) same ∙ entries_count content other func table naming room is b k line callee types at op no_leaf in
           let few = entries_few func table b k in

@@ -73,14 +73,14 @@ module _ (before now_types : List Ty) where
   carried_type operands.Null o w ty bad carries value_at fits at = absurd (let none : None ≡ Some w = ap value_in (sym carries) ∙ value_at in cc)
   carried_type (operands.Fun called) o w ty bad carries value_at fits at = absurd (let none : None ≡ Some w = ap value_in (sym carries) ∙ value_at in cc)
 
-shape_plain : (func : Function) (place : ℕ) (inst : Instruction) (op : Op) → is_statepoint op ≡ false → is_member op ≡ false
+pub shape_plain : (func : Function) (place : ℕ) (inst : Instruction) (op : Op) → is_statepoint op ≡ false → is_member op ≡ false
     → UsesNoToken func inst × All (λ entry. Fits (value_types func) entry Ptr) (entries_of inst) → ShapeOf func place inst op
 shape_plain func place inst (ops.Statepoint id callee types) no_statepoint no_member holds = absurd cc
 shape_plain func place inst ops.GcResult no_statepoint no_member holds = absurd cc
 shape_plain func place inst ops.GcRelocate no_statepoint no_member holds = absurd cc
 shape_plain func place inst op no_statepoint no_member holds = holds
 
-no_live_entries : (op : Op) (given : List Operand) → is_statepoint op ≡ false → live_entries op given ≡ []
+pub no_live_entries : (op : Op) (given : List Operand) → is_statepoint op ≡ false → live_entries op given ≡ []
 no_live_entries (ops.Statepoint id callee types) given none = absurd cc
 no_live_entries op given none = refl
 

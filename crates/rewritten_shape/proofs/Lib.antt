@@ -6,3 +6,9 @@ pub mod GroupLaws
 pub mod EndLaws
 pub mod SpellLaws
 pub mod CountLaws
+pub mod FunctionLaws
+pub mod ModuleLaws
+pub mod BasedTypes
+pub mod BasedLines
+pub mod BasedModule
+pub mod TargetLaws

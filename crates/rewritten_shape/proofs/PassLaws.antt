@@ -94,7 +94,7 @@ items_from P h xs ys from all = all_from_at P (filter_map h ys) (λ k n at.
           all_at P (filter_map h xs) forth.0 n all forth.1
     ])
 
-no_items : (P : ℕ → Type 0) (h : Operand → Option ℕ) (ys : List Operand) → ((k : ℕ) (y : Operand) → slice_get ys k ≡ Some y → h y ≡ None) → All P (filter_map h ys)
+pub no_items : (P : ℕ → Type 0) (h : Operand → Option ℕ) (ys : List Operand) → ((k : ℕ) (y : Operand) → slice_get ys k ≡ Some y → h y ≡ None) → All P (filter_map h ys)
 no_items P h ys none = all_from_at P (filter_map h ys) (λ k n at.
     let item = filter_map_back h ys n k at in
     absurd (none-some n (sym (none item.place item.item item.stands) ∙ item.gives)))

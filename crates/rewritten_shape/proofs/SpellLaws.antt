@@ -20,7 +20,7 @@ use Rattle.ir_ast.specs.declared.ops.Operand.{Operand}
 use Rattle.ir_ast.specs.Insts.{Instruction}
 use Rattle.ir_ast.specs.Blocks.{BasicBlock}
 use Rattle.ir_ast.specs.Funcs.{Function, instructions_of}
-use Rattle.ir_ast.specs.Lists.{Distinct, HasFront}
+use Rattle.ir_ast.specs.Lists.{Distinct}
 use Rattle.ir_ast.specs.Values.{Definition, argument, definition_name, definitions_of, outcome}
 use Rattle.ir_cfg.specs.Limits.{IsName}
 use Rattle.ir_cfg.proofs.KeepsForms.{flat_all}
@@ -35,6 +35,7 @@ use Rattle.rewriting_laws.proofs.NameLemmas.{line_is}
 use Rattle.rewriting_laws.proofs.PlaceLaws.{Apart, piece_names, pieces_names}
 use Rattle.base_paths.proofs.GivesLaws.{defines_gives}
 use Rattle.rewritten_definite.proofs.LineLaws.{given_defines}
+use Rattle.rewritten_shape.specs.WellFormed.{IsGroupName}
 use Rattle.rewritten_definite.proofs.NowLaws.{insts_now, now, number, pieces, text}
 
 abbrev has_result : Instruction → Bool
@@ -234,7 +235,7 @@ places_differ test names i j one other apart few less one_at other_at first seco
     let equal = decimal_injective (place_in (filter test names) one) (place_in (filter test names) other) (omega (arith, here, one_few, few)) (omega (arith, there, other_few, few)) same in
     omega (arith, here, there, more, equal)
 
-digits_named : (ds : List ℕ) → AllDigits 10 ds → list_all in_name ds ≡ true
+pub digits_named : (ds : List ℕ) → AllDigits 10 ds → list_all in_name ds ≡ true
 digits_named [] all = refl
 digits_named (d ∷ ds) all =
     let parts = tells_digits.parts d ds all in
@@ -245,17 +246,13 @@ digits_named (d ∷ ds) all =
 
 -- ---- spelled names
 
--- no name of a value is one that relocations give
-abbrev pub IsGroupName : List ℕ → Type 0
-IsGroupName name = HasFront (codes "sp.t") name ⊎ (HasFront (codes "sp.r") name ⊎ HasFront (codes "sp.m") name)
-
 pub record HasFreeNames (func : Function) (table : List Operand) (naming : Naming) : Type 0 where
   pub names : All (λ given. IsName (definition_name given)) (definitions_of func)
   pub apart : Distinct (map definition_name (definitions_of func))
   pub free : All (λ given. IsGroupName (definition_name given) → ⊥) (definitions_of func)
   pub few : length (names_of func table naming) < 2 ^ 64
 
-letters_differ : (letter other : ℕ) → letter ≡ other → eqb letter other ≡ false → ⊥
+pub letters_differ : (letter other : ℕ) → letter ≡ other → eqb letter other ≡ false → ⊥
 letters_differ letter other same apart = true≢false (sym (eq-eqb letter other same) ∙ apart)
 
 module _ (func : Function) (table : List Operand) (naming : Naming) (free : HasFreeNames func table naming) where

@@ -1,17 +1,17 @@
 -- What makes a line of a typed module well formed, whatever pass writes it.
-use Rattle.std.specs.Prelude.{◌≡◌, ◌≢◌, ◌≤◌, ℕ, false, List, length, Option, Some, is_some, slice_get}
+use Rattle.std.specs.Prelude.{◌≡◌, ◌⊎◌, ◌≤◌, ℕ, false, List, length, codes, Some, is_some, slice_get}
 use Rattle.std.specs.List.{All, AllZip}
 use Rattle.sp_ids.specs.declared.ids.ValueId.{ValueId}
 use Rattle.ir_ast.specs.declared.types.Ty.{Ty}
-use Rattle.ir_ast.specs.declared.types.Ty.TheVariants.{Token}
 use Rattle.ir_ast.specs.declared.ops.Callee.{Callee}
 use Rattle.ir_ast.specs.declared.ops.Operand.{Operand}
 use Rattle.ir_ast.specs.declared.ops.Operand.TheVariants.{Value}
 use Rattle.ir_ast.specs.Insts.{Instruction}
 use Rattle.ir_ast.specs.Funcs.{Function}
+use Rattle.ir_ast.specs.Lists.{HasFront}
 use Rattle.ir_ast.specs.Modules.{ModuleContent}
 use Rattle.ir_ast.specs.Lines.{IsLine}
-use Rattle.ir_ast.specs.Scope.{Scope, Signature, scope_of}
+use Rattle.ir_ast.specs.Scope.{Scope, scope_of}
 use Rattle.ir_ast.specs.Widths.{IsWidth, line_widths}
 use Rattle.ir_ast.specs.Faults.EntryHasPred.{LeavesEntry}
 use Rattle.ir_ast.specs.Faults.PointerOrder.{orders_pointers}
@@ -52,3 +52,7 @@ pub record SeesAlike (scope other : Scope) : Type 0 where
   pub answer : other.answer ≡ scope.answer
   pub called : (callee : Callee) → other.called callee ≡ scope.called callee
   pub fields : other.fields ≡ scope.fields
+
+-- the names that rewriting gives to tokens, relocates and inserted phis begin so
+abbrev pub IsGroupName : List ℕ → Type 0
+IsGroupName name = HasFront (codes "sp.t") name ⊎ (HasFront (codes "sp.r") name ⊎ HasFront (codes "sp.m") name)
