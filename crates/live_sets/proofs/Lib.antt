@@ -9,3 +9,4 @@ pub mod Reaches
 pub mod EndsLaws
 pub mod ListLaws
 pub mod WholeLaws
+pub mod JoinLaws

@@ -25,9 +25,9 @@ use Rattle.object_meaning.specs.Lines.{Line, after_all, numbered, first_register
 use Rattle.graph_search.specs.Edges.{Edge, targets_of, AreInside}
 use Rattle.graph_search.specs.Paths.{ReachedFrom, at_start, along, MarksReached}
 use Rattle.rewriting_forms.specs.Numbered.{lines_at, gives, preds}
-use Rattle.rewriting_forms.specs.Liveness.{IsUse, PhisAgree, Live, used, held, later, entry, crosses, live_front, live_lines}
+use Rattle.rewriting_forms.specs.Liveness.{IsUse, PhisAgree, Live, used, held, later, entry, crosses, is_live, live_front, live_lines}
 use Rattle.rewriting_laws.proofs.LiveLaws.{drop_all}
-use Rattle.rewriting_laws.proofs.LiveExact.{use_is, use_from, over_sound, front_sound, live_complete}
+use Rattle.rewriting_laws.proofs.LiveExact.{use_is, use_from, over_sound, front_sound, live_sound, live_complete}
 use Rattle.live_sets.specs.Values.{has_mark}
 use Rattle.live_sets.specs.Uses.{uses}
 use Rattle.live_sets.specs.declared.starts.Spot.{Spot}
@@ -401,6 +401,9 @@ module _ (func : Function) (table : List Operand) (marks : List Bool) (right : m
     | inr both ↦ both.1
   ]
 
+  fronts_reached : (b : ℕ) → Live func table v b 0 → ReachedFrom rows starts (count + b)
+  fronts_reached b walk = front_reached b (live_within b 0 walk) (complete b 0 walk)
+
   -- ---- the marks of a search
 
   agree : PhisAgree func
@@ -429,6 +432,19 @@ module _ (func : Function) (table : List Operand) (marks : List Bool) (right : m
           let all = rows_length fronts (registers_of func) v in
           let whole = search.whole in
           slice_get-get_or found b false (omega (arith, l, all, whole, below)) ∙ ap Some is
+
+  -- those of the fronts
+  pub front_marks_are : (found : List Bool) (b : ℕ) → MarksReached rows starts found → b < count → has_mark found (count + b) ≡ is_live func table b 0 v
+  front_marks_are found b search below = same_test (has_mark found (count + b)) (is_live func table b 0 v)
+      (λ is. live_complete func table v agree b 0 ((reached_sound (count + b) (search.sound (count + b) (marked is))).at_front b refl))
+      (λ is. get_or_from_slice_get found (count + b) true false (search.complete (count + b) (fronts_reached b (live_sound func table v b 0 is))))
+    where
+      marked : has_mark found (count + b) ≡ true → slice_get found (count + b) ≡ Some true
+      marked is =
+          let l = fronts_length in
+          let all = rows_length fronts (registers_of func) v in
+          let whole = search.whole in
+          slice_get-get_or found (count + b) false (omega (arith, l, all, whole, below)) ∙ ap Some is
 
   pub all_inside : AreInside rows starts
   all_inside = record {

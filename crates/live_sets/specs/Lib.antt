@@ -4,3 +4,4 @@ pub mod Uses
 pub mod Starts
 pub mod Ends
 pub mod Lists
+pub mod Joins

@@ -22,9 +22,9 @@ use std::alloc::Global;
 /// where the block doesn't give the value, and from a front to the ends of the blocks before.
 #[derive(Drop)]
 pub(crate) struct Backward {
-    fronts: Vec<Vec<usize>>,
-    firsts: Vec<usize>,
-    value: usize,
+    pub(crate) fronts: Vec<Vec<usize>>,
+    pub(crate) firsts: Vec<usize>,
+    pub(crate) value: usize,
 }
 
 impl Edges for Backward {
@@ -103,8 +103,8 @@ pub(crate) fn ends(
     Ok(ends)
 }
 
-// The blocks before each block: one entry per edge.
-fn fronts(alloc: Global, func: &Func, cfg: &Cfg) -> Result<Vec<Vec<usize>>, Memory>
+/// The blocks before each block: one entry per edge.
+pub(crate) fn fronts(alloc: Global, func: &Func, cfg: &Cfg) -> Result<Vec<Vec<usize>>, Memory>
     requires cfg { cfg.now ≡ graph_of func.now.content }
     ensures { IfOk result (λ fronts. AreFronts func.now.content (numbers_of fronts.items)) }
 {

@@ -4,8 +4,10 @@
 mod ends;
 mod lists;
 mod numbers;
+mod phis;
 mod starts;
 mod uses;
 mod values;
 
 pub use lists::live;
+pub use phis::joins;

@@ -137,6 +137,13 @@ chain_short func b d chain =
     let le = length-le_from_distinct_below (walked func b d chain) (length func.blocks) (walked_distinct func b d chain) (walked_below func b d chain) in
     omega (arith, walked_length func b d chain, le)
 
+chain_before : (func : Function) (b p d : ℕ) → Chain func b d → preds func b ≡ p ∷ [] → (e : ℕ) × Chain func p e
+chain_before func _ p _ (root b none) only = absurd (none p only)
+chain_before func _ p _ (link b q d is chain) only =
+    let lists : q ∷ [] ≡ p ∷ [] = sym is ∙ only in
+    let same : q ≡ p = cc in
+    (d, rw (← same) chain)
+
 -- names behind instructions depend on those before them alone
 after_same : (func : Function) (table : List Operand) (b k : ℕ) (names others : Names) (v : ℕ) → names v ≡ others v
     → after_line func table b k names v ≡ after_line func table b k others v
@@ -179,6 +186,21 @@ module _ (func : Function) (table : List Operand) where
       (names_same func table p (front_within func table (joins_of func table) (suc bound) p) (front_within func table (joins_of func table) bound p) v (length (lines_at func p))
       (stable p d bound v chain (omega arith)))
       ∙ sym (ap (λ (ps : List ℕ). entered b (arriving ps (ends_within bound)) v) is)
+
+  -- where all blocks are reached the walk backwards goes as far as it must
+  pub front_is : IsReached func → (b v : ℕ) → Reached func b
+      → (naming_of func table).front b v ≡ (if joins_of func table b v then joined b v else arriving (preds func b) (names_at_end func table (naming_of func table)) v)
+  front_is graph b v reached = ap (λ (name : Name). if joins_of func table b v then joined b v else name) (far_enough (preds func b) refl)
+    where
+      far_enough : (ps : List ℕ) → preds func b ≡ ps
+          → arriving ps (ends_within (length func.blocks)) v ≡ arriving ps (names_at_end func table (naming_of func table)) v
+      far_enough [] is = refl
+      far_enough (p ∷ []) is =
+          let chain = chain_of func graph b reached in
+          let before = chain_before func b p chain.0 chain.1 is in
+          names_same func table p (front_within func table (joins_of func table) (length func.blocks) p) (front_within func table (joins_of func table) (suc (length func.blocks)) p) v
+          (length (lines_at func p)) (sym (stable p before.0 (length func.blocks) v before.1 (chain_short func p before.0 before.1)))
+      far_enough (p ∷ q ∷ ps) is = refl
 
   -- a value in no live list keeps its own name
   any_get : (f : ℕ → Bool) (from count k : ℕ) → list_any f (range_with_len from count) ≡ false → k < count → f (from + k) ≡ false

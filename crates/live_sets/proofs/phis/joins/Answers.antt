@@ -1,0 +1,17 @@
+use Rattle.std.proofs.Common.{◌∙◌, ap, arith, length}
+use Rattle.std.proofs.lemmas.List.{length-map}
+use Rattle.ir_ast.specs.Types.{is_pointer}
+use Rattle.ir_ast.specs.Values.{value_types}
+use Rattle.live_sets.proofs.WholeLaws.{few_values, values_are}
+use Rattle.live_sets.proofs.phis.joins.Goals as goal
+
+pub marked-requires : goal.marked-requires
+marked-requires c =
+    let func = c.args.func.now.content in
+    let few = few_values func in
+    let long = ap length (c.as_slice.ensures.value ∙ c.in_ok-marks.ensures) ∙ length-map (value_types func) is_pointer in
+    omega (arith, few, long, c.blocks-count.ensures.small.few_arguments, c.blocks-count.ensures.small.few_instructions)
+
+pub all_joins-requires-clause-values : goal.all_joins-requires-clause-values
+all_joins-requires-clause-values c =
+    c.as_slice-5.ensures.value ∙ c.in_ok-values.ensures ∙ values_are c.args.func.now.content c.as_slice.result.now (c.as_slice.ensures.value ∙ c.in_ok-marks.ensures)

@@ -1,0 +1,5 @@
+pub mod Slots
+pub mod Versions
+pub mod Forest
+pub mod Walks
+pub mod Rows

@@ -1,0 +1,12 @@
+//! Single definitions again: the function in which each use takes the version of its value that stands there.
+#![tactic(auto)]
+
+mod entries;
+mod forest;
+mod lines;
+mod lists;
+mod numbers;
+mod rows;
+mod slots;
+mod versions;
+mod walk;
