@@ -1,22 +1,30 @@
 -- The rewritten module of a source module.
-use Rattle.std.proofs.Common.{◌≡◌, ℕ, zero, suc, ◌<◌, Bool, true, false, List, [], ◌∷◌, length, refl, sym, ap, subst, ◌∙◌, inl, inr, arith}
+use Rattle.std.proofs.Common.{◌≡◌, ℕ, zero, suc, ◌<◌, Bool, true, false, List, [], ◌∷◌, ◌++◌, length, map, refl, sym, ap, subst, ◌∙◌, append_assoc, arith}
 use Rattle.std.specs.Prelude.{Option, Some, None, slice_get}
 use Rattle.std.specs.List.{All, AllZip}
-use Rattle.list_laws.proofs.Places.{get_some}
+use Rattle.std.proofs.lemmas.List.{length-append}
+use Rattle.std.proofs.lemmas.Option.{get_or_from_slice_get}
+use Rattle.list_laws.proofs.Places.{get_middle}
+use Rattle.ir_ast.specs.declared.ops.Operand.{Operand}
 use Rattle.ir_ast.specs.Funcs.{Function}
 use Rattle.ir_ast.specs.Modules.{ModuleContent}
-use Rattle.ir_cfg.specs.DefiniteUses.{UsesAreDefinite}
+use Rattle.ir_cfg.specs.TargetModules.{IsTargetModule}
 use Rattle.ir_cfg.specs.Graphs.{graph_of}
 use Rattle.ir_cfg.specs.Marks.{MarksReached}
 use Rattle.ir_cfg.specs.SourceModules.{IsSourceModule}
 use Rattle.ir_cfg.specs.Unreached.{DropsUnreached, ModuleDropsUnreached, function_kept}
 use Rattle.ir_cfg.proofs.KeepsSource.{source_after}
 use Rattle.object_meaning.specs.TargetRuns.{TargetGives}
-use Rattle.rewritten_definite.specs.Statements.{IsReachedSource, rewritten_source}
-use Rattle.rewritten_definite.proofs.Instance.{rewritten_is_definite, rewritten_keeps_meaning}
+use Rattle.base_forms.specs.Polls.{placed}
+use Rattle.base_forms.specs.Based.{base_table, based}
+use Rattle.rewriting_forms.specs.Rewritten.{rewritten, rewritten_funcs}
+use Rattle.rewriting_laws.specs.Statements.{no_function}
+use Rattle.rewritten_definite.specs.Statements.{IsReachedSource, base_tables, rewritten_source}
+use Rattle.rewritten_definite.proofs.Instance.{rewritten_keeps_meaning}
+use Rattle.rewritten_shape.proofs.TargetLaws.{rewritten_is_target}
 use Rattle.unreached_laws.proofs.MeaningLaws.{unreached_are_no_matter}
 use Rattle.unreached_laws.proofs.ReachedLaws.{unreached_are_gone}
-use Rattle.sp_rewrite.specs.Statements.{IsRewritten, RewritingIsDefinite, RewritingIsOne, RewritingKeepsMeaning}
+use Rattle.sp_rewrite.specs.Statements.{IsRewritten, RewritingIsByFunction, RewritingIsOne, RewritingIsTarget, RewritingKeepsMeaning}
 
 -- ---- there is one module without unreached blocks
 
@@ -62,6 +70,23 @@ pub rewriting_is_one : RewritingIsOne
 rewriting_is_one content one other first second =
     first.rest ∙ (ap rewritten_source (one_reached content first.reached second.reached first.drops second.drops) ∙ sym second.rest)
 
+-- ---- its functions
+
+rewritten_from : (content : ModuleContent) (before rest : List Function) → content.funcs ≡ before ++ rest
+    → rewritten_funcs (base_tables content) (length before) (map (λ func. based (placed func)) rest) ≡ map (λ func. rewritten (based (placed func)) (base_table (placed func))) rest
+rewritten_from content before [] is = refl
+rewritten_from content before (func ∷ rest) is =
+    let found : slice_get content.funcs (length before) ≡ Some func = ap (λ (all : List Function). slice_get all (length before)) is ∙ get_middle before func rest in
+    let table : base_tables content (length before) ≡ base_table (placed func) = ap (λ (f : Function). base_table (placed f)) (get_or_from_slice_get content.funcs (length before) func no_function found) in
+    let long : suc (length before) ≡ length (before ++ func ∷ []) = (let split = length-append before (func ∷ []) in omega (arith, split)) in
+    let further = rewritten_from content (before ++ func ∷ []) rest (is ∙ sym (append_assoc before (func ∷ []) rest)) in
+    ap (λ (table : List Operand). rewritten (based (placed func)) table ∷ rewritten_funcs (base_tables content) (suc (length before)) (map (λ func. based (placed func)) rest)) table
+    ∙ ap (λ (after : List Function). rewritten (based (placed func)) (base_table (placed func)) ∷ after)
+    (ap (λ n. rewritten_funcs (base_tables content) n (map (λ func. based (placed func)) rest)) long ∙ further)
+
+pub rewriting_is_by_function : RewritingIsByFunction
+rewriting_is_by_function content after is = ap (λ (now : ModuleContent). now.funcs) is.rest ∙ rewritten_from is.reached [] is.reached.funcs refl
+
 -- ---- what it does
 
 reached_source : (content reached : ModuleContent) → IsSourceModule content → ModuleDropsUnreached content reached → IsReachedSource reached
@@ -75,6 +100,6 @@ rewriting_keeps_meaning content after source is input go bound outcome =
       λ gives. drops.1 (keeps.1 (subst (λ (now : ModuleContent). TargetGives now input go bound outcome) is.rest gives)),
     )
 
-pub rewriting_is_definite : RewritingIsDefinite
-rewriting_is_definite content after source is =
-    subst (λ (now : ModuleContent). All UsesAreDefinite now.funcs) (sym is.rest) (rewritten_is_definite is.reached (reached_source content is.reached source is.drops))
+pub rewriting_is_target : RewritingIsTarget
+rewriting_is_target content after source is =
+    subst IsTargetModule (sym is.rest) (rewritten_is_target is.reached (reached_source content is.reached source is.drops))

@@ -1,5 +1,6 @@
 -- The functions of a module before groups are made, and how many relocates they will have.
 use Rattle.std.specs.Prelude.{◌≡◌, ℕ, ◌<◌, ◌≤◌, List, length, map, sum}
+use Rattle.std.specs.List.{All}
 use Rattle.sp_ids.specs.declared.ids.ValueId.{ValueId}
 use Rattle.ir_ast.specs.declared.ops.Operand.{Operand}
 use Rattle.ir_ast.specs.Formed.{IsFormed}
@@ -12,6 +13,7 @@ use Rattle.base_forms.specs.Based.{base_table, based}
 use Rattle.poll_place.specs.Ready.{IsReady}
 use Rattle.rewriting_forms.specs.Liveness.{live_lists}
 use Rattle.live_sets.specs.Values.{valued}
+use Rattle.statepoint_insert.specs.Marked.{IsReady as IsReadyForGroups}
 
 -- what a contract sees of a `Before`
 pub record BeforeGroups : Type 0 where
@@ -36,6 +38,10 @@ pub record CanBeMade (func : Function) : Type 0 where
   pub ready : IsReady func
   pub formed : IsFormed (based func)
 
+-- groups can be put into it
+abbrev pub CanHaveGroups : BeforeGroups → Type 0
+CanHaveGroups before = IsReadyForGroups before.func before.bases
+
 -- these are the functions of the module without its unreached blocks
 pub record IsBeforeGroups (content : ModuleContent) (layouts : List ObjectLayout) (made : List BeforeGroups) : Type 0 where
   pub reached : ModuleContent
@@ -43,6 +49,7 @@ pub record IsBeforeGroups (content : ModuleContent) (layouts : List ObjectLayout
   pub layouts_kept : layouts ≡ content.layouts
   pub functions : made ≡ map (λ func. made_of (placed func)) reached.funcs
   pub few : relocates_in reached ≤ 4194304
+  pub ready : All CanHaveGroups made
 
 pub record HasManyRelocates (content : ModuleContent) : Type 0 where
   pub reached : ModuleContent

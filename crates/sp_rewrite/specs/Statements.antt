@@ -1,13 +1,15 @@
 -- The rewritten module of a source module, and what is proved of it.
-use Rattle.std.specs.Prelude.{◌≡◌, ◌↔◌, ℕ, ℤ, List, Option}
-use Rattle.std.specs.List.{All}
+use Rattle.std.specs.Prelude.{◌≡◌, ◌↔◌, ℕ, ℤ, List, Option, map}
 use Rattle.ir_ast.specs.Modules.{ModuleContent}
-use Rattle.ir_cfg.specs.DefiniteUses.{UsesAreDefinite}
 use Rattle.ir_cfg.specs.SourceModules.{IsSourceModule}
+use Rattle.ir_cfg.specs.TargetModules.{IsTargetModule}
 use Rattle.ir_cfg.specs.Unreached.{ModuleDropsUnreached}
 use Rattle.object_meaning.specs.Outcomes.{Outcome}
 use Rattle.object_meaning.specs.SourceRuns.{SourceGives}
 use Rattle.object_meaning.specs.TargetRuns.{TargetGives}
+use Rattle.base_forms.specs.Polls.{placed}
+use Rattle.base_forms.specs.Based.{base_table, based}
+use Rattle.rewriting_forms.specs.Rewritten.{rewritten}
 use Rattle.rewritten_definite.specs.Statements.{rewritten_source}
 
 -- without its unreached blocks, with polls, bases and checks, and with a statepoint and its relocates in place of each call that isn't
@@ -16,6 +18,11 @@ pub record IsRewritten (content after : ModuleContent) : Type 0 where
   pub reached : ModuleContent
   pub drops : ModuleDropsUnreached content reached
   pub rest : after ≡ rewritten_source reached
+
+-- its functions are those of what is left, each rewritten by itself
+abbrev pub RewritingIsByFunction : Type 0
+RewritingIsByFunction = (content after : ModuleContent) → (is : IsRewritten content after)
+    → after.funcs ≡ map (λ func. rewritten (based (placed func)) (base_table (placed func))) is.reached.funcs
 
 -- there is only one
 abbrev pub RewritingIsOne : Type 0
@@ -27,6 +34,6 @@ RewritingKeepsMeaning = (content after : ModuleContent) → IsSourceModule conte
     → (input : List ℤ) (go : ℕ → Option ℕ) (bound : ℕ) (outcome : Outcome)
     → SourceGives content input go bound outcome ↔ TargetGives after input go bound outcome
 
--- its uses are definite
-abbrev pub RewritingIsDefinite : Type 0
-RewritingIsDefinite = (content after : ModuleContent) → IsSourceModule content → IsRewritten content after → All UsesAreDefinite after.funcs
+-- it is a target module
+abbrev pub RewritingIsTarget : Type 0
+RewritingIsTarget = (content after : ModuleContent) → IsSourceModule content → IsRewritten content after → IsTargetModule after

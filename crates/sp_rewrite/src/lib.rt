@@ -8,5 +8,7 @@ mod making;
 
 pub use before::Before;
 pub use faults::RewriteFault;
-pub use laws::{rewriting_is_definite, rewriting_is_one, rewriting_keeps_meaning};
+pub use laws::{
+    rewriting_is_by_function, rewriting_is_one, rewriting_is_target, rewriting_keeps_meaning,
+};
 pub use making::before_groups;

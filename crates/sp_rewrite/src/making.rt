@@ -23,9 +23,9 @@ pub fn before_groups(
     alloc: Global,
     module: Module,
 ) -> Result<(Vec<Layout>, Vec<Before>), RewriteFault>
-    requires { IsSourceModule module.content }
-    ensures before { IfOk result (λ made. IsBeforeGroups module.content made.0.items made.1.items) }
-    ensures many { IfErr result (λ fault. fault ≡ faults.TooManyRelocations → HasManyRelocates module.content) }
+    requires { IsSourceModule «module».content }
+    ensures before { IfOk result (λ made. IsBeforeGroups «module».content made.0.items made.1.items) }
+    ensures many { IfErr result (λ fault. fault ≡ faults.TooManyRelocations → HasManyRelocates «module».content) }
 {
     let reached = drop_unreachable(alloc, module)?;
     let with_polls = place(alloc, reached)?;
