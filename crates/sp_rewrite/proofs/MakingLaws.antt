@@ -1,15 +1,13 @@
 -- The functions of a module without unreached blocks are ready for bases, and with them formed.
-use Rattle.std.proofs.Common.{◌≡◌, ℕ, ◌+◌, ◌^◌, ◌<◌, ◌≤◌, List, [], ◌∷◌, ◌++◌, length, map, refl, sym, ap, subst, ◌∙◌, arith}
-use Rattle.std.specs.Prelude.{Some, slice_get, sum}
+use Rattle.std.proofs.Common.{◌≡◌, ℕ, ◌^◌, ◌<◌, List, length, map, sym, ap, subst, ◌∙◌}
+use Rattle.std.specs.Prelude.{Some, slice_get}
 use Rattle.std.specs.List.{All}
 use Rattle.std.specs.Option.{option_map}
 use Rattle.std.proofs.lemmas.Option.{get_or_from_slice_get}
-use Rattle.std.proofs.lemmas.List.{map-append}
-use Rattle.std.proofs.lemmas.List.Sums.{sum-map, sum_by-append, sum_by-cons, sum_by_push}
 use Rattle.list_laws.proofs.Contents.{all_at, all_from_at}
 use Rattle.list_laws.proofs.Places.{get_map, map_back}
 use Rattle.ir_ast.specs.Formed.{IsFormed}
-use Rattle.ir_ast.specs.Funcs.{Function, LinedFunction, content_of, instructions_of}
+use Rattle.ir_ast.specs.Funcs.{Function, instructions_of}
 use Rattle.ir_ast.specs.Modules.{ModuleContent}
 use Rattle.ir_ast.specs.declared.modules.Form.TheVariants.{Rewritten}
 use Rattle.ir_ast.specs.declared.ops.Operand.{Operand}
@@ -24,10 +22,11 @@ use Rattle.rewriting_laws.specs.Statements.{IsBefore, no_function}
 use Rattle.rewriting_laws.proofs.Whole.{now_get}
 use Rattle.rewritten_definite.specs.Statements.{IsReachedSource, base_tables, rewritten_source}
 use Rattle.rewritten_definite.proofs.Instance.{based_is_before}
-use Rattle.poll_place.specs.Ready.{HasReadyPolls, IsReady}
+use Rattle.poll_place.specs.Ready.{IsReady}
 use Rattle.poll_place.proofs.ReadyLemmas.{sources_are_ready}
 use Rattle.rewritten_shape.proofs.TargetLaws.{based_is_target, rewritten_is_target}
-use Rattle.sp_rewrite.specs.Before.{BeforeGroups, CanBeMade, CanHaveGroups, made_of, relocates_of}
+use Rattle.sp_rewrite.specs.Before.{CanBeMade, CanHaveGroups, FunctionsAreReady, made_of}
+use Rattle.sp_rewrite.proofs.RewrittenLaws.{reached_source}
 
 formed_at : (reached : ModuleContent) → IsSourceModule reached → (number : ℕ) (func : Function) → slice_get reached.funcs number ≡ Some func → IsFormed (based (placed func))
 formed_at reached source number func found =
@@ -69,30 +68,11 @@ module _ (reached : ModuleContent) (is : IsReachedSource reached) where
       let from = map_back (λ func. made_of (placed func)) reached.funcs number now at in
       subst CanHaveGroups (sym from.is) (ready_at number from.before from.stands))
 
-pub all_made : (funcs : List Function) → map made_of (map placed funcs) ≡ map (λ func. made_of (placed func)) funcs
-all_made [] = refl
-all_made (func ∷ funcs) = ap (λ rest. made_of (placed func) ∷ rest) (all_made funcs)
-
-pub all_relocates : (funcs : List Function) → sum (map relocates_of (map placed funcs)) ≡ sum (map (λ func. relocates_of (placed func)) funcs)
-all_relocates funcs = ap sum (by funcs)
-  where
-    by : (funcs : List Function) → map relocates_of (map placed funcs) ≡ map (λ func. relocates_of (placed func)) funcs
-    by [] = refl
-    by (func ∷ funcs) = ap (λ rest. relocates_of (placed func) ∷ rest) (by funcs)
-
--- how many relocates functions have, the last one apart
-pub sum_push : (funcs : List LinedFunction) (func : LinedFunction) → sum (map relocates_of (map content_of (funcs ++ func ∷ []))) ≡ sum (map relocates_of (map content_of funcs)) + relocates_of func.content
-sum_push funcs func =
-    ap (λ all. sum (map relocates_of all)) (map-append content_of funcs (func ∷ []))
-    ∙ (sum-map relocates_of (map content_of funcs ++ func.content ∷ [])
-    ∙ (sum_by_push relocates_of (map content_of funcs) func.content ∙ ap (λ n. n + relocates_of func.content) (sym (sum-map relocates_of (map content_of funcs)))))
-
--- the first ones and one more have no more than all
-pub sum_front : (funcs rest : List LinedFunction) (func : LinedFunction)
-    → sum (map relocates_of (map content_of funcs)) + relocates_of func.content ≤ sum (map relocates_of (map content_of (funcs ++ func ∷ rest)))
-sum_front funcs rest func =
-    let whole = ap (λ all. sum (map relocates_of all)) (map-append content_of funcs (func ∷ rest)) ∙ sum-map relocates_of (map content_of funcs ++ func.content ∷ map content_of rest) in
-    let both = sum_by-append relocates_of (map content_of funcs) (func.content ∷ map content_of rest) in
-    let last = sum_by-cons relocates_of func.content (map content_of rest) in
-    let first = sum-map relocates_of (map content_of funcs) in
-    omega (arith, whole, both, last, first)
+pub functions_are_ready : FunctionsAreReady
+functions_are_ready content reached source drops =
+    let is = reached_source content reached source drops in
+    record {
+      polls = (sources_are_ready reached is.source).room;
+      bases = all_can_be_made reached is.source;
+      groups = all_can_have_groups reached is;
+    }

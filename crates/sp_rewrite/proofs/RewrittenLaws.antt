@@ -1,7 +1,7 @@
 -- The rewritten module of a source module.
-use Rattle.std.proofs.Common.{◌≡◌, ℕ, zero, suc, ◌<◌, Bool, true, false, List, [], ◌∷◌, ◌++◌, length, map, refl, sym, ap, subst, ◌∙◌, append_assoc, arith}
-use Rattle.std.specs.Prelude.{Option, Some, None, slice_get}
-use Rattle.std.specs.List.{All, AllZip}
+use Rattle.std.proofs.Common.{◌≡◌, ℕ, suc, Bool, true, false, List, [], ◌∷◌, ◌++◌, length, map, refl, sym, ap, subst, ◌∙◌, append_assoc, arith}
+use Rattle.std.specs.Prelude.{Some, slice_get}
+use Rattle.std.specs.List.{AllZip}
 use Rattle.std.proofs.lemmas.List.{length-append}
 use Rattle.std.proofs.lemmas.Option.{get_or_from_slice_get}
 use Rattle.list_laws.proofs.Places.{get_middle}
@@ -9,8 +9,6 @@ use Rattle.ir_ast.specs.declared.ops.Operand.{Operand}
 use Rattle.ir_ast.specs.Funcs.{Function}
 use Rattle.ir_ast.specs.Modules.{ModuleContent}
 use Rattle.ir_cfg.specs.TargetModules.{IsTargetModule}
-use Rattle.ir_cfg.specs.Graphs.{graph_of}
-use Rattle.ir_cfg.specs.Marks.{MarksReached}
 use Rattle.ir_cfg.specs.SourceModules.{IsSourceModule}
 use Rattle.ir_cfg.specs.Unreached.{DropsUnreached, ModuleDropsUnreached, function_kept}
 use Rattle.ir_cfg.proofs.KeepsSource.{source_after}
@@ -24,7 +22,7 @@ use Rattle.rewritten_definite.proofs.Instance.{rewritten_keeps_meaning}
 use Rattle.rewritten_shape.proofs.TargetLaws.{rewritten_is_target}
 use Rattle.unreached_laws.proofs.MeaningLaws.{unreached_are_no_matter}
 use Rattle.unreached_laws.proofs.ReachedLaws.{unreached_are_gone}
-use Rattle.sp_rewrite.specs.Statements.{IsRewritten, RewritingIsByFunction, RewritingIsOne, RewritingIsTarget, RewritingKeepsMeaning}
+use Rattle.sp_rewrite.specs.Statements.{RewritingIsByFunction, RewritingIsOne, RewritingIsTarget, RewritingKeepsMeaning}
 
 -- ---- there is one module without unreached blocks
 
@@ -89,7 +87,7 @@ rewriting_is_by_function content after is = ap (λ (now : ModuleContent). now.fu
 
 -- ---- what it does
 
-reached_source : (content reached : ModuleContent) → IsSourceModule content → ModuleDropsUnreached content reached → IsReachedSource reached
+pub reached_source : (content reached : ModuleContent) → IsSourceModule content → ModuleDropsUnreached content reached → IsReachedSource reached
 reached_source content reached source drops = record { source = source_after content reached source drops; reached = unreached_are_gone content reached drops }
 
 pub rewriting_keeps_meaning : RewritingKeepsMeaning

@@ -1,3 +1,4 @@
+ghost use Rattle.sp_rewrite.specs.Before.{FunctionsAreReady};
 ghost use Rattle.sp_rewrite.specs.Statements.{RewritingIsByFunction, RewritingIsOne, RewritingIsTarget, RewritingKeepsMeaning};
 
 /// A source module has no more than one rewritten module.
@@ -19,4 +20,9 @@ pub fn rewriting_keeps_meaning()
 /// path to a use meets the definition before it.
 pub fn rewriting_is_target()
     ensures { RewritingIsTarget }
+{}
+
+/// Each function of a module without its unreached blocks can have its polls, then its bases and checks, and then its groups.
+pub fn functions_are_ready()
+    ensures { FunctionsAreReady }
 {}

@@ -1,14 +1,9 @@
-//! The rewriting of a module with statepoints, as LLVM's passes "PlaceSafepoints" and "RewriteStatepointsForGC" do it.
+//! The rewriting of a module with statepoints, as LLVM's passes "PlaceSafepoints" and "RewriteStatepointsForGC" do it: its laws. No code yet.
 #![tactic(auto)]
 
-mod before;
-mod faults;
 mod laws;
-mod making;
 
-pub use before::Before;
-pub use faults::RewriteFault;
 pub use laws::{
-    rewriting_is_by_function, rewriting_is_one, rewriting_is_target, rewriting_keeps_meaning,
+    functions_are_ready, rewriting_is_by_function, rewriting_is_one, rewriting_is_target,
+    rewriting_keeps_meaning,
 };
-pub use making::before_groups;
