@@ -1,5 +1,5 @@
 -- Each line of the module with polls and bases is well formed.
-use Rattle.std.proofs.Common.{◌≡◌, ℕ, zero, suc, ◌+◌, ◌^◌, ◌<◌, ◌≤◌, Bool, true, false, not, ◌&&◌, if◌then◌else◌, List, [], ◌∷◌, ◌++◌, length, map, replicate, refl, sym, ap, subst, ◌∙◌, ◌⊎◌, inl, inr, arith, lit<}
+use Rattle.std.proofs.Common.{◌≡◌, ℕ, zero, suc, ◌+◌, ◌^◌, ◌<◌, Bool, true, false, ◌&&◌, if◌then◌else◌, List, [], ◌∷◌, ◌++◌, length, map, replicate, refl, sym, ap, subst, ◌∙◌, inl, inr, arith, lit<}
 use Rattle.std.specs.Prelude.{Option, Some, None, is_some, slice_get, slice_index_or}
 use Rattle.std.specs.List.{All, AllZip, filter_map, list_all}
 use Rattle.std.specs.Option.{option_map}
@@ -10,7 +10,6 @@ use Rattle.std.proofs.lemmas.Option.{none-some}
 use Rattle.list_laws.proofs.Contents.{all_at, all_from_at, all_front}
 use Rattle.sp_ids.specs.declared.ids.BlockId.{BlockId}
 use Rattle.sp_ids.specs.declared.ids.ValueId.{ValueId}
-use Rattle.ir_ast.specs.declared.modules.Form.TheVariants.{Source}
 use Rattle.ir_ast.specs.declared.types.Ty.{Ty}
 use Rattle.ir_ast.specs.declared.types.Ty.TheVariants as types
 use Rattle.ir_ast.specs.declared.types.Ty.TheVariants.{Ptr}
@@ -30,13 +29,13 @@ use Rattle.ir_ast.specs.Insts.{Instruction}
 use Rattle.ir_ast.specs.Blocks.{BasicBlock}
 use Rattle.ir_ast.specs.Funcs.{Function, instructions_of}
 use Rattle.ir_ast.specs.Modules.{ModuleContent}
-use Rattle.ir_ast.specs.Lines.{IsLine, LineOf}
+use Rattle.ir_ast.specs.Lines.{LineOf}
 use Rattle.ir_ast.specs.Operands.{functions_named, is_value, operands_of}
-use Rattle.ir_ast.specs.Scope.{Scope, scope_of, signature_of}
+use Rattle.ir_ast.specs.Scope.{scope_of, signature_of}
 use Rattle.ir_ast.specs.Types.{is_first_class}
 use Rattle.ir_ast.specs.Values.{Definition, definition_type, definitions_of, value_types}
 use Rattle.ir_ast.specs.Widths.{IsWidth}
-use Rattle.ir_ast.specs.Faults.TypeClash.{Fits, IsTyped, RuleOf, asked}
+use Rattle.ir_ast.specs.Faults.TypeClash.{Fits, IsTyped, asked}
 use Rattle.ir_cfg.specs.SourceModules.{IsSourceModule}
 use Rattle.object_meaning.specs.Accesses.{cell_of}
 use Rattle.object_meaning.specs.Lines.{after_all}
@@ -46,7 +45,6 @@ use Rattle.base_forms.specs.Bases.{base_of}
 use Rattle.base_forms.specs.Inserted.{inserted_number, is_merged, new_number, renumbered}
 use Rattle.base_forms.specs.Lines.{merged_bases, operand_at}
 use Rattle.base_forms.specs.Based.{base_line, based, based_blocks, based_module, check, compared, insertion, kept_line, lines_for, merged, negation, same_call}
-use Rattle.renaming_laws.proofs.StepLaws.{merge_is}
 use Rattle.base_laws.proofs.LineLaws.{IsReady}
 use Rattle.base_laws.proofs.MeaningLaws.{found_now}
 use Rattle.base_laws.proofs.PlacedLaws.{all_placed, definitions_placed}
@@ -55,7 +53,7 @@ use Rattle.base_laws.proofs.TypeLaws.{IsTypedLine, compares_pointers, phi_of_poi
 use Rattle.base_relations.proofs.GroupLaws.{group_of, located, value_at}
 use Rattle.base_relations.proofs.TableInstance.{all_ready, is_here, pointers}
 use Rattle.rewritten_definite.proofs.PieceLaws.{split_place}
-use Rattle.rewritten_shape.specs.WellFormed.{Carries, CarriesEntry, IsWellFormed, LineCarries, SeesAlike}
+use Rattle.rewritten_shape.specs.WellFormed.{Carries, CarriesEntry, IsWellFormed}
 use Rattle.rewritten_shape.proofs.BasedTypes.{base_fits, line_type, now_fits, type_kept}
 use Rattle.rewritten_shape.proofs.KeptLaws.{AreAlike, values_known, well_carried}
 use Rattle.rewritten_shape.proofs.PassLaws.{no_items}
@@ -286,8 +284,13 @@ module _ (content : ModuleContent) (source : IsSourceModule content) (number : �
         line = record {
           result = refl;
           type = refl;
-          arguments = (ap (λ t. t && true) (fits_value (value_types made) _ one_base), (ap (λ t. t && true) (fits_value (value_types made) _ one_now),
-              (ap (λ t. t && true) (fits_value (value_types made) _ two_base), (ap (λ t. t && true) (fits_value (value_types made) _ two_now), tt))));
+          arguments = (
+            ap (λ t. t && true) (fits_value (value_types made) _ one_base),
+            (
+              ap (λ t. t && true) (fits_value (value_types made) _ one_now),
+              (ap (λ t. t && true) (fits_value (value_types made) _ two_base), (ap (λ t. t && true) (fits_value (value_types made) _ two_now), tt)),
+            ),
+          );
           no_labels = refl;
           bundle = refl;
           leaf = λ leaf. refl;

@@ -1,13 +1,12 @@
 -- The module with polls and bases of a source module is a typed module of the rewritten form, with room for its groups.
-use Rattle.std.proofs.Common.{◌≡◌, ℕ, zero, suc, ◌+◌, ◌*◌, ◌^◌, ◌<◌, ◌≤◌, Bool, true, false, ◌&&◌, ◌||◌, if◌then◌else◌, List, [], ◌∷◌, ◌++◌, length, map, get_or, refl, sym, ap, subst, ◌∙◌, ◌⊎◌, inl, inr, arith}
-use Rattle.std.specs.Prelude.{Option, Some, None, codes, filter, is_some, slice_get}
+use Rattle.std.proofs.Common.{◌≡◌, ℕ, suc, ◌+◌, ◌*◌, ◌^◌, ◌<◌, ◌≤◌, Bool, true, false, if◌then◌else◌, List, [], ◌∷◌, ◌++◌, length, map, get_or, refl, sym, ap, subst, ◌∙◌, ◌⊎◌, inl, inr, arith}
+use Rattle.std.specs.Prelude.{Some, codes, filter, slice_get}
 use Rattle.std.specs.List.{All, flat_map, list_all}
 use Rattle.std.specs.Fmt.{decimal}
-use Rattle.std.specs.Option.{option_map}
-use Rattle.std.proofs.lemmas.Bool.{false≢true, or_left, true≢false}
+use Rattle.std.proofs.lemmas.Bool.{or_left, true≢false}
 use Rattle.std.proofs.lemmas.Fmt.{decimal_is_IsNumeral}
 use Rattle.std.proofs.lemmas.List.{length-append, length-map}
-use Rattle.std.proofs.lemmas.List.Elements.{All-append, All-cons, All-nil, filter-append}
+use Rattle.std.proofs.lemmas.List.Elements.{All-append, All-cons, All-nil}
 use Rattle.std.proofs.lemmas.List.Sums.{count_by-le-length, length-filter}
 use Rattle.list_laws.proofs.Contents.{all_at, all_back, all_from_at, all_front}
 use Rattle.list_laws.proofs.Places.{get_map, map_back}
@@ -21,37 +20,33 @@ use Rattle.ir_ast.specs.declared.ops.Pred.TheVariants as preds
 use Rattle.ir_ast.specs.declared.ops.Op.{Op}
 use Rattle.ir_ast.specs.declared.ops.Op.TheVariants as ops
 use Rattle.ir_ast.specs.Insts.{Instruction}
-use Rattle.ir_ast.specs.Blocks.{BasicBlock, EndsAtTerminator}
+use Rattle.ir_ast.specs.Blocks.{BasicBlock}
 use Rattle.ir_ast.specs.Funcs.{Function, instructions_of}
 use Rattle.ir_ast.specs.Modules.{ModuleContent}
 use Rattle.ir_ast.specs.Lines.{IsLine}
-use Rattle.ir_ast.specs.Lists.{Distinct, HasFront}
+use Rattle.ir_ast.specs.Lists.{Distinct}
 use Rattle.ir_ast.specs.Operands.{values_used}
 use Rattle.ir_ast.specs.Scope.{scope_of}
-use Rattle.ir_ast.specs.Types.{is_first_class}
 use Rattle.ir_ast.specs.Values.{Definition, definition_name, definitions_of, value_types}
-use Rattle.ir_ast.specs.Widths.{IsWidth, line_widths, type_widths, widths_of}
-use Rattle.ir_ast.specs.Faultless.{FunctionHasNoFault, HasNoFault, OfForm}
+use Rattle.ir_ast.specs.Widths.{IsWidth, line_widths, type_widths}
+use Rattle.ir_ast.specs.Faultless.{FunctionHasNoFault, OfForm}
 use Rattle.ir_ast.specs.Faults.EntryHasPred.{LeavesEntry}
-use Rattle.ir_ast.specs.Faults.GroupShape.{GroupsInShape, UsesNoToken, entries_of, is_statepoint}
-use Rattle.ir_ast.specs.Faults.NameTwice.{NamesAreDistinct}
+use Rattle.ir_ast.specs.Faults.GroupShape.{GroupsInShape, is_statepoint}
 use Rattle.ir_ast.specs.Faults.NoMain.{HasMain}
 use Rattle.ir_ast.specs.Faults.PointerOrder.{orders_pointers}
 use Rattle.ir_ast.specs.Faults.Reserved.{IsExternalName, IsSource}
 use Rattle.ir_ast.specs.Faults.TypeClash.{Fits, FunctionIsTyped, IsTyped}
 use Rattle.ir_ast.specs.Faults.UnknownName.{NamesOfFunction, NamesOfModule}
-use Rattle.ir_cfg.specs.Limits.{HasNames, IsName}
+use Rattle.ir_cfg.specs.Limits.{IsName}
 use Rattle.ir_cfg.specs.SourceModules.{IsSourceModule}
 use Rattle.ir_cfg.specs.Statepoints.{IdIsWord}
 use Rattle.ir_cfg.specs.TypedModules.{IsTypedFunction, IsTypedModule}
 use Rattle.ir_cfg.proofs.KeepsForms.{all_flat, flat_all}
-use Rattle.object_meaning.specs.Frames.{is_member}
 use Rattle.object_meaning.specs.Lines.{after_all, following, retreats}
-use Rattle.base_forms.specs.Polls.{front_poll, placed, placed_block, placed_from, poll_call, polled}
+use Rattle.base_forms.specs.Polls.{placed, placed_from, poll_call, polled}
 use Rattle.base_forms.specs.DerivedMarks.{derived_marks, uses_marked}
 use Rattle.base_forms.specs.Inserted.{by_line, is_merged, is_negated}
-use Rattle.base_forms.specs.Lines.{operand_at}
-use Rattle.base_forms.specs.Based.{base_line, based, based_blocks, based_insts, based_module, check, compared, kept_line, lines_for, merged}
+use Rattle.base_forms.specs.Based.{base_line, based, based_blocks, based_insts, based_module, compared, kept_line, lines_for}
 use Rattle.base_laws.specs.BeforeLiveness.{IsBeforeLiveness, IsPlainLine}
 use Rattle.base_laws.proofs.NumberLaws.{definition_count}
 use Rattle.base_laws.proofs.PlacedLaws.{definitions_placed, has_result}
@@ -60,7 +55,7 @@ use Rattle.base_laws.proofs.ShapeLaws.{graph_now, in_shape}
 use Rattle.base_relations.proofs.GroupLaws.{text_is}
 use Rattle.base_relations.proofs.TableInstance.{all_ready}
 use Rattle.base_definite.proofs.NameLaws.{distinct_now, names_now}
-use Rattle.base_definite.proofs.SpreadLaws.{IsFree, base_name, inserted_names, same_name, spread}
+use Rattle.base_definite.proofs.SpreadLaws.{IsFree, base_name, same_name, spread}
 use Rattle.rewritten_definite.proofs.MadeLaws.{phis_are_right}
 use Rattle.rewritten_shape.specs.Statements.{HasRoomForGroups}
 use Rattle.rewritten_shape.specs.WellFormed.{IsGroupName, IsWellFormed}
@@ -301,7 +296,7 @@ module _ (content : ModuleContent) (source : IsSourceModule content) (number : �
   all_names P bases sames all =
       let few = placed_few in
       let spread_all = all_spread P bases sames (by_line (is_merged (derived_marks (placed func)))) (by_line (is_negated (derived_marks (placed func)))) 0 0 (definitions_of (placed func)) (omega arith) (omega arith)
-          (subst (λ (defs : List Definition). All (λ given. P (definition_name given)) defs) (sym (definitions_placed func)) all) in
+      (subst (λ (defs : List Definition). All (λ given. P (definition_name given)) defs) (sym (definitions_placed func)) all) in
       let names_all : All P (map definition_name (definitions_of made)) = subst (All P) (sym names_list) spread_all in
       all_from_at (λ (given : Definition). P (definition_name given)) (definitions_of made) (λ k given at.
       all_at P (map definition_name (definitions_of made)) k (definition_name given) names_all (get_map definition_name (definitions_of made) k given at))

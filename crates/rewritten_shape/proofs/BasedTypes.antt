@@ -1,6 +1,6 @@
 -- The types of the values of the function with bases: under its new number each has the type that it had, a base is a pointer, and
 -- a compare before a negation an `i1`.
-use Rattle.std.proofs.Common.{◌≡◌, ℕ, zero, suc, ◌+◌, ◌<◌, ◌≤◌, Bool, true, false, ◌&&◌, ◌||◌, if◌then◌else◌, List, [], ◌∷◌, ◌++◌, length, map, take, refl, sym, ap, subst, ◌∙◌, ◌⊎◌, inl, inr, arith}
+use Rattle.std.proofs.Common.{◌≡◌, ℕ, zero, suc, ◌+◌, Bool, true, false, if◌then◌else◌, List, [], ◌∷◌, ◌++◌, length, map, take, refl, sym, ap, subst, ◌∙◌, arith}
 use Rattle.std.specs.Prelude.{Option, Some, None, filter, is_some, slice_get}
 use Rattle.std.specs.List.{All, AllZip}
 use Rattle.std.specs.Option.{option_and_then, option_map_or}
@@ -9,8 +9,6 @@ use Rattle.std.proofs.lemmas.List.{same_from_push}
 use Rattle.std.proofs.lemmas.Option.{slice_get_within}
 use Rattle.list_laws.proofs.Contents.{all_at, all_from_at}
 use Rattle.list_laws.proofs.Places.{get_front, get_map, get_middle, map_back}
-use Rattle.sp_ids.specs.declared.ids.ValueId.{ValueId}
-use Rattle.ir_ast.specs.declared.funcs.Arg.{Arg}
 use Rattle.ir_ast.specs.declared.types.Ty.{Ty}
 use Rattle.ir_ast.specs.declared.types.Ty.TheVariants as types
 use Rattle.ir_ast.specs.declared.types.Ty.TheVariants.{Ptr}
@@ -22,17 +20,15 @@ use Rattle.ir_ast.specs.declared.ops.Operand.{Operand}
 use Rattle.ir_ast.specs.declared.ops.Operand.TheVariants as operands
 use Rattle.ir_ast.specs.Derived.{is_merge, is_step}
 use Rattle.ir_ast.specs.Insts.{Instruction}
-use Rattle.ir_ast.specs.Blocks.{BasicBlock}
 use Rattle.ir_ast.specs.Funcs.{Function, instructions_of}
 use Rattle.ir_ast.specs.Values.{Definition, Gives, argument, definition_type, definitions_of, outcome, outcome_type, value_types}
 use Rattle.ir_ast.specs.Faults.GroupShape.{number_at}
 use Rattle.ir_ast.specs.Faults.TypeClash.{Fits, asked}
-use Rattle.ir_cfg.specs.DefiniteUses.{Defines, Stands, text_place}
 use Rattle.base_forms.specs.DerivedMarks.{derived_marks, uses_marked}
 use Rattle.base_forms.specs.Bases.{base_of, gives_by, origin, origin_by, own_base, source_of, stepped_from}
-use Rattle.base_forms.specs.Inserted.{by_line, has_inserted, inserted_number, is_merged, is_negated, is_unequal, new_number, renumbered}
+use Rattle.base_forms.specs.Inserted.{by_line, has_inserted, inserted_number, is_merged, new_number, renumbered}
 use Rattle.base_forms.specs.Lines.{operand_at}
-use Rattle.base_forms.specs.Based.{base_line, based, check, compared, kept_line, lines_for, merged, negation, same_call}
+use Rattle.base_forms.specs.Based.{base_line, based, check, compared, kept_line, lines_for, negation, same_call}
 use Rattle.renaming_laws.specs.Renamed.{Renaming}
 use Rattle.base_laws.proofs.LineLaws.{IsReady}
 use Rattle.base_laws.proofs.NumberLaws.{argument_keeps, number_alone, number_behind, renaming_of}
@@ -41,7 +37,7 @@ use Rattle.base_laws.proofs.TypeLaws.{IsTypedLine, MarksPointers, all_given, mer
 use Rattle.base_paths.proofs.GivesLaws.{gives_at}
 use Rattle.base_relations.proofs.GroupLaws.{given_at, group_of, line_number, line_stands, start_at, value_at, value_is}
 use Rattle.base_relations.proofs.ValueLaws.{merged_true}
-use Rattle.base_definite.proofs.BasedLaws.{GroupEnd, ends_so}
+use Rattle.base_definite.proofs.BasedLaws.{ends_so}
 use Rattle.base_definite.proofs.CutLaws.{results_in, take_front_of}
 use Rattle.rewritten_shape.proofs.FunctionLaws.{argument_at}
 

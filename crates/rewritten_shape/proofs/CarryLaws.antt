@@ -1,15 +1,11 @@
 -- A line over operands of the same kinds and types is as well formed as it was.
-use Rattle.std.proofs.Common.{◌≡◌, ℕ, zero, suc, ◌+◌, ◌<◌, ◌≤◌, Bool, true, false, not, ◌&&◌, if◌then◌else◌, List, [], ◌∷◌, ◌++◌, length, map, take, drop, replicate, refl, sym, ap, subst, ◌∙◌, arith}
-use Rattle.std.specs.Prelude.{Option, Some, slice_get, is_some}
-use Rattle.std.specs.List.{All, AllZip, filter_map, flat_map, list_all}
+use Rattle.std.proofs.Common.{◌≡◌, ℕ, zero, suc, ◌<◌, Bool, true, false, not, ◌&&◌, if◌then◌else◌, List, [], ◌∷◌, length, take, drop, refl, sym, ap, subst, ◌∙◌, arith}
+use Rattle.std.specs.Prelude.{Some, slice_get}
+use Rattle.std.specs.List.{All, AllZip, list_all}
 use Rattle.std.proofs.lemmas.Bool.{false≢true}
 use Rattle.std.proofs.lemmas.List.Elements.{All-cons, All-nil}
 use Rattle.std.proofs.lemmas.Slice.Zip.{AllZip-long}
-use Rattle.std.proofs.lemmas.Option.{slice_get_within}
-use Rattle.list_laws.proofs.Contents.{all_from_at, contains_get, get_contained}
 use Rattle.renaming_laws.proofs.ListLaws.{all_first, all_rest}
-use Rattle.sp_ids.specs.declared.ids.BlockId.{BlockId}
-use Rattle.sp_ids.specs.declared.ids.ValueId.{ValueId}
 use Rattle.ir_ast.specs.declared.types.Ty.{Ty}
 use Rattle.ir_ast.specs.declared.ops.Callee.{Callee}
 use Rattle.ir_ast.specs.declared.ops.Callee.TheVariants as callees
@@ -21,10 +17,10 @@ use Rattle.ir_ast.specs.Cells.{kind_of}
 use Rattle.ir_ast.specs.Insts.{Instruction}
 use Rattle.ir_ast.specs.Lists.{Distinct}
 use Rattle.ir_ast.specs.Types.{is_answer, is_first_class, is_void}
-use Rattle.ir_ast.specs.Lines.{Arguments, Has, IsCall, IsLine, IsRelocated, IsStatepoint, LineOf, StartsWithToken, is_argument, is_bundle}
+use Rattle.ir_ast.specs.Lines.{Arguments, Has, IsCall, IsLine, IsStatepoint, LineOf, StartsWithToken, is_argument, is_bundle}
 use Rattle.ir_ast.specs.Operands.{is_literal, is_value}
 use Rattle.ir_ast.specs.Scope.{Scope}
-use Rattle.ir_ast.specs.Faults.TypeClash.{ChecksKind, Fits, HasField, IsCallOf, IsCellType, IsNarrower, IsTyped, IsWider, RuleOf, StartsTask, TakesOperands, asked}
+use Rattle.ir_ast.specs.Faults.TypeClash.{Fits, HasField, IsCallOf, IsCellType, IsNarrower, IsTyped, IsWider, RuleOf, TakesOperands, asked}
 use Rattle.rewritten_shape.specs.WellFormed.{Carries, CarriesEntry, LineCarries, SeesAlike}
 
 module _ (before now : List Ty) where
@@ -203,9 +199,11 @@ module _ (before now : List Ty) where
         (has_carried _ _ _ _ line.0, (line.1.0, line.1.1, token_carried inst.operands other.operands (operands.Int line.1.0 ∷ operands.Int line.1.1 ∷ []) carries.operands refl line.1.2))
     line_as ops.Br line = has_carried _ _ _ _ line
     line_as ops.CondBr line = has_carried _ _ _ _ line
-    line_as ops.Switch line =
-        (has_as_many _ _ line.0, some_carried line.1,
-        all_same is_literal same_literal (drop 1 inst.operands) (drop 1 other.operands) (carried_drop 1 inst.operands other.operands carries.operands) ∙ line.2)
+    line_as ops.Switch line = (
+      has_as_many _ _ line.0,
+      some_carried line.1,
+      all_same is_literal same_literal (drop 1 inst.operands) (drop 1 other.operands) (carried_drop 1 inst.operands other.operands carries.operands) ∙ line.2,
+    )
     line_as ops.Ret line =
         subst (λ ty. Has false is_answer (if is_void ty then 0 else 1) 0 other) (sym carries.ty) (has_carried false is_answer (if is_void inst.ty then 0 else 1) 0 line)
     line_as ops.Unreachable line = has_carried _ _ _ _ line

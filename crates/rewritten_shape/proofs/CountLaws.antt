@@ -1,14 +1,11 @@
 -- How long the rewritten function is: its lines, its entries, and the relocates of a token.
-use Rattle.std.proofs.Common.{◌≡◌, ℕ, zero, suc, ◌+◌, ◌*◌, ◌^◌, ◌<◌, ◌≤◌, Bool, true, false, not, eqb, ◌&&◌, if◌then◌else◌, List, [], ◌∷◌, ◌++◌, length, map, drop, take, refl, sym, ap, subst, ◌∙◌, ◌⊎◌, inl, inr, arith}
+use Rattle.std.proofs.Common.{◌≡◌, ℕ, zero, suc, ◌+◌, ◌*◌, ◌^◌, ◌<◌, ◌≤◌, Bool, false, eqb, ◌&&◌, if◌then◌else◌, List, [], ◌∷◌, ◌++◌, length, map, drop, refl, sym, ap, subst, ◌∙◌, ◌⊎◌, inl, inr, arith}
 use Rattle.std.specs.Prelude.{Option, Some, None, filter, is_some, slice_get}
-use Rattle.std.specs.List.{All}
-use Rattle.std.proofs.lemmas.Bool.{cases_Bool, cases_eq, cases_lt, eq-eqb, eqb-true, false≢true, ne_eqb, true≢false}
+use Rattle.std.proofs.lemmas.Bool.{cases_eq, cases_lt, ne_eqb}
 use Rattle.std.proofs.lemmas.List.{length-append, length-map, map-append}
 use Rattle.std.proofs.lemmas.List.Elements.{filter-append}
 use Rattle.std.proofs.lemmas.List.Sums.{count_by-le-length, length-filter}
-use Rattle.std.proofs.lemmas.Option.{slice_get_within}
-use Rattle.list_laws.proofs.Contents.{all_at}
-use Rattle.list_laws.proofs.Places.{get_map, get_some, map_back}
+use Rattle.list_laws.proofs.Places.{map_back}
 use Rattle.ir_ast.specs.declared.types.Ty.{Ty}
 use Rattle.ir_ast.specs.declared.ops.Callee.{Callee}
 use Rattle.ir_ast.specs.declared.ops.Op.{Op}
@@ -19,26 +16,25 @@ use Rattle.ir_ast.specs.Insts.{Instruction}
 use Rattle.ir_ast.specs.Blocks.{BasicBlock}
 use Rattle.ir_ast.specs.Funcs.{Function, instructions_of}
 use Rattle.ir_ast.specs.Modules.{ModuleContent}
-use Rattle.ir_ast.specs.Values.{argument, definition_name, definitions_of}
-use Rattle.ir_ast.specs.Faults.GroupShape.{entries_of, is_part, is_statepoint, number_at}
-use Rattle.ir_cfg.specs.DefiniteUses.{Defines, Stands, text_place}
-use Rattle.ir_cfg.specs.Statepoints.{IdIsWord, StatepointsAreSmall, is_relocate, relocates_of}
+use Rattle.ir_ast.specs.Values.{definition_name, definitions_of}
+use Rattle.ir_ast.specs.Faults.GroupShape.{entries_of, is_part, is_statepoint}
+use Rattle.ir_cfg.specs.DefiniteUses.{Defines}
+use Rattle.ir_cfg.specs.Statepoints.{is_relocate, relocates_of}
 use Rattle.definite_assign.proofs.TextLemmas.{one_definition, one_home}
 use Rattle.object_meaning.specs.Frames.{is_member}
 use Rattle.object_meaning.specs.Lines.{Line}
-use Rattle.rewriting_forms.specs.Numbered.{is_call, lines_at, pointers}
+use Rattle.rewriting_forms.specs.Numbered.{lines_at, pointers}
 use Rattle.rewriting_forms.specs.Liveness.{live_list}
 use Rattle.rewriting_forms.specs.Names as forms
 use Rattle.rewriting_forms.specs.Names.{Name, Naming}
-use Rattle.rewriting_forms.specs.Rewritten.{Piece, entries, expanded, group, inserted_phi, joined_at, names_of, piece_inst, plain, relocate_of, result_of, rewritten_blocks, statepoint}
+use Rattle.rewriting_forms.specs.Rewritten.{Piece, expanded, group, inserted_phi, joined_at, names_of, piece_inst, plain, relocate_of, result_of, rewritten_blocks, statepoint}
 use Rattle.rewriting_laws.proofs.JumpLemmas.{one_piece}
 use Rattle.rewriting_laws.proofs.NameLemmas.{at_rest, call_or_not, is_none, is_one}
 use Rattle.base_laws.proofs.NumberLaws.{definition_count}
 use Rattle.rewritten_definite.proofs.LineLaws.{line_from, lines_length}
 use Rattle.rewritten_definite.proofs.NowLaws.{defines_piece, insts_now, now, number, pieces, text}
-use Rattle.rewritten_definite.proofs.PieceLaws.{PieceFrom, call_pieces, for_line, from_join, from_line, offset, piece_at, pieces_for}
-use Rattle.rewritten_shape.proofs.GroupLaws.{FromPiece, entries_count, from_piece, is_relocate as is_relocate_of, is_result, member_of, only_one}
-use Rattle.rewritten_shape.proofs.NamedLaws.{text_back}
+use Rattle.rewritten_definite.proofs.PieceLaws.{call_pieces, for_line, offset, piece_at, pieces_for}
+use Rattle.rewritten_shape.proofs.GroupLaws.{entries_count, only_one}
 use Rattle.rewritten_shape.proofs.PassLaws.{IsNamed, entries_few, list_few, pointers_few}
 use Rattle.rewritten_shape.proofs.SpellLaws.{names_are}
 
@@ -196,7 +192,7 @@ module _ (content other : ModuleContent) (func : Function) (table : List Operand
       let sum = passing_append is_point (result_of func table naming to b k line line.to) (map (relocate_of func table naming to b k) (live_list func table b k)) in
       let result = result_no_point b k line line.to in
       let relocates = passing_none is_point (map (relocate_of func table naming to b k) (live_list func table b k)) (λ i piece at.
-          let before = map_back (relocate_of func table naming to b k) (live_list func table b k) i piece at in ap (λ (p : Piece). is_point (written p)) before.is) in
+      let before = map_back (relocate_of func table naming to b k) (live_list func table b k) i piece at in ap (λ (p : Piece). is_point (written p)) before.is) in
       omega (arith, sum, result, relocates)
 
   line_points : (b k : ℕ) (line : Line) → points (for_this b k line) ≤ 1
@@ -345,8 +341,8 @@ module _ (content other : ModuleContent) (func : Function) (table : List Operand
             inr ((here.0, here.1), omega (arith, whole, all, long, few, sum))
         by callee types there_op leaf (inr apart) whole =
             let none = passing_none relocates (list_pieces c l) (λ i piece one.
-                let before = map_back (relocate_of func table naming to c l) (live_list func table c l) i piece one in
-                ap (λ (p : Piece). relocates (written p)) before.is ∙ ne_eqb (to (forms.token c l)) token_number apart) in
+            let before = map_back (relocate_of func table naming to c l) (live_list func table c l) i piece one in
+            ap (λ (p : Piece). relocates (written p)) before.is ∙ ne_eqb (to (forms.token c l)) token_number apart) in
             inl (whole ∙ (group_sum ∙ none))
 
     -- from a line on

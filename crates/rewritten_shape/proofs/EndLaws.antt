@@ -1,14 +1,14 @@
 -- The phis of the rewritten function are right, and its blocks end at their terminators.
-use Rattle.std.proofs.Common.{◌≡◌, ℕ, zero, suc, ◌+◌, ◌<◌, ◌≤◌, Bool, true, false, not, eqb, ◌&&◌, cond, if◌then◌else◌, List, [], ◌∷◌, ◌++◌, length, map, drop, replicate, refl, sym, ap, subst, ◌∙◌, ◌⊎◌, inl, inr, append-nil, append_assoc, arith}
-use Rattle.std.specs.Prelude.{Option, Some, None, count_by, slice_get}
+use Rattle.std.proofs.Common.{◌≡◌, ℕ, zero, suc, ◌+◌, ◌<◌, ◌≤◌, Bool, true, false, not, eqb, ◌&&◌, cond, if◌then◌else◌, List, [], ◌∷◌, ◌++◌, length, map, drop, replicate, refl, sym, ap, ◌∙◌, ◌⊎◌, inl, inr, append-nil, arith}
+use Rattle.std.specs.Prelude.{Option, Some, None, slice_get}
 use Rattle.std.specs.List.{All, flat_map, list_all, prefix_len, range_with_len}
 use Rattle.std.specs.Option.{option_map}
-use Rattle.std.proofs.lemmas.Bool.{cases_eq, cases_lt, eq-eqb, false≢true, ne_eqb, true≢false}
-use Rattle.std.proofs.lemmas.List.{get_or_past, length-append, length-map, map-append}
+use Rattle.std.proofs.lemmas.Bool.{cases_eq, cases_lt, eq-eqb, ne_eqb, true≢false}
+use Rattle.std.proofs.lemmas.List.{get_or_past, map-append}
 use Rattle.std.proofs.lemmas.List.Sums.{sum_by-append}
-use Rattle.std.proofs.lemmas.Option.{none-some, slice_get-map, slice_get_within}
-use Rattle.list_laws.proofs.Contents.{all_at, all_from_at}
-use Rattle.list_laws.proofs.Places.{get_front, get_middle, get_some, map_back}
+use Rattle.std.proofs.lemmas.Option.{slice_get-map, slice_get_within}
+use Rattle.list_laws.proofs.Contents.{all_at}
+use Rattle.list_laws.proofs.Places.{get_front, get_middle, map_back}
 use Rattle.sp_ids.specs.declared.ids.BlockId.{BlockId}
 use Rattle.ir_ast.specs.declared.types.Ty.{Ty}
 use Rattle.ir_ast.specs.declared.ops.Callee.{Callee}
@@ -17,29 +17,29 @@ use Rattle.ir_ast.specs.declared.ops.Op.TheVariants as ops
 use Rattle.ir_ast.specs.declared.ops.Operand.{Operand}
 use Rattle.ir_ast.specs.Insts.{Instruction}
 use Rattle.ir_ast.specs.Blocks.{BasicBlock, EndsAtTerminator}
-use Rattle.ir_ast.specs.Edges.{count_of, edges, targets}
+use Rattle.ir_ast.specs.Edges.{count_of, edges}
 use Rattle.ir_ast.specs.Funcs.{Function}
 use Rattle.ir_ast.specs.Modules.{ModuleContent}
 use Rattle.ir_ast.specs.Ops.{is_terminator}
 use Rattle.ir_ast.specs.Faults.PhiEdges.{PhiIsRight, PhisAreRight, is_phi}
 use Rattle.ir_cfg.specs.DefiniteUses.{Stands}
-use Rattle.ir_cfg.specs.Graphs.{Graph, block_at, graph_of, preds_of, succs_of}
+use Rattle.ir_cfg.specs.Graphs.{block_at, graph_of, preds_of, succs_of}
 use Rattle.ir_cfg.proofs.KeepsCounts.{count_cons}
 use Rattle.object_meaning.specs.Jumps.{phi_count}
 use Rattle.object_meaning.specs.Lines.{Line}
-use Rattle.rewriting_forms.specs.Numbered.{is_call, line_at, lines_at, named, pointers, preds}
+use Rattle.rewriting_forms.specs.Numbered.{is_call, lines_at, named, preds}
 use Rattle.rewriting_forms.specs.Names.{Name, Naming, names_at, names_at_end}
-use Rattle.rewriting_forms.specs.Rewritten.{Piece, expanded, group, inserted_phi, joined_at, phi_operands, piece_inst, pieces_of, plain, relocate_of, renamed, statepoint}
+use Rattle.rewriting_forms.specs.Rewritten.{Piece, expanded, group, inserted_phi, joined_at, phi_operands, piece_inst, plain, renamed, statepoint}
 use Rattle.rewriting_laws.specs.Laws.{IsPlain}
 use Rattle.rewriting_laws.proofs.JumpLemmas.{one_piece}
 use Rattle.rewriting_laws.proofs.LiveLaws.{drop_all, drop_from}
-use Rattle.rewriting_laws.proofs.NameLemmas.{call_or_not, is_none, is_one, line_is}
-use Rattle.rewritten_definite.proofs.LineLaws.{line_forth, line_from, lines_length}
+use Rattle.rewriting_laws.proofs.NameLemmas.{call_or_not, is_none, is_one}
+use Rattle.rewritten_definite.proofs.LineLaws.{line_forth, line_from}
 use Rattle.rewritten_definite.proofs.MadeLaws.{edges_counted, edges_same}
 use Rattle.rewritten_definite.proofs.NowLaws.{block_now, graph_now, insts_now, now, number, pieces, text}
-use Rattle.rewritten_definite.proofs.PieceLaws.{Cut, PieceFrom, call_pieces, cut, from_join, from_line, offset, piece_from, pieces_for}
+use Rattle.rewritten_definite.proofs.PieceLaws.{PieceFrom, call_pieces, cut, from_join, from_line, offset, piece_from, pieces_for}
 use Rattle.rewritten_definite.proofs.UsedLaws.{phi_right}
-use Rattle.rewritten_shape.proofs.GroupLaws.{FromPiece, MemberOf, from_piece, is_relocate, is_result, member_of, only_one}
+use Rattle.rewritten_shape.proofs.GroupLaws.{MemberOf, from_piece, is_relocate, is_result, member_of, only_one}
 use Rattle.rewritten_shape.proofs.PassLaws.{IsNamed}
 
 -- ---- counts of predecessors

@@ -1,17 +1,15 @@
 -- The rewritten function has no fault and keeps within the limits.
-use Rattle.std.proofs.Common.{◌≡◌, ℕ, zero, suc, ◌+◌, ◌^◌, ◌<◌, ◌≤◌, Bool, true, false, List, [], ◌∷◌, ◌++◌, length, map, refl, sym, ap, subst, ◌∙◌, arith, lit<}
-use Rattle.std.specs.Prelude.{Option, Some, None, filter, is_some, slice_get}
+use Rattle.std.proofs.Common.{◌≡◌, ℕ, zero, suc, ◌+◌, ◌<◌, ◌≤◌, Bool, true, false, List, [], ◌∷◌, ◌++◌, length, map, refl, sym, ap, subst, ◌∙◌, arith, lit<}
+use Rattle.std.specs.Prelude.{Some, filter, is_some, slice_get}
 use Rattle.std.specs.List.{All, flat_map}
 use Rattle.std.proofs.lemmas.Bool.{false≢true, true≢false}
-use Rattle.std.proofs.lemmas.List.{length-append, length-map}
+use Rattle.std.proofs.lemmas.List.{length-append}
 use Rattle.std.proofs.lemmas.List.Elements.{All-append}
-use Rattle.std.proofs.lemmas.Option.{slice_get_within}
-use Rattle.list_laws.proofs.Contents.{all_at, all_back, all_from_at, all_front}
+use Rattle.list_laws.proofs.Contents.{all_at, all_from_at, all_front}
 use Rattle.list_laws.proofs.Places.{map_back}
 use Rattle.ir_ast.specs.declared.funcs.Arg.{Arg}
 use Rattle.ir_ast.specs.declared.modules.Form.TheVariants.{Rewritten}
 use Rattle.ir_ast.specs.declared.types.Ty.{Ty}
-use Rattle.ir_ast.specs.declared.types.Ty.TheVariants as types
 use Rattle.ir_ast.specs.declared.types.Ty.TheVariants.{Token}
 use Rattle.ir_ast.specs.declared.ops.Callee.{Callee}
 use Rattle.ir_ast.specs.declared.ops.Op.{Op}
@@ -26,19 +24,18 @@ use Rattle.ir_ast.specs.Lines.{IsLine, LineOf}
 use Rattle.ir_ast.specs.Lists.{Distinct}
 use Rattle.ir_ast.specs.Scope.{scope_of}
 use Rattle.ir_ast.specs.Types.{is_answer, is_condition, is_first_class, is_integer, is_pointer, is_void}
-use Rattle.ir_ast.specs.Values.{Definition, Gives, argument, definition_name, definition_type, definitions_of, outcome, outcome_type, value_types}
+use Rattle.ir_ast.specs.Values.{Definition, argument, definition_name, definition_type, definitions_of, outcome, outcome_type, value_types}
 use Rattle.ir_ast.specs.Widths.{IsWidth, line_widths, type_widths, widths_of}
 use Rattle.ir_ast.specs.Faultless.{FunctionHasNoFault, OfForm}
 use Rattle.ir_ast.specs.Faults.EntryHasPred.{LeavesEntry}
 use Rattle.ir_ast.specs.Faults.GroupShape.{is_statepoint, number_at}
-use Rattle.ir_ast.specs.Faults.PhiEdges.{PhisAreRight}
 use Rattle.ir_ast.specs.Faults.PointerOrder.{orders_pointers}
 use Rattle.ir_ast.specs.Faults.TypeClash.{FunctionIsTyped, IsTyped}
 use Rattle.ir_ast.specs.Faults.UnknownName.{NamesOfFunction, NamesOfModule}
-use Rattle.ir_cfg.specs.DefiniteUses.{Defines, Stands, text_place}
-use Rattle.ir_cfg.specs.Limits.{HasNames, IsName}
+use Rattle.ir_cfg.specs.DefiniteUses.{Stands, text_place}
+use Rattle.ir_cfg.specs.Limits.{IsName}
 use Rattle.ir_cfg.specs.Statepoints.{IdIsWord, StatepointsAreSmall, relocates_of}
-use Rattle.ir_cfg.specs.TypedModules.{IsSmallTarget, IsTypedFunction}
+use Rattle.ir_cfg.specs.TypedModules.{IsTypedFunction}
 use Rattle.ir_cfg.proofs.KeepsForms.{flat_all}
 use Rattle.ir_cfg.proofs.KeepsLines.{all_insts}
 use Rattle.object_meaning.specs.Lines.{Line}
@@ -50,12 +47,12 @@ use Rattle.rewriting_laws.specs.Laws.{IsPlain}
 use Rattle.rewriting_laws.proofs.JumpLemmas.{one_piece}
 use Rattle.rewriting_laws.proofs.NameLemmas.{call_or_not, is_none, is_one}
 use Rattle.base_laws.proofs.TypeLaws.{all_given}
-use Rattle.rewritten_definite.proofs.NowLaws.{block_now, defines_piece, now, number, text}
-use Rattle.rewritten_definite.proofs.PieceLaws.{PieceFrom, call_pieces, from_join, from_line, offset, pieces_for}
+use Rattle.rewritten_definite.proofs.NowLaws.{block_now, now, number, text}
+use Rattle.rewritten_definite.proofs.PieceLaws.{PieceFrom, call_pieces, from_join, from_line, offset}
 use Rattle.rewritten_shape.specs.WellFormed.{IsGroupName, IsWellFormed}
 use Rattle.rewritten_shape.proofs.CountLaws.{lines_few, names_few, point_defines, point_small}
 use Rattle.rewritten_shape.proofs.EndLaws.{ends_now, phis_now}
-use Rattle.rewritten_shape.proofs.GroupLaws.{FromPiece, MemberOf, all_well, from_piece, groups_in_shape, is_relocate, is_result, member_of, only_one}
+use Rattle.rewritten_shape.proofs.GroupLaws.{MemberOf, all_well, from_piece, groups_in_shape, is_relocate, is_result, member_of, only_one}
 use Rattle.rewritten_shape.proofs.NamedLaws.{text_back}
 use Rattle.rewritten_shape.proofs.PassLaws.{IsNamed}
 use Rattle.rewritten_shape.proofs.SpellLaws.{HasFreeNames, names_distinct, names_now}

@@ -1,11 +1,11 @@
 -- Each line of the rewritten function is well formed, and its groups are in shape.
-use Rattle.std.proofs.Common.{◌≡◌, ℕ, zero, suc, ◌+◌, ◌-◌, ◌<◌, ◌≤◌, Bool, true, false, not, eqb, if◌then◌else◌, List, [], ◌∷◌, ◌++◌, length, map, drop, refl, sym, ap, subst, ◌∙◌, ◌⊎◌, inl, inr, arith}
+use Rattle.std.proofs.Common.{◌≡◌, ℕ, zero, suc, ◌+◌, ◌-◌, ◌<◌, true, false, not, eqb, if◌then◌else◌, List, [], ◌∷◌, ◌++◌, length, map, drop, refl, sym, ap, subst, ◌∙◌, inl, inr, arith}
 use Rattle.std.specs.Prelude.{Option, Some, None, IfSome, slice_get}
-use Rattle.std.specs.List.{All, AllZip, list_any, position}
+use Rattle.std.specs.List.{All, AllZip, list_any}
 use Rattle.std.specs.Option.{option_map_or}
 use Rattle.std.proofs.Math.Seq.{drop-append_seam}
 use Rattle.std.proofs.lemmas.Bool.{eq-eqb, false≢true}
-use Rattle.std.proofs.lemmas.List.{drop-map, length-append, length-map}
+use Rattle.std.proofs.lemmas.List.{drop-map, length-map}
 use Rattle.std.proofs.lemmas.List.Elements.{All-nil}
 use Rattle.std.proofs.lemmas.Option.{none-some, slice_get_within}
 use Rattle.list_laws.proofs.Contents.{all_from_at}
@@ -24,11 +24,11 @@ use Rattle.ir_ast.specs.Blocks.{BasicBlock}
 use Rattle.ir_ast.specs.Funcs.{Function, instructions_of}
 use Rattle.ir_ast.specs.Modules.{ModuleContent}
 use Rattle.ir_ast.specs.Operands.{operands_of, value_in, values_used}
-use Rattle.ir_ast.specs.Scope.{Scope, scope_of}
+use Rattle.ir_ast.specs.Scope.{scope_of}
 use Rattle.ir_ast.specs.Values.{value_types}
-use Rattle.ir_ast.specs.Faults.GroupShape.{Group, GroupsInShape, RelocateInShape, ResultInShape, ShapeOf, UsesNoToken, entries_of, is_part, live_entries, is_statepoint, number_at}
+use Rattle.ir_ast.specs.Faults.GroupShape.{Group, GroupsInShape, RelocateInShape, ResultInShape, ShapeOf, UsesNoToken, entries_of, is_part, live_entries, is_statepoint}
 use Rattle.ir_ast.specs.Faults.TypeClash.{Fits, IsTyped}
-use Rattle.ir_cfg.specs.DefiniteUses.{Defines, Stands, text_place}
+use Rattle.ir_cfg.specs.DefiniteUses.{Stands, text_place}
 use Rattle.definite_assign.proofs.TextLemmas.{stands_in_text}
 use Rattle.object_meaning.specs.Frames.{is_member}
 use Rattle.object_meaning.specs.Lines.{Line}
@@ -187,15 +187,14 @@ module _ (content other : ModuleContent) (func : Function) (table : List Operand
       all_from_at (λ value. slice_get (value_types after) value ≡ Some Token → ⊥) (values_used changed) (λ k w at bad.
       let item = filter_map_back value_in (operands_of changed) w k at in
       let back = zip_back (value_types func) (value_types after) item.place (operands_of inst) (operands_of changed) item.item
-          (carried_all (value_types func) (value_types after) inst changed carries) item.stands in
+      (carried_all (value_types func) (value_types after) inst changed carries) item.stands in
       let type = used_type (scope_of content func) inst typed item.place back.0 back.1 in
       let wrong = carried_type (value_types func) (value_types after) back.0 item.item w type.0 Token back.2 item.gives type.1 bad in
       is.tokens wrong.0 wrong.1)
 
   plain_shape : (b k place : ℕ) (line : Line) → slice_get (lines_at func b) k ≡ Some line → ShapeOf after place (written (plain func table naming to b k line)) line.inst.op
   plain_shape b k place line at =
-      shape_plain after place (written (plain func table naming to b k line)) line.inst.op (is.no_statepoint b k line at) (is.no_member b k line at)
-      (
+      shape_plain after place (written (plain func table naming to b k line)) line.inst.op (is.no_statepoint b k line at) (is.no_member b k line at) (
         carried_no_token line.inst (written (plain func table naming to b k line)) (plain_carries content other func table naming room is b k line at) (is.lines b k line at).typed,
         subst (All (λ entry. Fits (value_types after) entry Ptr)) (sym (no_live_entries line.inst.op (written (plain func table naming to b k line)).operands (is.no_statepoint b k line at)))
             (All-nil (λ entry. Fits (value_types after) entry Ptr)),
@@ -328,11 +327,12 @@ module _ (content other : ModuleContent) (func : Function) (table : List Operand
         let place = entry_stands v listed in
         let first = found (λ (entry : Operand). same_operand entry (named v)) (entries func table b k) place.0 (named v) place.1 (eq-eqb v v refl) in
         let index : index_of func table b k (named v) ≡ first.0 = ap (λ (at : Option ℕ). option_map_or (λ place. place) at 0) first.2 in
-        let value = same_value first.1 v first.4 in
-        (value.0,
+        let value = same_value first.1 v first.4 in (
+          value.0,
           ap (λ (all : List Operand). slice_get all (index_of func table b k (named v))) entries_now
-          ∙ (ap (slice_get (map (renamed to (names_at func table naming b k)) (entries func table b k))) index
-          ∙ (get_map (renamed to (names_at func table naming b k)) (entries func table b k) first.0 first.1 first.3 ∙ ap (λ o. Some o) value.1)))
+              ∙ (ap (slice_get (map (renamed to (names_at func table naming b k)) (entries func table b k))) index
+              ∙ (get_map (renamed to (names_at func table naming b k)) (entries func table b k) first.0 first.1 first.3 ∙ ap (λ o. Some o) value.1)),
+        )
 
     member_shape : (i : ℕ) (piece : Piece) → slice_get (group func table naming to b k line) i ≡ Some piece → MemberOf b k i line piece
         → ShapeOf after (text_place after b (start + suc i)) (written piece) (written piece).op

@@ -1,6 +1,6 @@
 -- A line over carried operands is well formed in the other function.
-use Rattle.std.proofs.Common.{◌≡◌, ℕ, zero, suc, ◌+◌, ◌<◌, ◌≤◌, List, [], ◌∷◌, ◌++◌, length, map, refl, sym, ap, subst, ◌∙◌, ◌⊎◌, inl, inr, arith}
-use Rattle.std.specs.Prelude.{Option, Some, None, slice_get}
+use Rattle.std.proofs.Common.{◌≡◌, ℕ, zero, suc, ◌<◌, List, [], ◌∷◌, ◌++◌, length, map, refl, sym, ap, subst, ◌∙◌, inl, inr, arith}
+use Rattle.std.specs.Prelude.{Option, Some, slice_get}
 use Rattle.std.specs.List.{All, AllZip, cons_option, filter_map, flat_map}
 use Rattle.std.proofs.lemmas.List.Elements.{All-append}
 use Rattle.std.proofs.lemmas.Option.{slice_get_within}
@@ -20,10 +20,9 @@ use Rattle.ir_ast.specs.Operands.{functions_named, layouts_named, operands_of, v
 use Rattle.ir_ast.specs.Scope.{Scope, scope_of}
 use Rattle.ir_ast.specs.Values.{definition_type, definitions_of}
 use Rattle.ir_ast.specs.Widths.{IsWidth, line_widths, operator_widths, type_widths}
-use Rattle.ir_ast.specs.Faults.EntryHasPred.{LeavesEntry}
 use Rattle.ir_ast.specs.Faults.PointerOrder.{orders_pointers}
 use Rattle.ir_ast.specs.Faults.TypeClash.{Fits, IsTyped, asked}
-use Rattle.ir_ast.specs.Faults.UnknownName.{NamesOfFunction, NamesOfModule}
+use Rattle.ir_ast.specs.Faults.UnknownName.{NamesOfModule}
 use Rattle.std.proofs.lemmas.List.{length-map}
 use Rattle.rewritten_definite.proofs.PieceLaws.{split_place}
 use Rattle.rewritten_shape.specs.WellFormed.{Carries, CarriesEntry, IsWellFormed, LineCarries, SeesAlike}
@@ -42,9 +41,11 @@ pub used_type : (scope : Scope) (inst : Instruction) → IsTyped scope inst → 
 used_type scope inst typed k o at = elim (split_place inst.operands (map (λ (entry : Ty × Operand). entry.1) inst.bundle) k o at) [
   | inl own ↦ fits_at scope.values inst.operands (asked inst.op inst.ty (length inst.operands)) k o typed.operands own
   | inr there ↦
-      let before = map_back (λ (entry : Ty × Operand). entry.1) inst.bundle there.0 o there.2 in
-      ((before.before).0, subst (λ (x : Operand). Fits scope.values x (before.before).0) (sym before.is)
-      (all_at (λ (entry : Ty × Operand). Fits scope.values entry.1 entry.0) inst.bundle there.0 before.before typed.bundle before.stands))
+      let before = map_back (λ (entry : Ty × Operand). entry.1) inst.bundle there.0 o there.2 in (
+        (before.before).0,
+        subst (λ (x : Operand). Fits scope.values x (before.before).0) (sym before.is)
+            (all_at (λ (entry : Ty × Operand). Fits scope.values entry.1 entry.0) inst.bundle there.0 before.before typed.bundle before.stands),
+      )
 ]
 
 value_fits : (values : List Ty) (o : Operand) (v : ℕ) (ty : Ty) → value_in o ≡ Some v → Fits values o ty → slice_get values v ≡ Some ty

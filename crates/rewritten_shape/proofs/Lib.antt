@@ -12,3 +12,4 @@ pub mod BasedTypes
 pub mod BasedLines
 pub mod BasedModule
 pub mod TargetLaws
+pub mod Worked

@@ -1,13 +1,12 @@
 -- The rewritten module is typed.
-use Rattle.std.proofs.Common.{◌≡◌, ℕ, zero, suc, ◌+◌, ◌^◌, ◌<◌, ◌≤◌, true, false, List, [], ◌∷◌, ◌++◌, length, map, refl, sym, ap, subst, ◌∙◌, arith}
+use Rattle.std.proofs.Common.{◌≡◌, ℕ, suc, ◌+◌, ◌≤◌, false, List, [], ◌∷◌, ◌++◌, length, map, refl, sym, ap, subst, ◌∙◌, arith}
 use Rattle.std.specs.Prelude.{Option, Some, None, codes, filter, slice_get}
 use Rattle.std.specs.List.{All, flat_map}
 use Rattle.std.specs.Option.{option_map}
-use Rattle.std.proofs.lemmas.List.{length-append, length-map}
-use Rattle.std.proofs.lemmas.List.Elements.{All-append, All-cons, All-nil, filter-append}
+use Rattle.std.proofs.lemmas.List.{length-append}
+use Rattle.std.proofs.lemmas.List.Elements.{All-cons, All-nil, filter-append}
 use Rattle.std.proofs.lemmas.Option.{get_or_from_slice_get}
 use Rattle.list_laws.proofs.Contents.{all_at, all_back, all_from_at}
-use Rattle.list_laws.proofs.Places.{map_back}
 use Rattle.renaming_laws.proofs.ListLaws.{all_first, all_rest}
 use Rattle.ir_ast.specs.declared.funcs.Arg.{Arg}
 use Rattle.ir_ast.specs.declared.modules.Form.TheVariants.{Rewritten}
@@ -23,7 +22,7 @@ use Rattle.ir_ast.specs.Lists.{Distinct}
 use Rattle.ir_ast.specs.Scope.{scope_of, signature_of}
 use Rattle.ir_ast.specs.Values.{definition_name, definitions_of}
 use Rattle.ir_ast.specs.Widths.{IsWidth, line_widths, type_widths}
-use Rattle.ir_ast.specs.Faultless.{FunctionHasNoFault, HasNoFault}
+use Rattle.ir_ast.specs.Faultless.{FunctionHasNoFault}
 use Rattle.ir_ast.specs.Faults.EntryHasPred.{LeavesEntry}
 use Rattle.ir_ast.specs.Faults.GroupShape.{is_statepoint}
 use Rattle.ir_ast.specs.Faults.NameTwice.{NamesAreDistinct}
@@ -32,7 +31,6 @@ use Rattle.ir_ast.specs.Faults.PointerOrder.{orders_pointers}
 use Rattle.ir_ast.specs.Faults.Reserved.{IsExternalName}
 use Rattle.ir_ast.specs.Faults.TypeClash.{FunctionIsTyped, IsTyped}
 use Rattle.ir_ast.specs.Faults.UnknownName.{NamesOfFunction, NamesOfModule}
-use Rattle.ir_cfg.specs.DefiniteUses.{Stands}
 use Rattle.ir_cfg.specs.TypedModules.{IsTypedFunction, IsTypedModule}
 use Rattle.ir_cfg.proofs.KeepsForms.{all_flat}
 use Rattle.ir_cfg.proofs.KeepsLines.{all_insts, line_at}
@@ -44,15 +42,14 @@ use Rattle.rewriting_forms.specs.Rewritten.{names_of, place_in, rewritten, rewri
 use Rattle.rewriting_laws.specs.Laws.{Fits, IsNumbering, IsPlain}
 use Rattle.rewriting_laws.specs.Laws as laws
 use Rattle.rewriting_laws.specs.Related.{IsRewriting}
-use Rattle.rewriting_laws.specs.Statements.{IsBefore, func_of, no_function, rewritings}
+use Rattle.rewriting_laws.specs.Statements.{func_of, no_function, rewritings}
 use Rattle.rewriting_laws.proofs.Whole.{modules, now_get}
 use Rattle.rewritten_definite.proofs.LineLaws.{line_forth, line_from}
-use Rattle.rewritten_definite.proofs.NowLaws.{now, number}
+use Rattle.rewritten_definite.proofs.NowLaws.{now}
 use Rattle.rewritten_shape.specs.Statements.{HasRoomForGroups, IsTypedBefore, RewrittenIsTyped}
-use Rattle.rewritten_shape.specs.WellFormed.{IsGroupName, IsWellFormed, SeesAlike}
+use Rattle.rewritten_shape.specs.WellFormed.{IsWellFormed, SeesAlike}
 use Rattle.rewritten_shape.proofs.CountLaws.{points_few}
 use Rattle.rewritten_shape.proofs.FunctionLaws.{NoPoint, distinct_labels, distinct_values, has_no_fault, is_typed, is_typed_function, no_tokens}
-use Rattle.rewritten_shape.proofs.KeptLaws.{AreAlike}
 use Rattle.rewritten_shape.proofs.NamedLaws.{front_in_text}
 use Rattle.rewritten_shape.proofs.PassLaws.{IsNamed}
 
@@ -243,9 +240,9 @@ module _ (content : ModuleContent) (tables : ℕ → List Operand) (is : IsTyped
       let here = now_points from func (ap (slice_get content.funcs) (sym none) ∙ each 0 func refl) in
       let rest = points_from (suc from) funcs (λ i one at. let e : suc from + i ≡ from + suc i = omega arith in ap (slice_get content.funcs) e ∙ each (suc i) one at) in
       let split = ap length (filter-append (λ (inst : Instruction). is_statepoint inst.op) (instructions_of (rewritten func (tables from)).blocks)
-          (flat_map (λ (f : Function). instructions_of f.blocks) (rewritten_funcs tables (suc from) funcs))) in
+      (flat_map (λ (f : Function). instructions_of f.blocks) (rewritten_funcs tables (suc from) funcs))) in
       let sum = length-append (filter (λ (inst : Instruction). is_statepoint inst.op) (instructions_of (rewritten func (tables from)).blocks))
-          (filter (λ (inst : Instruction). is_statepoint inst.op) (flat_map (λ (f : Function). instructions_of f.blocks) (rewritten_funcs tables (suc from) funcs))) in
+      (filter (λ (inst : Instruction). is_statepoint inst.op) (flat_map (λ (f : Function). instructions_of f.blocks) (rewritten_funcs tables (suc from) funcs))) in
       let long = length-append (instructions_of func.blocks) (flat_map (λ (f : Function). instructions_of f.blocks) funcs) in
       omega (arith, here, rest, split, sum, long)
 

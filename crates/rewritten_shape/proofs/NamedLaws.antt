@@ -1,34 +1,30 @@
 -- A name of the text has the type of its value: in the rewritten function the value with its number has.
-use Rattle.std.proofs.Common.{◌≡◌, ℕ, zero, suc, ◌+◌, ◌<◌, ◌≤◌, Bool, true, false, not, leb, ◌&&◌, if◌then◌else◌, List, [], ◌∷◌, ◌++◌, length, map, take, refl, sym, ap, subst, ◌∙◌, ◌⊎◌, inl, inr, arith}
+use Rattle.std.proofs.Common.{◌≡◌, ℕ, zero, suc, ◌+◌, ◌<◌, ◌≤◌, Bool, true, false, not, leb, ◌&&◌, if◌then◌else◌, List, [], ◌∷◌, ◌++◌, length, map, take, refl, sym, ap, ◌∙◌, inl, inr, arith}
 use Rattle.std.specs.Prelude.{Option, Some, None, is_some, filter, slice_get}
 use Rattle.std.specs.List.{range_with_len}
 use Rattle.std.specs.Option.{option_map, option_map_or}
-use Rattle.std.proofs.lemmas.Bool.{and_parts, cases_Bool, cases_lt, false≢true}
-use Rattle.std.proofs.lemmas.List.{get_or_past, length-append, length-map}
-use Rattle.std.proofs.lemmas.Option.{slice_get_within}
+use Rattle.std.proofs.lemmas.Bool.{and_parts, cases_lt, false≢true}
+use Rattle.std.proofs.lemmas.List.{get_or_past, length-append}
 use Rattle.list_laws.proofs.Places.{get_front, get_map, get_some, map_back}
-use Rattle.sp_ids.specs.declared.ids.ValueId.{ValueId}
 use Rattle.ir_ast.specs.declared.funcs.Arg.{Arg}
 use Rattle.ir_ast.specs.declared.types.Ty.{Ty}
 use Rattle.ir_ast.specs.declared.types.Ty.TheVariants.{Ptr, Token}
 use Rattle.ir_ast.specs.declared.ops.Callee.{Callee}
 use Rattle.ir_ast.specs.declared.ops.Op.{Op}
-use Rattle.ir_ast.specs.declared.ops.Op.TheVariants.{Call, GcResult}
 use Rattle.ir_ast.specs.declared.ops.Operand.{Operand}
-use Rattle.ir_ast.specs.Callees.{is_leaf}
 use Rattle.ir_ast.specs.Types.{is_pointer}
 use Rattle.ir_ast.specs.Insts.{Instruction}
 use Rattle.ir_ast.specs.Blocks.{BasicBlock}
 use Rattle.ir_ast.specs.Funcs.{Function, instructions_of}
-use Rattle.ir_ast.specs.Values.{Definition, Gives, argument, definition_type, definitions_of, outcome, outcome_type, value_types}
+use Rattle.ir_ast.specs.Values.{Definition, argument, definitions_of, outcome, outcome_type, value_types}
 use Rattle.ir_ast.specs.Faults.GroupShape.{number_at}
-use Rattle.ir_cfg.specs.DefiniteUses.{Defines, Stands, text_place}
+use Rattle.ir_cfg.specs.DefiniteUses.{Defines, Stands}
 use Rattle.object_meaning.specs.Lines.{Line}
-use Rattle.rewriting_forms.specs.Numbered.{among, calls, gives, is_call, line_at, lines_at, no_line, pointers, preds}
+use Rattle.rewriting_forms.specs.Numbered.{among, calls, gives, line_at, lines_at, no_line, pointers, preds}
 use Rattle.rewriting_forms.specs.Liveness.{is_live, is_live_after, live_front, live_list}
 use Rattle.rewriting_forms.specs.Names as forms
 use Rattle.rewriting_forms.specs.Names.{Name, Names, Naming, arriving, front_within, is_many, joins_of, names_at, names_from, naming_of, own, stands_in_list}
-use Rattle.rewriting_forms.specs.Rewritten.{Piece, expanded, expanded_by, group, inserted_phi, joined_at, piece_inst, plain, relocate_of, statepoint}
+use Rattle.rewriting_forms.specs.Rewritten.{Piece, expanded, group, inserted_phi, joined_at, piece_inst, plain, relocate_of, statepoint}
 use Rattle.rewriting_laws.specs.Laws.{IsNumbering, owner_of}
 use Rattle.rewriting_laws.proofs.JumpLemmas.{one_piece}
 use Rattle.rewriting_laws.proofs.LiveLaws.{front_within as live_within}

@@ -1,12 +1,12 @@
 -- The lines that the rewriting writes are well formed: plain lines renamed, inserted phis, and groups.
-use Rattle.std.proofs.Common.{◌≡◌, ℕ, zero, suc, ◌+◌, ◌-◌, ◌*◌, ◌^◌, ◌<◌, ◌≤◌, Bool, true, false, not, eqb, ltb, ◌&&◌, if◌then◌else◌, List, [], ◌∷◌, ◌++◌, length, map, take, drop, replicate, refl, sym, ap, subst, ◌∙◌, ◌⊎◌, inl, inr, append-nil, arith}
+use Rattle.std.proofs.Common.{◌≡◌, ℕ, zero, suc, ◌+◌, ◌-◌, ◌^◌, ◌<◌, ◌≤◌, Bool, true, false, not, eqb, ltb, ◌&&◌, if◌then◌else◌, List, [], ◌∷◌, ◌++◌, length, map, take, drop, replicate, refl, sym, ap, subst, ◌∙◌, ◌⊎◌, inl, inr, arith}
 use Rattle.std.specs.Prelude.{Option, Some, None, filter, is_some, slice_get}
 use Rattle.std.specs.List.{All, AllZip, filter_map, flat_map, list_all, list_any, position_or_len, range_with_len}
 use Rattle.std.specs.Option.{option_map, option_map_or}
-use Rattle.std.proofs.lemmas.Bool.{cases_Bool, cases_lt, eq-eqb, false≢true, ltb-true}
+use Rattle.std.proofs.lemmas.Bool.{cases_Bool, eq-eqb, false≢true, ltb-true}
 use Rattle.std.proofs.Math.Seq.{drop-append_seam}
 use Rattle.std.proofs.lemmas.List.{length-append, length-map}
-use Rattle.std.proofs.lemmas.List.Elements.{All-append, All-cons, All-nil}
+use Rattle.std.proofs.lemmas.List.Elements.{All-append, All-nil}
 use Rattle.std.proofs.lemmas.List.FromFn.{length-range_with_len}
 use Rattle.std.proofs.lemmas.Option.{none-some, slice_get_within}
 use Rattle.list_laws.proofs.Contents.{all_at, all_back, all_from_at, all_front}
@@ -28,7 +28,7 @@ use Rattle.ir_ast.specs.Funcs.{Function}
 use Rattle.ir_ast.specs.Modules.{ModuleContent}
 use Rattle.ir_ast.specs.Lines.{Arguments, IsCall, IsLine, IsStatepoint, LineOf}
 use Rattle.ir_ast.specs.Operands.{functions_named, is_value, layouts_named, operands_of}
-use Rattle.ir_ast.specs.Scope.{Scope, scope_of}
+use Rattle.ir_ast.specs.Scope.{scope_of}
 use Rattle.ir_ast.specs.Types.{is_answer, is_first_class, is_pointer, is_void}
 use Rattle.ir_ast.specs.Values.{definition_type, definitions_of, value_types}
 use Rattle.ir_ast.specs.Widths.{IsWidth, line_widths, operator_widths, type_widths}
@@ -44,7 +44,7 @@ use Rattle.rewriting_forms.specs.Numbered.{among, base_at, calls, gives, line_at
 use Rattle.rewriting_forms.specs.Liveness.{is_live_after, live_list, live_table}
 use Rattle.rewriting_forms.specs.Names as forms
 use Rattle.rewriting_forms.specs.Names.{Name, Names, Naming, names_at, names_at_end, own}
-use Rattle.rewriting_forms.specs.Rewritten.{Piece, entries, index_of, inserted_phi, is_null, phi_operands, piece_inst, plain, relocate_of, renamed, same_operand, statepoint}
+use Rattle.rewriting_forms.specs.Rewritten.{entries, index_of, inserted_phi, is_null, phi_operands, piece_inst, plain, relocate_of, renamed, same_operand, statepoint}
 use Rattle.rewriting_laws.specs.Laws.{Fits as NamingFits, IsNumbering, Reached, at_first, over, owner_of}
 use Rattle.rewriting_laws.specs.Laws as laws
 use Rattle.rewriting_laws.proofs.LiveLaws.{any_at}
@@ -54,9 +54,9 @@ use Rattle.base_definite.proofs.CutLaws.{take_front_of}
 use Rattle.rewritten_definite.proofs.LineLaws.{LineFrom, line_from}
 use Rattle.rewritten_definite.proofs.NowLaws.{now, number, text}
 use Rattle.rewritten_definite.proofs.PieceLaws.{result_piece, split_place}
-use Rattle.rewritten_shape.specs.WellFormed.{Carries, CarriesEntry, IsWellFormed, LineCarries, SeesAlike}
+use Rattle.rewritten_shape.specs.WellFormed.{Carries, CarriesEntry, IsWellFormed, LineCarries}
 use Rattle.rewritten_shape.proofs.KeptLaws.{AreAlike, values_known, well_carried}
-use Rattle.rewritten_shape.proofs.NamedLaws.{InText, a_join, a_relocate, a_result, a_token, listed_pointer, name_type, names_in_text, owner_type, pointer_is}
+use Rattle.rewritten_shape.proofs.NamedLaws.{InText, a_token, listed_pointer, name_type, names_in_text, owner_type, pointer_is}
 
 -- ---- lists
 
@@ -438,8 +438,10 @@ module _ (content other : ModuleContent) (func : Function) (table : List Operand
         rule = tt;
       } in
       record {
-        line = (record { result = refl; type = refl; operand_count = refl; values = refl; label_count = refl; no_bundle = refl },
-            (index_of func table b k (base_at table v), index_of func table b k (named v), (record { 0 = to (forms.token b k) }, refl)));
+        line = (
+          record { result = refl; type = refl; operand_count = refl; values = refl; label_count = refl; no_bundle = refl },
+          (index_of func table b k (base_at table v), index_of func table b k (named v), (record { 0 = to (forms.token b k) }, refl)),
+        );
         typed = typed;
         local = record { values = values_known other (now func table naming) relocate typed; blocks = All-nil (λ (label : BlockId). label.0 < length (now func table naming).blocks) };
         global = record { layouts = All-nil (λ layout. layout < length other.layouts); functions = All-nil (λ named. named < length other.funcs) };

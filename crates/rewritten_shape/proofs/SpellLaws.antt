@@ -1,16 +1,16 @@
 -- The names of the values of the rewritten function: each is spelled by its name, and no two are spelled alike.
-use Rattle.std.proofs.Common.{◌≡◌, ℕ, zero, suc, ◌+◌, ◌^◌, ◌<◌, ◌≤◌, Bool, true, false, not, eqb, leb, ◌&&◌, ◌||◌, if◌then◌else◌, List, [], ◌∷◌, ◌++◌, length, map, get_or, take, drop, refl, sym, ap, subst, ◌∙◌, ◌⊎◌, inl, inr, append_assoc, arith}
-use Rattle.std.specs.Prelude.{Option, Some, None, codes, filter, is_some, slice_get, unwrap_or}
+use Rattle.std.proofs.Common.{◌≡◌, ℕ, zero, suc, ◌+◌, ◌^◌, ◌<◌, ◌≤◌, Bool, true, false, eqb, leb, ◌&&◌, if◌then◌else◌, List, [], ◌∷◌, ◌++◌, length, map, get_or, take, drop, refl, sym, ap, subst, ◌∙◌, inl, inr, arith}
+use Rattle.std.specs.Prelude.{Option, Some, None, filter, is_some, slice_get}
 use Rattle.std.specs.List.{All, flat_map, list_all, range_with_len}
 use Rattle.std.specs.Fmt.{decimal}
-use Rattle.std.specs.Option.{option_map, option_map_or}
+use Rattle.std.specs.Option.{option_map_or}
 use Rattle.std.specs.Str.Parse.{AllDigits}
-use Rattle.std.proofs.lemmas.Bool.{cases_Bool, cases_eq, cases_lt, eq-eqb, false≢true, le-leb, or_left, or_right, true≢false}
+use Rattle.std.proofs.lemmas.Bool.{cases_lt, eq-eqb, le-leb, or_left, or_right, true≢false}
 use Rattle.std.proofs.lemmas.Fmt.{decimal_injective, decimal_is_IsNumeral}
 use Rattle.std.proofs.lemmas.List.{get_or_past, length-append, length-map, map-append}
 use Rattle.std.proofs.lemmas.List.Elements.{All-append, All-cons, All-nil, filter-append}
 use Rattle.std.proofs.lemmas.List.FromFn.{length-range_with_len}
-use Rattle.std.proofs.lemmas.Option.{none-some, slice_get_within}
+use Rattle.std.proofs.lemmas.Option.{slice_get_within}
 use Rattle.std.proofs.lemmas.Str.Parse.{tells_digits}
 use Rattle.list_laws.proofs.Contents.{all_at, all_from_at}
 use Rattle.list_laws.proofs.Places.{get_front, get_map, get_some, map_back}
@@ -29,7 +29,7 @@ use Rattle.rewriting_forms.specs.Numbered.{calls, line_at, lines_at, no_line}
 use Rattle.rewriting_forms.specs.Liveness.{live_list}
 use Rattle.rewriting_forms.specs.Names as forms
 use Rattle.rewriting_forms.specs.Names.{Name, Naming, own}
-use Rattle.rewriting_forms.specs.Rewritten.{Piece, block_names, is_joined, is_relocated, is_token, joined_at, line_names, names_of, old_name, piece_inst, place_in, rewritten_blocks, same_name, spelled}
+use Rattle.rewriting_forms.specs.Rewritten.{Piece, block_names, is_joined, is_relocated, is_token, joined_at, line_names, names_of, old_name, piece_inst, place_in, rewritten_blocks, same_name}
 use Rattle.rewriting_laws.proofs.ApartLaws.{names_apart}
 use Rattle.rewriting_laws.proofs.NameLemmas.{line_is}
 use Rattle.rewriting_laws.proofs.PlaceLaws.{Apart, piece_names, pieces_names}
