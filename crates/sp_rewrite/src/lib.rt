@@ -1,0 +1,9 @@
+//! The rewriting of a module with statepoints, as LLVM's passes "PlaceSafepoints" and "RewriteStatepointsForGC" do it: its laws. No code yet.
+#![tactic(auto)]
+
+mod laws;
+
+pub use laws::{
+    functions_are_ready, rewriting_is_by_function, rewriting_is_one, rewriting_is_target,
+    rewriting_keeps_meaning,
+};
