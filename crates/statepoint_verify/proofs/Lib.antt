@@ -1,0 +1,5 @@
+pub mod GroupLemmas
+pub mod TestLemmas
+pub mod MarkLemmas
+pub mod JudgeLemmas
+pub mod LeastLemmas

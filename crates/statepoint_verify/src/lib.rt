@@ -1,0 +1,16 @@
+//! The verifier of rewritten modules: whether each use has a fresh pointer with its fresh base on every path.
+#![tactic(auto)]
+
+mod accesses;
+mod entries;
+mod faults;
+mod groups;
+mod insts;
+mod least;
+mod lines;
+mod marks;
+mod pairs;
+mod verdict;
+
+pub use faults::{Fault, VerifyFault};
+pub use verdict::{Verified, verify};
