@@ -1,0 +1,5 @@
+pub mod StepLemmas
+pub mod TaskLemmas
+pub mod CallLemmas
+pub mod EventLemmas
+pub mod RunLemmas

@@ -1,0 +1,137 @@
+-- Tasks that wait, by number.
+use Rattle.std.proofs.Common.{◌≡◌, ℕ, zero, suc, ◌+◌, ◌<◌, List, [], ◌∷◌, ◌++◌, length, map, set, get_or, refl, sym, ap, subst, ◌∙◌, arith}
+use Rattle.std.specs.Prelude.{Option, Some, None, unwrap_or, slice_get, slice_index_or, Result, Ok, Err}
+use Rattle.std.specs.Option.{option_map}
+use Rattle.std.proofs.lemmas.List.{map-set, length-map}
+use Rattle.std.proofs.lemmas.Option.{slice_get-map, slice_get_within}
+use Rattle.moving_heap.specs.declared.stands.Moved.{Moved}
+use Rattle.object_meaning.specs.States.{Frame, State}
+use Rattle.object_meaning.specs.Effects.{Effect, goes_on, ends}
+use Rattle.machine_meaning.specs.Machines.{Machine, Machinery}
+use Rattle.machine_meaning.specs.Moving.{joined, walked_task, walked_tasks}
+use Rattle.machine_frames.specs.declared.tasks.Task.{Task}
+use Rattle.machine_frames.specs.Frames.{frames_of}
+use Rattle.ir_machine.specs.Executors.{waiting, kept}
+use Rattle.ir_machine.specs.Events.{IsLost}
+
+-- a write that is written again
+pub set_twice : {X : Type 0} (xs : List X) (i : ℕ) (a b : X) → set (set xs i a) i b ≡ set xs i b
+set_twice [] i a b = refl
+set_twice (x ∷ xs) zero a b = refl
+set_twice (x ∷ xs) (suc i) a b = ap (λ rest. x ∷ rest) (set_twice xs i a b)
+
+pub set_again : {X : Type 0} (xs : List X) (i j : ℕ) (a b : X) → set (set (set xs i a) j b) i a ≡ set (set xs j b) i a
+set_again [] i j a b = refl
+set_again (x ∷ xs) zero zero a b = refl
+set_again (x ∷ xs) zero (suc j) a b = refl
+set_again (x ∷ xs) (suc i) zero a b = ap (λ rest. b ∷ rest) (set_twice xs i a a)
+set_again (x ∷ xs) (suc i) (suc j) a b = ap (λ rest. x ∷ rest) (set_again xs i j a b)
+
+-- a task without frames that is set to have none
+pub set_none : {X : Type 0} (xs : List (Option X)) (i : ℕ) → unwrap_or (slice_get xs i) None ≡ None → set xs i None ≡ xs
+set_none [] i e = refl
+set_none {X = X} (x ∷ xs) zero e = ap (λ (first : Option X). first ∷ xs) (sym e)
+set_none (x ∷ xs) (suc i) e = ap (λ rest. x ∷ rest) (set_none xs i e)
+
+pub found_some : {X : Type 0} (x : X) (found : Option (Option X)) → unwrap_or found None ≡ Some x → found ≡ Some (Some x)
+found_some x None e = cc
+found_some x (Some found) e = ap (λ f. Some f) e
+
+pub waiting_at : (tasks : List (Option Task)) (task : ℕ) (found : Option (Option Task)) → slice_get tasks task ≡ found
+    → slice_get (map waiting tasks) task ≡ option_map waiting found
+waiting_at tasks task found is = slice_get-map waiting tasks task ∙ ap (option_map waiting) is
+
+pub kept_at : (tasks : List (Option Task)) (task : ℕ) (words : Task) → slice_get tasks task ≡ Some (Some words)
+    → slice_index_or (map kept tasks) task [] ≡ words.stack
+kept_at [] task words is = cc
+kept_at (one ∷ tasks) zero words is = let e : one ≡ Some words = cc in ap kept e
+kept_at (one ∷ tasks) (suc task) words is = kept_at tasks task words is
+
+-- ---- the walk over all tasks
+
+abbrev walk_of : Machinery → List Moved → List (Option Task) → Result (List (List ℕ)) ℕ
+walk_of machinery moves tasks = walked_tasks machinery moves (map waiting tasks) (map kept tasks)
+
+joined_ok : (one : Result (List ℕ) ℕ) (more : Result (List (List ℕ)) ℕ) (first : List ℕ) (rest : List (List ℕ)) → joined one more ≡ Ok (first ∷ rest)
+    → (one ≡ Ok first) × (more ≡ Ok rest)
+joined_ok (Ok stack) (Ok stacks) first rest e = ((let same : stack ≡ first = cc in ap Ok same), (let same : stacks ≡ rest = cc in ap Ok same))
+joined_ok (Ok stack) (Err lost) first rest e = cc
+joined_ok (Err lost) more first rest e = cc
+
+joined_both : (one : Result (List ℕ) ℕ) (more : Result (List (List ℕ)) ℕ) (first : List ℕ) (rest : List (List ℕ)) → one ≡ Ok first → more ≡ Ok rest
+    → joined one more ≡ Ok (first ∷ rest)
+joined_both one more first rest e f = ap (λ o. joined o more) e ∙ ap (joined (Ok first)) f
+
+-- where the running task is put into its place among the others
+pub hole_walks : (machinery : Machinery) (moves : List Moved) (tasks after : List (Option Task)) (place : ℕ) (frames : List Frame) (stack new : List ℕ)
+    → slice_get tasks place ≡ Some None → walk_of machinery moves tasks ≡ Ok (map kept after) → length after ≡ length tasks → walked_task machinery moves frames stack ≡ Ok new
+    → walked_tasks machinery moves (set (map waiting tasks) place frames) (set (map kept tasks) place stack) ≡ Ok (set (map kept after) place new)
+hole_walks machinery moves [] after place frames stack new there others same one = cc
+hole_walks machinery moves (first ∷ tasks) [] place frames stack new there others same one = absurd (omega arith)
+hole_walks machinery moves (first ∷ tasks) (next ∷ after) zero frames stack new there others same one =
+    let both = joined_ok (walked_task machinery moves (waiting first) (kept first)) (walk_of machinery moves tasks) (kept next) (map kept after) others in
+    joined_both (walked_task machinery moves frames stack) (walk_of machinery moves tasks) new (map kept after) one both.1
+hole_walks machinery moves (first ∷ tasks) (next ∷ after) (suc place) frames stack new there others same one =
+    let both = joined_ok (walked_task machinery moves (waiting first) (kept first)) (walk_of machinery moves tasks) (kept next) (map kept after) others in
+    let fewer : length after ≡ length tasks = omega arith in
+    joined_both (walked_task machinery moves (waiting first) (kept first)) (walked_tasks machinery moves (set (map waiting tasks) place frames) (set (map kept tasks) place stack))
+    (kept next) (set (map kept after) place new) both.0 (hole_walks machinery moves tasks after place frames stack new there both.1 fewer one)
+
+-- and its place is empty again
+pub hole_again : (machinery : Machinery) (moves : List Moved) (tasks after : List (Option Task)) (place : ℕ)
+    → slice_get tasks place ≡ Some None → walk_of machinery moves tasks ≡ Ok (map kept after) → length after ≡ length tasks
+    → set (map kept after) place [] ≡ map kept after
+hole_again machinery moves [] after place there others same = cc
+hole_again machinery moves (first ∷ tasks) [] place there others same = absurd (omega arith)
+hole_again machinery moves (first ∷ tasks) (next ∷ after) zero there others same =
+    let none : first ≡ None = cc in
+    let both = joined_ok (walked_task machinery moves (waiting first) (kept first)) (walk_of machinery moves tasks) (kept next) (map kept after) others in
+    let nothing : Ok [] ≡ Ok (kept next) = sym (ap (λ (o : Option Task). walked_task machinery moves (waiting o) (kept o)) none) ∙ both.0 in
+    let is : [] ≡ kept next = cc in ap (λ (words : List ℕ). words ∷ map kept after) is
+hole_again machinery moves (first ∷ tasks) (next ∷ after) (suc place) there others same =
+    let both = joined_ok (walked_task machinery moves (waiting first) (kept first)) (walk_of machinery moves tasks) (kept next) (map kept after) others in
+    let fewer : length after ≡ length tasks = omega arith in
+    ap (λ rest. kept next ∷ rest) (hole_again machinery moves tasks after place there both.1 fewer)
+
+-- a lost frame of any task
+joined_lost : (one : Result (List ℕ) ℕ) (more : Result (List (List ℕ)) ℕ) (address : ℕ) → one ≡ Err address → joined one more ≡ Err address
+joined_lost one more address e = ap (λ o. joined o more) e
+
+joined_later : (one : Result (List ℕ) ℕ) (more : Result (List (List ℕ)) ℕ) → IsLost more → IsLost (joined one more)
+joined_later (Ok stack) more lost = record { address = lost.address; is = ap (joined (Ok stack)) lost.is }
+joined_later (Err address) more lost = record { address = address; is = refl }
+
+pub lost_here : (machinery : Machinery) (moves : List Moved) (tasks : List (Option Task)) (place : ℕ) (frames : List Frame) (stack : List ℕ) (address : ℕ)
+    → slice_get tasks place ≡ Some None → walked_task machinery moves frames stack ≡ Err address
+    → IsLost (walked_tasks machinery moves (set (map waiting tasks) place frames) (set (map kept tasks) place stack))
+lost_here machinery moves [] place frames stack address there one = cc
+lost_here machinery moves (first ∷ tasks) zero frames stack address there one =
+    record { address = address; is = joined_lost (walked_task machinery moves frames stack) (walk_of machinery moves tasks) address one }
+lost_here machinery moves (first ∷ tasks) (suc place) frames stack address there one =
+    joined_later (walked_task machinery moves (waiting first) (kept first)) (walked_tasks machinery moves (set (map waiting tasks) place frames) (set (map kept tasks) place stack))
+    (lost_here machinery moves tasks place frames stack address there one)
+
+-- one of the two is lost
+joined_lost_of : (one : Result (List ℕ) ℕ) (more : Result (List (List ℕ)) ℕ) (other : Result (List (List ℕ)) ℕ) → IsLost (joined one more) → (IsLost more → IsLost other) → IsLost (joined one other)
+joined_lost_of (Ok stack) (Ok stacks) other lost later = absurd (let no : Ok (stack ∷ stacks) ≡ Err lost.address = lost.is in cc)
+joined_lost_of (Ok stack) (Err address) other lost later = joined_later (Ok stack) other (later (record { address = address; is = refl }))
+joined_lost_of (Err address) more other lost later = record { address = address; is = refl }
+
+lost_behind : (one : Result (List ℕ) ℕ) (more : Result (List (List ℕ)) ℕ) (words : List ℕ) → one ≡ Ok words → IsLost (joined one more) → IsLost more
+lost_behind one (Err address) words e lost = record { address = address; is = refl }
+lost_behind one (Ok stacks) words e lost =
+    absurd (let no : Ok (words ∷ stacks) ≡ Err lost.address = sym (ap (λ o. joined o (Ok stacks)) e) ∙ lost.is in cc)
+
+pub lost_there : (machinery : Machinery) (moves : List Moved) (tasks : List (Option Task)) (place : ℕ) (frames : List Frame) (stack : List ℕ)
+    → slice_get tasks place ≡ Some None → IsLost (walk_of machinery moves tasks)
+    → IsLost (walked_tasks machinery moves (set (map waiting tasks) place frames) (set (map kept tasks) place stack))
+lost_there machinery moves [] place frames stack there lost = cc
+lost_there machinery moves (first ∷ tasks) zero frames stack there lost =
+    let none : first ≡ None = cc in
+    let nothing : walked_task machinery moves (waiting first) (kept first) ≡ Ok [] = ap (λ (o : Option Task). walked_task machinery moves (waiting o) (kept o)) none in
+    joined_later (walked_task machinery moves frames stack) (walk_of machinery moves tasks)
+    (lost_behind (walked_task machinery moves (waiting first) (kept first)) (walk_of machinery moves tasks) [] nothing lost)
+lost_there machinery moves (first ∷ tasks) (suc place) frames stack there lost =
+    joined_lost_of (walked_task machinery moves (waiting first) (kept first)) (walk_of machinery moves tasks)
+    (walked_tasks machinery moves (set (map waiting tasks) place frames) (set (map kept tasks) place stack)) lost
+    (λ later. lost_there machinery moves tasks place frames stack there later)
