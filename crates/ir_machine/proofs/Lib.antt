@@ -1,4 +1,5 @@
 pub mod StepLemmas
+pub mod AccessLemmas
 pub mod TaskLemmas
 pub mod CallLemmas
 pub mod EventLemmas

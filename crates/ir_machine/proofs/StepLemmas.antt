@@ -3,6 +3,7 @@ use Rattle.std.proofs.Common.{◌≡◌, ℕ, ◌+◌, ◌<◌, ◌≤◌, Bool,
 use Rattle.std.proofs.lemmas.Bool.{le-ltb}
 use Rattle.std.specs.Prelude.{Result, Ok, Err}
 use Rattle.std.specs.Result.{IfOk}
+use Rattle.std.proofs.lemmas.Result.{IfOk-weaker}
 use Rattle.sp_ids.specs.declared.memory.Memory.{Memory}
 use Rattle.sp_ids.specs.declared.ends.End.TheVariants.{OutOfSteps}
 use Rattle.sp_ids.specs.declared.ends.Trap.{Trap}
@@ -23,11 +24,15 @@ use Rattle.machine_meaning.specs.MachineSteps.{machine_acts}
 use Rattle.machine_frames.specs.Frames.{is_plain}
 use Rattle.ir_machine.specs.declared.executor.Executor.{Executor}
 use Rattle.ir_machine.specs.declared.executor.Did.{Did}
-use Rattle.ir_machine.specs.Executors.{DoesSo}
+use Rattle.ir_machine.specs.Executors.{DoesSo, told}
 
 -- the same effect, said otherwise
 pub does_as : (now : Executor) (result : Result Did Memory) (one other : Effect Machine) → one ≡ other → IfOk result (DoesSo one now) → IfOk result (DoesSo other now)
 does_as now result one other same does = subst (λ (effect : Effect Machine). IfOk result (DoesSo effect now)) same does
+
+-- an effect of which the same is told
+pub does_told : (now : Executor) (result : Result Did Memory) (one other : Effect Machine) → told one ≡ told other → IfOk result (DoesSo one now) → IfOk result (DoesSo other now)
+does_told now result one other same does = IfOk-weaker result (DoesSo one now) (DoesSo other now) (λ did d. d ∙ same) does
 
 plain_acts : (machinery : Machinery) (machine : Machine) (line : Line) (rest : List Line) (op : Op) → is_plain op ≡ true
     → machine_acts machinery machine line rest op

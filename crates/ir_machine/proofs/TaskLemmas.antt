@@ -4,14 +4,19 @@ use Rattle.std.specs.Prelude.{Option, Some, None, unwrap_or, slice_get, slice_in
 use Rattle.std.specs.Option.{option_map}
 use Rattle.std.proofs.lemmas.List.{map-set, length-map}
 use Rattle.std.proofs.lemmas.Option.{slice_get-map, slice_get_within}
+use Rattle.moving_heap.specs.Heaps.{HeapView}
+use Rattle.sp_ids.specs.declared.ends.End.TheVariants.{Trap}
+use Rattle.sp_ids.specs.declared.ends.Trap.TheVariants.{Unreachable}
 use Rattle.moving_heap.specs.declared.stands.Moved.{Moved}
+use Rattle.object_meaning.specs.Registers.{nothing}
 use Rattle.object_meaning.specs.States.{Frame, State}
 use Rattle.object_meaning.specs.Effects.{Effect, goes_on, ends}
-use Rattle.machine_meaning.specs.Machines.{Machine, Machinery}
+use Rattle.machine_meaning.specs.Machines.{Machine, Machinery, gone_on}
+use Rattle.machine_meaning.specs.MachineTasks.{switched_machine, handed_machine}
 use Rattle.machine_meaning.specs.Moving.{joined, walked_task, walked_tasks}
 use Rattle.machine_frames.specs.declared.tasks.Task.{Task}
-use Rattle.machine_frames.specs.Frames.{frames_of}
-use Rattle.ir_machine.specs.Executors.{waiting, kept}
+use Rattle.machine_frames.specs.Frames.{frame_of, below_of, frames_of}
+use Rattle.ir_machine.specs.Executors.{waiting, kept, without_words}
 use Rattle.ir_machine.specs.Events.{IsLost}
 
 -- a write that is written again
@@ -46,6 +51,82 @@ pub kept_at : (tasks : List (Option Task)) (task : ℕ) (words : Task) → slice
 kept_at [] task words is = cc
 kept_at (one ∷ tasks) zero words is = let e : one ≡ Some words = cc in ap kept e
 kept_at (one ∷ tasks) (suc task) words is = kept_at tasks task words is
+
+-- ---- another task runs
+
+abbrev pub with_task : Machine → Task → ℕ → List (Option Task) → Machine
+with_task machine run task tasks = record machine {
+  state = record machine.state { running = frame_of run.frame; below = below_of run; task = task; tasks = map waiting tasks };
+  stack = run.stack;
+  stacks = map kept tasks;
+}
+
+pub switched_some : (machine : Machine) (run next : Task) (task to : ℕ) (tasks after : List (Option Task)) → after ≡ set (set tasks task (Some run)) to None
+    → slice_get tasks to ≡ Some (Some next)
+    → with_task machine next to after ≡ switched_machine (with_task machine run task tasks) to (slice_get (map waiting tasks) to)
+switched_some machine run next task to tasks after after_is found =
+    let whole : List ℕ → List (List Frame) → List (List ℕ) → Machine = λ stack frames stacks. record machine {
+      state = record machine.state { running = frame_of next.frame; below = below_of next; task = to; tasks = frames };
+      stack = stack;
+      stacks = stacks;
+    } in
+    ap (with_task machine next to) after_is
+    ∙ ap (λ (frames : List (List Frame)). whole next.stack frames (map kept (set (set tasks task (Some run)) to None)))
+    (map-set waiting (set tasks task (Some run)) to None ∙ ap (λ (ts : List (List Frame)). set ts to []) (map-set waiting tasks task (Some run)))
+    ∙ ap (λ (stacks : List (List ℕ)). whole next.stack (set (set (map waiting tasks) task (frames_of run)) to []) stacks)
+    (map-set kept (set tasks task (Some run)) to None ∙ ap (λ (ts : List (List ℕ)). set ts to []) (map-set kept tasks task (Some run)))
+    ∙ ap (λ (stack : List ℕ). whole stack (set (set (map waiting tasks) task (frames_of run)) to []) (set (set (map kept tasks) task run.stack) to [])) (sym (kept_at tasks to next found))
+    ∙ ap (switched_machine (with_task machine run task tasks) to) (sym (waiting_at tasks to (Some (Some next)) found))
+
+pub switched_none : (machine : Machine) (tasks : List (Option Task)) (to : ℕ) → unwrap_or (slice_get tasks to) None ≡ None
+    → switched_machine machine to (slice_get (map waiting tasks) to) ≡ machine
+switched_none machine tasks to none = ap (switched_machine machine to) (slice_get-map waiting tasks to) ∙ at_none (slice_get tasks to) none
+  where
+    at_none : (found : Option (Option Task)) → unwrap_or found None ≡ None → switched_machine machine to (option_map waiting found) ≡ machine
+    at_none None e = refl
+    at_none (Some None) e = refl
+    at_none (Some (Some next)) e = cc
+
+pub handed_some : (machine : Machine) (run next : Task) (task : ℕ) (tasks after : List (Option Task)) → after ≡ set tasks 0 None → slice_get tasks 0 ≡ Some (Some next)
+    → goes_on (gone_on nothing (with_task machine next 0 after)) ≡ handed_machine (with_task machine run task tasks) (slice_get (map waiting tasks) 0)
+handed_some machine run next task tasks after after_is found =
+    let whole : List ℕ → List (List Frame) → List (List ℕ) → Effect Machine = λ stack frames stacks. goes_on (gone_on nothing (record machine {
+      state = record machine.state { running = frame_of next.frame; below = below_of next; task = 0; tasks = frames };
+      stack = stack;
+      stacks = stacks;
+    })) in
+    ap (λ (ts : List (Option Task)). goes_on (gone_on nothing (with_task machine next 0 ts))) after_is
+    ∙ ap (λ (frames : List (List Frame)). whole next.stack frames (map kept (set tasks 0 None))) (map-set waiting tasks 0 None)
+    ∙ ap (λ (stacks : List (List ℕ)). whole next.stack (set (map waiting tasks) 0 []) stacks) (map-set kept tasks 0 None)
+    ∙ ap (λ (stack : List ℕ). whole stack (set (map waiting tasks) 0 []) (set (map kept tasks) 0 [])) (sym (kept_at tasks 0 next found))
+    ∙ ap (handed_machine (with_task machine run task tasks)) (sym (waiting_at tasks 0 (Some (Some next)) found))
+
+pub handed_none : (machine : Machine) (tasks : List (Option Task)) → unwrap_or (slice_get tasks 0) None ≡ None
+    → ends (Trap Unreachable) machine ≡ handed_machine machine (slice_get (map waiting tasks) 0)
+handed_none machine tasks none = at_none (slice_get tasks 0) none ∙ ap (handed_machine machine) (sym (slice_get-map waiting tasks 0))
+  where
+    at_none : (found : Option (Option Task)) → unwrap_or found None ≡ None → ends (Trap Unreachable) machine ≡ handed_machine machine (option_map waiting found)
+    at_none None e = refl
+    at_none (Some None) e = refl
+    at_none (Some (Some next)) e = cc
+
+-- the walk leaves frames as they are
+pub same_frames : (machine : Machine) (run after : Task) (task : ℕ) (tasks others : List (Option Task)) → after ≡ record run { stack = after.stack } → map waiting others ≡ map waiting tasks
+    → without_words (with_task machine run task tasks) ≡ without_words (with_task machine after task others)
+same_frames machine run after task tasks others run_is others_are =
+    ap (λ (ts : List (List Frame)). without_words (record (with_task machine run task tasks) { state = record (with_task machine run task tasks).state { tasks = ts } })) (sym others_are)
+    ∙ ap (λ (r : Task). without_words (with_task machine r task others)) (sym run_is)
+
+pub moved_seen : (machine : Machine) (run after : Task) (task : ℕ) (tasks others : List (Option Task)) (heap now : HeapView) → after ≡ record run { stack = after.stack } → map waiting others ≡ map waiting tasks
+    → now ≡ heap
+    → record (with_task machine run task tasks) { stack = after.stack; stacks = map kept others; heap = heap } ≡ record (with_task machine after task others) { heap = now }
+moved_seen machine run after task tasks others heap now run_is others_are heap_is =
+    ap (λ (ts : List (List Frame)). record (with_task machine run task tasks) { state = record (with_task machine run task tasks).state { tasks = ts }; stack = after.stack; stacks = map kept others; heap = heap }) (sym others_are)
+    ∙ ap (λ (r : Task). record (with_task machine r task others) { stack = after.stack; heap = heap }) (sym run_is)
+    ∙ ap (λ (h : HeapView). record (with_task machine after task others) { heap = h }) (sym heap_is)
+
+pub same_count : (tasks others : List (Option Task)) → map waiting others ≡ map waiting tasks → length others ≡ length tasks
+same_count tasks others e = omega (arith, ap length e, length-map others waiting, length-map tasks waiting)
 
 -- ---- the walk over all tasks
 

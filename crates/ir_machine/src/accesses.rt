@@ -1,11 +1,9 @@
 //! Lines that touch pointers.
 
-ghost use Rattle.std.specs.Prelude.{◌≡◌, ◌%◌, ◌^◌, ◌*◌, ◌+◌, ◌==◌, ◌&&◌, ◌∷◌, length, IfOk};
-ghost use Rattle.std.specs.Int.{w64, cast_unsigned};
-ghost use Rattle.sp_ids.specs.Numbers.{signed};
-ghost use Rattle.ir_ast.specs.Objects.{number};
+ghost use Rattle.std.specs.Prelude.{◌≡◌, ◌%◌, ◌^◌, ◌==◌, ◌&&◌, IfOk};
 ghost use Rattle.ir_ast.specs.Sizes.{begins_at, fields_in};
 ghost use Rattle.object_meaning.specs.Accesses.{cell_named};
+ghost use Rattle.object_meaning.specs.Comparisons.{bit};
 ghost use Rattle.object_meaning.specs.Computing.{element_bytes, field_bytes};
 ghost use Rattle.object_meaning.specs.Numbers.{width_of};
 ghost use Rattle.machine_meaning.specs.Machines.{Machine};
@@ -29,7 +27,8 @@ impl<'m, 'i> Executor<'m, 'i> {
         index_width: u32,
         place: Option<u32>,
     ) -> Result<Did, Memory>
-        ensures { IfOk result (DoesSo (acts_at (machinery program.now) self.old inst.now rest.now (Op.Gep elem index_width place)) self.new) }
+        requires is { inst.now.op ≡ Op.Gep elem index_width place }
+        ensures { IfOk result (DoesSo (acts_at (machinery program.now) self.old inst.now rest.now inst.now.op) self.new) }
     {
         let layouts = program.code.module().layouts();
         let from = self.word(inst, 0);
@@ -44,7 +43,8 @@ impl<'m, 'i> Executor<'m, 'i> {
         inst: &Inst,
         rest: &'m [Inst],
     ) -> Result<Did, Memory>
-        ensures { IfOk result (DoesSo (acts_at (machinery program.now) self.old inst.now rest.now Op.Load) self.new) }
+        requires is { inst.now.op ≡ Op.Load }
+        ensures { IfOk result (DoesSo (acts_at (machinery program.now) self.old inst.now rest.now inst.now.op) self.new) }
     {
         match self.heap.load(self.word(inst, 0)) {
             Ok(word) => self.pass(inst, rest, word),
@@ -58,7 +58,8 @@ impl<'m, 'i> Executor<'m, 'i> {
         inst: &Inst,
         rest: &'m [Inst],
     ) -> Result<Did, Memory>
-        ensures { IfOk result (DoesSo (acts_at (machinery program.now) self.old inst.now rest.now Op.Store) self.new) }
+        requires is { inst.now.op ≡ Op.Store }
+        ensures { IfOk result (DoesSo (acts_at (machinery program.now) self.old inst.now rest.now inst.now.op) self.new) }
     {
         let word = self.word(inst, 0);
         let place = self.word(inst, 1);
@@ -95,9 +96,11 @@ impl<'m, 'i> Executor<'m, 'i> {
     ) -> Result<Did, Memory>
         ensures { IfOk result (DoesSo (calls_at (machinery program.now) self.old inst.now rest.now Callee.Same operands.now) self.new) }
     {
-        let bases = self.word(inst, 0) == self.word(inst, 2);
-        let places = self.word(inst, 1) == self.word(inst, 3);
-        self.go_on(u64::from(bases && places))
+        let base = self.word(inst, 0);
+        let place = self.word(inst, 1);
+        let other_base = self.word(inst, 2);
+        let other_place = self.word(inst, 3);
+        self.go_on(same_bit(base, place, other_base, other_place))
     }
 }
 
@@ -110,6 +113,13 @@ fn denied(deny: Deny) -> Did
         Deny::Kind => Did::Ends(End::Trap(Trap::Kind)),
         Deny::Poison => Did::Ends(End::Poison),
     }
+}
+
+// Whether two pointers are the same: equal bases and equal addresses.
+fn same_bit(base: u64, place: u64, other_base: u64, other_place: u64) -> u64
+    ensures { result ≡ bit ((base == other_base) && (place == other_place)) }
+{
+    u64::from(base == other_base && place == other_place)
 }
 
 fn cell_named(kind: u64) -> Cell
@@ -130,7 +140,8 @@ fn stepped_word(
 {
     let times = sign(width_of(&Ty::Int(index_width)), index).cast_unsigned();
     let step = times.wrapping_mul(element_bytes(layouts, elem));
-    from.wrapping_add(step.wrapping_add(field_bytes(layouts, elem, place)))
+    let by = step.wrapping_add(field_bytes(layouts, elem, place));
+    from.wrapping_add(by)
 }
 
 fn element_bytes(layouts: &[Layout], elem: Elem) -> u64

@@ -68,7 +68,8 @@ impl<'m, 'i> Executor<'m, 'i> {
     ) -> Result<Did, Memory>
         ensures { IfOk result (DoesSo (calls_at (machinery program.now) self.old inst.now rest.now (Callee.Fun (record { 0 = func })) operands.now) self.new) }
     {
-        if self.steps >= program.bound {
+        let bound = program.bound;
+        if self.steps >= bound {
             return Ok(Did::Ends(End::OutOfSteps));
         }
         self.steps += 1;
@@ -154,14 +155,17 @@ impl<'m, 'i> Executor<'m, 'i> {
         inst: &Inst,
         rest: &[Inst],
     ) -> Result<Did, Memory>
-        ensures { IfOk result (DoesSo (acts_at (machinery program.now) self.old inst.now rest.now Op.Ret) self.new) }
+        requires is { inst.now.op ≡ Op.Ret }
+        ensures { IfOk result (DoesSo (acts_at (machinery program.now) self.old inst.now rest.now inst.now.op) self.new) }
     {
-        if self.steps >= program.bound {
+        let bound = program.bound;
+        if self.steps >= bound {
             return Ok(Did::Ends(End::OutOfSteps));
         }
         self.steps += 1;
         let answer = self.word(inst, 0);
-        if self.run.leave(&program.code)? {
+        let left = self.run.leave(&program.code)?;
+        if left {
             self.go_on(answer)
         } else {
             self.end_task(width_of(inst.ty()), answer)

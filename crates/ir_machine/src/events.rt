@@ -42,10 +42,12 @@ impl<'m, 'i> Executor<'m, 'i> {
         if !waits_not(self.tasks.as_slice(), self.task) {
             return Err(Memory);
         }
-        if walk_task(program, &mut self.run, self.heap.moves())? {
+        let lost = walk_task(program, &mut self.run, self.heap.moves())?;
+        if lost {
             return Ok(true);
         }
-        if walk_tasks(program, self.tasks.as_mut_slice(), self.heap.moves())? {
+        let other = walk_tasks(program, self.tasks.as_mut_slice(), self.heap.moves())?;
+        if other {
             return Ok(true);
         }
         self.heap.apply();
@@ -62,7 +64,8 @@ impl<'m, 'i> Executor<'m, 'i> {
     ) -> Result<Did, Memory>
         ensures { IfOk result (DoesSo (calls_at (machinery program.now) self.old inst.now rest.now Callee.Poll operands.now) self.new) }
     {
-        if self.happen(program)? {
+        let lost = self.happen(program)?;
+        if lost {
             return Ok(Did::Ends(End::LostFrame));
         }
         self.go_to(program.plan.go(self.events));
@@ -80,7 +83,8 @@ impl<'m, 'i> Executor<'m, 'i> {
     ) -> Result<Did, Memory>
         ensures { IfOk result (DoesSo (calls_at (machinery program.now) self.old inst.now rest.now (Callee.New layout) operands.now) self.new) }
     {
-        if self.happen(program)? {
+        let lost = self.happen(program)?;
+        if lost {
             return Ok(Did::Ends(End::LostFrame));
         }
         let count = sign(64, self.argument(operands, 0));
@@ -120,11 +124,7 @@ impl<'m, 'i> Executor<'m, 'i> {
 fn flip_of(plan: &Plan, event: u64) -> Option<u64>
     ensures { result ≡ (if flips plan.now event then Some event else None) }
 {
-    if plan.flips(event) {
-        Some(event)
-    } else {
-        None
-    }
+    if plan.flips(event) { Some(event) } else { None }
 }
 
 // Whether there is a task of this number, and its frames are elsewhere.
@@ -179,7 +179,8 @@ fn walk_tasks<'m>(
     match tasks {
         [] => Ok(false),
         [first, rest @ ..] => {
-            if walk_slot(program, first, moves)? {
+            let lost = walk_slot(program, first, moves)?;
+            if lost {
                 return Ok(true);
             }
             walk_tasks(program, rest, moves)

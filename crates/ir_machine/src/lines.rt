@@ -25,7 +25,8 @@ impl<'m, 'i> Executor<'m, 'i> {
     pub fn step(&mut self, program: &Program<'m, '_>) -> Result<Did, Memory>
         ensures { IfOk result (DoesSo (machine_step (machinery program.now) (seen self.old)) self.new) }
     {
-        match self.run.frame.rest {
+        let lines = self.run.frame.rest;
+        match lines {
             [] => Ok(Did::Ends(End::Trap(Trap::Unreachable))),
             [inst, rest @ ..] => self.act(program, inst, rest),
         }
@@ -44,7 +45,11 @@ impl<'m, 'i> Executor<'m, 'i> {
             return self.compute(program, inst, rest);
         }
         match inst.op() {
-            Op::Gep { .. } => self.advance(program, inst, rest),
+            Op::Gep {
+                elem,
+                index_width,
+                place,
+            } => self.advance(program, inst, rest, *elem, *index_width, *place),
             Op::Load => self.load(program, inst, rest),
             Op::Store => self.store(program, inst, rest),
             Op::Call { callee, .. } => self.call(program, inst, rest, *callee, inst.operands()),
@@ -71,12 +76,7 @@ impl<'m, 'i> Executor<'m, 'i> {
     }
 
     // The running frame goes on behind the line with this word.
-    pub(crate) fn pass(
-        &mut self,
-        inst: &Inst,
-        rest: &'m [Inst],
-        word: u64,
-    ) -> Result<Did, Memory>
+    pub(crate) fn pass(&mut self, inst: &Inst, rest: &'m [Inst], word: u64) -> Result<Did, Memory>
         ensures { IfOk result (DoesSo (goes_on (passes (seen self.old) (line_of self.old.run.frame.next inst.now) (lines_left (following self.old.run.frame.next inst.now) rest.now) word)) self.new) }
     {
         self.run.frame.pass(inst, rest, word)?;
@@ -128,13 +128,20 @@ impl<'m, 'i> Executor<'m, 'i> {
             arguments,
         )?;
         write_over(&mut self.run.stack, self.words.as_slice())?;
-        self.call(program, inst, rest, callee, front(inst.operands(), arguments))
+        self.call(
+            program,
+            inst,
+            rest,
+            callee,
+            front(inst.operands(), arguments),
+        )
     }
 
     pub(crate) fn jump(&mut self, program: &Program<'m, '_>, block: u32) -> Result<Did, Memory>
         ensures { IfOk result (DoesSo (lifted (seen self.old) (stepped (machinery program.now).setting (seen self.old).state (jumped (machinery program.now).setting block))) self.new) }
     {
-        if self.steps >= program.bound {
+        let bound = program.bound;
+        if self.steps >= bound {
             return Ok(Did::Ends(End::OutOfSteps));
         }
         self.steps += 1;
@@ -147,7 +154,7 @@ impl<'m, 'i> Executor<'m, 'i> {
     fn branch(&mut self, program: &Program<'m, '_>, inst: &Inst) -> Result<Did, Memory>
         ensures { IfOk result (DoesSo (lifted (seen self.old) (stepped (machinery program.now).setting (seen self.old).state (jumped (machinery program.now).setting (label_at inst.now.labels (branch_taken (operand (map number self.old.run.frame.registers.items) (map worded_operand inst.now.operands) 0)))))) self.new) }
     {
-        let taken = if self.word(inst, 0) > 0 { 0 } else { 1 };
+        let taken = branch_taken(self.word(inst, 0));
         self.jump(program, label_at(inst.labels(), taken))
     }
 
@@ -161,13 +168,21 @@ impl<'m, 'i> Executor<'m, 'i> {
     fn unreachable(&mut self, program: &Program<'m, '_>) -> Did
         ensures { DoesSo (lifted (seen self.old) (stepped (machinery program.now).setting (seen self.old).state (ends (End.Trap Trap.Unreachable)))) self.new result }
     {
-        if self.steps >= program.bound {
+        let bound = program.bound;
+        if self.steps >= bound {
             Did::Ends(End::OutOfSteps)
         } else {
             self.steps += 1;
             Did::Ends(End::Trap(Trap::Unreachable))
         }
     }
+}
+
+// Which label of a `br` with a condition is taken.
+fn branch_taken(word: u64) -> usize
+    ensures { result ≡ branch_taken (number word) }
+{
+    if word > 0 { 0 } else { 1 }
 }
 
 fn label_at(labels: &[BlockId], place: usize) -> u32

@@ -89,7 +89,8 @@ impl<'m> Frame<'m> {
     pub fn go_on(&mut self, stack: &Stack, answer: u64) -> Result<(), Memory>
         ensures { OnOk result (frame_of self.new ≡ gone_from stack.now (frame_of self.old) (frame_of self.old).rest (number answer)) }
     {
-        match self.rest {
+        let lines = self.rest;
+        match lines {
             [] => Ok(()),
             [inst, rest @ ..] => self.go_behind(stack, inst, rest, answer),
         }
@@ -124,13 +125,7 @@ impl<'m> Frame<'m> {
     {
         let (members, behind) = rest.split_at(member_count(rest));
         let next = after_all(first, members)?;
-        put_members(
-            self.registers.as_mut_slice(),
-            stack,
-            first,
-            members,
-            answer,
-        )?;
+        put_members(self.registers.as_mut_slice(), stack, first, members, answer)?;
         self.rest = behind;
         self.next = next;
         Ok(())
@@ -161,19 +156,15 @@ impl<'m> Frame<'m> {
     pub fn return_address(&self, code: &Code<'m>) -> Result<u64, Memory>
         ensures { IfOk result (λ address. (map : StackMap) → (plan : List PlanLine) → (bound : ℕ) → return_address (machinery_of code.now map plan bound) (frame_of self.now) ≡ address) }
     {
-        match self.rest {
+        let lines = self.rest;
+        match lines {
             [] => Ok(0),
             [inst, rest @ ..] => self.address_behind(code, inst, rest),
         }
     }
 
     /// The address behind a call, its group taken along.
-    pub fn address_behind(
-        &self,
-        code: &Code<'m>,
-        inst: &Inst,
-        rest: &[Inst],
-    ) -> Result<u64, Memory>
+    pub fn address_behind(&self, code: &Code<'m>, inst: &Inst, rest: &[Inst]) -> Result<u64, Memory>
         ensures { IfOk result (λ address. (map : StackMap) → (plan : List PlanLine) → (bound : ℕ) → address_behind (machinery_of code.now map plan bound) (frame_of self.now) (line_of self.now.next inst.now) (lines_left (following self.now.next inst.now) rest.now) ≡ address) }
     {
         let all = code.insts(self.func, self.block).len();

@@ -37,11 +37,7 @@ pub fn keep(
     keep_bundle(words, registers, inst.bundle())
 }
 
-fn keep_entries(
-    words: &mut Vec<u64>,
-    registers: &[u64],
-    entries: &[Operand],
-) -> Result<(), Memory>
+fn keep_entries(words: &mut Vec<u64>, registers: &[u64], entries: &[Operand]) -> Result<(), Memory>
     ensures { OnOk result (words.new.items ≡ words.old.items ++ map (λ operand. number_in (value (map number registers.now) operand)) (map worded_operand entries.now)) }
 {
     for entry in entries {

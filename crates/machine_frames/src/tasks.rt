@@ -71,7 +71,7 @@ impl<'m> Task<'m> {
                 if words as usize >= self.stack.len() {
                     return Err(Memory);
                 }
-                self.stack.pop_frame(words);
+                let _ = self.stack.pop_frame(words);
                 self.frame = frame;
                 Ok(true)
             }

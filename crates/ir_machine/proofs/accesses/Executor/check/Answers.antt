@@ -1,0 +1,35 @@
+use Rattle.std.proofs.Common.{◌≡◌, ℕ, ℤ, ◌+◌, ◌<◌, ◌≤◌, true, false, List, [], ◌∷◌, ◌++◌, length, map, set, drop, take, refl, sym, ap, subst, ◌∙◌, arith}
+use Rattle.std.specs.Prelude.{Option, Some, None, Result, Ok, Err, slice_get}
+use Rattle.ir_ast.specs.Objects.{Datum, number}
+use Rattle.ir_ast.specs.declared.ops.Operand.{Operand}
+use Rattle.moving_heap.specs.Heaps.{HeapView, loaded}
+use Rattle.object_meaning.specs.Effects.{Effect, goes_on, prints, ends}
+use Rattle.object_meaning.specs.Jumps.{jumped, label_at, branch_taken, case_taken}
+use Rattle.object_meaning.specs.Calls.{stepped}
+use Rattle.object_meaning.specs.Lines.{following}
+use Rattle.object_meaning.specs.Registers.{operand, number_in, nothing}
+use Rattle.object_meaning.specs.States.{Frame, State}
+use Rattle.machine_meaning.specs.Machines.{Machine, Machinery, gone_on, lifted}
+use Rattle.machine_meaning.specs.MachineSteps.{passes, storing_word}
+use Rattle.machine_meaning.specs.Words.{worded_operand}
+use Rattle.machine_frames.specs.Frames.{line_of, lines_left}
+use Rattle.ir_machine.specs.Executors.{machinery, seen, still, told, acts_at, calls_at}
+use Rattle.ir_machine.proofs.StepLemmas.{does_as, compute_acts, done_ok, done_err}
+use Rattle.ir_machine.proofs.AccessLemmas.{load_is, store_is, check_is}
+use Rattle.ir_machine.proofs.CallLemmas.{jump_goes, steps_out, stop_goes, enter_goes, enter_out, enter_deep, print_goes, read_ends, read_goes, start_full, start_goes, ret_out, ret_step}
+use Rattle.ir_machine.proofs.accesses.Executor.check.Goals as goal
+
+pub returns-in-Ok : goal.returns-in-Ok
+returns-in-Ok c =
+    let now = c.args.self.now in let machine = seen now in let inst = c.args.inst.now in let next = now.run.frame.next in
+    let line = line_of next inst in let rest = lines_left (following next inst) c.args.rest.now in let all = machinery c.args.program.now in
+    does_as c.go_on.new.self c.go_on.result _ _
+    (check_is all now inst c.args.rest.now c.args.operands.now c.word-base.result c.word-place.result c.word.result c.cell_named-kind.result (Ok tt) c.word-base.ensures c.word-place.ensures c.word.ensures c.cell_named-kind.ensures c.in-Ok.ensures)
+    c.go_on.ensures
+
+pub returns-in-Err : goal.returns-in-Err
+returns-in-Err c =
+    let now = c.args.self.now in let machine = seen now in let inst = c.args.inst.now in let next = now.run.frame.next in
+    let line = line_of next inst in let rest = lines_left (following next inst) c.args.rest.now in let all = machinery c.args.program.now in
+    ap told (c.denied.ensures machine
+    ∙ check_is all now inst c.args.rest.now c.args.operands.now c.word-base.result c.word-place.result c.word.result c.cell_named-kind.result (Err c.in-Err.deny) c.word-base.ensures c.word-place.ensures c.word.ensures c.cell_named-kind.ensures c.in-Err.ensures)

@@ -1,0 +1,40 @@
+use Rattle.std.proofs.Common.{◌≡◌, ℕ, ℤ, ◌+◌, ◌<◌, ◌≤◌, true, false, List, [], ◌∷◌, ◌++◌, length, map, set, drop, take, refl, sym, ap, subst, ◌∙◌, arith}
+use Rattle.std.specs.Prelude.{Option, Some, None, Result, Ok, Err, slice_get}
+use Rattle.ir_ast.specs.Objects.{Datum, number}
+use Rattle.ir_ast.specs.declared.ops.Operand.{Operand}
+use Rattle.moving_heap.specs.Heaps.{HeapView, loaded}
+use Rattle.object_meaning.specs.Effects.{Effect, goes_on, prints, ends}
+use Rattle.object_meaning.specs.Jumps.{jumped, label_at, branch_taken, case_taken}
+use Rattle.object_meaning.specs.Calls.{stepped}
+use Rattle.object_meaning.specs.Lines.{following}
+use Rattle.object_meaning.specs.Registers.{operand, number_in, nothing}
+use Rattle.object_meaning.specs.States.{Frame, State}
+use Rattle.machine_meaning.specs.Machines.{Machine, Machinery, gone_on, lifted}
+use Rattle.machine_meaning.specs.MachineSteps.{passes, storing_word}
+use Rattle.machine_meaning.specs.Words.{worded_operand}
+use Rattle.machine_frames.specs.Frames.{line_of, lines_left}
+use Rattle.ir_machine.specs.Executors.{machinery, seen, still, told, acts_at, calls_at}
+use Rattle.ir_machine.proofs.StepLemmas.{does_as, compute_acts, done_ok, done_err}
+use Rattle.ir_machine.proofs.AccessLemmas.{load_is, store_is, check_is}
+use Rattle.ir_machine.proofs.CallLemmas.{jump_goes, steps_out, stop_goes, enter_goes, enter_out, enter_deep, print_goes, read_ends, read_goes, start_full, start_goes, ret_out, ret_step}
+use Rattle.std.proofs.Common.{rules}
+use mir.Syntax.{w64}
+use mir.Val.{SFits}
+use mir.ValLaws.{to_z-of_z}
+use Rattle.ir_machine.proofs.calls.Executor.read.Goals as goal
+
+pub returns-in-None : goal.returns-in-None
+returns-in-None c =
+    let now = c.args.self.now in let machine = seen now in let inst = c.args.inst.now in let next = now.run.frame.next in
+    let line = line_of next inst in let rest = lines_left (following next inst) c.args.rest.now in let all = machinery c.args.program.now in
+    ap told (read_ends all machine line rest (map worded_operand c.args.operands.now) (sym c.first_of.ensures ∙ c.in-None.is))
+
+pub returns-in-Some : goal.returns-in-Some
+returns-in-Some c =
+    let now = c.args.self.now in let machine = seen now in let inst = c.args.inst.now in let next = now.run.frame.next in
+    let line = line_of next inst in let rest = lines_left (following next inst) c.args.rest.now in let all = machinery c.args.program.now in
+    let fits : SFits w64 c.in-Some.first = search rules in
+    let word = rw (to_z-of_z w64 c.in-Some.first fits) at c.cast_unsigned.ensures in
+    does_as c.go_on.new.self c.go_on.result _ _
+    (read_goes all machine line rest (map worded_operand c.args.operands.now) c.in-Some.first c.cast_unsigned.result c.rest_of-self.result.now (sym c.first_of.ensures ∙ c.in-Some.is) word c.rest_of-self.ensures)
+    c.go_on.ensures
