@@ -16,19 +16,17 @@ ghost use Rattle.ir_machine.specs.Executors.{machinery, seen, DoesSo, acts_at, c
 
 use crate::executor::{Did, Executor, Program};
 use ir_ast::{Callee, Inst, Op, Operand};
-use machine_frames::{computed, is_plain, keep, word_at, write_over};
+use machine_frames::{computed, front_of, is_plain, keep, word_at, write_over};
 use sp_ids::{BlockId, End, Memory, Trap};
 
 impl<'m, 'i> Executor<'m, 'i> {
     /// One step of the running task.
-    #[tactic(auto, unfolding(machine_meaning::specs::MachineSteps::machine_step))]
     pub fn step(&mut self, program: &Program<'m, '_>) -> Result<Did, Memory>
         ensures { IfOk result (DoesSo (machine_step (machinery program.now) (seen self.old)) self.new) }
     {
-        let lines = self.run.frame.rest;
-        match lines {
-            [] => Ok(Did::Ends(End::Trap(Trap::Unreachable))),
-            [inst, rest @ ..] => self.act(program, inst, rest),
+        match front_of(self.run.frame.rest) {
+            None => Ok(Did::Ends(End::Trap(Trap::Unreachable))),
+            Some(parts) => self.act(program, parts.0, parts.1),
         }
     }
 

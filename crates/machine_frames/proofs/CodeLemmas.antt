@@ -61,7 +61,9 @@ before_is content laid tables func block before table are is there =
     by None e = absurd (let no : None ≡ Some table = e in cc)
     by (Some one) e =
         let same : table_of one ≡ table = cc in
-        befores_at 0 one.blocks block before (ap (λ (t : Tabled). slice_get t.befores block) same ∙ there)
+        let sum = befores_at 0 one.blocks block before (ap (λ (t : Tabled). slice_get t.befores block) same ∙ there) in
+        let zero : 0 + length (instructions_of (take block one.blocks)) ≡ length (instructions_of (take block one.blocks)) = omega arith in
+        sum ∙ zero
 
 -- the words of frames
 bytes_are : (start : ℕ) (funcs : List Function) (func : ℕ) → frame_bytes_in (laid_from start funcs) func ≡ 8 * option_map_or frame_words (slice_get funcs func) 0

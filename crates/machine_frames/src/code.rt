@@ -136,7 +136,7 @@ impl<'m> Code<'m> {
     fn before(&self, func: u32, block: u32) -> Result<usize, Memory>
         ensures { IfOk result (λ count. count ≡ place_before self.now func block) }
     {
-        match self.tables.get(func as usize) {
+        match table_in(self.tables.as_slice(), func as usize) {
             None => Err(Memory),
             Some(table) => table.before(block),
         }
@@ -194,6 +194,12 @@ fn func_in(funcs: &[Func], place: usize) -> Option<&Func>
     ensures { MatchOption result (slice_get funcs.now place ≡ None) (λ func. slice_get funcs.now place ≡ Some func.now) }
 {
     funcs.get(place)
+}
+
+fn table_in(tables: &[Table], place: usize) -> Option<&Table>
+    ensures { MatchOption result (slice_get tables.now place ≡ None) (λ table. slice_get tables.now place ≡ Some table.now) }
+{
+    tables.get(place)
 }
 
 fn insts_in(func: &Func, block: u32) -> &[Inst]

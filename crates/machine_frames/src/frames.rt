@@ -10,15 +10,15 @@ ghost use Rattle.object_meaning.specs.Jumps.{arrived, incoming, phi_write};
 ghost use Rattle.map_bytes.specs.Maps.{StackMap};
 ghost use Rattle.move_plan.specs.declared.plan_lines.PlanLine.{PlanLine};
 ghost use Rattle.machine_meaning.specs.Code.{machinery_of};
-ghost use Rattle.machine_meaning.specs.Machines.{gone_from, gone_behind, regrouped_by, slot_put, return_address, address_behind};
+ghost use Rattle.machine_meaning.specs.Machines.{behind, gone_from, gone_behind, regrouped_by, slot_put, return_address, address_behind};
 ghost use Rattle.machine_frames.specs.Frames.{line_of, lines_left, lines_in, frame_of, entered_in, write_of, is_statepoint};
 
 use crate::code::Code;
-use crate::numbering::{after_all, following, member_count, phi_count, register_of};
+use crate::numbering::{after_all, following, front_of, member_count, phi_count, register_of};
 use crate::slots::{is_statepoint, member_word};
 use crate::words::{put, word_at};
 use frame_walk::Stack;
-use ir_ast::Inst;
+use ir_ast::{Inst, Op};
 use sp_ids::{BlockId, Memory};
 use std::alloc::Global;
 
@@ -89,10 +89,9 @@ impl<'m> Frame<'m> {
     pub fn go_on(&mut self, stack: &Stack, answer: u64) -> Result<(), Memory>
         ensures { OnOk result (frame_of self.new ≡ gone_from stack.now (frame_of self.old) (frame_of self.old).rest (number answer)) }
     {
-        let lines = self.rest;
-        match lines {
-            [] => Ok(()),
-            [inst, rest @ ..] => self.go_behind(stack, inst, rest, answer),
+        match front_of(self.rest) {
+            None => Ok(()),
+            Some(parts) => self.go_behind(stack, parts.0, parts.1, answer),
         }
     }
 
@@ -156,10 +155,9 @@ impl<'m> Frame<'m> {
     pub fn return_address(&self, code: &Code<'m>) -> Result<u64, Memory>
         ensures { IfOk result (λ address. (map : StackMap) → (plan : List PlanLine) → (bound : ℕ) → return_address (machinery_of code.now map plan bound) (frame_of self.now) ≡ address) }
     {
-        let lines = self.rest;
-        match lines {
-            [] => Ok(0),
-            [inst, rest @ ..] => self.address_behind(code, inst, rest),
+        match front_of(self.rest) {
+            None => Ok(0),
+            Some(parts) => self.address_behind(code, parts.0, parts.1),
         }
     }
 
@@ -167,13 +165,21 @@ impl<'m> Frame<'m> {
     pub fn address_behind(&self, code: &Code<'m>, inst: &Inst, rest: &[Inst]) -> Result<u64, Memory>
         ensures { IfOk result (λ address. (map : StackMap) → (plan : List PlanLine) → (bound : ℕ) → address_behind (machinery_of code.now map plan bound) (frame_of self.now) (line_of self.now.next inst.now) (lines_left (following self.now.next inst.now) rest.now) ≡ address) }
     {
-        let all = code.insts(self.func, self.block).len();
-        let left = if is_statepoint(inst.op()) {
-            rest.len() - member_count(rest)
-        } else {
-            rest.len()
-        };
+        let insts = code.insts(self.func, self.block);
+        let all = insts.len();
+        let left = left_behind(inst.op(), rest);
         code.address(self.func, self.block, all.saturating_sub(left))
+    }
+}
+
+// How many instructions are left behind a call, its group taken along.
+fn left_behind(op: &Op, rest: &[Inst]) -> usize
+    ensures { (next : ℕ) → length (behind op.now (lines_left next rest.now)) ≡ result }
+{
+    if is_statepoint(op) {
+        rest.len() - member_count(rest)
+    } else {
+        rest.len()
     }
 }
 

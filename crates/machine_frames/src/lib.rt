@@ -12,6 +12,7 @@ mod words;
 pub use code::Code;
 pub use computing::{computed, is_plain};
 pub use frames::{Frame, Move};
+pub use numbering::front_of;
 pub use slots::{is_statepoint, keep, write_over};
 pub use tasks::Task;
 pub use words::{word, word_at};

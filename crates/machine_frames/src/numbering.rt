@@ -1,6 +1,6 @@
 //! The registers of results, counted in text order, and what stands first in a list of lines.
 
-ghost use Rattle.std.specs.Prelude.{◌≡◌, ◌≤◌, length, IfOk};
+ghost use Rattle.std.specs.Prelude.{◌≡◌, ◌≤◌, [], ◌∷◌, length, IfOk, MatchOption};
 ghost use Rattle.std.specs.List.{prefix_len};
 ghost use Rattle.ir_ast.specs.Faults.PhiEdges.{is_phi};
 ghost use Rattle.object_meaning.specs.Frames.{is_member};
@@ -114,4 +114,14 @@ fn is_member(op: &Op) -> bool
     ensures { result ≡ is_member op.now }
 {
     matches!(op, Op::GcResult | Op::GcRelocate)
+}
+
+/// The first of these instructions and the others.
+pub fn front_of<'m>(insts: &'m [Inst]) -> Option<(&'m Inst, &'m [Inst])>
+    ensures { MatchOption result (insts.now ≡ []) (λ parts. insts.now ≡ parts.0.now ∷ parts.1.now) }
+{
+    match insts {
+        [] => None,
+        [inst, rest @ ..] => Some((inst, rest)),
+    }
 }

@@ -65,16 +65,17 @@ impl<'m> Task<'m> {
         ensures { IfOk result (λ left. Leaves code.now self.old left self.new) }
     {
         let words = code.frame_words(self.frame.func)?;
-        match self.below.pop() {
-            None => Ok(false),
-            Some(frame) => {
-                if words as usize >= self.stack.len() {
-                    return Err(Memory);
-                }
-                let _ = self.stack.pop_frame(words);
-                self.frame = frame;
-                Ok(true)
-            }
+        if self.below.is_empty() {
+            return Ok(false);
         }
+        let Some(frame) = self.below.pop() else {
+            return Err(Memory);
+        };
+        if words as usize >= self.stack.len() {
+            return Err(Memory);
+        }
+        let _ = self.stack.pop_frame(words);
+        self.frame = frame;
+        Ok(true)
     }
 }

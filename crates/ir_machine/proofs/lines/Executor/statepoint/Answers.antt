@@ -14,24 +14,25 @@ use Rattle.machine_meaning.specs.MachineSteps.{passes, storing_word}
 use Rattle.machine_meaning.specs.Words.{worded_operand}
 use Rattle.machine_frames.specs.Frames.{line_of, lines_left}
 use Rattle.ir_machine.specs.Executors.{machinery, seen, still, told, acts_at, calls_at}
-use Rattle.ir_machine.proofs.StepLemmas.{does_as, does_told, compute_acts, done_ok, done_err}
+use Rattle.ir_machine.proofs.StepLemmas.{does_as, compute_acts, done_ok, done_err}
 use Rattle.ir_machine.proofs.AccessLemmas.{load_is, store_is, check_is}
 use Rattle.ir_machine.proofs.CallLemmas.{jump_goes, steps_out, stop_goes, enter_goes, enter_out, enter_deep, print_goes, read_ends, read_goes, start_full, start_goes, ret_out, ret_step}
-use Rattle.ir_machine.specs.Executors.{waiting, kept, without_words, calls_kept}
-use Rattle.ir_machine.specs.Events.{or_lost, IsLost, gone_to, TaskWalked, SlotWalked, AllWalked}
-use Rattle.ir_machine.proofs.EventLemmas.{happen_is, lost_running, lost_other, moved_goes}
-use Rattle.machine_meaning.specs.Moving.{eventful, moved_by, moves_due, moved_heap, walked_task, walked_tasks}
-use Rattle.moving_heap.specs.declared.stands.Moved.{Moved}
-use Rattle.machine_frames.specs.declared.tasks.Task.{Task}
-use Rattle.machine_frames.specs.Frames.{frame_of, frames_of, below_of}
-use Rattle.ir_machine.proofs.TaskLemmas.{with_task, switched_some, switched_none, handed_some, handed_none, found_some, set_again, set_none}
-use Rattle.machine_meaning.specs.Machines.{over}
+use Rattle.std.proofs.lemmas.List.{take-map}
+use Rattle.machine_meaning.specs.Machines.{over, spilled}
+use Rattle.machine_meaning.specs.MachineSteps.{calls}
 use Rattle.machine_frames.specs.Frames.{kept_in}
 use Rattle.ir_machine.proofs.lines.Executor.statepoint.Goals as goal
 
 pub returns : goal.returns
 returns c =
     let now = c.args.self.now in let inst = c.args.inst.now in let next = now.run.frame.next in let all = machinery c.args.program.now in
+    let line = line_of next inst in let lines = lines_left (following next inst) c.args.rest.now in
     let operands : map worded_operand c.front.result.now ≡ take c.args.arguments (map worded_operand inst.operands) =
-    ap (map worded_operand) (c.front.ensures ∙ ap (take c.args.arguments) c.operands.ensures) ∙ map-take worded_operand c.args.arguments inst.operands in
-    let stack : c.write_over.new.stack ≡ over (kept_in (map number now.run.frame.registers.items) inst c.args.arguments) now.run.stack = ? in ?
+    ap (map worded_operand) (c.front.ensures ∙ ap (take c.args.arguments) c.operands.ensures) ∙ sym (take-map worded_operand c.args.arguments inst.operands) in
+    let kept_so : c.keep.new.words.items ≡ kept_in (map number now.run.frame.registers.items) inst c.args.arguments = rw c.as_slice.ensures.value at c.in_ok-keep.ensures in
+    let stack : c.write_over.new.stack ≡ over (kept_in (map number now.run.frame.registers.items) inst c.args.arguments) now.run.stack =
+    c.in_ok-write_over.ensures ∙ ap (λ (ws : List ℕ). over ws now.run.stack) (c.as_slice-2.ensures.value ∙ kept_so) in
+    does_as c.call.new.self c.call.result _ _
+    (ap (λ (words : List ℕ). calls all (record (seen now) { stack = words }) line lines c.args.callee (map worded_operand c.front.result.now)) stack
+    ∙ ap (calls all (spilled (seen now) line.inst c.args.arguments) line lines c.args.callee) operands) c.call.ensures
+

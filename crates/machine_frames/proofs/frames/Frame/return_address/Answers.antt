@@ -1,0 +1,38 @@
+use Rattle.std.proofs.Common.{◌≡◌, ℕ, ◌+◌, ◌-◌, ◌*◌, ◌≤◌, true, false, List, [], ◌∷◌, ◌++◌, length, map, take, drop, replicate, refl, sym, ap, ◌∙◌, arith}
+use Rattle.std.specs.Prelude.{Option, Some, None, slice_get, filter}
+use Rattle.std.proofs.lemmas.Result.{IfOk-weaker, on_ok_weaker}
+use Rattle.ir_ast.specs.declared.types.Ty.{Ty}
+use Rattle.ir_ast.specs.declared.ops.Operand.{Operand}
+use Rattle.ir_ast.specs.Insts.{Instruction}
+use Rattle.ir_ast.specs.Objects.{Datum, number}
+use Rattle.frame_forms.specs.FrameSizes.{is_named_integer}
+use Rattle.map_bytes.specs.Maps.{StackMap}
+use Rattle.move_plan.specs.declared.plan_lines.PlanLine.{PlanLine}
+use Rattle.object_meaning.specs.Jumps.{arrived, phi_write}
+use Rattle.object_meaning.specs.Lines.{Line, following, after_all, first_register, insts_of, register_count}
+use Rattle.object_meaning.specs.Numbers.{width_of, sign_extended}
+use Rattle.object_meaning.specs.Registers.{nothing, value, number_in, put_all}
+use Rattle.object_meaning.specs.States.{Frame}
+use Rattle.machine_meaning.specs.Code.{machinery_of, code_address, place_before, words_in}
+use Rattle.machine_meaning.specs.Machines.{behind, gone_from, gone_behind, regrouped_by, slot_put, return_to, return_address, address_behind}
+use Rattle.machine_meaning.specs.Words.{worded_operand}
+use Rattle.machine_frames.specs.Frames.{line_of, lines_left, lines_in, frame_of, entered_in, is_statepoint, kept_in}
+use Rattle.machine_frames.proofs.WordLemmas.{put_is}
+use Rattle.machine_frames.proofs.LineLemmas.{count_lines, behind_point, behind_call, gone_point, gone_call}
+use Rattle.machine_frames.proofs.CodeLemmas.{tables_from, before_is, words_are, no_words}
+use Rattle.machine_frames.proofs.FrameLemmas.{entered_are, regroup_is, arrive_is}
+use Rattle.machine_frames.proofs.frames.Frame.return_address.Goals as goal
+
+pub returns-in-None : goal.returns-in-None
+returns-in-None c =
+    let now = c.args.self.now in
+    λ map plan bound. ap (λ (insts : List Instruction). return_to (machinery_of c.args.code.now map plan bound) (frame_of now) (lines_left now.next insts)) c.in-None.ensures
+
+pub returns-in-Some : goal.returns-in-Some
+returns-in-Some c =
+    let now = c.args.self.now in let code = c.args.code.now in let inst = c.in-Some.parts.0.now in let rest = c.in-Some.parts.1.now in
+    IfOk-weaker c.address_behind.result
+    (λ (address : ℕ). (map : StackMap) → (plan : List PlanLine) → (bound : ℕ) → address_behind (machinery_of code map plan bound) (frame_of now) (line_of now.next inst) (lines_left (following now.next inst) rest) ≡ address)
+    (λ (address : ℕ). (map : StackMap) → (plan : List PlanLine) → (bound : ℕ) → return_address (machinery_of code map plan bound) (frame_of now) ≡ address)
+    (λ address e map plan bound. ap (λ (insts : List Instruction). return_to (machinery_of code map plan bound) (frame_of now) (lines_left now.next insts)) c.in-Some.ensures ∙ e map plan bound)
+    c.address_behind.ensures
