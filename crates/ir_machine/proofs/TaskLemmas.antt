@@ -1,8 +1,9 @@
 -- Tasks that wait, by number.
-use Rattle.std.proofs.Common.{◌≡◌, ℕ, zero, suc, ◌+◌, ◌<◌, List, [], ◌∷◌, ◌++◌, length, map, set, get_or, refl, sym, ap, subst, ◌∙◌, arith}
+use Rattle.std.proofs.Common.{◌≡◌, ℕ, zero, suc, ◌+◌, ◌<◌, List, [], ◌∷◌, ◌++◌, ◌≤◌, length, map, set, take, drop, get_or, refl, sym, ap, subst, ◌∙◌, append_assoc, arith}
 use Rattle.std.specs.Prelude.{Option, Some, None, unwrap_or, slice_get, slice_index_or, Result, Ok, Err}
 use Rattle.std.specs.Option.{option_map}
-use Rattle.std.proofs.lemmas.List.{map-set, length-map}
+use Rattle.std.proofs.lemmas.List.{map-set, length-map, append-nil}
+use Rattle.flat_code.proofs.RegisterLemmas.{rest_at}
 use Rattle.std.proofs.lemmas.Option.{slice_get-map, slice_get_within}
 use Rattle.moving_heap.specs.Heaps.{HeapView}
 use Rattle.sp_ids.specs.declared.ends.End.TheVariants.{Trap}
@@ -17,7 +18,7 @@ use Rattle.machine_meaning.specs.Moving.{joined, walked_task, walked_tasks}
 use Rattle.machine_frames.specs.declared.tasks.Task.{Task}
 use Rattle.machine_frames.specs.Frames.{frame_of, below_of, frames_of}
 use Rattle.ir_machine.specs.Executors.{waiting, kept, without_words}
-use Rattle.ir_machine.specs.Events.{IsLost}
+use Rattle.ir_machine.specs.Events.{IsLost, before_walk}
 
 -- a write that is written again
 pub set_twice : {X : Type 0} (xs : List X) (i : ℕ) (a b : X) → set (set xs i a) i b ≡ set xs i b
@@ -130,7 +131,7 @@ same_count tasks others e = omega (arith, ap length e, length-map others waiting
 
 -- ---- the walk over all tasks
 
-abbrev walk_of : Machinery → List Moved → List (Option Task) → Result (List (List ℕ)) ℕ
+abbrev pub walk_of : Machinery → List Moved → List (Option Task) → Result (List (List ℕ)) ℕ
 walk_of machinery moves tasks = walked_tasks machinery moves (map waiting tasks) (map kept tasks)
 
 joined_ok : (one : Result (List ℕ) ℕ) (more : Result (List (List ℕ)) ℕ) (first : List ℕ) (rest : List (List ℕ)) → joined one more ≡ Ok (first ∷ rest)
@@ -216,3 +217,94 @@ lost_there machinery moves (first ∷ tasks) (suc place) frames stack there lost
     joined_lost_of (walked_task machinery moves (waiting first) (kept first)) (walk_of machinery moves tasks)
     (walked_tasks machinery moves (set (map waiting tasks) place frames) (set (map kept tasks) place stack)) lost
     (λ later. lost_there machinery moves tasks place frames stack there later)
+
+-- ---- one stack after another
+
+drop_next : {X : Type 0} (xs : List X) (i : ℕ) → drop (suc i) xs ≡ drop 1 (drop i xs)
+drop_next [] zero = refl
+drop_next [] (suc i) = refl
+drop_next (x ∷ xs) zero = refl
+drop_next (x ∷ xs) (suc i) = drop_next xs i
+
+drop_set : {X : Type 0} (xs : List X) (i : ℕ) (x : X) → drop (suc i) (set xs i x) ≡ drop (suc i) xs
+drop_set [] i x = refl
+drop_set (y ∷ xs) zero x = refl
+drop_set (y ∷ xs) (suc i) x = drop_set xs i x
+
+take_set : {X : Type 0} (xs : List X) (i : ℕ) (x : X) → i < length xs → take (suc i) (set xs i x) ≡ take i xs ++ x ∷ []
+take_set [] i x below = absurd (omega arith)
+take_set (y ∷ xs) zero x below = refl
+take_set (y ∷ xs) (suc i) x below = ap (λ rest. y ∷ rest) (take_set xs i x (omega arith))
+
+pub record WalkedTo (machinery : Machinery) (moves : List Moved) (initial tasks : List (Option Task)) (place : ℕ) : Type 0 where
+  pub frames : map waiting tasks ≡ map waiting initial
+  pub rest : drop place tasks ≡ drop place initial
+  pub walks : walk_of machinery moves initial ≡ before_walk (take place (map kept tasks)) (walk_of machinery moves (drop place initial))
+
+before_joined : (done : List (List ℕ)) (words : List ℕ) (walk : Result (List (List ℕ)) ℕ) → before_walk done (joined (Ok words) walk) ≡ before_walk (done ++ words ∷ []) walk
+before_joined done words (Ok rest) = ap Ok (sym (append_assoc done (words ∷ []) rest))
+before_joined done words (Err lost) = refl
+
+module _ (machinery : Machinery) (moves : List Moved) (initial tasks : List (Option Task)) (place : ℕ) (one : Option Task) (below : place < length tasks) (read : one ≡ get_or tasks place one)
+    (so_far : WalkedTo machinery moves initial tasks place) where
+  same_rest : drop (suc place) tasks ≡ drop (suc place) initial
+  same_rest = drop_next tasks place ∙ ap (drop 1) so_far.rest ∙ sym (drop_next initial place)
+
+  here : drop place initial ≡ one ∷ drop (suc place) initial
+  here = sym so_far.rest ∙ rest_at tasks place one below read ∙ ap (λ (n : ℕ). one ∷ drop n tasks) (let e : place + 1 ≡ suc place = omega arith in e) ∙ ap (λ rest. one ∷ rest) same_rest
+
+  walks_here : walk_of machinery moves initial ≡ before_walk (take place (map kept tasks)) (joined (walked_task machinery moves (waiting one) (kept one)) (walk_of machinery moves (drop (suc place) initial)))
+  walks_here = so_far.walks ∙ ap (λ (ts : List (Option Task)). before_walk (take place (map kept tasks)) (walk_of machinery moves ts)) here
+
+  pub walks_more : (next : Option Task) → waiting next ≡ waiting one → walked_task machinery moves (waiting one) (kept one) ≡ Ok (kept next)
+      → WalkedTo machinery moves initial (set tasks place next) (place + 1)
+  walks_more next same walked =
+      let more : place + 1 ≡ suc place = omega arith in
+      let few : place < length (map kept tasks) = omega (arith, length-map tasks kept) in
+      rw more (record {
+        frames = map-set waiting tasks place next ∙ ap (set (map waiting tasks) place) same ∙ set_same tasks place one below read ∙ so_far.frames;
+        rest = drop_set tasks place next ∙ same_rest;
+        walks = walks_here
+            ∙ ap (λ (w : Result (List ℕ) ℕ). before_walk (take place (map kept tasks)) (joined w (walk_of machinery moves (drop (suc place) initial)))) walked
+            ∙ before_joined (take place (map kept tasks)) (kept next) (walk_of machinery moves (drop (suc place) initial))
+            ∙ ap (λ (done : List (List ℕ)). before_walk done (walk_of machinery moves (drop (suc place) initial)))
+            (sym (ap (take (suc place)) (map-set kept tasks place next) ∙ take_set (map kept tasks) place (kept next) few));
+      })
+    where
+      set_same : (tasks : List (Option Task)) (place : ℕ) (one : Option Task) → place < length tasks → one ≡ get_or tasks place one → set (map waiting tasks) place (waiting one) ≡ map waiting tasks
+      set_same [] place one below read = refl
+      set_same (x ∷ tasks) zero one below read = ap (λ (o : Option Task). waiting o ∷ map waiting tasks) read
+      set_same (x ∷ tasks) (suc place) one below read = ap (λ rest. waiting x ∷ rest) (set_same tasks place one (omega arith) read)
+
+  pub walks_lost : (address : ℕ) → walked_task machinery moves (waiting one) (kept one) ≡ Err address → IsLost (walk_of machinery moves initial)
+  walks_lost address lost = record {
+    address = address;
+    is = walks_here ∙ ap (λ (w : Result (List ℕ) ℕ). before_walk (take place (map kept tasks)) (joined w (walk_of machinery moves (drop (suc place) initial)))) lost;
+  }
+
+pub walks_start : (machinery : Machinery) (moves : List Moved) (tasks : List (Option Task)) → WalkedTo machinery moves tasks tasks 0
+walks_start machinery moves tasks = record { frames = refl; rest = refl; walks = by (walk_of machinery moves tasks) }
+  where
+    by : (walk : Result (List (List ℕ)) ℕ) → walk ≡ before_walk [] walk
+    by (Ok rest) = refl
+    by (Err lost) = refl
+
+pub walks_end : (machinery : Machinery) (moves : List Moved) (initial tasks : List (Option Task)) (place : ℕ) → length tasks ≤ place → WalkedTo machinery moves initial tasks place
+    → walk_of machinery moves initial ≡ Ok (map kept tasks)
+walks_end machinery moves initial tasks place past so_far =
+    let count : length (map kept tasks) ≤ place = omega (arith, length-map tasks kept) in
+    so_far.walks
+    ∙ ap (λ (ts : List (Option Task)). before_walk (take place (map kept tasks)) (walk_of machinery moves ts)) (sym so_far.rest ∙ drop_all tasks place past)
+    ∙ ap Ok (append-nil (take place (map kept tasks)) ∙ take_all (map kept tasks) place count)
+  where
+    drop_all : {X : Type 0} (xs : List X) (i : ℕ) → length xs ≤ i → drop i xs ≡ []
+    drop_all [] zero past = refl
+    drop_all [] (suc i) past = refl
+    drop_all (x ∷ xs) zero past = absurd (omega arith)
+    drop_all (x ∷ xs) (suc i) past = drop_all xs i (omega arith)
+
+    take_all : {X : Type 0} (xs : List X) (i : ℕ) → length xs ≤ i → take i xs ≡ xs
+    take_all [] zero past = refl
+    take_all [] (suc i) past = refl
+    take_all (x ∷ xs) zero past = absurd (omega arith)
+    take_all (x ∷ xs) (suc i) past = ap (λ rest. x ∷ rest) (take_all xs i (omega arith))

@@ -1,5 +1,5 @@
 -- What an event does to the executor: its moves with the walk over all stacks, and its `go` line.
-use Rattle.std.specs.Prelude.{◌≡◌, ℕ, Bool, true, false, if◌then◌else◌, List, [], map, Option, Some, None, slice_get, Result, Ok, Err}
+use Rattle.std.specs.Prelude.{◌≡◌, ℕ, Bool, true, false, if◌then◌else◌, List, [], ◌++◌, map, Option, Some, None, slice_get, Result, Ok, Err}
 use Rattle.std.specs.Option.{option_map_or}
 use Rattle.sp_ids.specs.declared.ends.End.TheVariants.{LostFrame}
 use Rattle.moving_heap.specs.declared.stands.Moved.{Moved}
@@ -31,6 +31,11 @@ SlotWalked machinery moves old true new = (address : ℕ) × (walked_task machin
 abbrev pub AllWalked : Machinery → List Moved → List (Option Task) → Bool → List (Option Task) → Type 0
 AllWalked machinery moves old false new = walked_tasks machinery moves (map waiting old) (map kept old) ≡ Ok (map kept new)
 AllWalked machinery moves old true new = IsLost (walked_tasks machinery moves (map waiting old) (map kept old))
+
+-- the stacks before these are walked already
+abbrev pub before_walk : List (List ℕ) → Result (List (List ℕ)) ℕ → Result (List (List ℕ)) ℕ
+before_walk done (Ok rest) = Ok (done ++ rest)
+before_walk done (Err lost) = Err lost
 
 -- a `go` line
 abbrev pub gone_to : Option ℕ → Machine → Machine

@@ -47,7 +47,7 @@ impl<'m, 'i> Executor<'m, 'i> {
     pub(crate) fn go_on(&mut self, answer: u64) -> Result<Did, Memory>
         ensures { IfOk result (DoesSo (goes_on (gone_on (number answer) (seen self.old))) self.new) }
     {
-        self.run.frame.go_on(&self.run.stack, answer)?;
+        self.run.go_on(answer)?;
         Ok(Did::GoesOn)
     }
 
@@ -102,7 +102,7 @@ impl<'m, 'i> Executor<'m, 'i> {
         ensures { IfOk result (DoesSo (calls_at (machinery program.now) self.old inst.now rest.now Callee.Print operands.now) self.new) }
     {
         let number = self.argument(operands, 0);
-        self.run.frame.go_on(&self.run.stack, 0)?;
+        self.run.go_on(0)?;
         Ok(Did::Prints(number))
     }
 

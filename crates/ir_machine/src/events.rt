@@ -176,14 +176,11 @@ fn walk_tasks<'m>(
     ensures walked { IfOk result (λ lost. AllWalked (machinery program.now) moves.now.moves tasks.old lost tasks.new) }
     ensures kept { map waiting tasks.new ≡ map waiting tasks.old }
 {
-    match tasks {
-        [] => Ok(false),
-        [first, rest @ ..] => {
-            let lost = walk_slot(program, first, moves)?;
-            if lost {
-                return Ok(true);
-            }
-            walk_tasks(program, rest, moves)
+    for place in 0..tasks.len() {
+        let lost = walk_slot(program, &mut tasks[place], moves)?;
+        if lost {
+            return Ok(true);
         }
     }
+    Ok(false)
 }

@@ -181,7 +181,11 @@ fn is_main(func: &Func) -> bool
 }
 
 // Runs to the end.
-fn run<O: Sink>(program: &Program, executor: &mut Executor, out: &mut O) -> Result<Ran, SureFault>
+fn run<'m, O: Sink>(
+    program: &Program<'m, '_>,
+    executor: &mut Executor<'m, '_>,
+    out: &mut O,
+) -> Result<Ran, SureFault>
     ensures ran { IfOk result (λ ran. IsRunFrom (machinery program.now) (unprinted (seen executor.old)) ran (O.written out.old) (O.written out.new)) }
     ensures front { OnErr result (WritesFrontFrom (machinery program.now) (unprinted (seen executor.old)) (O.written out.old) (O.written out.new)) }
     ensures failed { IsErrOf result SureFault.Write → Rose (O.faults out.old) (O.faults out.new) }

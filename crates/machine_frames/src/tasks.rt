@@ -3,6 +3,7 @@
 ghost use Rattle.std.specs.Prelude.{◌≡◌, ◌+◌, ◌++◌, ◌∷◌, [], drop, map, replicate, IfOk, OnOk, Ok, Err};
 ghost use Rattle.ir_ast.specs.Objects.{number};
 ghost use Rattle.machine_meaning.specs.Code.{words_in};
+ghost use Rattle.machine_meaning.specs.Machines.{gone_from};
 ghost use Rattle.machine_frames.specs.Frames.{frame_of, entered_in, below_of};
 ghost use Rattle.machine_frames.specs.Tasks.{Begins, Enters, Leaves};
 
@@ -58,6 +59,14 @@ impl<'m> Task<'m> {
         let waits = mem::replace(&mut self.frame, frame);
         self.below.push(waits)?;
         Ok(())
+    }
+
+    /// The frame that runs and stands at a call goes on behind it with the answer.
+    pub fn go_on(&mut self, answer: u64) -> Result<(), Memory>
+        ensures frame { OnOk result (frame_of self.new.frame ≡ gone_from self.old.stack (frame_of self.old.frame) (frame_of self.old.frame).rest (number answer)) }
+        ensures others { self.new ≡ record self.old { frame = self.new.frame } }
+    {
+        self.frame.go_on(&self.stack, answer)
     }
 
     /// The newest of the frames that wait runs again, and the running one is gone. Whether there was one.

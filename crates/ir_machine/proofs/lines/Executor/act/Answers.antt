@@ -25,4 +25,3 @@ returns-in-Call c =
     let now = c.args.self.now in let inst = c.args.inst.now in let all = machinery c.args.program.now in
     let is : inst.op ≡ Call c.in-Call.callee c.in-Call.types = ? in
     does_as c.call.new.self c.call.result _ _ (ap (calls_at all now inst c.args.rest.now c.in-Call.callee) c.operands.ensures ∙ sym (ap (acts_at all now inst c.args.rest.now) is)) c.call.ensures
-

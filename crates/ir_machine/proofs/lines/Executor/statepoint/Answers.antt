@@ -35,4 +35,3 @@ returns c =
     does_as c.call.new.self c.call.result _ _
     (ap (λ (words : List ℕ). calls all (record (seen now) { stack = words }) line lines c.args.callee (map worded_operand c.front.result.now)) stack
     ∙ ap (calls all (spilled (seen now) line.inst c.args.arguments) line lines c.args.callee) operands) c.call.ensures
-

@@ -33,4 +33,3 @@ returns-in-Some c =
     let now = c.args.self.now in let all = machinery c.args.program.now in
     does_as c.act.new.self c.act.result _ _
     (sym (ap (λ (insts : List Instruction). machine_at all (seen now) (lines_left now.run.frame.next insts)) c.in-Some.ensures)) c.act.ensures
-
