@@ -3,4 +3,5 @@ pub mod AccessLemmas
 pub mod TaskLemmas
 pub mod CallLemmas
 pub mod EventLemmas
+pub mod OpeningLemmas
 pub mod RunLemmas

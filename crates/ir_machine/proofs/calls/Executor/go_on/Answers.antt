@@ -17,9 +17,11 @@ use Rattle.ir_machine.specs.Executors.{machinery, seen, still, told, acts_at, ca
 use Rattle.ir_machine.proofs.StepLemmas.{does_as, compute_acts, done_ok, done_err}
 use Rattle.ir_machine.proofs.AccessLemmas.{load_is, store_is, check_is}
 use Rattle.ir_machine.proofs.CallLemmas.{jump_goes, steps_out, stop_goes, enter_goes, enter_out, enter_deep, print_goes, read_ends, read_goes, start_full, start_goes, ret_out, ret_step}
+use Rattle.machine_frames.specs.declared.tasks.Task.{Task}
 use Rattle.ir_machine.proofs.calls.Executor.go_on.Goals as goal
 
 pub returns : goal.returns
 returns c =
-    let machine = seen c.args.self.now in
-    ap (λ (frame : Frame). goes_on (record machine { state = record machine.state { running = frame } })) c.in_ok-go_on.ensures
+    let now = c.args.self.now in let machine = seen now in
+    ap (λ (run : Task). goes_on (seen (record now { run = run }))) c.go_on.ensures.others
+    ∙ ap (λ (frame : Frame). goes_on (record machine { state = record machine.state { running = frame } })) c.in_ok-go_on.ensures.frame

@@ -17,10 +17,12 @@ use Rattle.ir_machine.specs.Executors.{machinery, seen, still, told, acts_at, ca
 use Rattle.ir_machine.proofs.StepLemmas.{does_as, compute_acts, done_ok, done_err}
 use Rattle.ir_machine.proofs.AccessLemmas.{load_is, store_is, check_is}
 use Rattle.ir_machine.proofs.CallLemmas.{jump_goes, steps_out, stop_goes, enter_goes, enter_out, enter_deep, print_goes, read_ends, read_goes, start_full, start_goes, ret_out, ret_step}
+use Rattle.machine_frames.specs.declared.tasks.Task.{Task}
 use Rattle.ir_machine.proofs.calls.Executor.print.Goals as goal
 
 pub returns : goal.returns
 returns c =
     let now = c.args.self.now in let machine = seen now in let inst = c.args.inst.now in let next = now.run.frame.next in
     let line = line_of next inst in let rest = lines_left (following next inst) c.args.rest.now in let all = machinery c.args.program.now in
-    print_goes all machine line rest (map worded_operand c.args.operands.now) c.argument-number.result _ c.argument-number.ensures c.in_ok-go_on.ensures
+    ap (λ (run : Task). prints c.argument-number.result (seen (record now { run = run }))) c.go_on.ensures.others
+    ∙ print_goes all machine line rest (map worded_operand c.args.operands.now) c.argument-number.result _ c.argument-number.ensures c.in_ok-go_on.ensures.frame

@@ -29,6 +29,7 @@ use Rattle.std.proofs.Common.{Bool}
 use Rattle.sp_ids.specs.Numbers.{signed}
 use Rattle.ir_ast.specs.Sizes.{fields_in}
 use Rattle.machine_meaning.specs.MachineTasks.{allocating_machine}
+use Rattle.ir_ast.specs.declared.cells.Cell.{Cell}
 use Rattle.ir_machine.proofs.events.Executor.make.Goals as goal
 
 pub returns-then-lost : goal.returns-then-lost
@@ -43,18 +44,38 @@ returns-in-Ok c =
     let now = c.args.self.now in let machine = seen now in let all = machinery c.args.program.now in let happened = c.happen-lost.new.self in
     let operands = map worded_operand c.args.operands.now in
     let next : Machine → Effect Machine = λ m. allocating_machine m c.args.layout (fields_in c.args.program.now.code.layouts c.args.layout) (signed 64 (number_in (operand m.state.running.registers operands 0))) in
-    ?
+    let lost : told (next (seen happened)) ≡ told (eventful all machine next) = sym (c.in_ok-lost.ensures next ∙ ap (λ (b : Bool). told (or_lost b (seen happened) next)) c.if-lost.false) in
+    let count : c.sign-count.result ≡ signed 64 (number_in (operand (seen happened).state.running.registers operands 0)) = c.sign-count.ensures ∙ ap (λ (d : Datum). signed 64 (number_in d)) (sym c.argument.ensures) in
+    let fields : c.fields_of-fields.result.now ≡ fields_in c.args.program.now.code.layouts c.args.layout = rw c.module.ensures at (c.fields_of-fields.ensures ∙ ap (λ layouts. fields_in layouts c.args.layout) c.layouts.ensures.value) in
+    let of : allocating_machine (seen happened) c.args.layout c.fields_of-fields.result.now c.sign-count.result ≡ next (seen happened) =
+    ap (λ (fs : List Cell). allocating_machine (seen happened) c.args.layout fs c.sign-count.result) fields
+    ∙ ap (allocating_machine (seen happened) c.args.layout (fields_in c.args.program.now.code.layouts c.args.layout)) count in
+    does_told c.go_on.new.self c.go_on.result _ _
+    (ap told (make_goes (seen happened) c.args.layout c.fields_of-fields.result.now c.sign-count.result c.in-Ok.address (still c.alloc.new.self) c.in-Ok.ensures.address (ap still c.in-Ok.ensures.made) ∙ of) ∙ lost) c.go_on.ensures
 
 pub returns-in-Err-Count : goal.returns-in-Err-Count
 returns-in-Err-Count c =
     let now = c.args.self.now in let machine = seen now in let all = machinery c.args.program.now in let happened = c.happen-lost.new.self in
     let operands = map worded_operand c.args.operands.now in
     let next : Machine → Effect Machine = λ m. allocating_machine m c.args.layout (fields_in c.args.program.now.code.layouts c.args.layout) (signed 64 (number_in (operand m.state.running.registers operands 0))) in
-    ?
+    let lost : told (next (seen happened)) ≡ told (eventful all machine next) = sym (c.in_ok-lost.ensures next ∙ ap (λ (b : Bool). told (or_lost b (seen happened) next)) c.if-lost.false) in
+    let count : c.sign-count.result ≡ signed 64 (number_in (operand (seen happened).state.running.registers operands 0)) = c.sign-count.ensures ∙ ap (λ (d : Datum). signed 64 (number_in d)) (sym c.argument.ensures) in
+    let fields : c.fields_of-fields.result.now ≡ fields_in c.args.program.now.code.layouts c.args.layout = rw c.module.ensures at (c.fields_of-fields.ensures ∙ ap (λ layouts. fields_in layouts c.args.layout) c.layouts.ensures.value) in
+    let of : allocating_machine (seen happened) c.args.layout c.fields_of-fields.result.now c.sign-count.result ≡ next (seen happened) =
+    ap (λ (fs : List Cell). allocating_machine (seen happened) c.args.layout fs c.sign-count.result) fields
+    ∙ ap (allocating_machine (seen happened) c.args.layout (fields_in c.args.program.now.code.layouts c.args.layout)) count in
+    ap told (make_none (seen happened) c.args.layout c.fields_of-fields.result.now c.sign-count.result (c.in-Err-Count.ensures.count refl) ∙ of) ∙ lost
 
 pub returns-in-Err-Full : goal.returns-in-Err-Full
 returns-in-Err-Full c =
     let now = c.args.self.now in let machine = seen now in let all = machinery c.args.program.now in let happened = c.happen-lost.new.self in
     let operands = map worded_operand c.args.operands.now in
     let next : Machine → Effect Machine = λ m. allocating_machine m c.args.layout (fields_in c.args.program.now.code.layouts c.args.layout) (signed 64 (number_in (operand m.state.running.registers operands 0))) in
-    ?
+    let lost : told (next (seen happened)) ≡ told (eventful all machine next) = sym (c.in_ok-lost.ensures next ∙ ap (λ (b : Bool). told (or_lost b (seen happened) next)) c.if-lost.false) in
+    let count : c.sign-count.result ≡ signed 64 (number_in (operand (seen happened).state.running.registers operands 0)) = c.sign-count.ensures ∙ ap (λ (d : Datum). signed 64 (number_in d)) (sym c.argument.ensures) in
+    let fields : c.fields_of-fields.result.now ≡ fields_in c.args.program.now.code.layouts c.args.layout = rw c.module.ensures at (c.fields_of-fields.ensures ∙ ap (λ layouts. fields_in layouts c.args.layout) c.layouts.ensures.value) in
+    let of : allocating_machine (seen happened) c.args.layout c.fields_of-fields.result.now c.sign-count.result ≡ next (seen happened) =
+    ap (λ (fs : List Cell). allocating_machine (seen happened) c.args.layout fs c.sign-count.result) fields
+    ∙ ap (allocating_machine (seen happened) c.args.layout (fields_in c.args.program.now.code.layouts c.args.layout)) count in
+    ap told (make_full (seen happened) c.args.layout c.fields_of-fields.result.now c.sign-count.result (c.in-Err-Full.ensures.full refl) ∙ of) ∙ lost
+
