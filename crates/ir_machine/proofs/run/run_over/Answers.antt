@@ -60,4 +60,3 @@ returns-in_err-executor-clause-front g c =
     let all = machinery_of content map plan bound in
     let old = g.O.Sink.written c.args.out.now in
     OnErr-always c.from_residual-in_err-executor.result (front_none all (machine_opening all input) old)
-

@@ -78,4 +78,3 @@ returns-in-Err-Full c =
     ap (λ (fs : List Cell). allocating_machine (seen happened) c.args.layout fs c.sign-count.result) fields
     ∙ ap (allocating_machine (seen happened) c.args.layout (fields_in c.args.program.now.code.layouts c.args.layout)) count in
     ap told (make_full (seen happened) c.args.layout c.fields_of-fields.result.now c.sign-count.result (c.in-Err-Full.ensures.full refl) ∙ of) ∙ lost
-
