@@ -1,16 +1,15 @@
 -- The tables of a module.
-use Rattle.std.proofs.Common.{◌≡◌, ℕ, zero, suc, ◌+◌, ◌*◌, ◌≤◌, List, [], ◌∷◌, ◌++◌, length, map, take, refl, sym, ap, ◌∙◌, length-append, arith}
+use Rattle.std.proofs.Common.{◌≡◌, ℕ, zero, suc, ◌+◌, ◌*◌, ◌≤◌, List, [], ◌∷◌, length, map, take, refl, sym, ap, ◌∙◌, length-append, arith}
 use Rattle.std.specs.Prelude.{Option, Some, None, slice_get, slice_index, ◌-◌}
 use Rattle.std.specs.Option.{option_map, option_map_or}
 use Rattle.std.proofs.lemmas.Option.{slice_get-map, slice_get_past}
-use Rattle.std.proofs.lemmas.List.{length-map}
 use Rattle.ir_ast.specs.Blocks.{BasicBlock}
 use Rattle.ir_ast.specs.Funcs.{Function, LinedFunction, content_of, instructions_of}
 use Rattle.ir_ast.specs.Modules.{ModuleContent}
 use Rattle.object_meaning.specs.Lines.{registers_of, first_register, register_count}
 use Rattle.frame_forms.specs.CodeAddresses.{next_start}
 use Rattle.frame_forms.specs.FrameSizes.{frame_words}
-use Rattle.frame_forms.specs.ModuleLayouts.{FunctionLayout, laid_from, layout_of, frame_bytes_in}
+use Rattle.frame_forms.specs.ModuleLayouts.{FunctionLayout, laid_from, frame_bytes_in}
 use Rattle.machine_meaning.specs.Code.{place_before, words_in}
 use Rattle.machine_frames.specs.Tables.{Tabled, befores_from, table_of, AreOf}
 

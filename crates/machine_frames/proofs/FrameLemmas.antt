@@ -1,18 +1,16 @@
 -- What a frame becomes: at the front of a function, behind a group, at a jump.
-use Rattle.std.proofs.Common.{◌≡◌, ℕ, ◌+◌, ◌-◌, ◌<◌, List, [], ◌∷◌, ◌++◌, length, map, take, drop, replicate, get_or, refl, sym, ap, ◌∙◌, append_assoc}
-use Rattle.std.specs.Prelude.{Option, Some, None}
+use Rattle.std.proofs.Common.{◌≡◌, ℕ, ◌+◌, ◌-◌, ◌<◌, List, [], ◌∷◌, ◌++◌, length, map, take, drop, replicate, get_or, sym, ap, ◌∙◌, append_assoc}
 use Rattle.std.specs.List.{prefix_len}
 use Rattle.std.proofs.lemmas.List.{map-append, length-map}
-use Rattle.ir_ast.specs.declared.ops.Op.{Op}
 use Rattle.ir_ast.specs.Insts.{Instruction}
 use Rattle.ir_ast.specs.Objects.{Datum, number}
 use Rattle.ir_ast.specs.Faults.PhiEdges.{is_phi}
 use Rattle.object_meaning.specs.Frames.{is_member}
-use Rattle.object_meaning.specs.Jumps.{arrived, phi_write, phi_count}
+use Rattle.object_meaning.specs.Jumps.{arrived, phi_write}
 use Rattle.object_meaning.specs.Lines.{Line, following, after_all}
 use Rattle.object_meaning.specs.Registers.{nothing, Write, put, put_all}
 use Rattle.object_meaning.specs.States.{Frame}
-use Rattle.machine_meaning.specs.Machines.{slot_put, slot_value, regrouped_by}
+use Rattle.machine_meaning.specs.Machines.{slot_put, regrouped_by}
 use Rattle.flat_code.proofs.RegisterLemmas.{rest_at}
 use Rattle.machine_frames.specs.Frames.{line_of, lines_left}
 use Rattle.machine_frames.proofs.WordLemmas.{zeros_are}

@@ -1,9 +1,9 @@
 -- Registers of words, read and written as those of the meaning.
-use Rattle.std.proofs.Common.{◌≡◌, ℕ, List, [], ◌∷◌, ◌++◌, map, replicate, zero, suc, refl, ap, ◌∙◌}
+use Rattle.std.proofs.Common.{◌≡◌, ℕ, List, ◌∷◌, map, replicate, zero, suc, refl, ap}
 use Rattle.std.specs.Prelude.{Option, Some, None, slice_index, slice_index_or}
 use Rattle.std.proofs.lemmas.List.{map-set}
 use lib.ListN.{get_or-map}
-use Rattle.ir_ast.specs.Objects.{Datum, number}
+use Rattle.ir_ast.specs.Objects.{number}
 use Rattle.object_meaning.specs.Registers.{nothing, put}
 
 pub register_is : (registers : List ℕ) (place : ℕ) → slice_index_or (map number registers) place nothing ≡ number (slice_index registers place)
