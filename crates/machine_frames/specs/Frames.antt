@@ -1,0 +1,88 @@
+-- What a frame stands for: a frame of the address machine, whose registers hold words.
+use Rattle.std.specs.Prelude.{ℕ, ◌-◌, Bool, true, false, List, ◌∷◌, ◌++◌, length, map, filter, drop, replicate, reverse}
+use Rattle.ir_ast.specs.declared.ops.Op.{Op}
+use Rattle.ir_ast.specs.declared.ops.Op.TheVariants.{Add, Sub, Mul, Udiv, Sdiv, Urem, Srem, And, Or, Xor, Shl, Lshr, Ashr, Icmp, Trunc, Zext, Sext, Select, Statepoint}
+use Rattle.ir_ast.specs.Insts.{Instruction}
+use Rattle.ir_ast.specs.Modules.{ModuleContent}
+use Rattle.ir_ast.specs.Objects.{Datum, number}
+use Rattle.object_meaning.specs.Lines.{Line, numbered, first_register, insts_of, register_count}
+use Rattle.object_meaning.specs.Numbers.{width_of, sign_extended}
+use Rattle.object_meaning.specs.Registers.{nothing, value, number_in, Write}
+use Rattle.object_meaning.specs.States.{Frame}
+use Rattle.object_meaning.specs.TargetRuns.{plain_lines}
+use Rattle.frame_forms.specs.FrameSizes.{is_named_integer}
+use Rattle.machine_meaning.specs.Words.{worded}
+use Rattle.machine_frames.specs.declared.frames.Frame.{Frame as Standing}
+use Rattle.machine_frames.specs.declared.frames.Move.{Move}
+use Rattle.machine_frames.specs.declared.tasks.Task.{Task}
+
+-- a line that computes a number of numbers
+abbrev pub is_plain : Op → Bool
+is_plain Add = true
+is_plain Sub = true
+is_plain Mul = true
+is_plain Udiv = true
+is_plain Sdiv = true
+is_plain Urem = true
+is_plain Srem = true
+is_plain And = true
+is_plain Or = true
+is_plain Xor = true
+is_plain Shl = true
+is_plain Lshr = true
+is_plain Ashr = true
+is_plain (Icmp pred) = true
+is_plain (Trunc to) = true
+is_plain (Zext to) = true
+is_plain (Sext to) = true
+is_plain Select = true
+is_plain _ = false
+
+abbrev pub is_statepoint : Op → Bool
+is_statepoint (Statepoint id callee types) = true
+is_statepoint _ = false
+
+-- the line of an instruction whose result would go to the register `next`, on words
+abbrev pub line_of : ℕ → Instruction → Line
+line_of next inst = worded (numbered next inst)
+
+abbrev pub lines_left : ℕ → List Instruction → List Line
+lines_left next insts = map worded (plain_lines next insts)
+
+abbrev pub lines_in : ModuleContent → ℕ → ℕ → List Line
+lines_in content func block = lines_left (first_register content func block) (insts_of content func block)
+
+abbrev pub frame_of : Standing → Frame
+frame_of frame = record {
+  func = frame.func;
+  block = frame.block;
+  rest = lines_left frame.next frame.rest.now;
+  registers = map number frame.registers.items;
+}
+
+-- the first frame of a call
+abbrev pub entered_in : ModuleContent → ℕ → List Datum → Frame
+entered_in content func arguments = record {
+  func = func;
+  block = 0;
+  rest = lines_in content func 0;
+  registers = arguments ++ replicate (register_count content func - length arguments) nothing;
+}
+
+-- what a statepoint with so many arguments keeps in its frame's slots
+abbrev pub kept_in : List Datum → Instruction → ℕ → List ℕ
+kept_in registers inst arguments =
+    map (λ operand. number_in (value registers operand)) (drop arguments (line_of 0 inst).inst.operands)
+    ++ map (λ entry. sign_extended (width_of entry.0) 64 (number_in (value registers entry.1)))
+    (filter (λ entry. is_named_integer entry.0 entry.1) inst.bundle)
+
+-- what a move writes
+abbrev pub write_of : Move → Write
+write_of move = record { to = move.to; value = number move.word }
+
+-- the frames of a task, the newest first
+abbrev pub below_of : Task → List Frame
+below_of task = map frame_of (reverse task.below.items)
+
+abbrev pub frames_of : Task → List Frame
+frames_of task = frame_of task.frame ∷ below_of task

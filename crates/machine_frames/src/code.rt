@@ -1,0 +1,212 @@
+//! A rewritten module as it is run: its instructions, the registers of their results, and their addresses.
+
+ghost use Rattle.std.specs.Prelude.{◌≡◌, [], ◌≤◌, IfOk, length, map, MatchOption, None, Some, slice_get, slice_index, ◌-◌};
+ghost use Rattle.std.specs.Option.{option_map, option_map_or};
+ghost use Rattle.ir_ast.specs.Funcs.{content_of};
+ghost use Rattle.object_meaning.specs.Lines.{insts_in, insts_of, first_register, register_count};
+ghost use Rattle.machine_meaning.specs.Code.{code_address, place_before, words_in};
+ghost use Rattle.machine_frames.specs.Tables.{table_of};
+
+use crate::numbering::{befores_of, registers_of};
+use frame_slots::Layouts;
+use ir_ast::{Func, Inst, Module};
+use sp_ids::limits::FUNCTIONS;
+use sp_ids::{FuncId, Memory};
+use std::alloc::Global;
+use std::marker::Model;
+
+/// How many instructions stand before each block of a function, and the register of the first result of each; last the
+/// number of its registers.
+#[derive(Drop)]
+pub(crate) struct Table {
+    befores: Vec<usize>,
+    firsts: Vec<usize>,
+}
+
+impl Model for Table {
+    ghost use Rattle.machine_frames.specs.Tables.{Tabled};
+
+    ghost Value = { Tabled };
+
+    ghost view = { λ table. record { befores = table.befores.items; firsts = table.firsts.items } };
+}
+
+/// A module with what is counted once of its functions. Contracts see the module's content.
+#[derive(Drop)]
+pub struct Code<'m> {
+    module: &'m Module,
+    layouts: Layouts,
+    tables: Vec<Table>,
+}
+
+impl<'m> Model for Code<'m> {
+    ghost use Rattle.ir_ast.specs.Modules.{ModuleContent};
+    ghost use Rattle.machine_frames.specs.Tables.{AreOf};
+
+    ghost Value = { ModuleContent };
+
+    ghost view = { λ code. code.«module».now.content };
+
+    ghost invariant = { λ code. AreOf code.«module».now.content code.layouts code.tables.items };
+}
+
+impl<'m> Code<'m> {
+    /// Counts what is counted once.
+    pub fn of(alloc: Global, module: &'m Module) -> Result<Code<'m>, Memory>
+        ensures { IfOk result (λ code. code ≡ «module».now.content) }
+    {
+        if module.funcs().len() > FUNCTIONS as usize {
+            return Err(Memory);
+        }
+        let layouts = Layouts::of(alloc, module)?;
+        let tables = tables_of(alloc, module.funcs())?;
+        Ok(Code {
+            module,
+            layouts,
+            tables,
+        })
+    }
+
+    /// The module.
+    pub fn module(&self) -> &'m Module
+        ensures { result.now.content ≡ self.now }
+    {
+        self.module
+    }
+
+    /// The instructions of a block; none, where there is no such block.
+    pub fn insts(&self, func: u32, block: u32) -> &'m [Inst]
+        ensures { result.now ≡ insts_of self.now func block }
+    {
+        match func_at(self.module, func as usize) {
+            None => &[],
+            Some(func) => insts_in(func, block),
+        }
+    }
+
+    /// The register of the first result of a block.
+    pub fn first(&self, func: u32, block: u32) -> usize
+        ensures { result ≡ first_register self.now func block }
+    {
+        match self.tables.get(func as usize) {
+            None => 0,
+            Some(table) => table.first(block),
+        }
+    }
+
+    /// How many registers a function has.
+    pub fn registers(&self, func: u32) -> usize
+        ensures { result ≡ register_count self.now func }
+    {
+        match self.tables.get(func as usize) {
+            None => 0,
+            Some(table) => table.last(),
+        }
+    }
+
+    /// How many words the frames of a function have, without the return word.
+    pub fn frame_words(&self, func: u32) -> Result<u32, Memory>
+        ensures { IfOk result (λ words. words ≡ words_in self.now func) }
+    {
+        if func as usize >= self.layouts.function_count() {
+            return Ok(0);
+        }
+        let words = self.layouts.frame_bytes(FuncId(func)) / 8;
+        if words > u64::from(u32::MAX) {
+            return Err(Memory);
+        }
+        Ok(words as u32)
+    }
+
+    /// The address of the instruction with this place in its block.
+    pub fn address(&self, func: u32, block: u32, place: usize) -> Result<u64, Memory>
+        ensures { IfOk result (λ address. address ≡ code_address self.now func block place) }
+    {
+        if func as usize >= self.layouts.function_count() {
+            return Err(Memory);
+        }
+        let start = self.layouts.address(FuncId(func));
+        let before = self.before(func, block)?;
+        let number = before.checked_add(place).ok_or(Memory)?;
+        let bytes = (number as u64).checked_mul(4).ok_or(Memory)?;
+        start.checked_add(bytes).ok_or(Memory)
+    }
+
+    // How many instructions stand before a block.
+    fn before(&self, func: u32, block: u32) -> Result<usize, Memory>
+        ensures { IfOk result (λ count. count ≡ place_before self.now func block) }
+    {
+        match table_in(self.tables.as_slice(), func as usize) {
+            None => Err(Memory),
+            Some(table) => table.before(block),
+        }
+    }
+}
+
+impl Table {
+    fn first(&self, block: u32) -> usize
+        ensures { result ≡ slice_index self.now.firsts block }
+    {
+        self.firsts.get(block as usize).copied().unwrap_or(0)
+    }
+
+    fn last(&self) -> usize
+        ensures { result ≡ slice_index self.now.firsts (length self.now.firsts - 1) }
+    {
+        self.firsts.last().copied().unwrap_or(0)
+    }
+
+    fn before(&self, block: u32) -> Result<usize, Memory>
+        ensures { IfOk result (λ count. slice_get self.now.befores block ≡ Some count) }
+    {
+        self.befores.get(block as usize).copied().ok_or(Memory)
+    }
+}
+
+fn tables_of(alloc: Global, funcs: &[Func]) -> Result<Vec<Table>, Memory>
+    ensures { IfOk result (λ tables. tables.items ≡ map (λ func. table_of func.content) funcs.now) }
+{
+    let mut tables = Vec::new(alloc);
+    for func in funcs {
+        tables.push(table_of(alloc, func)?)?;
+    }
+    Ok(tables)
+}
+
+fn table_of(alloc: Global, func: &Func) -> Result<Table, Memory>
+    ensures { IfOk result (λ table. table ≡ table_of func.now.content) }
+{
+    let befores = befores_of(alloc, func.blocks())?;
+    let firsts = registers_of(alloc, func)?;
+    Ok(Table { befores, firsts })
+}
+
+fn func_at(module: &Module, place: usize) -> Option<&Func>
+    ensures { option_map (λ func. func.now.content) result ≡ slice_get «module».now.content.funcs place }
+{
+    match func_in(module.funcs(), place) {
+        None => None,
+        Some(func) => Some(func),
+    }
+}
+
+fn func_in(funcs: &[Func], place: usize) -> Option<&Func>
+    ensures { MatchOption result (slice_get funcs.now place ≡ None) (λ func. slice_get funcs.now place ≡ Some func.now) }
+{
+    funcs.get(place)
+}
+
+fn table_in(tables: &[Table], place: usize) -> Option<&Table>
+    ensures { MatchOption result (slice_get tables.now place ≡ None) (λ table. slice_get tables.now place ≡ Some table.now) }
+{
+    tables.get(place)
+}
+
+fn insts_in(func: &Func, block: u32) -> &[Inst]
+    ensures { result.now ≡ insts_in func.now.content block }
+{
+    match func.blocks().get(block as usize) {
+        None => &[],
+        Some(block) => block.insts(),
+    }
+}

@@ -1,0 +1,90 @@
+//! The frames of a task, and its stack.
+
+ghost use Rattle.std.specs.Prelude.{◌≡◌, ◌+◌, ◌++◌, ◌∷◌, [], drop, map, replicate, IfOk, OnOk, Ok, Err};
+ghost use Rattle.ir_ast.specs.Objects.{number};
+ghost use Rattle.machine_meaning.specs.Code.{words_in};
+ghost use Rattle.machine_meaning.specs.Machines.{gone_from};
+ghost use Rattle.machine_frames.specs.Frames.{frame_of, entered_in, below_of};
+ghost use Rattle.machine_frames.specs.Tasks.{Begins, Enters, Leaves};
+
+use crate::code::Code;
+use crate::frames::Frame;
+use frame_walk::Stack;
+use sp_ids::Memory;
+use std::alloc::Global;
+use std::mem;
+
+/// The frame of a task that runs, or that waits as its newest; those below, the newest last; and its stack.
+#[derive(Drop)]
+pub struct Task<'m> {
+    pub frame: Frame<'m>,
+    pub below: Vec<Frame<'m>>,
+    pub stack: Stack,
+}
+
+impl<'m> Task<'m> {
+    /// A task that begins with a call, whose return address is 0.
+    pub fn begin(
+        alloc: Global,
+        code: &Code<'m>,
+        func: u32,
+        arguments: &[u64],
+    ) -> Result<Task<'m>, Memory>
+        ensures { IfOk result (Begins code.now func (map number arguments.now)) }
+    {
+        let frame = Frame::entered(alloc, code, func, arguments)?;
+        let mut stack = Stack::new(alloc);
+        stack.push_frame(code.frame_words(func)?, 0)?;
+        Ok(Task {
+            frame,
+            below: Vec::new(alloc),
+            stack,
+        })
+    }
+
+    /// A call: a new frame runs, whose call returns to this address, and the one that ran waits.
+    pub fn enter(
+        &mut self,
+        alloc: Global,
+        code: &Code<'m>,
+        func: u32,
+        arguments: &[u64],
+        address: u64,
+    ) -> Result<(), Memory>
+        ensures { OnOk result (Enters code.now func (map number arguments.now) address self.old self.new) }
+    {
+        let frame = Frame::entered(alloc, code, func, arguments)?;
+        let words = code.frame_words(func)?;
+        self.stack.push_frame(words, address)?;
+        let waits = mem::replace(&mut self.frame, frame);
+        self.below.push(waits)?;
+        Ok(())
+    }
+
+    /// The frame that runs and stands at a call goes on behind it with the answer.
+    pub fn go_on(&mut self, answer: u64) -> Result<(), Memory>
+        ensures frame { OnOk result (frame_of self.new.frame ≡ gone_from self.old.stack (frame_of self.old.frame) (frame_of self.old.frame).rest (number answer)) }
+        ensures others { self.new ≡ record self.old { frame = self.new.frame } }
+    {
+        self.frame.go_on(&self.stack, answer)
+    }
+
+    /// The newest of the frames that wait runs again, and the running one is gone. Whether there was one.
+    pub fn leave(&mut self, code: &Code<'m>) -> Result<bool, Memory>
+        ensures { IfOk result (λ left. Leaves code.now self.old left self.new) }
+    {
+        let words = code.frame_words(self.frame.func)?;
+        if self.below.is_empty() {
+            return Ok(false);
+        }
+        let Some(frame) = self.below.pop() else {
+            return Err(Memory);
+        };
+        if words as usize >= self.stack.len() {
+            return Err(Memory);
+        }
+        let _ = self.stack.pop_frame(words);
+        self.frame = frame;
+        Ok(true)
+    }
+}
