@@ -4,8 +4,17 @@
 //! What stands before the first part is for readers. Empty lines at the end of a part don't count, but those at the end
 //! of what stands before texts do.
 
+use crate::passes::Pass;
 use std::alloc::{AllocError, AllocFailed, Global};
 use std::fmt;
+
+/// The text of a module that must come of a source module by this pass and those before it, or of one that must not.
+#[derive(Drop)]
+pub(crate) struct Expected {
+    pub(crate) pass: Pass,
+    pub(crate) comes: bool,
+    pub(crate) text: Vec<u8>,
+}
 
 /// A source module, and what must come of it.
 #[derive(Drop)]
@@ -14,10 +23,7 @@ pub(crate) struct Case<'a> {
     pub(crate) line: usize,
     pub(crate) name: &'a str,
     pub(crate) source: Vec<u8>,
-    /// The text of the module with polls, where the case says it.
-    pub(crate) polls: Option<Vec<u8>>,
-    /// The text of the module with polls, bases and checks, where the case says it.
-    pub(crate) bases: Option<Vec<u8>>,
+    pub(crate) expected: Vec<Expected>,
 }
 
 impl fmt::Display for Case<'_> {
@@ -137,9 +143,11 @@ impl<'a> Sheet<'a> {
             Some(("around", "source")) => self.open_frame(Kind::Source, part.whole),
             Some(("around", "polls")) => self.open_frame(Kind::Polls, part.whole),
             Some(("around", "bases")) => self.open_frame(Kind::Bases, part.whole),
+            Some(("not", "polls")) => self.expect(Pass::Polls, false, part.body),
+            Some(("not", "bases")) => self.expect(Pass::Bases, false, part.body),
             None if part.head == "here" => self.close_frame(part.body),
-            None if part.head == "polls" => self.expect_polls(part.body),
-            None if part.head == "bases" => self.expect_bases(part.body),
+            None if part.head == "polls" => self.expect(Pass::Polls, true, part.body),
+            None if part.head == "bases" => self.expect(Pass::Bases, true, part.body),
             _ => Err(Unread::Head),
         }
     }
@@ -180,28 +188,24 @@ impl<'a> Sheet<'a> {
             line: part.line,
             name,
             source,
-            polls: None,
-            bases: None,
+            expected: Vec::new(self.alloc),
         })?;
         Ok(())
     }
 
-    fn expect_polls(&mut self, body: &str) -> Result<(), Unread> {
-        let text = self.polls.around(self.alloc, body)?;
-        let Some(case) = self.cases.last_mut() else {
-            return Err(Unread::Head);
+    fn expect(&mut self, pass: Pass, comes: bool, body: &str) -> Result<(), Unread> {
+        let frame = match pass {
+            Pass::Bases => self.bases,
+            _ => self.polls,
         };
-        case.polls = Some(text);
-        Ok(())
-    }
-
-    fn expect_bases(&mut self, body: &str) -> Result<(), Unread> {
-        let text = self.bases.around(self.alloc, body)?;
-        let Some(case) = self.cases.last_mut() else {
-            return Err(Unread::Head);
-        };
-        case.bases = Some(text);
-        Ok(())
+        let text = frame.around(self.alloc, body)?;
+        match self.cases.last_mut() {
+            Some(case) => {
+                case.expected.push(Expected { pass, comes, text })?;
+                Ok(())
+            }
+            None => Err(Unread::Head),
+        }
     }
 }
 

@@ -97,12 +97,7 @@ fn of_functions(
             found.push(Difference::BlockName(number, place))?;
         }
         if block.insts().len() != other.insts().len() {
-            found.push(Difference::Lines(
-                number,
-                place,
-                block.insts().len(),
-                other.insts().len(),
-            ))?;
+            found.push(Difference::Lines(number, place, block.insts().len(), other.insts().len()))?;
         }
         first = of_blocks(first, block, other, wanted, found)?;
     }

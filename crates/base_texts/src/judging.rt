@@ -3,7 +3,7 @@
 ghost use Rattle.std.specs.Prelude.{◌≡◌, ◌≤◌, length};
 ghost use Rattle.sp_ids.specs.declared.limits.TheConstants.{FILE_BYTES};
 
-use crate::cases::Case;
+use crate::cases::{Case, Expected};
 use crate::differences::{Difference, differences};
 use crate::passes::{Pass, after};
 use crate::texts::{Refused, prints, rewritten_of, source_of};
@@ -12,12 +12,12 @@ use sp_ids::limits::FILE_BYTES;
 use std::alloc::Global;
 use std::{fmt, io};
 
-/// How many texts are expected, and how many of them came.
+/// How many modules there are, how many texts are told of them, and of how many of these what is told holds.
 #[derive(Clone, Copy)]
 pub(crate) struct Tally {
     pub(crate) cases: u32,
     pub(crate) texts: u32,
-    pub(crate) came: u32,
+    pub(crate) held: u32,
 }
 
 impl Tally {
@@ -26,25 +26,25 @@ impl Tally {
         Tally {
             cases: 0,
             texts: 0,
-            came: 0,
+            held: 0,
         }
     }
 
     pub(crate) fn all_hold(&self) -> bool {
-        self.texts == self.came
+        self.texts == self.held
     }
 
     pub(crate) fn add(&mut self, other: Tally) {
         self.cases = self.cases.saturating_add(other.cases);
         self.texts = self.texts.saturating_add(other.texts);
-        self.came = self.came.saturating_add(other.came);
+        self.held = self.held.saturating_add(other.held);
     }
 
-    fn count(&mut self, came: bool) {
+    fn count(&mut self, holds: bool) {
         self.add(Tally {
             cases: 0,
             texts: 1,
-            came: if came { 1 } else { 0 },
+            held: if holds { 1 } else { 0 },
         });
     }
 }
@@ -53,8 +53,8 @@ impl fmt::Display for Tally {
     fn fmt<W: fmt::Write>(&self, f: &mut fmt::Formatter<W>) -> fmt::Result {
         write!(
             f,
-            "{} of {} texts came, of {} modules",
-            self.came, self.texts, self.cases
+            "{} of {} texts of {} modules hold",
+            self.held, self.texts, self.cases
         )
     }
 }
@@ -105,15 +105,11 @@ fn judged(rt: &impl Print, alloc: Global, name: &str, case: &Case) -> io::Result
     let mut tally = Tally {
         cases: 1,
         texts: 0,
-        came: 0,
+        held: 0,
     };
-    if let Some(text) = &case.polls {
-        let verdict = verdict_of(alloc, Pass::Polls, &case.source, text);
-        tally.count(told(rt, name, case, "polls", &verdict)?);
-    }
-    if let Some(text) = &case.bases {
-        let verdict = verdict_of(alloc, Pass::Bases, &case.source, text);
-        tally.count(told(rt, name, case, "bases", &verdict)?);
+    for expected in &case.expected {
+        let verdict = verdict_of(alloc, expected.pass, &case.source, &expected.text);
+        tally.count(told(rt, name, case, expected, &verdict)?);
     }
     Ok(tally)
 }
@@ -123,23 +119,30 @@ fn told(
     rt: &impl Print,
     name: &str,
     case: &Case,
-    part: &str,
+    expected: &Expected,
     verdict: &Verdict,
 ) -> io::Result<bool> {
+    let pass = expected.pass;
     match verdict {
-        Verdict::Compared(places) => {
+        Verdict::Compared(places) if expected.comes => {
             for place in places {
-                println!(rt; "{name}:{case}: {part}: {place}")?;
+                println!(rt; "{name}:{case}: {pass}: {place}")?;
             }
             return Ok(places.is_empty());
         }
+        Verdict::Compared(places) => {
+            if places.is_empty() {
+                println!(rt; "{name}:{case}: {pass}: the text that must not come")?;
+            }
+            return Ok(!places.is_empty());
+        }
         Verdict::PrintsOtherwise => {
-            println!(rt; "{name}:{case}: {part}: the text isn't as it is printed")?;
+            println!(rt; "{name}:{case}: {pass}: the text isn't as it is printed")?;
         }
         Verdict::NoSource(refused) => println!(rt; "{name}:{case}: no source module: {refused}")?,
-        Verdict::NoModule(refused) => println!(rt; "{name}:{case}: {part}: no module: {refused}")?,
-        Verdict::TooLong => println!(rt; "{name}:{case}: {part}: too long")?,
-        Verdict::Memory => println!(rt; "{name}:{case}: {part}: {Memory}")?,
+        Verdict::NoModule(refused) => println!(rt; "{name}:{case}: {pass}: no module: {refused}")?,
+        Verdict::TooLong => println!(rt; "{name}:{case}: {pass}: too long")?,
+        Verdict::Memory => println!(rt; "{name}:{case}: {pass}: {Memory}")?,
     }
     Ok(false)
 }

@@ -23,8 +23,7 @@ use std::{env, io};
 use texts::{lines_of, source_of};
 use tool_io::{DiskFiles, Files};
 
-const USAGE: &str =
-    "usage: base_texts typed|reached|polls|bases FILE, or base_texts judge FILE..";
+const USAGE: &str = "usage: base_texts typed|reached|polls|bases FILE, or base_texts judge FILE..";
 
 /// How a run ends.
 #[derive(Clone, Copy)]

@@ -11,6 +11,7 @@ use ir_cfg::drop_unreachable;
 use poll_place::{place, sources_are_ready};
 use sp_ids::Memory;
 use std::alloc::Global;
+use std::fmt;
 
 /// How far a module is worked on.
 #[derive(Clone, Copy)]
@@ -19,6 +20,17 @@ pub(crate) enum Pass {
     Dropping,
     Polls,
     Bases,
+}
+
+impl fmt::Display for Pass {
+    fn fmt<W: fmt::Write>(&self, f: &mut fmt::Formatter<W>) -> fmt::Result {
+        f.write_str(match self {
+            Pass::Typing => "typed",
+            Pass::Dropping => "reached",
+            Pass::Polls => "polls",
+            Pass::Bases => "bases",
+        })
+    }
 }
 
 /// The module after this pass and those before it.
@@ -47,14 +59,15 @@ fn polled(alloc: Global, source: Module) -> Result<Module, Memory>
     ensures { IfOk result (λ after. All IsReady after.content.funcs) }
 {
     sources_are_ready();
-    place(alloc, source)
+    Ok(place(alloc, source)?)
 }
 
 /// The same with its bases and checks.
 pub(crate) fn with_bases(alloc: Global, source: Module) -> Result<Module, Memory>
     requires { IsSourceModule source.content }
 {
-    let (layouts, funcs, form) = with_polls(alloc, source)?.into_parts();
+    let polled = with_polls(alloc, source)?;
+    let (layouts, funcs, form) = polled.into_parts();
     let all = all_with_bases(alloc, funcs)?;
     Ok(Module::of(layouts, all, form))
 }
