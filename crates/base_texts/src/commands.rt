@@ -1,6 +1,6 @@
 //! The words of the command line.
 
-use crate::passes::Pass;
+use crate::passes::{Pass, pass_of};
 
 /// What the words ask for.
 #[derive(Drop)]
@@ -15,17 +15,10 @@ pub(crate) enum Command<'a> {
 pub(crate) fn command_of(words: &[String]) -> Option<Command<'_>> {
     let (_, words) = words.split_first()?;
     let (verb, names) = words.split_first()?;
-    match verb.as_str() {
-        "judge" => Some(Command::Judge(names)),
-        "typed" => tell(Pass::Typing, names),
-        "reached" => tell(Pass::Dropping, names),
-        "polls" => tell(Pass::Polls, names),
-        "bases" => tell(Pass::Bases, names),
-        _ => None,
+    if verb.as_str() == "judge" {
+        return Some(Command::Judge(names));
     }
-}
-
-fn tell(pass: Pass, names: &[String]) -> Option<Command<'_>> {
+    let pass = pass_of(verb.as_str())?;
     match names {
         [name] => Some(Command::Tell {
             pass,

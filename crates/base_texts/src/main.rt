@@ -2,25 +2,17 @@
 //! come of them.
 #![tactic(auto)]
 
-mod cases;
 mod commands;
-mod differences;
 mod judging;
 mod passes;
-mod same;
-mod texts;
 
-ghost use Rattle.std.specs.Prelude.{◌≤◌, length};
-ghost use Rattle.sp_ids.specs.declared.limits.TheConstants.{FILE_BYTES};
-
-use cases::{Refusal, cases_of};
 use commands::{Command, command_of};
-use judging::{Tally, judge};
+use judging::judge;
+use pass_cases::{Refusal, Tally, cases_of, count_of, source_of};
 use passes::{Pass, after};
 use sp_ids::limits::FILE_BYTES;
 use std::process::ExitCode;
 use std::{env, io};
-use texts::{lines_of, source_of};
 use tool_io::{DiskFiles, Files};
 
 const USAGE: &str = "usage: base_texts typed|reached|polls|bases FILE, or base_texts judge FILE..";
@@ -70,13 +62,11 @@ fn tell(rt: &HostRuntime, pass: Pass, name: &str) -> io::Result<End> {
     }
 }
 
-fn tell_text(rt: &HostRuntime, pass: Pass, text: &[u8]) -> io::Result<End>
-    requires { length text.now ≤ FILE_BYTES }
-{
+fn tell_text(rt: &HostRuntime, pass: Pass, text: &[u8]) -> io::Result<End> {
     match source_of(rt.alloc(), text) {
         Ok(source) => match after(rt.alloc(), pass, source) {
             Ok(made) => {
-                println!(rt; "{} instructions", lines_of(&made))?;
+                println!(rt; "{} instructions", count_of(&made))?;
                 Ok(End::Done)
             }
             Err(memory) => {
@@ -93,7 +83,7 @@ fn tell_text(rt: &HostRuntime, pass: Pass, text: &[u8]) -> io::Result<End>
 
 // Judges the cases of these files, and says of each file and of all how many hold.
 fn judge_files(rt: &HostRuntime, names: &[String]) -> io::Result<End> {
-    let mut whole = Tally::new();
+    let mut whole = Tally::of(0);
     for name in names {
         match judge_file(rt, name.as_str())? {
             Some(tally) => whole.add(tally),

@@ -11,7 +11,6 @@ use ir_cfg::drop_unreachable;
 use poll_place::{place, sources_are_ready};
 use sp_ids::Memory;
 use std::alloc::Global;
-use std::fmt;
 
 /// How far a module is worked on.
 #[derive(Clone, Copy)]
@@ -22,14 +21,14 @@ pub(crate) enum Pass {
     Bases,
 }
 
-impl fmt::Display for Pass {
-    fn fmt<W: fmt::Write>(&self, f: &mut fmt::Formatter<W>) -> fmt::Result {
-        f.write_str(match self {
-            Pass::Typing => "typed",
-            Pass::Dropping => "reached",
-            Pass::Polls => "polls",
-            Pass::Bases => "bases",
-        })
+/// The pass of this word.
+pub(crate) fn pass_of(word: &str) -> Option<Pass> {
+    match word {
+        "typed" => Some(Pass::Typing),
+        "reached" => Some(Pass::Dropping),
+        "polls" => Some(Pass::Polls),
+        "bases" => Some(Pass::Bases),
+        _ => None,
     }
 }
 

@@ -1,7 +1,6 @@
 //! Texts of modules: typed, printed, and their instructions counted.
 
-ghost use Rattle.std.specs.Prelude.{◌≤◌, length, IfOk};
-ghost use Rattle.sp_ids.specs.declared.limits.TheConstants.{FILE_BYTES};
+ghost use Rattle.std.specs.Prelude.{IfOk};
 ghost use Rattle.ir_ast.specs.Formed.{IsFormedModule};
 ghost use Rattle.ir_cfg.specs.SourceModules.{IsSourceModule};
 
@@ -10,6 +9,7 @@ use ir_printer::print;
 use ir_reader::{ReadFault, read, read_rewritten};
 use ir_types::{Fault, TypeFault, typed, typed_rewritten};
 use sp_ids::Memory;
+use sp_ids::limits::FILE_BYTES;
 use std::alloc::Global;
 use std::fmt;
 use tool_io::MemSink;
@@ -19,9 +19,11 @@ const MOST_PRINTED: usize = 1_000_000;
 
 /// Why a text stands for no module.
 #[derive(Clone, Copy)]
-pub(crate) enum Refused {
+pub enum Refused {
     /// Its first fault, also one of reading.
     Fault(Fault),
+    /// It is longer than any text may be.
+    TooLong,
     Memory,
 }
 
@@ -29,6 +31,7 @@ impl fmt::Display for Refused {
     fn fmt<W: fmt::Write>(&self, f: &mut fmt::Formatter<W>) -> fmt::Result {
         match self {
             Refused::Fault(fault) => write!(f, "code {} at line {}", fault.code, fault.line),
+            Refused::TooLong => f.write_str("too long"),
             Refused::Memory => write!(f, "{Memory}"),
         }
     }
@@ -54,10 +57,12 @@ impl From<TypeFault> for Refused {
 }
 
 /// The source module that a text stands for.
-pub(crate) fn source_of(alloc: Global, text: &[u8]) -> Result<Module, Refused>
-    requires { length text.now ≤ FILE_BYTES }
+pub fn source_of(alloc: Global, text: &[u8]) -> Result<Module, Refused>
     ensures { IfOk result (λ whole. IsSourceModule whole.content) }
 {
+    if text.len() as u64 > FILE_BYTES {
+        return Err(Refused::TooLong);
+    }
     let raw = read(alloc, text)?;
     let source = typed(alloc, raw)?;
     Ok(source)
@@ -65,9 +70,11 @@ pub(crate) fn source_of(alloc: Global, text: &[u8]) -> Result<Module, Refused>
 
 /// The module of the rewritten form that a text stands for.
 pub(crate) fn rewritten_of(alloc: Global, text: &[u8]) -> Result<Module, Refused>
-    requires { length text.now ≤ FILE_BYTES }
     ensures { IfOk result (λ whole. IsFormedModule whole.content) }
 {
+    if text.len() as u64 > FILE_BYTES {
+        return Err(Refused::TooLong);
+    }
     let raw = read_rewritten(alloc, text)?;
     let target = typed_rewritten(alloc, raw)?;
     Ok(target)
@@ -85,7 +92,7 @@ pub(crate) fn prints(alloc: Global, program: &Module, text: &[u8]) -> Result<boo
 }
 
 /// How many instructions the module has.
-pub(crate) fn lines_of(program: &Module) -> usize {
+pub fn count_of(program: &Module) -> usize {
     let mut count: usize = 0;
     for func in program.funcs() {
         for block in func.blocks() {

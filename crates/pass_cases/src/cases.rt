@@ -4,26 +4,25 @@
 //! What stands before the first part is for readers. Empty lines at the end of a part don't count, but those at the end
 //! of what stands before texts do.
 
-use crate::passes::Pass;
 use std::alloc::{AllocError, AllocFailed, Global};
 use std::fmt;
 
-/// The text of a module that must come of a source module by this pass and those before it, or of one that must not.
+/// The text of a module that must come of a source module by the pass of this word, or of one that must not.
 #[derive(Drop)]
-pub(crate) struct Expected {
-    pub(crate) pass: Pass,
-    pub(crate) comes: bool,
-    pub(crate) text: Vec<u8>,
+pub struct Expected<'a> {
+    pub word: &'a str,
+    pub comes: bool,
+    pub text: Vec<u8>,
 }
 
 /// A source module, and what must come of it.
 #[derive(Drop)]
-pub(crate) struct Case<'a> {
+pub struct Case<'a> {
     /// Its line in the file of cases.
-    pub(crate) line: usize,
-    pub(crate) name: &'a str,
-    pub(crate) source: Vec<u8>,
-    pub(crate) expected: Vec<Expected>,
+    pub line: usize,
+    pub name: &'a str,
+    pub source: Vec<u8>,
+    pub expected: Vec<Expected<'a>>,
 }
 
 impl fmt::Display for Case<'_> {
@@ -34,7 +33,7 @@ impl fmt::Display for Case<'_> {
 
 /// Why a file of cases can't be read.
 #[derive(Clone, Copy)]
-pub(crate) enum Unread {
+pub enum Unread {
     /// A line opens no part, or none that may stand there.
     Head,
     /// Memory that was wanted and could not be had.
@@ -64,22 +63,15 @@ impl<T: Drop> From<AllocFailed<T>> for Unread {
 
 /// Why a file of cases can't be read, and the line of the part that is at fault.
 #[derive(Clone, Copy)]
-pub(crate) struct Refusal {
-    pub(crate) line: usize,
-    pub(crate) why: Unread,
+pub struct Refusal {
+    pub line: usize,
+    pub why: Unread,
 }
 
-// Which text of a case.
-#[derive(Clone, Copy)]
-enum Kind {
-    Source,
-    Polls,
-    Bases,
-}
-
-// What stands around a text.
+// What stands around the texts of a word.
 #[derive(Clone, Copy)]
 struct Frame<'a> {
+    word: &'a str,
     before: &'a str,
     after: &'a str,
 }
@@ -96,11 +88,6 @@ impl Frame<'_> {
         Ok(whole)
     }
 }
-
-const NOTHING: Frame<'static> = Frame {
-    before: "",
-    after: "",
-};
 
 // A line that opens a part, without its `=`, and the lines behind it.
 #[derive(Clone, Copy)]
@@ -124,15 +111,11 @@ impl<'a> Part<'a> {
     }
 }
 
-// What was read so far of a file of cases: what stands around each kind of text, the kind whose frame was told last, and
-// the cases.
+// What was read so far of a file of cases: what stands around the texts of each word, of which the last one told holds.
 #[derive(Drop)]
 struct Sheet<'a> {
     alloc: Global,
-    source: Frame<'a>,
-    polls: Frame<'a>,
-    bases: Frame<'a>,
-    last: Kind,
+    frames: Vec<Frame<'a>>,
     cases: Vec<Case<'a>>,
 }
 
@@ -140,50 +123,50 @@ impl<'a> Sheet<'a> {
     fn take(&mut self, part: Part<'a>) -> Result<(), Unread> {
         match part.head.split_once(' ') {
             Some(("", name)) => self.add_case(part, name),
-            Some(("around", "source")) => self.open_frame(Kind::Source, part.whole),
-            Some(("around", "polls")) => self.open_frame(Kind::Polls, part.whole),
-            Some(("around", "bases")) => self.open_frame(Kind::Bases, part.whole),
-            Some(("not", "polls")) => self.expect(Pass::Polls, false, part.body),
-            Some(("not", "bases")) => self.expect(Pass::Bases, false, part.body),
+            Some(("around", word)) => self.open_frame(word, part.whole),
+            Some(("not", word)) => self.expect(word, false, part.body),
             None if part.head == "here" => self.close_frame(part.body),
-            None if part.head == "polls" => self.expect(Pass::Polls, true, part.body),
-            None if part.head == "bases" => self.expect(Pass::Bases, true, part.body),
-            _ => Err(Unread::Head),
+            None => self.expect(part.head, true, part.body),
+            Some(_) => Err(Unread::Head),
         }
     }
 
-    fn open_frame(&mut self, kind: Kind, before: &'a str) -> Result<(), Unread> {
-        self.last = kind;
-        let frame = Frame { before, after: "" };
-        self.set_frame(kind, frame);
+    fn open_frame(&mut self, word: &'a str, before: &'a str) -> Result<(), Unread> {
+        self.frames.push(Frame {
+            word,
+            before,
+            after: "",
+        })?;
         Ok(())
     }
 
     fn close_frame(&mut self, after: &'a str) -> Result<(), Unread> {
-        let kind = self.last;
-        let Frame { before, .. } = self.frame(kind);
-        self.set_frame(kind, Frame { before, after });
-        Ok(())
-    }
-
-    fn frame(&self, kind: Kind) -> Frame<'a> {
-        match kind {
-            Kind::Source => self.source,
-            Kind::Polls => self.polls,
-            Kind::Bases => self.bases,
+        match self.frames.last_mut() {
+            Some(frame) => {
+                frame.after = after;
+                Ok(())
+            }
+            None => Err(Unread::Head),
         }
     }
 
-    fn set_frame(&mut self, kind: Kind, frame: Frame<'a>) {
-        match kind {
-            Kind::Source => self.source = frame,
-            Kind::Polls => self.polls = frame,
-            Kind::Bases => self.bases = frame,
+    // The text of this word with what stands around it.
+    fn whole(&self, word: &str, text: &str) -> Result<Vec<u8>, AllocError> {
+        let mut found = Frame {
+            word: "",
+            before: "",
+            after: "",
+        };
+        for frame in &self.frames {
+            if frame.word == word {
+                found = *frame;
+            }
         }
+        found.around(self.alloc, text)
     }
 
     fn add_case(&mut self, part: Part<'a>, name: &'a str) -> Result<(), Unread> {
-        let source = self.source.around(self.alloc, part.body)?;
+        let source = self.whole("source", part.body)?;
         self.cases.push(Case {
             line: part.line,
             name,
@@ -193,15 +176,11 @@ impl<'a> Sheet<'a> {
         Ok(())
     }
 
-    fn expect(&mut self, pass: Pass, comes: bool, body: &str) -> Result<(), Unread> {
-        let frame = match pass {
-            Pass::Bases => self.bases,
-            _ => self.polls,
-        };
-        let text = frame.around(self.alloc, body)?;
+    fn expect(&mut self, word: &'a str, comes: bool, body: &str) -> Result<(), Unread> {
+        let text = self.whole(word, body)?;
         match self.cases.last_mut() {
             Some(case) => {
-                case.expected.push(Expected { pass, comes, text })?;
+                case.expected.push(Expected { word, comes, text })?;
                 Ok(())
             }
             None => Err(Unread::Head),
@@ -210,13 +189,10 @@ impl<'a> Sheet<'a> {
 }
 
 /// The cases of a file.
-pub(crate) fn cases_of(alloc: Global, file: &str) -> Result<Vec<Case<'_>>, Refusal> {
+pub fn cases_of(alloc: Global, file: &str) -> Result<Vec<Case<'_>>, Refusal> {
     let mut sheet = Sheet {
         alloc,
-        source: NOTHING,
-        polls: NOTHING,
-        bases: NOTHING,
-        last: Kind::Source,
+        frames: Vec::new(alloc),
         cases: Vec::new(alloc),
     };
     let mut line: usize = 1;
