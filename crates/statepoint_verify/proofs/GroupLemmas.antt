@@ -13,7 +13,7 @@ use Rattle.object_meaning.specs.Frames.{is_member, group_length, index_in}
 use Rattle.pair_facts.specs.Lines.{line_in, no_line, head_at, head_here, group_in, is_relocate}
 use Rattle.pair_facts.specs.Pairs.{relocates_base}
 use Rattle.pair_facts.proofs.BoolLemmas.{or_false, or_first, same_tests, either}
-use Rattle.base_facts.specs.Notes.{head_before}
+use Rattle.fact_tables.specs.Notes.{head_before}
 use Rattle.base_facts.specs.Members.{relocates_base_of}
 use Rattle.statepoint_verify.specs.declared.groups.Kept.{Kept}
 use Rattle.statepoint_verify.specs.Tests.{keeps_value}

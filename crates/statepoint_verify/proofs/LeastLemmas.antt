@@ -4,7 +4,7 @@ use Rattle.std.specs.Prelude.{slice_get, slice_index, unwrap_or}
 use Rattle.std.specs.List.{Contains}
 use Rattle.std.proofs.lemmas.Bool.{cases_lt}
 use Rattle.std.proofs.lemmas.Option.{none-some, same_Some, slice_get_within, get_or_from_slice_get}
-use Rattle.base_facts.proofs.LineLemmas.{insts_are}
+use Rattle.fact_tables.proofs.LineLemmas.{insts_are}
 use Rattle.list_laws.proofs.Contents.{contains_none, contains_get, get_contained}
 use Rattle.list_laws.proofs.Places.{get_taken, get_map, get_some}
 use Rattle.ir_ast.specs.Blocks.{BasicBlock}

@@ -13,8 +13,8 @@ use Rattle.ir_cfg.specs.Graphs.{graph_of}
 use Rattle.ir_cfg.specs.Paths.{Reached}
 use Rattle.object_meaning.specs.Lines.{Line, registers_of, insts_in}
 use Rattle.pair_facts.specs.Lines.{lines_at}
-use Rattle.base_facts.specs.Homes.{IsBefore}
-use Rattle.base_facts.proofs.LineLemmas.{insts_are, length-plain_lines}
+use Rattle.fact_tables.specs.Homes.{IsBefore}
+use Rattle.fact_tables.proofs.LineLemmas.{insts_are, length-plain_lines}
 use Rattle.statepoint_verify.specs.declared.marks.Mark.{Mark}
 use Rattle.statepoint_verify.specs.Tests.{is_open, is_unchecked, is_plain_at, loses}
 use Rattle.statepoint_verify.specs.Marks.{TextFault, open_group, unchecked, plain_call, lost_value, mark_of, AreAll, AreMarked, IsInside, marked_where, line_marked}

@@ -24,7 +24,7 @@ use Rattle.pair_facts.specs.Uses.{entries_at, accessed_at, checks_access, is_che
 use Rattle.pair_facts.specs.Faults.{IsOpenGroup, IsUnchecked, IsPlainCall, IsLostValue}
 use Rattle.pair_facts.proofs.BoolLemmas.{both, joined}
 use Rattle.pair_facts.proofs.PlaceLaws.{head_here}
-use Rattle.base_facts.proofs.TableLemmas.{last_line}
+use Rattle.fact_tables.proofs.TableLemmas.{last_line}
 use Rattle.statepoint_verify.specs.declared.groups.Group.{Group}
 use Rattle.statepoint_verify.specs.Tests.{checks_by, is_open_entry, is_open_in, is_open, is_unchecked_at, is_unchecked, is_plain, is_plain_at, keeps_value, is_lost, loses}
 use Rattle.statepoint_verify.specs.Kept.{IsKept, IsGroup, opens_by, is_kept_by, is_lost_by}

@@ -8,7 +8,7 @@ use Rattle.object_meaning.specs.Lines.{Line, insts_in}
 use Rattle.pair_facts.specs.Lines.{lines_at}
 use Rattle.pair_facts.specs.Uses.{Use, Uses}
 use Rattle.pair_facts.specs.Faults.{IsStale, IsLoose, IsOpenGroup, IsUnchecked, IsPlainCall, IsLostValue}
-use Rattle.base_facts.specs.Homes.{IsBefore}
+use Rattle.fact_tables.specs.Homes.{IsBefore}
 use Rattle.statepoint_verify.specs.declared.marks.Mark.{Mark}
 use Rattle.statepoint_verify.specs.Tests.{is_open, is_unchecked, is_plain_at, loses}
 

@@ -2,7 +2,7 @@ ghost use Rattle.std.specs.Prelude.{◌≡◌, ◌<◌, ◌+◌, suc, [], true, 
 ghost use Rattle.ir_ast.specs.Faults.GroupShape.{is_statepoint};
 ghost use Rattle.object_meaning.specs.Frames.{group_length};
 ghost use Rattle.pair_facts.specs.Lines.{lines_at, line_in, head_at, group_in};
-ghost use Rattle.base_facts.specs.Notes.{head_before};
+ghost use Rattle.fact_tables.specs.Notes.{head_before};
 ghost use Rattle.statepoint_verify.specs.Kept.{IsKept, Keeps, KeepsBoth, IsGroupOf};
 
 use crate::insts::{index_at, inst_at, is_member, is_relocate, is_statepoint};

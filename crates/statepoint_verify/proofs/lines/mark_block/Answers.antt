@@ -1,7 +1,7 @@
 use Rattle.std.proofs.Common.{◌≡◌, ◌<◌, ap, arith, sym, subst, ℕ, length, add-one}
 use Rattle.std.proofs.lemmas.Option.{slice_get_within}
 use Rattle.pair_facts.specs.Lines.{lines_at}
-use Rattle.base_facts.specs.Notes.{head_before}
+use Rattle.fact_tables.specs.Notes.{head_before}
 use Rattle.base_facts.proofs.MemberLemmas.{count_lines}
 use Rattle.statepoint_verify.specs.Kept.{IsGroupOf}
 use Rattle.statepoint_verify.specs.Marks.{AreMarked}

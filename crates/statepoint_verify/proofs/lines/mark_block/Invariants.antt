@@ -1,5 +1,5 @@
 use Rattle.pair_facts.specs.Lines.{lines_at}
-use Rattle.base_facts.specs.Notes.{head_before}
+use Rattle.fact_tables.specs.Notes.{head_before}
 use Rattle.statepoint_verify.specs.Kept.{IsGroupOf}
 use Rattle.statepoint_verify.specs.Marks.{AreMarked}
 use Rattle.statepoint_verify.proofs.lines.mark_block.Given as goal
