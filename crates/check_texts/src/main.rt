@@ -22,8 +22,8 @@ fn main(rt: HostRuntime) -> io::Result<ExitCode> {
     let words: Vec<String> = env::args(&rt)?.collect(rt.alloc())?;
     let words: Vec<&str> = words.iter().map(|word| word.as_str()).collect(rt.alloc())?;
     match words.as_slice() {
-        [_, "verify", name] => verify_file(&rt, *name),
-        [_, "judge", names @ ..] => judge_all(&rt, names),
+        [_, command, name] if *command == "verify" => verify_file(&rt, *name),
+        [_, command, names @ ..] if *command == "judge" => judge_all(&rt, names),
         _ => {
             println!(rt; "usage: check_texts verify FILE, or check_texts judge FILE..")?;
             Ok(ExitCode::from(2))
