@@ -6,7 +6,7 @@ use Rattle.statepoint_verify.specs.declared.faults.Fault.{Fault as CheckFault}
 use Rattle.statepoint_verify.specs.declared.faults.VerifyFault.{VerifyFault}
 use Rattle.statepoint_verify.specs.declared.faults.VerifyFault.TheVariants as refusals
 use Rattle.statepoint_verify.specs.Verdicts.{IsRefusal}
-use Rattle.statepoint_tool.specs.Steps.{Step, Go, Stop}
+use Rattle.statepoint_tool.specs.Steps.{Stop}
 use Rattle.statepoint_tool.specs.Work.{Output, Checking, verified, said_no}
 use Rattle.statepoint_tool.specs.declared.refusal.Cause.TheVariants.{Check}
 use Rattle.statepoint_tool.proofs.StepLaws.{Once, stop_in}

@@ -1,8 +1,8 @@
 use Rattle.std.proofs.Common.{inl, sym, subst}
 use Rattle.tool_io.proofs.AppendLaws.{append_known-nil}
 use Rattle.statepoint_tool.specs.Answers.{sink_seen}
-use Rattle.statepoint_tool.specs.Steps.{Step, Go, comes_to}
-use Rattle.statepoint_tool.specs.Work.{Output, Checking, verified, passed}
+use Rattle.statepoint_tool.specs.Steps.{Go, comes_to}
+use Rattle.statepoint_tool.specs.Work.{Checking, verified, passed}
 use Rattle.statepoint_tool.proofs.CheckLaws.{refused-says}
 use Rattle.statepoint_tool.proofs.WorksLaws.{Came-weaker}
 use Rattle.statepoint_tool.proofs.check.check_module.Goals as goal
@@ -19,5 +19,5 @@ returns-in-Err-Fault-clause-came g c = record {
   unwritten = sym (append_known-nil (g.O.Sink.written c.args.out.now));
 }
 
-pub returns-in-Err-Memory-clause-came : goal.returns-in-Err-Memory-clause-came
-returns-in-Err-Memory-clause-came g c = inl (sym (append_known-nil (g.O.Sink.written c.args.out.now)))
+pub returns-clause-came : goal.returns-clause-came
+returns-clause-came g c = inl (sym (append_known-nil (g.O.Sink.written c.args.out.now)))
