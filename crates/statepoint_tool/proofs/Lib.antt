@@ -6,7 +6,6 @@ pub mod InputLaws
 pub mod ReadsLaws
 pub mod WorksLaws
 pub mod NamedLaws
-pub mod CheckLaws
 pub mod CauseLaws
 pub mod AnswerLaws
 pub mod CompleteLaws

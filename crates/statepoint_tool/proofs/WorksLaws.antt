@@ -33,21 +33,6 @@ Came-goes_on phase rest value (Err WriteFault) out first came = (came.0, begun-g
 Came-goes_on phase rest value (Err Memory) out first (inl unwritten) = inl unwritten
 Came-goes_on phase rest value (Err Memory) out first (inr begun) = inr (begun-goes_on phase rest value out first begun)
 
--- a phase that comes to no other steps
-weaker_begun : (phase other : Step Output → Type 0) (out : SinkSeen) → ((step : Step Output) → phase step → other step) →
-    IsBegun (λ output. phase (Go output)) out → IsBegun (λ output. other (Go output)) out
-weaker_begun phase other out each begun =
-    record { output = begun.output; defined = each (Go begun.output) begun.defined; front = begun.front }
-
-pub Came-weaker : (phase other : Step Output → Type 0) (result : Result Status Refusal) (out : SinkSeen) → ((step : Step Output) → phase step → other step) →
-    Came result phase out → Came result other out
-Came-weaker phase other (Ok status) out each came =
-    record { output = came.output; defined = each (Go came.output) came.defined; status_is = came.status_is; written = came.written }
-Came-weaker phase other (Err (Defined cause)) out each came = record { defined = each (Stop cause) came.defined; unwritten = came.unwritten }
-Came-weaker phase other (Err WriteFault) out each came = (came.0, weaker_begun phase other out each came.1)
-Came-weaker phase other (Err Memory) out each (inl unwritten) = inl unwritten
-Came-weaker phase other (Err Memory) out each (inr begun) = inr (weaker_begun phase other out each begun)
-
 -- where a phase refuses, so does the phase that it begins
 pub Agrees-stops : {A B C D : Type 0} (phase : Step A → Type 0) (view : B → A) (refusal : Refusal) (rest : A → Step C → Type 0) (last : D → C) →
     Agrees view (Err refusal) phase → Agrees last (Err refusal) (Then phase rest)

@@ -1,15 +1,11 @@
 -- What brings each status about, over what the files gave.
 use Rattle.std.specs.Prelude.{◌≡◌, ◌⊎◌, ℕ, ℤ, List, Some, None, Ok, Err}
-use Rattle.ir_reader.specs.Text.{Numbered, syntax_fault, limit_fault, readings_in}
+use Rattle.ir_reader.specs.Text.{Numbered, syntax_fault, limit_fault, text_readings}
 use Rattle.ir_lines.specs.declared.faults.Fault.{Fault as TypeFault}
 use Rattle.ir_lines.specs.Statements.{Line, lines_of}
 use Rattle.ir_types.specs.FaultSet.{HasNoFault, IsLeastFault}
-use Rattle.ir_ast.specs.declared.modules.Form.{Form as TextForm}
 use Rattle.ir_ast.specs.declared.modules.Form.TheVariants as text_forms
-use Rattle.ir_ast.specs.Modules.{ModuleContent, LinedModule}
-use Rattle.ir_lines.specs.Modules.{module_of}
-use Rattle.pair_facts.specs.Faults.{IsVerified, IsLeastFault as IsLeastCheckFault}
-use Rattle.statepoint_verify.specs.declared.faults.Fault.{Fault as CheckFault}
+use Rattle.ir_ast.specs.Modules.{ModuleContent}
 use Rattle.move_plan.specs.declared.plan_lines.PlanLine.{PlanLine}
 use Rattle.move_plan.specs.Inputs.{HasNoInputFault, IsFirstInputFault, IsInputOf}
 use Rattle.move_plan.specs.PlanFaults.{HasNoFault as HasNoPlanFault}
@@ -19,35 +15,35 @@ use Rattle.object_meaning.specs.SourceRuns.{SourceGives}
 use Rattle.statepoint_tool.specs.PlanFaults.{IsLeastPlanFault}
 use Rattle.statepoint_tool.specs.Taken.{Taken, Bytes, Longer, Faulty}
 use Rattle.statepoint_tool.specs.Words.{command_of}
-use Rattle.statepoint_tool.specs.Work.{Given, Output, content_of, shown, passed, output_of}
+use Rattle.statepoint_tool.specs.Work.{Given, Output, content_of, shown, output_of}
 use Rattle.statepoint_tool.specs.declared.refusal.Cause.{Cause}
 use Rattle.statepoint_tool.specs.declared.refusal.Cause.TheVariants as cause
 use Rattle.statepoint_tool.specs.declared.refusal.ModuleFault.{ModuleFault}
 use Rattle.statepoint_tool.specs.declared.refusal.ModuleFault.TheVariants.{Syntax, Limit, Typed}
 use Rattle.statepoint_tool.specs.declared.refusal.PlanFault.{PlanFault}
 use Rattle.statepoint_tool.specs.declared.request.RunRequest.{RunRequest}
-use Rattle.statepoint_tool.specs.declared.request.Command.TheVariants.{Show, Check, Source, Run}
+use Rattle.statepoint_tool.specs.declared.request.Command.TheVariants.{Show, Source, Run}
 use Rattle.statepoint_tool.specs.declared.status.Status.{Status}
 
 -- ---- texts of modules
 
 -- the lines of the text all have a reading and pass no limit
-pub record IsReadAs (form : TextForm) (text : List ℕ) (lines : List Line) : Type 0 where
+pub record IsReadAs (text : List ℕ) (lines : List Line) : Type 0 where
   pub readings : List Numbered
-  pub read : readings_in form text ≡ Ok readings
+  pub read : text_readings text ≡ Ok readings
   pub are : lines ≡ lines_of readings
 
 -- and they have no fault
-pub record IsAccepted (form : TextForm) (text : List ℕ) (lines : List Line) : Type 0 where
-  pub read : IsReadAs form text lines
-  pub faultless : HasNoFault form lines
+pub record IsAccepted (text : List ℕ) (lines : List Line) : Type 0 where
+  pub read : IsReadAs text lines
+  pub faultless : HasNoFault text_forms.Source lines
 
 -- the first line that has no reading or passes a limit; or else the least fault of the lines
-pub data HasTextFault (form : TextForm) (text : List ℕ) : ModuleFault → Type 0 where
-  unread : (line : ℕ) → readings_in form text ≡ Err (syntax_fault line) → HasTextFault form text (Syntax line)
-  over_limit : (line : ℕ) → readings_in form text ≡ Err (limit_fault line) → HasTextFault form text (Limit line)
-  faulty : (lines : List Line) (fault : TypeFault) → IsReadAs form text lines → IsLeastFault form lines fault.line fault.code
-      → HasTextFault form text (Typed fault)
+pub data HasTextFault (text : List ℕ) : ModuleFault → Type 0 where
+  unread : (line : ℕ) → text_readings text ≡ Err (syntax_fault line) → HasTextFault text (Syntax line)
+  over_limit : (line : ℕ) → text_readings text ≡ Err (limit_fault line) → HasTextFault text (Limit line)
+  faulty : (lines : List Line) (fault : TypeFault) → IsReadAs text lines → IsLeastFault text_forms.Source lines fault.line fault.code
+      → HasTextFault text (Typed fault)
 
 -- ---- how far the work goes
 
@@ -55,11 +51,6 @@ pub data HasTextFault (form : TextForm) (text : List ℕ) : ModuleFault → Type
 pub record AsksToShow (words : List (List ℕ)) : Type 0 where
   pub module_file : List ℕ
   pub command : command_of words ≡ Some (Show module_file)
-
--- the words ask to check the module of this file
-pub record AsksToCheck (words : List (List ℕ)) : Type 0 where
-  pub module_file : List ℕ
-  pub command : command_of words ≡ Some (Check module_file)
 
 -- the words ask for this run
 pub record AsksForRun (words : List (List ℕ)) : Type 0 where
@@ -72,18 +63,7 @@ pub record Shows (words : List (List ℕ)) (given : Given) : Type 0 where
   pub text : List ℕ
   pub taken : given.module_file ≡ Bytes text
   pub lines : List Line
-  pub accepted : IsAccepted text_forms.Source text lines
-
--- the module to be checked is accepted
-pub record Checks (words : List (List ℕ)) (given : Given) : Type 0 where
-  pub asks : AsksToCheck words
-  pub text : List ℕ
-  pub taken : given.module_file ≡ Bytes text
-  pub lines : List Line
-  pub accepted : IsAccepted text_forms.Rewritten text lines
-
-abbrev pub module_checked : {words : List (List ℕ)} {given : Given} → Checks words given → LinedModule
-module_checked checks = module_of text_forms.Rewritten checks.lines
+  pub accepted : IsAccepted text lines
 
 -- the module to be run is accepted
 pub record ReadsModule (words : List (List ℕ)) (given : Given) : Type 0 where
@@ -91,7 +71,7 @@ pub record ReadsModule (words : List (List ℕ)) (given : Given) : Type 0 where
   pub text : List ℕ
   pub taken : given.module_file ≡ Bytes text
   pub lines : List Line
-  pub accepted : IsAccepted text_forms.Source text lines
+  pub accepted : IsAccepted text lines
 
 -- and the input's text has no fault, and these numbers
 pub record ReadsInput (words : List (List ℕ)) (given : Given) : Type 0 where
@@ -124,11 +104,9 @@ RunGives runs outcome = SourceGives (module_run runs) runs.reads.numbers (go run
 
 -- ---- the causes
 
--- the work comes to its end, with this output: a module is shown, or verified without a fault, or runs, and so ends by the
--- source meaning
+-- the work comes to its end, with this output: a module is shown, or runs, and so ends by the source meaning
 pub data Ends (words : List (List ℕ)) (given : Given) : Output → Type 0 where
   by_showing : (shows : Shows words given) → Ends words given (shown (content_of shows.lines))
-  by_checking : (checks : Checks words given) → IsVerified (module_checked checks).content → Ends words given passed
   by_running : (runs : Runs words given) (outcome : Outcome) → RunGives runs outcome → Ends words given (output_of (module_run runs) outcome)
 
 abbrev pub EndsWith : Status → List (List ℕ) → Given → Type 0
@@ -137,20 +115,18 @@ EndsWith status words given = (output : Output) × Ends words given output × (o
 abbrev pub NoCommand : List (List ℕ) → Given → Type 0
 NoCommand words given = command_of words ≡ None
 
--- the words name this file as that of a module in this form
-pub data NamesModule (words : List (List ℕ)) : TextForm → List ℕ → Type 0 where
-  to_show : (asks : AsksToShow words) → NamesModule words text_forms.Source asks.module_file
-  to_check : (asks : AsksToCheck words) → NamesModule words text_forms.Rewritten asks.module_file
-  to_run : (asks : AsksForRun words) → NamesModule words text_forms.Source asks.request.code
+-- the words name this file as that of a module
+pub data NamesModule (words : List (List ℕ)) : List ℕ → Type 0 where
+  to_show : (asks : AsksToShow words) → NamesModule words asks.module_file
+  to_run : (asks : AsksForRun words) → NamesModule words asks.request.code
 
 -- the module's text has this fault, its first
 pub record HasModuleFault (words : List (List ℕ)) (given : Given) (fault : ModuleFault) : Type 0 where
-  pub form : TextForm
   pub name : List ℕ
-  pub names : NamesModule words form name
+  pub names : NamesModule words name
   pub text : List ℕ
   pub taken : given.module_file ≡ Bytes text
-  pub has : HasTextFault form text fault
+  pub has : HasTextFault text fault
 
 abbrev pub HasSomeModuleFault : List (List ℕ) → Given → Type 0
 HasSomeModuleFault words given = (fault : ModuleFault) × HasModuleFault words given fault
@@ -175,17 +151,9 @@ pub record HasPlanFault (words : List (List ℕ)) (given : Given) (fault : PlanF
 abbrev pub HasSomePlanFault : List (List ℕ) → Given → Type 0
 HasSomePlanFault words given = (fault : PlanFault) × HasPlanFault words given fault
 
--- the module is accepted, and this is the least fault that the verifier tells
-pub record HasCheckFault (words : List (List ℕ)) (given : Given) (fault : CheckFault) : Type 0 where
-  pub checks : Checks words given
-  pub least : IsLeastCheckFault (module_checked checks) fault.line fault.code
-
-abbrev pub HasSomeCheckFault : List (List ℕ) → Given → Type 0
-HasSomeCheckFault words given = (fault : CheckFault) × HasCheckFault words given fault
-
 -- the file of this name, which the words name, gave this, and nothing before it in the order of work refuses
 pub data FileGives (words : List (List ℕ)) (given : Given) (what : Taken) : List ℕ → Type 0 where
-  module_gives : (form : TextForm) (name : List ℕ) → NamesModule words form name → given.module_file ≡ what → FileGives words given what name
+  module_gives : (name : List ℕ) → NamesModule words name → given.module_file ≡ what → FileGives words given what name
   input_gives : (accepts : ReadsModule words given) → given.input ≡ what → FileGives words given what accepts.asks.request.input
   plan_gives : (reads : ReadsInput words given) → given.plan ≡ what → FileGives words given what reads.accepts.asks.request.plan
 
@@ -203,4 +171,3 @@ StopsBy (cause.TooLong name) words given = FileGives words given Longer name
 StopsBy (cause.Module fault) words given = HasModuleFault words given fault
 StopsBy (cause.Input line) words given = HasInputFault words given line
 StopsBy (cause.Plan fault) words given = HasPlanFault words given fault
-StopsBy (cause.Check fault) words given = HasCheckFault words given fault

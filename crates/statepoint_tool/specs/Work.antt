@@ -1,17 +1,14 @@
--- The order of work: the words; then the module is taken, read and typed; to show it, its text is written; to check it,
--- it is verified; to run it, the input is taken and read, then the plan, and it runs by the source meaning.
-use Rattle.std.specs.Prelude.{ℕ, ℤ, ⊤, List, ◌++◌, codes, Option, Some, None, Result, Ok, Err}
-use Rattle.ir_ast.specs.declared.modules.Form.{Form as TextForm}
+-- The order of work: the words; then the module is taken, read and typed; to show it, its text is written; to run it,
+-- the input is taken and read, then the plan, and it runs by the source meaning.
+use Rattle.std.specs.Prelude.{ℕ, ℤ, ⊤, List, ◌++◌, Option, Some, None, Result, Ok, Err}
 use Rattle.ir_ast.specs.declared.modules.Form.TheVariants as text_forms
-use Rattle.ir_ast.specs.Modules.{ModuleContent, LinedModule}
-use Rattle.ir_reader.specs.Text.{Numbered, Fault, syntax_fault, limit_fault, readings_in}
+use Rattle.ir_ast.specs.Modules.{ModuleContent}
+use Rattle.ir_reader.specs.Text.{Numbered, Fault, syntax_fault, limit_fault, text_readings}
 use Rattle.ir_lines.specs.declared.faults.Fault.{Fault as TypeFault}
 use Rattle.ir_lines.specs.Statements.{Line, lines_of}
 use Rattle.ir_types.specs.FaultSet.{HasNoFault, IsLeastFault}
 use Rattle.ir_lines.specs.Modules.{module_of}
 use Rattle.ir_printer.specs.Texts.{text_of}
-use Rattle.pair_facts.specs.Faults.{IsVerified, IsLeastFault as IsLeastCheckFault}
-use Rattle.statepoint_verify.specs.declared.faults.Fault.{Fault as CheckFault}
 use Rattle.move_plan.specs.declared.plan_lines.PlanLine.{PlanLine}
 use Rattle.move_plan.specs.Inputs.{HasNoInputFault, IsFirstInputFault, IsInputOf}
 use Rattle.move_plan.specs.PlanFaults.{HasNoFault as HasNoPlanFault}
@@ -23,12 +20,12 @@ use Rattle.statepoint_tool.specs.PlanFaults.{IsLeastPlanFault}
 use Rattle.statepoint_tool.specs.Steps.{Step, Go, Stop, comes_to, Then}
 use Rattle.statepoint_tool.specs.Taken.{Taken, FilesSeen, MayGive, file_phase}
 use Rattle.statepoint_tool.specs.Words.{command_of}
-use Rattle.statepoint_tool.specs.declared.refusal.Cause.TheVariants.{Words, Module, Input, Plan, Check as CheckSays}
+use Rattle.statepoint_tool.specs.declared.refusal.Cause.TheVariants.{Words, Module, Input, Plan}
 use Rattle.statepoint_tool.specs.declared.refusal.ModuleFault.TheVariants.{Syntax, Limit, Typed}
 use Rattle.statepoint_tool.specs.declared.refusal.PlanFault.{PlanFault}
 use Rattle.statepoint_tool.specs.declared.request.RunRequest.{RunRequest}
 use Rattle.statepoint_tool.specs.declared.request.Command.{Command}
-use Rattle.statepoint_tool.specs.declared.request.Command.TheVariants.{Show, Check, Source, Run}
+use Rattle.statepoint_tool.specs.declared.request.Command.TheVariants.{Show, Source, Run}
 use Rattle.statepoint_tool.specs.declared.status.Status.{Status}
 use Rattle.statepoint_tool.specs.declared.status.Status.TheVariants.{Done}
 
@@ -60,19 +57,19 @@ read_step (Ok readings) = Go (lines_of readings)
 read_step (Err (syntax_fault line)) = Stop (Module (Syntax line))
 read_step (Err (limit_fault line)) = Stop (Module (Limit line))
 
-abbrev pub reading : TextForm → List ℕ → Step (List Line) → Type 0
-reading form text = comes_to (read_step (readings_in form text))
+abbrev pub reading : List ℕ → Step (List Line) → Type 0
+reading text = comes_to (read_step (text_readings text))
 
 abbrev pub content_of : List Line → ModuleContent
 content_of lines = (module_of text_forms.Source lines).content
 
 -- typing it: the module that the lines stand for where they have no fault, or else the least of their faults
-pub data Typing (form : TextForm) (lines : List Line) : Step LinedModule → Type 0 where
-  faultless : HasNoFault form lines → Typing form lines (Go (module_of form lines))
-  faulty : (fault : TypeFault) → IsLeastFault form lines fault.line fault.code → Typing form lines (Stop (Module (Typed fault)))
+pub data Typing (lines : List Line) : Step ModuleContent → Type 0 where
+  faultless : HasNoFault text_forms.Source lines → Typing lines (Go (content_of lines))
+  faulty : (fault : TypeFault) → IsLeastFault text_forms.Source lines fault.line fault.code → Typing lines (Stop (Module (Typed fault)))
 
-abbrev pub module_phase : TextForm → List ℕ → Step LinedModule → Type 0
-module_phase form text = Then (reading form text) (Typing form)
+abbrev pub module_phase : List ℕ → Step ModuleContent → Type 0
+module_phase text = Then (reading text) Typing
 
 -- reading an input: the numbers of its text, or the first line that is neither blank nor a number, or holds the first
 -- number too many
@@ -89,16 +86,8 @@ pub data ReadingPlan (text : List ℕ) : Step (List PlanLine) → Type 0 where
 abbrev pub shown : ModuleContent → Output
 shown content = record { text = text_of content; status = Done }
 
-abbrev pub show_phase : LinedModule → Step Output → Type 0
-show_phase whole = comes_to (Go (shown whole.content))
-
--- verifying a module writes that it has no fault, or tells the least
-abbrev pub passed : Output
-passed = record { text = codes "ok\n"; status = Done }
-
-pub data Checking (whole : LinedModule) : Step Output → Type 0 where
-  verified : IsVerified whole.content → Checking whole (Go passed)
-  said_no : (fault : CheckFault) → IsLeastCheckFault whole fault.line fault.code → Checking whole (Stop (CheckSays fault))
+abbrev pub show_phase : ModuleContent → Step Output → Type 0
+show_phase content = comes_to (Go (shown content))
 
 -- what a run writes that gives this outcome, and the status that it ends with
 abbrev pub output_of : ModuleContent → Outcome → Output
@@ -113,11 +102,7 @@ pub data Running (content : ModuleContent) (input : List ℤ) (plan : List PlanL
 
 -- the order of work of `show`
 abbrev pub show_work : List ℕ → Given → Step Output → Type 0
-show_work module_file given = Then (file_phase module_file (module_phase text_forms.Source) given.module_file) show_phase
-
--- the order of work of `check`
-abbrev pub check_work : List ℕ → Given → Step Output → Type 0
-check_work module_file given = Then (file_phase module_file (module_phase text_forms.Rewritten) given.module_file) Checking
+show_work module_file given = Then (file_phase module_file module_phase given.module_file) show_phase
 
 -- the order of work of `source` and of `run`, from its last phase to its first
 abbrev pub after_input : (plan : List ℕ) → ModuleContent → List ℤ → ℕ → Taken → Step Output → Type 0
@@ -130,14 +115,13 @@ after_module input plan content steps given =
 
 abbrev pub run_work : RunRequest → Given → Step Output → Type 0
 run_work request given =
-    Then (file_phase request.code (module_phase text_forms.Source) given.module_file)
-    (λ (whole : LinedModule). after_module request.input request.plan whole.content request.steps (given.input, given.plan))
+    Then (file_phase request.code module_phase given.module_file)
+    (λ content. after_module request.input request.plan content request.steps (given.input, given.plan))
 
 -- the work that the words ask for
 abbrev pub command_work : Option Command → Given → Step Output → Type 0
 command_work None given = comes_to (Stop Words)
 command_work (Some (Show module_file)) given = show_work module_file given
-command_work (Some (Check module_file)) given = check_work module_file given
 command_work (Some (Source request)) given = run_work request given
 command_work (Some (Run request)) given = run_work request given
 
@@ -148,6 +132,5 @@ work words given = command_work (command_of words) given
 abbrev pub MayGiveNamed : FilesSeen → Option Command → Given → Type 0
 MayGiveNamed files None given = ⊤
 MayGiveNamed files (Some (Show module_file)) given = MayGiveShown files module_file given
-MayGiveNamed files (Some (Check module_file)) given = MayGiveShown files module_file given
 MayGiveNamed files (Some (Source request)) given = MayGiveAll files request given
 MayGiveNamed files (Some (Run request)) given = MayGiveAll files request given

@@ -1,7 +1,6 @@
 //! The top call of `statepoint`: words to a command, files to a run, and a status for each way to end.
 #![tactic(auto)]
 
-mod check;
 mod closing;
 mod notes;
 mod phases;

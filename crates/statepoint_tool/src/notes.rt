@@ -40,10 +40,6 @@ fn note_of_cause(cause: &Cause) -> Note<'_>
         Cause::Module(fault) => note_of_module(fault),
         Cause::Input { line } => Note::Input { line: *line },
         Cause::Plan(fault) => note_of_plan(fault),
-        Cause::Check(fault) => Note::Check {
-            line: fault.line,
-            code: fault.code,
-        },
     }
 }
 
@@ -113,7 +109,6 @@ impl Cause {
             Cause::Module(_) => Status::ModuleRefused,
             Cause::Input { .. } => Status::InputRefused,
             Cause::Plan(_) => Status::PlanRefused,
-            Cause::Check(_) => Status::CheckSaidNo,
         }
     }
 }

@@ -2,9 +2,8 @@
 ghost use Rattle.std.specs.Prelude.{◌≡◌, ◌≤◌, ℕ, List, length, vec_len, IfOk};
 ghost use Rattle.tool_io.specs.Counts.{NoneFell};
 ghost use Rattle.ir_ast.specs.Formed.{IsFormedModule};
-ghost use Rattle.ir_ast.specs.declared.modules.Form.TheVariants.{Source, Rewritten};
+ghost use Rattle.ir_ast.specs.declared.modules.Form.TheVariants.{Source};
 ghost use Rattle.ir_cfg.specs.SourceModules.{IsSourceModule};
-ghost use Rattle.ir_cfg.specs.TargetModules.{IsTargetModule};
 ghost use Rattle.ir_lines.specs.Views.{seen_lines};
 ghost use Rattle.statepoint_tool.specs.Answers.{Agrees, Reads};
 ghost use Rattle.statepoint_tool.specs.Steps.{Step, Go, comes_to};
@@ -14,8 +13,8 @@ ghost use Rattle.statepoint_tool.specs.Work.{reading, module_phase, ReadingInput
 use crate::refusal::{Cause, ModuleFault, PlanFault, Refusal};
 use crate::request::FileName;
 use ir_ast::Module;
-use ir_reader::{Raw, ReadFault, read, read_rewritten};
-use ir_types::{TypeFault, typed, typed_rewritten};
+use ir_reader::{Raw, ReadFault, read};
+use ir_types::{TypeFault, typed};
 use move_plan::{InputFault, Plan, PlanFault as TextFault, read_input};
 use sp_ids::limits;
 use std::alloc::Global;
@@ -48,7 +47,7 @@ pub(crate) fn take_module<F: Files>(
     name: FileName,
 ) -> Result<Module, Refusal>
     ensures read { Reads (files_seen (F.contents files.old) (F.faults files.old) (F.faults files.new)) name
-        (module_phase Source) (λ read. read) result }
+        module_phase (λ read. read.content) result }
     ensures formed { IfOk result (λ read. IsFormedModule read.content) }
     ensures source { IfOk result (λ read. IsSourceModule read.content) }
     ensures kept { F.contents files.new ≡ F.contents files.old }
@@ -56,22 +55,6 @@ pub(crate) fn take_module<F: Files>(
 {
     let text = take(alloc, files, name)?;
     module_in(alloc, &text)
-}
-
-/// The rewritten module in the file of this name.
-pub(crate) fn take_target<F: Files>(
-    alloc: Global,
-    files: &mut F,
-    name: FileName,
-) -> Result<Module, Refusal>
-    ensures read { Reads (files_seen (F.contents files.old) (F.faults files.old) (F.faults files.new)) name
-        (module_phase Rewritten) (λ read. read) result }
-    ensures target { IfOk result (λ read. IsTargetModule read.content) }
-    ensures kept { F.contents files.new ≡ F.contents files.old }
-    ensures counted { NoneFell (F.faults files.old) (F.faults files.new) }
-{
-    let text = take(alloc, files, name)?;
-    target_in(alloc, &text)
 }
 
 /// The numbers of the input in the file of this name.
@@ -107,7 +90,7 @@ pub(crate) fn take_plan<F: Files>(
 // The readings of a text.
 fn read_in(alloc: Global, text: &[u8]) -> Result<Raw<'_>, Refusal>
     requires { length text.now ≤ 16777216 }
-    ensures read { Agrees (λ raw. seen_lines raw.lines) result (reading Source text.now) }
+    ensures read { Agrees (λ raw. seen_lines raw.lines) result (reading text.now) }
     ensures form { IfOk result (λ raw. raw.form ≡ Source) }
 {
     match read(alloc, text) {
@@ -122,28 +105,10 @@ fn read_in(alloc: Global, text: &[u8]) -> Result<Raw<'_>, Refusal>
     }
 }
 
-// The readings of a text in the rewritten form.
-fn read_target_in(alloc: Global, text: &[u8]) -> Result<Raw<'_>, Refusal>
-    requires { length text.now ≤ 16777216 }
-    ensures read { Agrees (λ raw. seen_lines raw.lines) result (reading Rewritten text.now) }
-    ensures form { IfOk result (λ raw. raw.form ≡ Rewritten) }
-{
-    match read_rewritten(alloc, text) {
-        Ok(raw) => Ok(raw),
-        Err(ReadFault::Syntax { line }) => {
-            Err(Refusal::Defined(Cause::Module(ModuleFault::Syntax { line })))
-        }
-        Err(ReadFault::Limit { line }) => {
-            Err(Refusal::Defined(Cause::Module(ModuleFault::Limit { line })))
-        }
-        Err(ReadFault::Memory) => Err(Refusal::Memory),
-    }
-}
-
 // The module that readings stand for.
 fn type_in(alloc: Global, raw: Raw) -> Result<Module, Refusal>
     requires { raw.form ≡ Source }
-    ensures typed { Agrees (λ read. read) result (Typing Source (seen_lines raw.entry.lines)) }
+    ensures typed { Agrees (λ read. read.content) result (Typing (seen_lines raw.entry.lines)) }
     ensures formed { IfOk result (λ read. IsFormedModule read.content) }
     ensures source { IfOk result (λ read. IsSourceModule read.content) }
 {
@@ -158,36 +123,12 @@ fn type_in(alloc: Global, raw: Raw) -> Result<Module, Refusal>
 
 fn module_in(alloc: Global, text: &[u8]) -> Result<Module, Refusal>
     requires { length text.now ≤ 16777216 }
-    ensures read { Agrees (λ read. read) result (module_phase Source text.now) }
+    ensures read { Agrees (λ read. read.content) result (module_phase text.now) }
     ensures formed { IfOk result (λ read. IsFormedModule read.content) }
     ensures source { IfOk result (λ read. IsSourceModule read.content) }
 {
     let raw = read_in(alloc, text)?;
     type_in(alloc, raw)
-}
-
-// The rewritten module that readings stand for.
-fn type_target_in(alloc: Global, raw: Raw) -> Result<Module, Refusal>
-    requires { raw.form ≡ Rewritten }
-    ensures typed { Agrees (λ read. read) result (Typing Rewritten (seen_lines raw.entry.lines)) }
-    ensures target { IfOk result (λ read. IsTargetModule read.content) }
-{
-    match typed_rewritten(alloc, raw) {
-        Ok(read) => Ok(read),
-        Err(TypeFault::Fault(fault)) => {
-            Err(Refusal::Defined(Cause::Module(ModuleFault::Typed(fault))))
-        }
-        Err(TypeFault::Memory) => Err(Refusal::Memory),
-    }
-}
-
-fn target_in(alloc: Global, text: &[u8]) -> Result<Module, Refusal>
-    requires { length text.now ≤ 16777216 }
-    ensures read { Agrees (λ read. read) result (module_phase Rewritten text.now) }
-    ensures target { IfOk result (λ read. IsTargetModule read.content) }
-{
-    let raw = read_target_in(alloc, text)?;
-    type_target_in(alloc, raw)
 }
 
 fn input_in(alloc: Global, text: &[u8]) -> Result<Vec<i64>, Refusal>

@@ -1,7 +1,6 @@
 use crate::request::FileName;
 use ir_types::Fault;
 use sp_ids::Memory;
-use statepoint_verify::Fault as CheckFault;
 
 /// What is wrong with the text of a module.
 #[derive(Clone, Copy, Debug, PartialEq, Eq)]
@@ -40,8 +39,6 @@ pub(crate) enum Cause {
     /// The first line of the input that is neither blank nor a number, or that holds the first number too many.
     Input { line: u32 },
     Plan(PlanFault),
-    /// The least fault that the verifier tells.
-    Check(CheckFault),
 }
 
 /// Why the work did not come to its end.

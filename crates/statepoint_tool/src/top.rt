@@ -2,14 +2,13 @@
 ghost use Rattle.std.specs.Prelude.{◌≡◌, ◌≢◌, ◌≤◌, ◌⊎◌, ℕ, List, map, string_bytes};
 ghost use Rattle.tool_io.specs.Counts.{NoneFell};
 ghost use Rattle.statepoint_tool.specs.Answers.{SinkFailed, IsAnswer, IsTold, Works, sink_seen};
-ghost use Rattle.statepoint_tool.specs.Causes.{CannotRead, EndsWith, HasSomeInputFault, HasSomeModuleFault, HasSomePlanFault, HasSomeCheckFault, IsTooLong, NoCommand};
+ghost use Rattle.statepoint_tool.specs.Causes.{CannotRead, EndsWith, HasSomeInputFault, HasSomeModuleFault, HasSomePlanFault, IsTooLong, NoCommand};
 ghost use Rattle.statepoint_tool.specs.Complete.{IsComplete};
 ghost use Rattle.statepoint_tool.specs.Statuses.{Exactly, ReadFaultCounted, Says, Writes};
 ghost use Rattle.statepoint_tool.specs.Taken.{files_seen};
 ghost use Rattle.statepoint_tool.specs.Words.{command_of};
 ghost use Rattle.statepoint_tool.specs.Work.{MayGiveNamed, work as work_of};
 
-use crate::check::check;
 use crate::notes::put_note;
 use crate::refusal::{Cause, Refusal};
 use crate::request::Command;
@@ -22,11 +21,10 @@ use tool_io::{Failed, Files, Sink};
 
 /// Does what the words ask for, and says how it ended. The first word is the program's name.
 ///
-/// `show` writes the text of the module. `check` reads a rewritten module, of any author, and writes `ok` where the verifier
-/// finds no fault. `source` and `run` write the lines of the source meaning, over the numbers of the
+/// `show` writes the text of the module. `source` and `run` write the lines of the source meaning, over the numbers of the
 /// input and under the `go` lines of the plan, and then the line that closes the run.
 ///
-/// The work goes in this order: the words; the module is taken, read and typed; for `check` it is verified; for `source` and `run` the input is taken
+/// The work goes in this order: the words; the module is taken, read and typed; for `source` and `run` the input is taken
 /// and read, then the plan, and the module runs. A run writes each line by one `put`, as it comes. A refusal puts one line on `notes`.
 ///
 /// What the files gave is what is told of them, or anything where nothing is told; a file could not be
@@ -83,11 +81,6 @@ pub fn statepoint<F: Files, O: Sink, E: Sink>(
         (sink_seen (O.written out.old) (O.written out.new) (O.faults out.old) (O.faults out.new))
         (sink_seen (E.written notes.old) (E.written notes.new) (E.faults notes.old) (E.faults notes.new))
         result Status.PlanRefused HasSomePlanFault }
-    ensures check_said_no { Exactly (map string_bytes words.now)
-        (files_seen (F.contents files.old) (F.faults files.old) (F.faults files.new))
-        (sink_seen (O.written out.old) (O.written out.new) (O.faults out.old) (O.faults out.new))
-        (sink_seen (E.written notes.old) (E.written notes.new) (E.faults notes.old) (E.faults notes.new))
-        result Status.CheckSaidNo HasSomeCheckFault }
     ensures too_long { Exactly (map string_bytes words.now)
         (files_seen (F.contents files.old) (F.faults files.old) (F.faults files.new))
         (sink_seen (O.written out.old) (O.written out.new) (O.faults out.old) (O.faults out.new))
@@ -103,6 +96,7 @@ pub fn statepoint<F: Files, O: Sink, E: Sink>(
     ensures write_fault_counted { result ≡ Status.WriteFault →
         SinkFailed (sink_seen (O.written out.old) (O.written out.new) (O.faults out.old) (O.faults out.new)) ⊎
         SinkFailed (sink_seen (E.written notes.old) (E.written notes.new) (E.faults notes.old) (E.faults notes.new)) }
+    ensures never_said_no { result ≢ Status.CheckSaidNo }
     ensures never_map_refused { result ≢ Status.MapRefused }
     ensures never_stray { result ≢ Status.Stray }
 
@@ -157,7 +151,6 @@ fn work<F: Files, O: Sink>(
 {
     match command(alloc, words) {
         Ok(Command::Show { module }) => show(alloc, module, files, out),
-        Ok(Command::Check { module }) => check(alloc, module, files, out),
         Ok(Command::Source(request)) => run(alloc, request, files, out),
         Ok(Command::Run(request)) => run(alloc, request, files, out),
         Err(WordsFault::Words) => Err(Refusal::Defined(Cause::Words)),

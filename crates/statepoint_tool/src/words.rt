@@ -1,7 +1,7 @@
 ghost use Rattle.std.specs.Prelude.{◌≡◌, Some, None, map, string_bytes, IfOk, IsErrOf};
 ghost use Rattle.std.specs.Char.{is_ascii_digit};
 ghost use Rattle.std.specs.List.{list_all};
-ghost use Rattle.statepoint_tool.specs.Words.{check_of, command_of, names_file, of_module, of_run, request_of, run_of, show_of, source_of, steps_of};
+ghost use Rattle.statepoint_tool.specs.Words.{command_of, names_file, of_module, of_run, request_of, run_of, show_of, source_of, steps_of};
 
 use crate::request::{Command, FileName, RunRequest};
 use sp_ids::{Memory, limits};
@@ -53,8 +53,6 @@ fn of_module(alloc: Global, name: &str, module_name: &str) -> Result<Command, Wo
 {
     if name == "show" {
         show_command(alloc, module_name)
-    } else if name == "check" {
-        check_command(alloc, module_name)
     } else {
         Err(WordsFault::Words)
     }
@@ -91,19 +89,6 @@ fn show_command(alloc: Global, module_name: &str) -> Result<Command, WordsFault>
         return Err(WordsFault::Words);
     }
     Ok(Command::Show {
-        module: FileName::of(alloc, module_name)?,
-    })
-}
-
-// The command `check` over this word.
-fn check_command(alloc: Global, module_name: &str) -> Result<Command, WordsFault>
-    ensures gives { IfOk result (λ command. check_of module_name.now ≡ Some command) }
-    ensures none { IsErrOf result WordsFault.Words → check_of module_name.now ≡ None }
-{
-    if !may_name_file(module_name) {
-        return Err(WordsFault::Words);
-    }
-    Ok(Command::Check {
         module: FileName::of(alloc, module_name)?,
     })
 }
