@@ -1,0 +1,105 @@
+-- The rewritten module of a source module.
+use Rattle.std.proofs.Common.{◌≡◌, ℕ, zero, suc, ◌<◌, Bool, true, false, List, [], ◌∷◌, ◌++◌, length, map, refl, sym, ap, subst, ◌∙◌, append_assoc, arith}
+use Rattle.std.specs.Prelude.{Option, Some, None, slice_get}
+use Rattle.std.specs.List.{All, AllZip}
+use Rattle.std.proofs.lemmas.List.{length-append}
+use Rattle.std.proofs.lemmas.Option.{get_or_from_slice_get}
+use Rattle.list_laws.proofs.Places.{get_middle}
+use Rattle.ir_ast.specs.declared.ops.Operand.{Operand}
+use Rattle.ir_ast.specs.Funcs.{Function}
+use Rattle.ir_ast.specs.Modules.{ModuleContent}
+use Rattle.ir_cfg.specs.TargetModules.{IsTargetModule}
+use Rattle.ir_cfg.specs.Graphs.{graph_of}
+use Rattle.ir_cfg.specs.Marks.{MarksReached}
+use Rattle.ir_cfg.specs.SourceModules.{IsSourceModule}
+use Rattle.ir_cfg.specs.Unreached.{DropsUnreached, ModuleDropsUnreached, function_kept}
+use Rattle.ir_cfg.proofs.KeepsSource.{source_after}
+use Rattle.object_meaning.specs.TargetRuns.{TargetGives}
+use Rattle.base_forms.specs.Polls.{placed}
+use Rattle.base_forms.specs.Based.{base_table, based}
+use Rattle.rewriting_forms.specs.Rewritten.{rewritten, rewritten_funcs}
+use Rattle.rewriting_laws.specs.Statements.{no_function}
+use Rattle.rewritten_definite.specs.Statements.{IsReachedSource, base_tables, rewritten_source}
+use Rattle.rewritten_definite.proofs.Instance.{rewritten_keeps_meaning}
+use Rattle.rewritten_shape.proofs.TargetLaws.{rewritten_is_target}
+use Rattle.unreached_laws.proofs.MeaningLaws.{unreached_are_no_matter}
+use Rattle.unreached_laws.proofs.ReachedLaws.{unreached_are_gone}
+use Rattle.sp_rewrite.specs.Statements.{IsRewritten, RewritingIsByFunction, RewritingIsOne, RewritingIsTarget, RewritingKeepsMeaning}
+
+-- ---- there is one module without unreached blocks
+
+same_marks : (one other : List Bool) → length one ≡ length other → ((k : ℕ) → slice_get one k ≡ Some true → slice_get other k ≡ Some true)
+    → ((k : ℕ) → slice_get other k ≡ Some true → slice_get one k ≡ Some true) → one ≡ other
+same_marks [] [] long forth back = refl
+same_marks [] (b ∷ other) long forth back = absurd (omega (arith, long))
+same_marks (a ∷ one) [] long forth back = absurd (omega (arith, long))
+same_marks (a ∷ one) (b ∷ other) long forth back =
+    ap (λ (x : Bool). x ∷ one) (first a b (λ is. let at : Some b ≡ Some true = forth 0 (ap (λ (x : Bool). Some x) is) in cc) (λ is. let at : Some a ≡ Some true = back 0 (ap (λ (x : Bool). Some x) is) in cc))
+    ∙ ap (λ (rest : List Bool). b ∷ rest) (same_marks one other (omega (arith, long)) (λ k at. forth (suc k) at) (λ k at. back (suc k) at))
+  where
+    first : (a b : Bool) → (a ≡ true → b ≡ true) → (b ≡ true → a ≡ true) → a ≡ b
+    first true b forth back = sym (forth refl)
+    first false true forth back = back refl
+    first false false forth back = refl
+
+one_function : (func one other : Function) → DropsUnreached func one → DropsUnreached func other → one ≡ other
+one_function func one other first second =
+    let same = same_marks first.marks second.marks ((first.reached).whole ∙ sym (second.reached).whole)
+    (λ k at. (second.reached).complete k ((first.reached).sound k at)) (λ k at. (first.reached).complete k ((second.reached).sound k at)) in
+    first.rest ∙ (ap (λ (marks : List Bool). function_kept marks func) same ∙ sym second.rest)
+
+one_list : (funcs one other : List Function) → AllZip DropsUnreached funcs one → AllZip DropsUnreached funcs other → one ≡ other
+one_list [] [] [] first second = refl
+one_list [] [] (y ∷ other) first second = absurd second
+one_list [] (x ∷ one) other first second = absurd first
+one_list (func ∷ funcs) [] other first second = absurd first
+one_list (func ∷ funcs) (x ∷ one) [] first second = absurd second
+one_list (func ∷ funcs) (x ∷ one) (y ∷ other) first second =
+    ap (λ (f : Function). f ∷ one) (one_function func x y first.0 second.0) ∙ ap (λ (rest : List Function). y ∷ rest) (one_list funcs one other first.1 second.1)
+
+pub one_reached : (content one other : ModuleContent) → ModuleDropsUnreached content one → ModuleDropsUnreached content other → one ≡ other
+one_reached content one other first second =
+    let layouts : one.layouts ≡ other.layouts = first.layouts ∙ sym second.layouts in
+    let funcs = one_list content.funcs one.funcs other.funcs first.functions second.functions in
+    let form : one.form ≡ other.form = first.form ∙ sym second.form in
+    ap (λ (kept : List Function). record one { funcs = kept }) funcs
+    ∙ (ap (λ form. record one { funcs = other.funcs; form = form }) form
+    ∙ ap (λ layouts. record other { layouts = layouts }) layouts)
+
+pub rewriting_is_one : RewritingIsOne
+rewriting_is_one content one other first second =
+    first.rest ∙ (ap rewritten_source (one_reached content first.reached second.reached first.drops second.drops) ∙ sym second.rest)
+
+-- ---- its functions
+
+rewritten_from : (content : ModuleContent) (before rest : List Function) → content.funcs ≡ before ++ rest
+    → rewritten_funcs (base_tables content) (length before) (map (λ func. based (placed func)) rest) ≡ map (λ func. rewritten (based (placed func)) (base_table (placed func))) rest
+rewritten_from content before [] is = refl
+rewritten_from content before (func ∷ rest) is =
+    let found : slice_get content.funcs (length before) ≡ Some func = ap (λ (all : List Function). slice_get all (length before)) is ∙ get_middle before func rest in
+    let table : base_tables content (length before) ≡ base_table (placed func) = ap (λ (f : Function). base_table (placed f)) (get_or_from_slice_get content.funcs (length before) func no_function found) in
+    let long : suc (length before) ≡ length (before ++ func ∷ []) = (let split = length-append before (func ∷ []) in omega (arith, split)) in
+    let further = rewritten_from content (before ++ func ∷ []) rest (is ∙ sym (append_assoc before (func ∷ []) rest)) in
+    ap (λ (table : List Operand). rewritten (based (placed func)) table ∷ rewritten_funcs (base_tables content) (suc (length before)) (map (λ func. based (placed func)) rest)) table
+    ∙ ap (λ (after : List Function). rewritten (based (placed func)) (base_table (placed func)) ∷ after)
+    (ap (λ n. rewritten_funcs (base_tables content) n (map (λ func. based (placed func)) rest)) long ∙ further)
+
+pub rewriting_is_by_function : RewritingIsByFunction
+rewriting_is_by_function content after is = ap (λ (now : ModuleContent). now.funcs) is.rest ∙ rewritten_from is.reached [] is.reached.funcs refl
+
+-- ---- what it does
+
+reached_source : (content reached : ModuleContent) → IsSourceModule content → ModuleDropsUnreached content reached → IsReachedSource reached
+reached_source content reached source drops = record { source = source_after content reached source drops; reached = unreached_are_gone content reached drops }
+
+pub rewriting_keeps_meaning : RewritingKeepsMeaning
+rewriting_keeps_meaning content after source is input go bound outcome =
+    let drops = unreached_are_no_matter content is.reached source is.drops input go bound outcome in
+    let keeps = rewritten_keeps_meaning is.reached (reached_source content is.reached source is.drops) input go bound outcome in (
+      λ gives. subst (λ (now : ModuleContent). TargetGives now input go bound outcome) (sym is.rest) (keeps.0 (drops.0 gives)),
+      λ gives. drops.1 (keeps.1 (subst (λ (now : ModuleContent). TargetGives now input go bound outcome) is.rest gives)),
+    )
+
+pub rewriting_is_target : RewritingIsTarget
+rewriting_is_target content after source is =
+    subst IsTargetModule (sym is.rest) (rewritten_is_target is.reached (reached_source content is.reached source is.drops))

@@ -1,0 +1,22 @@
+ghost use Rattle.sp_rewrite.specs.Statements.{RewritingIsByFunction, RewritingIsOne, RewritingIsTarget, RewritingKeepsMeaning};
+
+/// A source module has no more than one rewritten module.
+pub fn rewriting_is_one()
+    ensures { RewritingIsOne }
+{}
+
+/// Each of its functions is made of one function of the module without its unreached blocks.
+pub fn rewriting_is_by_function()
+    ensures { RewritingIsByFunction }
+{}
+
+/// The rewritten module does, on objects that never move, what its source does.
+pub fn rewriting_keeps_meaning()
+    ensures { RewritingKeepsMeaning }
+{}
+
+/// The rewritten module is a target module: its lines, types, names and groups have no fault, it keeps within the limits, and every
+/// path to a use meets the definition before it.
+pub fn rewriting_is_target()
+    ensures { RewritingIsTarget }
+{}
