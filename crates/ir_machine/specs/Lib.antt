@@ -1,3 +1,0 @@
-pub mod Executors
-pub mod Events
-pub mod Answers

@@ -1,2 +1,0 @@
-pub mod RewrittenLaws
-pub mod MakingLaws
