@@ -228,7 +228,7 @@ module _ (func : Function) (table : List Operand) (naming : Naming) where
           a_relocate b k v there.0 there.1 there.2 parts.1
       by false kept false unlisted rest = rest
 
--- ---- D9's naming
+-- ---- the naming before any inserted phi is removed
 
 in_join : (func : Function) (table : List Operand) (b v : ℕ) → joins_of func table b v ≡ true → (b < length func.blocks) × (among v (pointers func) ≡ true)
 in_join func table b v is =
