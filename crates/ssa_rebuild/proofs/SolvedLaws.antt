@@ -44,7 +44,7 @@ listed_back : (table : List Operand) (list part : List ℕ) → map (λ relocate
 listed_back table list [] = refl
 listed_back table list (v ∷ part) = ap (λ (vs : List ℕ). v ∷ vs) (listed_back table list part)
 
-lists_back : (table : List Operand) (lists : List (List ℕ)) → map group_list (map (group_of table) lists) ≡ lists
+pub lists_back : (table : List Operand) (lists : List (List ℕ)) → map group_list (map (group_of table) lists) ≡ lists
 lists_back table [] = refl
 lists_back table (list ∷ lists) = ap (λ (l : List ℕ). l ∷ map group_list (map (group_of table) lists)) (listed_back table list list) ∙ ap (λ (ls : List (List ℕ)). list ∷ ls) (lists_back table lists)
 

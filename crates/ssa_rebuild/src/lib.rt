@@ -9,5 +9,6 @@ mod lists;
 mod numbers;
 mod rows;
 mod slots;
+mod solve;
 mod versions;
 mod walk;
