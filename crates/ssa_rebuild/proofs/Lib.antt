@@ -10,4 +10,5 @@ pub mod RowLaws
 pub mod TaskLaws
 pub mod InsideLaws
 pub mod SolvedLaws
+pub mod PartLaws
 pub mod MarkLemmas
