@@ -42,7 +42,7 @@ returns c =
     let many : length c.args-2.result.now ≡ length func.args = ap length c.args-2.ensures.value in
     subst (λ (f : Function). AreNumbered f table c.in_ok-answers.answers.items) (sym same)
     (solved func table ready.formed ready.reached c.args.joins.now c.in_ok-rows.rows.items c.add_all_entries.new.rows.items c.in_ok-answers.answers.items
-    c.as_slice-2.result.now c.as_slice-3.result.now c.in_ok-starts.own.items c.groups.result.now
+    c.as_slice-2.result.now c.as_slice-3.result.now c.in_ok-starts.field-0.own.items c.groups.result.now
     (c.groups.ensures.value ∙ c.groups.ensures.whole ∙ ap (λ (f : Function). groups_of f table) same)
     (subst (λ (f : Function). AreJoins f table c.args.joins.now) same c.requires.joins)
     c.in_ok-rows.ensures
