@@ -11,4 +11,5 @@ pub mod TaskLaws
 pub mod InsideLaws
 pub mod SolvedLaws
 pub mod PartLaws
+pub mod LengthLaws
 pub mod MarkLemmas
