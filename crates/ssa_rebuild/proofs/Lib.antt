@@ -12,4 +12,5 @@ pub mod InsideLaws
 pub mod SolvedLaws
 pub mod PartLaws
 pub mod LengthLaws
+pub mod CountLaws
 pub mod MarkLemmas
