@@ -5,3 +5,4 @@ pub mod Walks
 pub mod Rows
 pub mod Solved
 pub mod Marks
+pub mod Written
