@@ -11,3 +11,7 @@ pub mod TaskLaws
 pub mod InsideLaws
 pub mod SolvedLaws
 pub mod MarkLemmas
+pub mod WrittenLemmas
+pub mod FilledLaws
+pub mod EndLemmas
+pub mod TakeLemmas

@@ -6,3 +6,4 @@ pub mod Rows
 pub mod Solved
 pub mod Marks
 pub mod Written
+pub mod Arrivals

@@ -35,7 +35,7 @@ pub(crate) fn push_phis(
     ensures lines { IfOk result (λ _. lines.new.items ≡ lines.old.items ++ phi_lines preds.now writing.old values.now) }
     ensures writing { IfOk result (λ _. writing.new ≡ phis_behind preds.now writing.old values.now) }
 {
-    for _ in values {
+    for _value in values {
         push_phi(alloc, preds, writing, lines)?;
     }
     Ok(())
