@@ -15,3 +15,6 @@ pub mod WrittenLemmas
 pub mod FilledLaws
 pub mod EndLemmas
 pub mod TakeLemmas
+pub mod GroupLaws
+pub mod WrittenLaws
+pub mod ArrivalLaws

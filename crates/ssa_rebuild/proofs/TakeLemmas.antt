@@ -123,7 +123,8 @@ labeled_more here k (l ∷ labels) [] label operand one two = absurd (let h : No
 labeled_more here zero (l ∷ labels) (o ∷ operands) label operand one two =
     let same_label : l ≡ label = cc in
     let same : o ≡ operand = cc in
-    rw (same_label, same) (append-nil (use_numbers (here label.0) (operand ∷ [])))
+    append-nil (use_numbers (here l.0) (o ∷ [])) ∙ ap (λ (x : BlockId). use_numbers (here x.0) (o ∷ [])) same_label
+    ∙ ap (λ (x : Operand). use_numbers (here label.0) (x ∷ [])) same
 labeled_more here (suc k) (l ∷ labels) (o ∷ operands) label operand one two =
     let s : suc k + 1 ≡ suc (k + 1) = omega arith in
     ap (λ (n : ℕ). labeled_numbers here (take n (l ∷ labels)) (take n (o ∷ operands))) s

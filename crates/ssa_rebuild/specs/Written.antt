@@ -1,5 +1,5 @@
 -- Lines of the final text over numbers that are taken one after another.
-use Rattle.std.specs.Prelude.{ℕ, suc, ◌+◌, Bool, false, if◌then◌else◌, List, [], ◌∷◌, ◌++◌, length, map, take, drop, Option, Some, None, is_some, slice_index, slice_index_or, codes, decimal}
+use Rattle.std.specs.Prelude.{ℕ, suc, ◌+◌, Bool, false, if◌then◌else◌, List, [], ◌∷◌, ◌++◌, length, map, take, drop, Option, Some, None, is_some, slice_index, slice_index_or, codes, decimal, replicate}
 use Rattle.std.specs.Global.{Vec}
 use Rattle.sp_ids.specs.declared.ids.BlockId.{BlockId}
 use Rattle.sp_ids.specs.declared.ids.ValueId.{ValueId}
@@ -12,6 +12,7 @@ use Rattle.ir_ast.specs.declared.ops.Op.{Op}
 use Rattle.ir_ast.specs.declared.ops.Op.TheVariants.{Phi, Call}
 use Rattle.ir_ast.specs.Insts.{Instruction}
 use Rattle.ir_ast.specs.Blocks.{BasicBlock}
+use Rattle.ir_ast.specs.Funcs.{Function, instructions_of}
 use Rattle.ir_ast.specs.Faults.PhiEdges.{is_phi}
 use Rattle.ir_cfg.specs.Graphs.{preds_of}
 use Rattle.rewriting_forms.specs.Numbered.{named, is_call}
@@ -179,3 +180,7 @@ blocks_written graph groups joins rows number writing [] = []
 blocks_written graph groups joins rows number writing (block ∷ blocks) =
     record { name = block.name; insts = block_lines graph groups joins rows number writing block.insts }
     ∷ blocks_written graph groups joins rows (suc number) (block_after graph groups joins rows number writing block.insts) blocks
+
+-- a line 0 for each instruction
+abbrev pub zeros_of : Function → List ℕ
+zeros_of func = replicate (length (instructions_of func.blocks)) 0

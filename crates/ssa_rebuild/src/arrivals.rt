@@ -159,7 +159,8 @@ fn take_number(
     if at >= rows.len() || at >= arrivals.places.len() {
         return Err(Memory);
     }
-    pop(rows[at].as_slice(), at, arrivals)
+    pop(rows[at].as_slice(), at, arrivals)?;
+    Ok(())
 }
 
 fn pop(row: &[Slot], block: usize, arrivals: &mut Arrivals) -> Result<(), Memory>

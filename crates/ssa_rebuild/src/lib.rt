@@ -6,13 +6,17 @@ mod blocks;
 mod entries;
 mod filled;
 mod forest;
+mod functions;
 mod lines;
 mod listed;
 mod lists;
 mod numbers;
 mod rows;
 mod slots;
+mod solve;
 mod stream;
 mod versions;
 mod walk;
 mod writing;
+
+pub use functions::rebuild;
