@@ -14,3 +14,10 @@ pub mod PartLaws
 pub mod LengthLaws
 pub mod CountLaws
 pub mod MarkLemmas
+pub mod WrittenLemmas
+pub mod FilledLaws
+pub mod EndLemmas
+pub mod TakeLemmas
+pub mod GroupLaws
+pub mod WrittenLaws
+pub mod ArrivalLaws

@@ -27,7 +27,7 @@ use Rattle.ssa_rebuild.specs.Rows.{give_slot, plain_slots, call_slots, line_slot
 count_cons : (line : Line) (lines : List Line) → count_by calls (line ∷ lines) ≡ cond (calls line) 1 0 + count_by calls lines
 count_cons line lines = sum_by-cons (λ (l : Line). cond (calls l) 1 0) line lines
 
-count_more : (lines : List Line) (k : ℕ) (line : Line) → slice_get lines k ≡ Some line → count_by calls (take (suc k) lines) ≡ count_by calls (take k lines) + count_of_call line
+pub count_more : (lines : List Line) (k : ℕ) (line : Line) → slice_get lines k ≡ Some line → count_by calls (take (suc k) lines) ≡ count_by calls (take k lines) + count_of_call line
 count_more [] k line is = absurd (cc)
 count_more (x ∷ lines) zero line is =
     let e : x ≡ line = cc in
@@ -87,7 +87,7 @@ module _ (func : Function) (table : List Operand) where
             ∙ ap (λ (ss : List Slot). plain_slots line ++ ss) rest)
       ]
 
-  calls_next : (b : ℕ) → calls_of (calls_before func b 0) (lines_at func b) ≡ calls_before func (b + 1) 0
+  pub calls_next : (b : ℕ) → calls_of (calls_before func b 0) (lines_at func b) ≡ calls_before func (b + 1) 0
   calls_next b =
       let all = calls_of_is (calls_before func b 0) (lines_at func b) in
       let z : 0 + b ≡ b = omega arith in
@@ -113,7 +113,7 @@ module _ (func : Function) (table : List Operand) where
       let s : suc b + 1 ≡ suc (b + 1) = omega arith in
       rw s (first_next (after_all next x.insts) blocks b block is)
 
-  insts_are : (b : ℕ) (block : BasicBlock) → slice_get func.blocks b ≡ Some block → insts_in func b ≡ block.insts
+  pub insts_are : (b : ℕ) (block : BasicBlock) → slice_get func.blocks b ≡ Some block → insts_in func b ≡ block.insts
   insts_are b block is = ap (λ (o : Option BasicBlock). option_map_or (λ (block : BasicBlock). block.insts) o []) is
 
   block_there : (b : ℕ) → b < length func.blocks → (block : BasicBlock) × (slice_get func.blocks b ≡ Some block)

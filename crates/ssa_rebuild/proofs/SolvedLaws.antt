@@ -48,7 +48,7 @@ pub lists_back : (table : List Operand) (lists : List (List ℕ)) → map group_
 lists_back table [] = refl
 lists_back table (list ∷ lists) = ap (λ (l : List ℕ). l ∷ map group_list (map (group_of table) lists)) (listed_back table list list) ∙ ap (λ (ls : List (List ℕ)). list ∷ ls) (lists_back table lists)
 
-values_back : (vs : List ℕ) → values_in (map value_id vs) ≡ vs
+pub values_back : (vs : List ℕ) → values_in (map value_id vs) ≡ vs
 values_back [] = refl
 values_back (v ∷ vs) = ap (λ (ws : List ℕ). v ∷ ws) (values_back vs)
 
@@ -60,7 +60,7 @@ at_slots (r ∷ rows) (suc b) row is = at_slots rows b row is
 slots_at : (rows : List (Vec Slot)) (b : ℕ) (row : List Slot) → slice_get (slots_in rows) b ≡ Some row → row ≡ list_at rows b
 slots_at rows b row is = sym (at_slots rows b row is)
 
-join_at : (joins : List (Vec ValueId)) (b : ℕ) → b < length joins → slice_get (map (λ join. values_in join.items) joins) b ≡ Some (values_in (list_at joins b))
+pub join_at : (joins : List (Vec ValueId)) (b : ℕ) → b < length joins → slice_get (map (λ join. values_in join.items) joins) b ≡ Some (values_in (list_at joins b))
 join_at [] b below = absurd (omega arith)
 join_at (join ∷ joins) zero below = refl
 join_at (join ∷ joins) (suc b) below = join_at joins b (omega arith)
