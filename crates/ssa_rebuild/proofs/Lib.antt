@@ -21,3 +21,4 @@ pub mod TakeLemmas
 pub mod GroupLaws
 pub mod WrittenLaws
 pub mod ArrivalLaws
+pub mod RebuiltLaws
