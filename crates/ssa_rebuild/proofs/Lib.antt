@@ -18,3 +18,4 @@ pub mod TakeLemmas
 pub mod GroupLaws
 pub mod WrittenLaws
 pub mod ArrivalLaws
+pub mod RebuiltLaws

@@ -283,8 +283,8 @@ module _ (func : Function) (table : List Operand) (naming : Naming) where
       rw s (omega (arith, rest, more, less))
 
   module _ (groups : List GroupContent) (groups_are : groups ≡ groups_of func table) (counted : NamesAreCounted) where
-    pub record IsWritten (b k : ℕ) (lines pieces : List Instruction) (old new : Writing) (rest erest : List ℕ) : Type 0 where
-      pub lines : lines ≡ pieces
+    pub record IsWritten (b k : ℕ) (found pieces : List Instruction) (old new : Writing) (rest erest : List ℕ) : Type 0 where
+      pub lines : found ≡ pieces
       pub body : new.body ≡ rest
       pub entries : new.entries ≡ erest
       pub counts : AreCounts new.counts b k
@@ -405,8 +405,8 @@ module _ (func : Function) (table : List Operand) (naming : Naming) where
     abbrev block_preds : ℕ → List BlockId
     block_preds b = preds_of (graph_of func) b
 
-    pub record ArePhis (b : ℕ) (lines pieces : List Instruction) (old new : Writing) (more : ℕ) (rest erest : List ℕ) : Type 0 where
-      pub lines : lines ≡ pieces
+    pub record ArePhis (b : ℕ) (found pieces : List Instruction) (old new : Writing) (more : ℕ) (rest erest : List ℕ) : Type 0 where
+      pub lines : found ≡ pieces
       pub body : new.body ≡ rest
       pub entries : new.entries ≡ erest
       pub counts : new.counts ≡ old.counts
@@ -474,8 +474,8 @@ module _ (func : Function) (table : List Operand) (naming : Naming) where
       abbrev graph : List (List BlockId)
       graph = graph_of func
 
-      pub record IsBlock (b : ℕ) (lines pieces : List Instruction) (new : Writing) (erest : List ℕ) : Type 0 where
-        pub lines : lines ≡ pieces
+      pub record IsBlock (b : ℕ) (found pieces : List Instruction) (new : Writing) (erest : List ℕ) : Type 0 where
+        pub lines : found ≡ pieces
         pub entries : new.entries ≡ erest
         pub counts : AreCounts new.counts (suc b) 0
         pub joined : new.joined ≡ joined_before (suc b)
