@@ -10,6 +10,9 @@ pub mod RowLaws
 pub mod TaskLaws
 pub mod InsideLaws
 pub mod SolvedLaws
+pub mod PartLaws
+pub mod LengthLaws
+pub mod CountLaws
 pub mod MarkLemmas
 pub mod WrittenLemmas
 pub mod FilledLaws

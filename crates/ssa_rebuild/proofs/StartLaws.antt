@@ -57,13 +57,13 @@ module _ (func : Function) (table : List Operand) where
   abbrev own_names : Line → List Name
   own_names line = option_map_or (λ x. own x ∷ []) line.to []
 
-  plain_names_are : (b k : ℕ) (line : Line) → slice_get (lines_at func b) k ≡ Some line → calls line ≡ false → line_names func table b k ≡ own_names line
+  pub plain_names_are : (b k : ℕ) (line : Line) → slice_get (lines_at func b) k ≡ Some line → calls line ≡ false → line_names func table b k ≡ own_names line
   plain_names_are b k line stands plain =
       ap (λ (l : Line). (if calls l then token b k ∷ [] else []) ++ (own_names l ++ (if calls l then map (relocated b k) (live_list func table b k) else []))) (line_is func b k line stands)
       ∙ ap (λ (t : Bool). (if t then token b k ∷ [] else []) ++ (own_names line ++ (if t then map (relocated b k) (live_list func table b k) else []))) plain
       ∙ append-nil (own_names line)
 
-  call_names_are : (b k : ℕ) (line : Line) → slice_get (lines_at func b) k ≡ Some line → calls line ≡ true
+  pub call_names_are : (b k : ℕ) (line : Line) → slice_get (lines_at func b) k ≡ Some line → calls line ≡ true
       → line_names func table b k ≡ token b k ∷ (own_names line ++ map (relocated b k) (live_list func table b k))
   call_names_are b k line stands call =
       ap (λ (l : Line). (if calls l then token b k ∷ [] else []) ++ (own_names l ++ (if calls l then map (relocated b k) (live_list func table b k) else []))) (line_is func b k line stands)
