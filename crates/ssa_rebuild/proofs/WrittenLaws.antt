@@ -251,7 +251,7 @@ module _ (func : Function) (table : List Operand) (naming : Naming) where
 
   -- ---- lines
 
-  abbrev relocates_before : ℕ → ℕ
+  abbrev pub relocates_before : ℕ → ℕ
   relocates_before n = sum_by (λ (list : List ℕ). length list) (take n (live_lists func table))
 
   -- the counts of names before a place of a block
@@ -463,7 +463,7 @@ module _ (func : Function) (table : List Operand) (naming : Naming) where
 
     -- ---- blocks
 
-    abbrev joined_before : ℕ → ℕ
+    abbrev pub joined_before : ℕ → ℕ
     joined_before b = sum_by (λ c. length (joined_at func naming c)) (range_with_len 0 b)
 
     module _ (joins : List (Vec ValueId)) (rows : List (Vec Slot))

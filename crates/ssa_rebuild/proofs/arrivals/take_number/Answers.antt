@@ -3,7 +3,7 @@ use Rattle.ssa_rebuild.proofs.ForestLemmas.{list_is}
 use Rattle.ssa_rebuild.proofs.TakeLemmas.{takes_pop}
 use Rattle.ssa_rebuild.proofs.arrivals.take_number.Goals as goal
 
-pub returns : goal.returns-in_ok-pop
+pub returns : goal.returns
 returns c =
     let rows = c.args.rows.now in
     let block = c.args.block.0 in
