@@ -126,11 +126,11 @@ module _ (func : Function) (table : List Operand) where
       let two = small.few_blocks in
       record { few_arguments = omega (arith, same, one); few_blocks = omega (arith, long, two); few_instructions = omega (arith, lines, few) }
 
-  made_of : List ℕ → Ty → List Arg → List BasicBlock → Function
+  abbrev made_of : List ℕ → Ty → List Arg → List BasicBlock → Function
   made_of name answer args blocks = record { name = name; answer = answer; args = args; blocks = blocks }
 
   pub whole_is : (name : List ℕ) (answer : Ty) (args : List Arg) (blocks : List BasicBlock) → name ≡ func.name → answer ≡ func.answer → args ≡ func.args
       → blocks ≡ (rewritten func table).blocks → ◌≡◌ {A = Function} (record { name = name; answer = answer; args = args; blocks = blocks }) (rewritten func table)
   whole_is name answer args blocks name_is answer_is args_are blocks_are =
       ap (λ (n : List ℕ). made_of n answer args blocks) name_is ∙ ap (λ (a : Ty). made_of func.name a args blocks) answer_is
-      ∙ ap (λ (as : List Arg). made_of func.name func.answer as blocks) args_are ∙ ap (made_of func.name func.answer func.args) blocks_are
+      ∙ ap (λ (xs : List Arg). made_of func.name func.answer xs blocks) args_are ∙ ap (made_of func.name func.answer func.args) blocks_are
