@@ -1,7 +1,7 @@
 -- What the parts give together: the blocks of the rewritten function.
-use Rattle.std.proofs.Common.{◌≡◌, ◌∙◌, ℕ, zero, suc, ◌<◌, ◌≤◌, ◌+◌, true, List, [], ◌∷◌, ◌++◌, length, map, filter, take, drop, get_or, Some, slice_get, refl, ap, sym, arith, ◌^◌}
+use Rattle.std.proofs.Common.{◌≡◌, ◌∙◌, ℕ, suc, ◌<◌, ◌+◌, List, [], ◌∷◌, length, map, take, drop, Some, slice_get, refl, ap, sym, arith, ◌^◌}
 use Rattle.std.specs.Prelude.{count_by}
-use Rattle.std.specs.List.{flat_map, range_with_len, sum_by}
+use Rattle.std.specs.List.{range_with_len, sum_by}
 use Rattle.std.specs.Global.{Vec}
 use Rattle.std.proofs.lemmas.List.{length-map}
 use Rattle.std.proofs.lemmas.Option.{get_or_from_slice_get}
@@ -15,10 +15,9 @@ use Rattle.ir_ast.specs.Funcs.{Function, IsSmall, instructions_of}
 use Rattle.ir_cfg.specs.Graphs.{graph_of}
 use Rattle.object_meaning.specs.Lines.{Line}
 use Rattle.rewriting_forms.specs.Numbered.{lines_at, calls, preds}
-use Rattle.rewriting_forms.specs.Liveness.{live_list, live_lists}
-use Rattle.rewriting_forms.specs.Names.{Name, relocated, joined, token, Naming, naming_of}
-use Rattle.rewriting_forms.specs.Rewritten.{joined_at, names_of, place_in, is_joined, rewritten, rewritten_blocks}
-use Rattle.statepoint_insert.specs.declared.texts.Counts.{Counts}
+use Rattle.rewriting_forms.specs.Liveness.{live_lists}
+use Rattle.rewriting_forms.specs.Names.{Name, Naming, naming_of}
+use Rattle.rewriting_forms.specs.Rewritten.{joined_at, names_of, place_in, rewritten, rewritten_blocks}
 use Rattle.statepoint_insert.specs.Calls.{calls_before}
 use Rattle.statepoint_insert.specs.Groups.{GroupContent, groups_of}
 use Rattle.live_sets.specs.Joins.{AreJoins}

@@ -1,5 +1,5 @@
 -- What is written over the numbers of a function's slots are the lines of the rewritten function.
-use Rattle.std.proofs.Common.{◌≡◌, ◌∙◌, ℕ, zero, suc, ◌<◌, ◌≤◌, ◌+◌, inl, inr, Bool, true, false, not, subst, if◌then◌else◌, List, [], ◌∷◌, ◌++◌, length, map, filter, take, drop, get_or, Option, Some, None, slice_get, refl, ap, sym, arith, append_assoc, append-nil}
+use Rattle.std.proofs.Common.{◌≡◌, ◌∙◌, ℕ, zero, suc, ◌<◌, ◌+◌, inl, inr, Bool, true, false, not, subst, if◌then◌else◌, List, [], ◌∷◌, ◌++◌, length, map, filter, take, drop, get_or, Option, Some, None, slice_get, refl, ap, sym, arith, append_assoc, append-nil}
 use Rattle.std.specs.Prelude.{slice_index, slice_index_or, codes, decimal, count_by}
 use Rattle.std.specs.List.{flat_map, range_with_len, sum_by}
 use Rattle.std.specs.Option.{option_map, option_map_or}
@@ -23,9 +23,9 @@ use Rattle.ir_ast.specs.Funcs.{Function}
 use Rattle.ir_ast.specs.Faults.PhiEdges.{is_phi}
 use Rattle.ir_ast.specs.Callees.{is_leaf}
 use Rattle.ir_cfg.specs.Graphs.{graph_of, preds_of}
-use Rattle.object_meaning.specs.Lines.{Line, following, numbered, registers_of, insts_in}
+use Rattle.object_meaning.specs.Lines.{Line, following, numbered, registers_of}
 use Rattle.object_meaning.specs.TargetRuns.{plain_lines}
-use Rattle.rewriting_forms.specs.Numbered.{named, lines_at, line_at, is_call, calls, preds}
+use Rattle.rewriting_forms.specs.Numbered.{named, lines_at, is_call, calls, preds}
 use Rattle.rewriting_forms.specs.Liveness.{live_list, live_lists}
 use Rattle.rewriting_forms.specs.Names.{Name, own, relocated, joined, token, Naming, names_at}
 use Rattle.rewriting_forms.specs.Rewritten.{Piece, piece_inst, place_in, renamed, line_names, joined_at, names_of, inserted_phi, statepoint, group as group_pieces, plain as plain_piece, phi_operands, expanded_by, expanded, pieces_of, spelled, old_name, is_token, is_relocated, is_joined, rewritten_blocks}
@@ -42,8 +42,8 @@ use Rattle.ssa_rebuild.specs.declared.slots.Slot.{Slot}
 use Rattle.ssa_rebuild.specs.declared.slots.Slot.TheVariants.{Number}
 use Rattle.ssa_rebuild.specs.declared.writing.Writing.{Writing}
 use Rattle.ssa_rebuild.specs.Forest.{list_at}
-use Rattle.ssa_rebuild.specs.Rows.{valued, own_uses, held_in, use_numbers, number_at, number_behind, line_numbers, lines_numbers, block_numbers, count_of_call, entries_from}
-use Rattle.ssa_rebuild.specs.Written.{number_of, filled, filled_bundle, left, results_in, entries_left, operands_written, plain_written, plain_left, token_on, call_left, call_lines, call_written, no_group, group_at, counts_with, line_written, after, written, behind, phi_line, phi_after, phi_lines, phis_behind, begun, block_phis, block_lines, block_after, blocks_written}
+use Rattle.ssa_rebuild.specs.Rows.{valued, own_uses, held_in, use_numbers, number_behind, line_numbers, lines_numbers, block_numbers, count_of_call, entries_from}
+use Rattle.ssa_rebuild.specs.Written.{number_of, filled, filled_bundle, left, results_in, entries_left, operands_written, plain_written, plain_left, token_on, call_left, call_lines, call_written, no_group, group_at, counts_with, line_written, after, written, behind, phi_line, phi_after, phi_lines, phis_behind, begun, block_lines, block_after, blocks_written}
 use Rattle.ssa_rebuild.specs.Arrivals.{labeled_numbers, phi_numbers, inserted_numbers, into_numbers, arriving_numbers}
 use Rattle.ssa_rebuild.proofs.RowLaws.{count_more, calls_of_is, calls_next, range_more, insts_are}
 use Rattle.ssa_rebuild.proofs.FilledLaws.{filled_is, bundle_is, left_is, phi_filled, phi_left}

@@ -1,9 +1,8 @@
-use Rattle.std.proofs.Common.{◌∙◌, ◌≡◌, ℕ, List, ap, sym, length, map, subst}
+use Rattle.std.proofs.Common.{◌∙◌, ◌≡◌, ℕ, List, ap, length, map, subst}
 use Rattle.std.specs.Global.{Vec}
 use Rattle.sp_ids.specs.declared.ids.ValueId.{ValueId}
 use Rattle.ir_ast.specs.Funcs.{Function}
 use Rattle.rewriting_forms.specs.Numbered.{preds}
-use Rattle.statepoint_insert.specs.Groups.{GroupContent}
 use Rattle.ssa_rebuild.specs.declared.slots.Slot.{Slot}
 use Rattle.ssa_rebuild.specs.Rows.{body_rows, group_list, values_in, entries_all}
 use Rattle.ssa_rebuild.specs.Arrivals.{HoldsAll, arriving_numbers}

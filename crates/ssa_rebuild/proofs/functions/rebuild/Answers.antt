@@ -1,7 +1,6 @@
-use Rattle.std.proofs.Common.{◌∙◌, ◌≡◌, ℕ, List, ap, sym, subst}
+use Rattle.std.proofs.Common.{◌∙◌, List, ap, subst}
 use Rattle.std.specs.Global.{Vec}
 use Rattle.sp_ids.specs.declared.ids.ValueId.{ValueId}
-use Rattle.ir_ast.specs.Blocks.{BasicBlock}
 use Rattle.ir_ast.specs.Funcs.{Function, IsSmall}
 use Rattle.ir_cfg.specs.Graphs.{graph_of}
 use Rattle.ssa_rebuild.specs.Arrivals.{entry_numbers}
