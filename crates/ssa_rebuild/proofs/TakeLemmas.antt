@@ -41,7 +41,7 @@ takes_both rows old middle new one two both first second all f s split parts = r
       let front = f.taken here (λ p. two p ++ rest p) apart in
       let back = s.taken here rest front.1 in (
         back.0 ∙ ap (λ (ns : List ℕ). ns ++ second here) front.0 ∙ append_assoc old.numbers.items (first here) (second here)
-        ∙ ap (λ (ns : List ℕ). old.numbers.items ++ ns) (sym (parts here)),
+            ∙ ap (λ (ns : List ℕ). old.numbers.items ++ ns) (sym (parts here)),
         back.1,
       );
 }
