@@ -1,5 +1,5 @@
 -- Operands over the numbers that their uses ask for are the renamed ones.
-use Rattle.std.proofs.Common.{◌≡◌, ◌∙◌, ℕ, zero, suc, ◌+◌, List, [], ◌∷◌, ◌++◌, length, map, take, refl, ap, sym, arith, append_assoc}
+use Rattle.std.proofs.Common.{◌≡◌, ℕ, List, [], ◌∷◌, ◌++◌, length, map, take, refl, ap}
 use Rattle.sp_ids.specs.declared.ids.BlockId.{BlockId}
 use Rattle.ir_ast.specs.declared.types.Ty.{Ty}
 use Rattle.ir_ast.specs.declared.ops.Operand.{Operand}
@@ -8,7 +8,7 @@ use Rattle.ir_ast.specs.Funcs.{Function}
 use Rattle.rewriting_forms.specs.Names.{Name, Names, Naming, names_at_end}
 use Rattle.rewriting_forms.specs.Rewritten.{renamed, phi_operands}
 use Rattle.ssa_rebuild.specs.Rows.{held_in, use_numbers, number_behind}
-use Rattle.ssa_rebuild.specs.Written.{put, put_left, filled, filled_bundle, left}
+use Rattle.ssa_rebuild.specs.Written.{filled, filled_bundle, left}
 use Rattle.ssa_rebuild.specs.Arrivals.{labeled_numbers}
 
 module _ (number : Name → ℕ) (names : Names) where

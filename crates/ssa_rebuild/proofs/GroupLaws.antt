@@ -20,7 +20,7 @@ use Rattle.rewriting_forms.specs.Names.{Name, Names, relocated, token, Naming, n
 use Rattle.rewriting_forms.specs.Rewritten.{place_in, renamed, Piece, same_operand, entries, index_of, statepoint, result_of, relocate_of, group, is_relocated, old_name, spelled, piece_inst}
 use Rattle.ir_ast.specs.declared.ops.Callee.{Callee}
 use Rattle.statepoint_insert.specs.declared.texts.Counts.{Counts}
-use Rattle.statepoint_insert.specs.Groups.{has_null_base, relocate_in, group_of}
+use Rattle.statepoint_insert.specs.Groups.{has_null_base, relocate_in}
 use Rattle.statepoint_insert.specs.Texts.{live_entries, statepoint_line, result_lines, relocate_line, relocate_lines, first_rank}
 use Rattle.statepoint_insert.specs.Renumbered.{AreCounted}
 use Rattle.statepoint_insert.specs.Ranks.{placed}

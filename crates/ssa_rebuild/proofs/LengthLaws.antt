@@ -1,5 +1,5 @@
 -- How many slots a block has before its entries.
-use Rattle.std.proofs.Common.{◌≡◌, ◌∙◌, ℕ, suc, ◌+◌, inl, inr, Bool, true, false, List, [], ◌∷◌, ◌++◌, length, map, drop, Option, Some, None, slice_get, refl, ap, sym, arith, length-append}
+use Rattle.std.proofs.Common.{◌≡◌, ◌∙◌, ℕ, suc, inl, inr, true, false, List, [], ◌∷◌, ◌++◌, length, map, drop, Option, Some, None, slice_get, refl, ap, sym, arith, length-append}
 use Rattle.std.specs.Option.{option_map_or}
 use Rattle.std.proofs.lemmas.Bool.{cases_Bool}
 use Rattle.ir_ast.specs.declared.ops.Operand.{Operand}
@@ -8,7 +8,7 @@ use Rattle.ir_ast.specs.Funcs.{Function}
 use Rattle.object_meaning.specs.Lines.{Line}
 use Rattle.rewriting_forms.specs.Numbered.{lines_at, calls}
 use Rattle.rewriting_forms.specs.Liveness.{live_list}
-use Rattle.rewriting_forms.specs.Names.{Name, own, relocated, joined, token, Naming}
+use Rattle.rewriting_forms.specs.Names.{Name, own, relocated, joined, Naming}
 use Rattle.rewriting_forms.specs.Rewritten.{line_names, joined_at}
 use Rattle.rewriting_laws.proofs.NameLemmas.{at_rest}
 use Rattle.ssa_rebuild.specs.declared.slots.Slot.{Slot}

@@ -1,5 +1,5 @@
 -- Entries of phis taken from their blocks' rows, one at a time.
-use Rattle.std.proofs.Common.{◌≡◌, ◌∙◌, ℕ, zero, suc, ◌<◌, ◌≤◌, ◌+◌, ◌⊎◌, inl, inr, Bool, true, false, eqb, if◌then◌else◌, List, [], ◌∷◌, ◌++◌, length, map, take, drop, get_or, Option, Some, None, slice_get, refl, ap, sym, arith, append_assoc, append-nil}
+use Rattle.std.proofs.Common.{◌≡◌, ◌∙◌, ℕ, zero, suc, ◌<◌, ◌≤◌, ◌+◌, ◌⊎◌, inl, inr, Bool, eqb, if◌then◌else◌, List, [], ◌∷◌, ◌++◌, length, map, take, drop, Some, None, slice_get, refl, ap, sym, arith, append_assoc, append-nil}
 use Rattle.std.specs.Prelude.{slice_set, slice_index}
 use Rattle.std.specs.List.{flat_map}
 use Rattle.std.specs.Global.{Vec}
@@ -17,7 +17,7 @@ use Rattle.ssa_rebuild.specs.declared.arrivals.Arrivals.{Arrivals}
 use Rattle.ssa_rebuild.specs.Forest.{list_at}
 use Rattle.ssa_rebuild.specs.Rows.{valued, values_in, use_numbers}
 use Rattle.ssa_rebuild.specs.Written.{number_of}
-use Rattle.ssa_rebuild.specs.Arrivals.{Behind, labeled_numbers, phi_numbers, inserted_numbers, into_numbers, arriving_numbers, AreToCome, Pops, Takes, HoldsAll}
+use Rattle.ssa_rebuild.specs.Arrivals.{Behind, labeled_numbers, inserted_numbers, into_numbers, arriving_numbers, AreToCome, Pops, Takes, HoldsAll}
 use Rattle.ssa_rebuild.proofs.RowLemmas.{flat_more}
 
 pub takes_none : (rows : List (Vec Slot)) (now : Arrivals) (entries : ℕ → List Operand) (numbers : Behind → List ℕ) → ((p : ℕ) → entries p ≡ [])
@@ -41,7 +41,7 @@ takes_both rows old middle new one two both first second all f s split parts = r
       let front = f.taken here (λ p. two p ++ rest p) apart in
       let back = s.taken here rest front.1 in (
         back.0 ∙ ap (λ (ns : List ℕ). ns ++ second here) front.0 ∙ append_assoc old.numbers.items (first here) (second here)
-        ∙ ap (λ (ns : List ℕ). old.numbers.items ++ ns) (sym (parts here)),
+            ∙ ap (λ (ns : List ℕ). old.numbers.items ++ ns) (sym (parts here)),
         back.1,
       );
 }

@@ -1,5 +1,5 @@
 -- What is written over the numbers of a function's slots are the lines of the rewritten function.
-use Rattle.std.proofs.Common.{◌≡◌, ◌∙◌, ℕ, zero, suc, ◌<◌, ◌≤◌, ◌+◌, inl, inr, Bool, true, false, not, subst, if◌then◌else◌, List, [], ◌∷◌, ◌++◌, length, map, filter, take, drop, get_or, Option, Some, None, slice_get, refl, ap, sym, arith, append_assoc, append-nil}
+use Rattle.std.proofs.Common.{◌≡◌, ◌∙◌, ℕ, zero, suc, ◌<◌, ◌+◌, inl, inr, Bool, true, false, not, subst, if◌then◌else◌, List, [], ◌∷◌, ◌++◌, length, map, filter, take, drop, get_or, Option, Some, None, slice_get, refl, ap, sym, arith, append_assoc, append-nil}
 use Rattle.std.specs.Prelude.{slice_index, slice_index_or, codes, decimal, count_by}
 use Rattle.std.specs.List.{flat_map, range_with_len, sum_by}
 use Rattle.std.specs.Option.{option_map, option_map_or}
@@ -23,9 +23,9 @@ use Rattle.ir_ast.specs.Funcs.{Function}
 use Rattle.ir_ast.specs.Faults.PhiEdges.{is_phi}
 use Rattle.ir_ast.specs.Callees.{is_leaf}
 use Rattle.ir_cfg.specs.Graphs.{graph_of, preds_of}
-use Rattle.object_meaning.specs.Lines.{Line, following, numbered, registers_of, insts_in}
+use Rattle.object_meaning.specs.Lines.{Line, following, numbered, registers_of}
 use Rattle.object_meaning.specs.TargetRuns.{plain_lines}
-use Rattle.rewriting_forms.specs.Numbered.{named, lines_at, line_at, is_call, calls, preds}
+use Rattle.rewriting_forms.specs.Numbered.{named, lines_at, is_call, calls, preds}
 use Rattle.rewriting_forms.specs.Liveness.{live_list, live_lists}
 use Rattle.rewriting_forms.specs.Names.{Name, own, relocated, joined, token, Naming, names_at}
 use Rattle.rewriting_forms.specs.Rewritten.{Piece, piece_inst, place_in, renamed, line_names, joined_at, names_of, inserted_phi, statepoint, group as group_pieces, plain as plain_piece, phi_operands, expanded_by, expanded, pieces_of, spelled, old_name, is_token, is_relocated, is_joined, rewritten_blocks}
@@ -42,8 +42,8 @@ use Rattle.ssa_rebuild.specs.declared.slots.Slot.{Slot}
 use Rattle.ssa_rebuild.specs.declared.slots.Slot.TheVariants.{Number}
 use Rattle.ssa_rebuild.specs.declared.writing.Writing.{Writing}
 use Rattle.ssa_rebuild.specs.Forest.{list_at}
-use Rattle.ssa_rebuild.specs.Rows.{valued, own_uses, held_in, use_numbers, number_at, number_behind, line_numbers, lines_numbers, block_numbers, count_of_call, entries_from}
-use Rattle.ssa_rebuild.specs.Written.{number_of, filled, filled_bundle, left, results_in, entries_left, operands_written, plain_written, plain_left, token_on, call_left, call_lines, call_written, no_group, group_at, counts_with, line_written, after, written, behind, phi_line, phi_after, phi_lines, phis_behind, begun, block_phis, block_lines, block_after, blocks_written}
+use Rattle.ssa_rebuild.specs.Rows.{valued, own_uses, held_in, use_numbers, number_behind, line_numbers, lines_numbers, block_numbers, count_of_call, entries_from}
+use Rattle.ssa_rebuild.specs.Written.{number_of, filled, filled_bundle, left, results_in, entries_left, operands_written, plain_written, plain_left, token_on, call_left, call_lines, call_written, no_group, group_at, counts_with, line_written, after, written, behind, phi_line, phi_after, phi_lines, phis_behind, begun, block_lines, block_after, blocks_written}
 use Rattle.ssa_rebuild.specs.Arrivals.{labeled_numbers, phi_numbers, inserted_numbers, into_numbers, arriving_numbers}
 use Rattle.ssa_rebuild.proofs.RowLaws.{count_more, calls_of_is, calls_next, range_more, insts_are}
 use Rattle.ssa_rebuild.proofs.FilledLaws.{filled_is, bundle_is, left_is, phi_filled, phi_left}
@@ -251,7 +251,7 @@ module _ (func : Function) (table : List Operand) (naming : Naming) where
 
   -- ---- lines
 
-  abbrev relocates_before : ℕ → ℕ
+  abbrev pub relocates_before : ℕ → ℕ
   relocates_before n = sum_by (λ (list : List ℕ). length list) (take n (live_lists func table))
 
   -- the counts of names before a place of a block
@@ -283,8 +283,8 @@ module _ (func : Function) (table : List Operand) (naming : Naming) where
       rw s (omega (arith, rest, more, less))
 
   module _ (groups : List GroupContent) (groups_are : groups ≡ groups_of func table) (counted : NamesAreCounted) where
-    pub record IsWritten (b k : ℕ) (lines pieces : List Instruction) (old new : Writing) (rest erest : List ℕ) : Type 0 where
-      pub lines : lines ≡ pieces
+    pub record IsWritten (b k : ℕ) (found pieces : List Instruction) (old new : Writing) (rest erest : List ℕ) : Type 0 where
+      pub lines : found ≡ pieces
       pub body : new.body ≡ rest
       pub entries : new.entries ≡ erest
       pub counts : AreCounts new.counts b k
@@ -405,8 +405,8 @@ module _ (func : Function) (table : List Operand) (naming : Naming) where
     abbrev block_preds : ℕ → List BlockId
     block_preds b = preds_of (graph_of func) b
 
-    pub record ArePhis (b : ℕ) (lines pieces : List Instruction) (old new : Writing) (more : ℕ) (rest erest : List ℕ) : Type 0 where
-      pub lines : lines ≡ pieces
+    pub record ArePhis (b : ℕ) (found pieces : List Instruction) (old new : Writing) (more : ℕ) (rest erest : List ℕ) : Type 0 where
+      pub lines : found ≡ pieces
       pub body : new.body ≡ rest
       pub entries : new.entries ≡ erest
       pub counts : new.counts ≡ old.counts
@@ -463,7 +463,7 @@ module _ (func : Function) (table : List Operand) (naming : Naming) where
 
     -- ---- blocks
 
-    abbrev joined_before : ℕ → ℕ
+    abbrev pub joined_before : ℕ → ℕ
     joined_before b = sum_by (λ c. length (joined_at func naming c)) (range_with_len 0 b)
 
     module _ (joins : List (Vec ValueId)) (rows : List (Vec Slot))
@@ -471,97 +471,97 @@ module _ (func : Function) (table : List Operand) (naming : Naming) where
         (rows_are : (b : ℕ) → b < length func.blocks → list_at rows b ≡ map Number (block_numbers func table naming number b))
         (joined_counted : (b j v : ℕ) → b < length func.blocks → slice_get (joined_at func naming b) j ≡ Some v → place_in (filter is_joined names) (joined b v) ≡ joined_before b + j)
       where
-      abbrev graph : List (List BlockId)
-      graph = graph_of func
+        abbrev graph : List (List BlockId)
+        graph = graph_of func
 
-      pub record IsBlock (b : ℕ) (lines pieces : List Instruction) (new : Writing) (erest : List ℕ) : Type 0 where
-        pub lines : lines ≡ pieces
-        pub entries : new.entries ≡ erest
-        pub counts : AreCounts new.counts (suc b) 0
-        pub joined : new.joined ≡ joined_before (suc b)
+        pub record IsBlock (b : ℕ) (found pieces : List Instruction) (new : Writing) (erest : List ℕ) : Type 0 where
+          pub lines : found ≡ pieces
+          pub entries : new.entries ≡ erest
+          pub counts : AreCounts new.counts (suc b) 0
+          pub joined : new.joined ≡ joined_before (suc b)
 
-      counts_on : (b : ℕ) (insts : List Instruction) (counts : Counts) → lines_at func b ≡ plain_lines (slice_index (registers_of func) b) insts → AreCounts counts b (0 + length insts) → AreCounts counts (suc b) 0
-      counts_on b insts counts lines are =
-          let long : length insts ≡ length (lines_at func b) = sym (ap length lines ∙ lines_long (slice_index (registers_of func) b) insts) in
-          let all = take_all (length insts) (lines_at func b) (omega (arith, long)) in
-          let behind' = calls_of_is (calls_before func b 0) (lines_at func b) in
-          let next = calls_next func table b in
-          let s : b + 1 ≡ suc b = omega arith in
-          let z : 0 + length insts ≡ length insts = omega arith in
-          let whole : calls_before func b (0 + length insts) ≡ calls_before func b 0 + count_by calls (lines_at func b) =
-          ap (λ (n : ℕ). calls_before func b n) z ∙ ap (λ (ls : List Line). sum_by (λ c. count_by calls (lines_at func c)) (range_with_len 0 b) + count_by calls ls) all
-          ∙ (let none : count_by calls [] ≡ 0 = refl in omega (arith, none)) in
-          let same : calls_before func b (0 + length insts) ≡ calls_before func (suc b) 0 = whole ∙ sym behind' ∙ next ∙ ap (λ (n : ℕ). calls_before func n 0) s in
-          record { tokens = are.tokens ∙ same; relocates = are.relocates ∙ ap relocates_before same }
-        where
-          lines_long : (next : ℕ) (insts : List Instruction) → length (plain_lines next insts) ≡ length insts
-          lines_long next [] = refl
-          lines_long next (inst ∷ insts) = ap suc (lines_long (following next inst) insts)
+        counts_on : (b : ℕ) (insts : List Instruction) (counts : Counts) → lines_at func b ≡ plain_lines (slice_index (registers_of func) b) insts → AreCounts counts b (0 + length insts) → AreCounts counts (suc b) 0
+        counts_on b insts counts lines are =
+            let long : length insts ≡ length (lines_at func b) = sym (ap length lines ∙ lines_long (slice_index (registers_of func) b) insts) in
+            let all = take_all (length insts) (lines_at func b) (omega (arith, long)) in
+            let behind' = calls_of_is (calls_before func b 0) (lines_at func b) in
+            let next = calls_next func table b in
+            let s : b + 1 ≡ suc b = omega arith in
+            let z : 0 + length insts ≡ length insts = omega arith in
+            let whole : calls_before func b (0 + length insts) ≡ calls_before func b 0 + count_by calls (lines_at func b) =
+            ap (λ (n : ℕ). calls_before func b n) z ∙ ap (λ (ls : List Line). sum_by (λ c. count_by calls (lines_at func c)) (range_with_len 0 b) + count_by calls ls) all
+            ∙ (let none : count_by calls [] ≡ 0 = refl in omega (arith, none)) in
+            let same : calls_before func b (0 + length insts) ≡ calls_before func (suc b) 0 = whole ∙ sym behind' ∙ next ∙ ap (λ (n : ℕ). calls_before func n 0) s in
+            record { tokens = are.tokens ∙ same; relocates = are.relocates ∙ ap relocates_before same }
+          where
+            lines_long : (next : ℕ) (insts : List Instruction) → length (plain_lines next insts) ≡ length insts
+            lines_long next [] = refl
+            lines_long next (inst ∷ insts) = ap suc (lines_long (following next inst) insts)
 
-      joined_more : (b : ℕ) → joined_before (suc b) ≡ joined_before b + length (joined_at func naming b)
-      joined_more b =
-          let s : suc b ≡ b + 1 = omega arith in
-          let z : 0 + b ≡ b = omega arith in
-          ap joined_before s ∙ ap (sum_by (λ c. length (joined_at func naming c))) (range_more 0 b ∙ ap (λ (m : ℕ). range_with_len 0 b ++ m ∷ []) z)
-          ∙ sum_push (λ c. length (joined_at func naming c)) (range_with_len 0 b) b
-        where
-          sum_push : (f : ℕ → ℕ) (xs : List ℕ) (x : ℕ) → sum_by f (xs ++ x ∷ []) ≡ sum_by f xs + f x
-          sum_push f [] x = (let one = sum_by-cons f x [] in omega (arith, one))
-          sum_push f (y ∷ xs) x =
-              let more = sum_by-cons f y (xs ++ x ∷ []) in
-              let less = sum_by-cons f y xs in
-              let rest = sum_push f xs x in
-              omega (arith, more, less, rest)
+        joined_more : (b : ℕ) → joined_before (suc b) ≡ joined_before b + length (joined_at func naming b)
+        joined_more b =
+            let s : suc b ≡ b + 1 = omega arith in
+            let z : 0 + b ≡ b = omega arith in
+            ap joined_before s ∙ ap (sum_by (λ c. length (joined_at func naming c))) (range_more 0 b ∙ ap (λ (m : ℕ). range_with_len 0 b ++ m ∷ []) z)
+            ∙ sum_push (λ c. length (joined_at func naming c)) (range_with_len 0 b) b
+          where
+            sum_push : (f : ℕ → ℕ) (xs : List ℕ) (x : ℕ) → sum_by f (xs ++ x ∷ []) ≡ sum_by f xs + f x
+            sum_push f [] x = (let one = sum_by-cons f x [] in omega (arith, one))
+            sum_push f (y ∷ xs) x =
+                let more = sum_by-cons f y (xs ++ x ∷ []) in
+                let less = sum_by-cons f y xs in
+                let rest = sum_push f xs x in
+                omega (arith, more, less, rest)
 
-      block_is : (b : ℕ) (block : BasicBlock) (w : Writing) (erest : List ℕ) → b < length func.blocks → slice_get func.blocks b ≡ Some block
-          → w.entries ≡ into_numbers at_end (preds func b) (joined_at func naming b) block.insts ++ erest → AreCounts w.counts b 0 → w.joined ≡ joined_before b
-          → IsBlock b (block_lines graph groups joins rows b w block.insts) (map text (pieces_of func table naming number b)) (block_after graph groups joins rows b w block.insts) erest
-      block_is b block w erest below stands entries counts joined' =
-          let insts = block.insts in
-          let next = slice_index (registers_of func) b in
-          let vs = joined_at func naming b in
-          let first = begun rows b w in
-          let lines : lines_at func b ≡ plain_lines next insts = ap (plain_lines next) (insts_are func table b block stands) in
-          let ends = use_numbers (number_behind func table naming number b) (entries_from func naming b) in
-          let body : first.body ≡ map number (map (joined b) vs) ++ (lines_numbers func table naming number b 0 (plain_lines next insts) ++ ends) =
-          ap (map number_of) (rows_are b below) ∙ numbers_back (block_numbers func table naming number b)
-          ∙ ap (λ (ls : List Line). map number (map (joined b) vs) ++ (lines_numbers func table naming number b 0 ls ++ ends)) lines in
-          let phis = phis_are b vs first (lines_numbers func table naming number b 0 (plain_lines next insts) ++ ends) (flat_map (phi_numbers at_end) insts ++ erest) body
-          (entries ∙ append_assoc (flat_map (inserted_numbers at_end (preds func b)) vs) (flat_map (phi_numbers at_end) insts) erest)
-          (λ j v has. joined_counted b j v below has ∙ ap (λ (n : ℕ). n + j) (sym joined')) in
-          let behind_phis = phis_behind (block_preds b) first (map valued vs) in
-          let rest = lines_are_written b 0 next insts behind_phis ends erest below (drop_none (lines_at func b) ∙ lines) phis.body phis.entries
-          (subst (λ (cs : Counts). AreCounts cs b 0) (sym phis.counts) counts) in
-          let joins_is = joins_are b below in
-          record {
-            lines = ap (λ (js : List ValueId). phi_lines (block_preds b) first js ++ written groups (phis_behind (block_preds b) first js) insts) joins_is
-                ∙ ap (λ (ls : List Instruction). ls ++ written groups behind_phis insts) phis.lines
-                ∙ ap (λ (ls : List Instruction). map text (map (inserted_phi func table naming number b) vs) ++ ls) rest.lines
-                ∙ ap (λ (ls : List Line). map text (map (inserted_phi func table naming number b) vs) ++ map text (expanded func table naming number b 0 ls)) (sym lines)
-                ∙ sym (map-append text (map (inserted_phi func table naming number b) vs) (expanded func table naming number b 0 (lines_at func b)));
-            entries = ap (λ (js : List ValueId). (behind groups (phis_behind (block_preds b) first js) insts).entries) joins_is ∙ rest.entries;
-            counts = subst (λ (js : List ValueId). AreCounts (behind groups (phis_behind (block_preds b) first js) insts).counts (suc b) 0) (sym joins_is) (counts_on b insts (behind groups behind_phis insts).counts lines rest.counts);
-            joined = ap (λ (js : List ValueId). (behind groups (phis_behind (block_preds b) first js) insts).joined) joins_is ∙ rest.joined ∙ phis.joined
-                ∙ ap (λ (n : ℕ). n + length vs) joined' ∙ sym (joined_more b);
-          }
+        block_is : (b : ℕ) (block : BasicBlock) (w : Writing) (erest : List ℕ) → b < length func.blocks → slice_get func.blocks b ≡ Some block
+            → w.entries ≡ into_numbers at_end (preds func b) (joined_at func naming b) block.insts ++ erest → AreCounts w.counts b 0 → w.joined ≡ joined_before b
+            → IsBlock b (block_lines graph groups joins rows b w block.insts) (map text (pieces_of func table naming number b)) (block_after graph groups joins rows b w block.insts) erest
+        block_is b block w erest below stands entries counts joined' =
+            let insts = block.insts in
+            let next = slice_index (registers_of func) b in
+            let vs = joined_at func naming b in
+            let first = begun rows b w in
+            let lines : lines_at func b ≡ plain_lines next insts = ap (plain_lines next) (insts_are func table b block stands) in
+            let ends = use_numbers (number_behind func table naming number b) (entries_from func naming b) in
+            let body : first.body ≡ map number (map (joined b) vs) ++ (lines_numbers func table naming number b 0 (plain_lines next insts) ++ ends) =
+            ap (map number_of) (rows_are b below) ∙ numbers_back (block_numbers func table naming number b)
+            ∙ ap (λ (ls : List Line). map number (map (joined b) vs) ++ (lines_numbers func table naming number b 0 ls ++ ends)) lines in
+            let phis = phis_are b vs first (lines_numbers func table naming number b 0 (plain_lines next insts) ++ ends) (flat_map (phi_numbers at_end) insts ++ erest) body
+            (entries ∙ append_assoc (flat_map (inserted_numbers at_end (preds func b)) vs) (flat_map (phi_numbers at_end) insts) erest)
+            (λ j v has. joined_counted b j v below has ∙ ap (λ (n : ℕ). n + j) (sym joined')) in
+            let behind_phis = phis_behind (block_preds b) first (map valued vs) in
+            let rest = lines_are_written b 0 next insts behind_phis ends erest below (drop_none (lines_at func b) ∙ lines) phis.body phis.entries
+            (subst (λ (cs : Counts). AreCounts cs b 0) (sym phis.counts) counts) in
+            let joins_is = joins_are b below in
+            record {
+              lines = ap (λ (js : List ValueId). phi_lines (block_preds b) first js ++ written groups (phis_behind (block_preds b) first js) insts) joins_is
+                  ∙ ap (λ (ls : List Instruction). ls ++ written groups behind_phis insts) phis.lines
+                  ∙ ap (λ (ls : List Instruction). map text (map (inserted_phi func table naming number b) vs) ++ ls) rest.lines
+                  ∙ ap (λ (ls : List Line). map text (map (inserted_phi func table naming number b) vs) ++ map text (expanded func table naming number b 0 ls)) (sym lines)
+                  ∙ sym (map-append text (map (inserted_phi func table naming number b) vs) (expanded func table naming number b 0 (lines_at func b)));
+              entries = ap (λ (js : List ValueId). (behind groups (phis_behind (block_preds b) first js) insts).entries) joins_is ∙ rest.entries;
+              counts = subst (λ (js : List ValueId). AreCounts (behind groups (phis_behind (block_preds b) first js) insts).counts (suc b) 0) (sym joins_is) (counts_on b insts (behind groups behind_phis insts).counts lines rest.counts);
+              joined = ap (λ (js : List ValueId). (behind groups (phis_behind (block_preds b) first js) insts).joined) joins_is ∙ rest.joined ∙ phis.joined
+                  ∙ ap (λ (n : ℕ). n + length vs) joined' ∙ sym (joined_more b);
+            }
 
-      pub blocks_are : (b : ℕ) (blocks : List BasicBlock) (lists : List (List ℕ)) (w : Writing) → drop b func.blocks ≡ blocks → b + length blocks ≡ length func.blocks
-          → length lists ≡ length blocks → ((i : ℕ) → i < length blocks → get_or lists i [] ≡ joined_at func naming (b + i))
-          → w.entries ≡ arriving_numbers at_end (preds func) lists b blocks → AreCounts w.counts b 0 → w.joined ≡ joined_before b
-          → blocks_written graph groups joins rows b w blocks ≡ rewritten_blocks func table naming names b blocks
-      blocks_are b [] lists w place size long each entries counts joined' = refl
-      blocks_are b (block ∷ blocks) [] w place size long each entries counts joined' = absurd (omega (arith, long))
-      blocks_are b (block ∷ blocks) (list ∷ lists) w place size long each entries counts joined' =
-          let below : b < length func.blocks = omega (arith, size) in
-          let at = at_rest func.blocks b block blocks place in
-          let z : b + 0 ≡ b = omega arith in
-          let list_is : list ≡ joined_at func naming b = each 0 (omega arith) ∙ ap (joined_at func naming) z in
-          let one = block_is b block w (arriving_numbers at_end (preds func) lists (suc b) blocks) below at.0
-          (entries ∙ ap (λ (vs : List ℕ). into_numbers at_end (preds func b) vs block.insts ++ arriving_numbers at_end (preds func) lists (suc b) blocks) list_is) counts joined' in
-          let others = blocks_are (suc b) blocks lists (block_after graph groups joins rows b w block.insts) at.1 (omega (arith, size)) (omega (arith, long))
-          (λ i inside. (let e : b + suc i ≡ suc b + i = omega arith in each (suc i) (omega (arith, inside)) ∙ ap (joined_at func naming) e)) one.entries one.counts one.joined in
-          ap (λ (is : List Instruction). named_block block.name is ∷ blocks_written graph groups joins rows (suc b) (block_after graph groups joins rows b w block.insts) blocks) one.lines
-          ∙ ap (λ (bs : List BasicBlock). named_block block.name (map text (pieces_of func table naming number b)) ∷ bs) others
-        where
-          named_block : List ℕ → List Instruction → BasicBlock
-          named_block name insts = record { name = name; insts = insts }
+        pub blocks_are : (b : ℕ) (blocks : List BasicBlock) (lists : List (List ℕ)) (w : Writing) → drop b func.blocks ≡ blocks → b + length blocks ≡ length func.blocks
+            → length lists ≡ length blocks → ((i : ℕ) → i < length blocks → get_or lists i [] ≡ joined_at func naming (b + i))
+            → w.entries ≡ arriving_numbers at_end (preds func) lists b blocks → AreCounts w.counts b 0 → w.joined ≡ joined_before b
+            → blocks_written graph groups joins rows b w blocks ≡ rewritten_blocks func table naming names b blocks
+        blocks_are b [] lists w place size long each entries counts joined' = refl
+        blocks_are b (block ∷ blocks) [] w place size long each entries counts joined' = absurd (omega (arith, long))
+        blocks_are b (block ∷ blocks) (list ∷ lists) w place size long each entries counts joined' =
+            let below : b < length func.blocks = omega (arith, size) in
+            let at = at_rest func.blocks b block blocks place in
+            let z : b + 0 ≡ b = omega arith in
+            let list_is : list ≡ joined_at func naming b = each 0 (omega arith) ∙ ap (joined_at func naming) z in
+            let one = block_is b block w (arriving_numbers at_end (preds func) lists (suc b) blocks) below at.0
+            (entries ∙ ap (λ (vs : List ℕ). into_numbers at_end (preds func b) vs block.insts ++ arriving_numbers at_end (preds func) lists (suc b) blocks) list_is) counts joined' in
+            let others = blocks_are (suc b) blocks lists (block_after graph groups joins rows b w block.insts) at.1 (omega (arith, size)) (omega (arith, long))
+            (λ i inside. (let e : b + suc i ≡ suc b + i = omega arith in each (suc i) (omega (arith, inside)) ∙ ap (joined_at func naming) e)) one.entries one.counts one.joined in
+            ap (λ (is : List Instruction). named_block block.name is ∷ blocks_written graph groups joins rows (suc b) (block_after graph groups joins rows b w block.insts) blocks) one.lines
+            ∙ ap (λ (bs : List BasicBlock). named_block block.name (map text (pieces_of func table naming number b)) ∷ bs) others
+          where
+            named_block : List ℕ → List Instruction → BasicBlock
+            named_block name insts = record { name = name; insts = insts }

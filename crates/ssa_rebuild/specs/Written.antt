@@ -1,5 +1,5 @@
 -- Lines of the final text over numbers that are taken one after another.
-use Rattle.std.specs.Prelude.{ℕ, suc, ◌+◌, Bool, false, if◌then◌else◌, List, [], ◌∷◌, ◌++◌, length, map, take, drop, Option, Some, None, is_some, slice_index, slice_index_or, codes, decimal, replicate}
+use Rattle.std.specs.Prelude.{ℕ, suc, ◌+◌, false, if◌then◌else◌, List, [], ◌∷◌, ◌++◌, length, map, take, drop, Option, Some, None, slice_index, slice_index_or, codes, decimal, replicate}
 use Rattle.std.specs.Global.{Vec}
 use Rattle.sp_ids.specs.declared.ids.BlockId.{BlockId}
 use Rattle.sp_ids.specs.declared.ids.ValueId.{ValueId}
@@ -95,7 +95,7 @@ call_left count body inst = drop count (drop (results_in inst.result) (drop 1 (t
 abbrev pub call_lines : Counts → GroupContent → List ℕ → Instruction → Callee → List Ty → List Instruction
 call_lines counts group body inst callee types =
     statepoint_line counts.tokens group.has_null (take (length group.relocates) (left body inst.operands)) callee types inst.ty
-        (filled body inst.operands) (filled_bundle (drop (length group.relocates) (left body inst.operands)) inst.bundle)
+    (filled body inst.operands) (filled_bundle (drop (length group.relocates) (left body inst.operands)) inst.bundle)
     ∷ (result_lines (slice_index (token_on (length group.relocates) body inst) 0) inst.ty inst.result
     ++ relocate_lines (slice_index (token_on (length group.relocates) body inst) 0) counts.relocates (first_rank group.has_null) group.relocates)
 

@@ -46,7 +46,13 @@ pub(crate) fn all_arrivals(
     let mut number = 0;
     for block in func.blocks() {
         let preds = cfg.preds(BlockId(number as u32));
-        take_entries(rows, preds, joins[number].as_slice(), block.insts(), &mut arrivals)?;
+        take_entries(
+            rows,
+            preds,
+            joins[number].as_slice(),
+            block.insts(),
+            &mut arrivals,
+        )?;
         number += 1;
     }
     Ok(arrivals.numbers)

@@ -34,9 +34,7 @@ pub(crate) fn all_blocks(
         if number as usize >= joins.len() {
             return Err(Memory);
         }
-        after.push(one_block(
-            alloc, cfg, groups, joins, rows, number, block, &mut now,
-        )?)?;
+        after.push(one_block(alloc, cfg, groups, joins, rows, number, block, &mut now)?)?;
         number += 1;
     }
     Ok(after)

@@ -1,13 +1,18 @@
 //! The function over its versions.
 
 ghost use Rattle.std.specs.Prelude.{◌≡◌, [], length, map, IfOk};
+ghost use Rattle.ir_cfg.specs.Graphs.{graph_of};
 ghost use Rattle.rewriting_forms.specs.Rewritten.{rewritten};
+ghost use Rattle.live_sets.specs.Joins.{AreJoins};
+ghost use Rattle.ssa_rebuild.specs.Arrivals.{entry_numbers};
+ghost use Rattle.ssa_rebuild.specs.Solved.{AreNumbered};
 ghost use Rattle.ssa_rebuild.specs.Rows.{body_rows, group_list, values_in};
 ghost use Rattle.ssa_rebuild.specs.Written.{zeros_of};
 
 use crate::arrivals::all_arrivals;
 use crate::blocks::all_blocks;
 use crate::rows::bodies;
+use crate::slots::Slot;
 use crate::solve::{joined, solve};
 use crate::stream::Stream;
 use crate::writing::Writing;
@@ -26,16 +31,7 @@ pub fn rebuild(alloc: Global, marked: Marked) -> Result<Func, Memory>
 {
     let cfg = Cfg::of(alloc, marked.func())?;
     let joins = joined(alloc, &marked, &cfg)?;
-    let places = body_lengths(alloc, marked.func(), marked.groups(), joins.as_slice())?;
-    let rows = solve(alloc, &marked, &cfg, joins.as_slice())?;
-    let entries = all_arrivals(
-        alloc,
-        marked.func(),
-        &cfg,
-        joins.as_slice(),
-        rows.as_slice(),
-        places,
-    )?;
+    let (rows, entries) = all_numbers(alloc, &marked, &cfg, joins.as_slice())?;
     let (func, _bases, groups) = marked.into_parts();
     let (name, answer, args, blocks) = func.into_parts();
     let after = all_blocks(
@@ -48,6 +44,25 @@ pub fn rebuild(alloc: Global, marked: Marked) -> Result<Func, Memory>
         blocks,
     )?;
     Ok(Func::of(name, answer, args, after))
+}
+
+// The numbers of each block's slots, and those of all entries of phis in the order of the text.
+fn all_numbers(
+    alloc: Global,
+    marked: &Marked,
+    cfg: &Cfg,
+    joins: &[Vec<ValueId>],
+) -> Result<(Vec<Vec<Slot>>, Vec<u32>), Memory>
+    requires cfg { cfg.now ≡ graph_of marked.now.before }
+    requires joins { AreJoins marked.now.before marked.now.table joins.now }
+    ensures rows { IfOk result (λ numbers. AreNumbered marked.now.before marked.now.table numbers.0.items) }
+    ensures entries { IfOk result (λ numbers. numbers.1.items ≡ entry_numbers marked.now.before marked.now.table joins.now) }
+{
+    let func = marked.func();
+    let places = body_lengths(alloc, func, marked.groups(), joins)?;
+    let rows = solve(alloc, marked, cfg, joins)?;
+    let entries = all_arrivals(alloc, func, cfg, joins, rows.as_slice(), places)?;
+    Ok((rows, entries))
 }
 
 // Nothing is written, and all these entries are to come.

@@ -114,12 +114,7 @@ fn push_line(
     Ok(())
 }
 
-fn plain(
-    alloc: Global,
-    inst: Inst,
-    body: &mut Stream,
-    entries: &mut Stream,
-) -> Result<Inst, Memory>
+fn plain(alloc: Global, inst: Inst, body: &mut Stream, entries: &mut Stream) -> Result<Inst, Memory>
     ensures line { IfOk result (λ line. line ≡ plain_written body.old entries.old inst) }
     ensures body { IfOk result (λ _. body.new ≡ plain_left body.old inst) }
     ensures entries { IfOk result (λ _. entries.new ≡ entries_left entries.old inst) }

@@ -3,8 +3,8 @@ use Rattle.ssa_rebuild.proofs.ForestLemmas.{list_is}
 use Rattle.ssa_rebuild.proofs.TakeLemmas.{takes_pop}
 use Rattle.ssa_rebuild.proofs.arrivals.take_number.Goals as goal
 
-pub returns-in_ok-pop : goal.returns-in_ok-pop
-returns-in_ok-pop c =
+pub returns : goal.returns
+returns c =
     let rows = c.args.rows.now in
     let block = c.args.block.0 in
     let below : block < length rows = omega (arith, c.if-at-rows.false) in

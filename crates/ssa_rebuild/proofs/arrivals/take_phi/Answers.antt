@@ -1,4 +1,4 @@
-use Rattle.std.proofs.Common.{◌∙◌, ◌≡◌, ℕ, Bool, true, false, if◌then◌else◌, [], refl, ap, sym, List, arith}
+use Rattle.std.proofs.Common.{◌∙◌, ℕ, Bool, if◌then◌else◌, [], ap, sym, List}
 use Rattle.sp_ids.specs.declared.ids.BlockId.{BlockId}
 use Rattle.ir_ast.specs.declared.ops.Operand.{Operand}
 use Rattle.ir_ast.specs.Faults.PhiEdges.{is_phi}

@@ -1,4 +1,4 @@
-use Rattle.std.proofs.Common.{◌∙◌, ◌≡◌, ◌++◌, ◌∷◌, [], ◌+◌, ◌≤◌, ℕ, List, ap, sym, arith, length}
+use Rattle.std.proofs.Common.{◌∙◌, ◌≡◌, ◌++◌, ◌∷◌, [], ◌+◌, ℕ, List, ap, sym, arith, length}
 use Rattle.std.proofs.lemmas.List.{length_push}
 use Rattle.ir_ast.specs.Blocks.{BasicBlock}
 use Rattle.ssa_rebuild.specs.declared.writing.Writing.{Writing}

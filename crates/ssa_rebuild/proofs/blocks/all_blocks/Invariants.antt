@@ -1,4 +1,4 @@
-use Rattle.std.proofs.Common.{◌≡◌, ◌++◌, ◌≤◌, length}
+use Rattle.std.proofs.Common.{◌≡◌, ◌≤◌, length}
 use Rattle.ssa_rebuild.specs.Written.{blocks_written}
 use Rattle.ssa_rebuild.proofs.WrittenLemmas.{blocks_behind}
 use Rattle.ssa_rebuild.proofs.blocks.all_blocks.Given as goal

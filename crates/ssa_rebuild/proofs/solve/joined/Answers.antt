@@ -1,6 +1,5 @@
 use Rattle.std.proofs.Common.{false, ◌≡◌, ◌∙◌, ℕ, Bool, List, ap, sym, map, slice_index_or}
 use Rattle.std.specs.List.{list_any}
-use Rattle.ir_ast.specs.declared.ops.Operand.{Operand}
 use Rattle.ir_ast.specs.Funcs.{Function}
 use Rattle.rewriting_forms.specs.Numbered.{among}
 use Rattle.rewriting_forms.specs.Liveness.{live_lists}

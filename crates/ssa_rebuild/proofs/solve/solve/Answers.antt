@@ -1,19 +1,15 @@
-use Rattle.std.proofs.Common.{◌≡◌, ◌∙◌, ℕ, ◌++◌, List, ap, sym, length, map, subst, Option}
+use Rattle.std.proofs.Common.{◌≡◌, ◌∙◌, ℕ, ◌++◌, List, ap, sym, length, map, subst}
 use Rattle.std.specs.Global.{Vec}
 use Rattle.std.specs.List.{range_with_len}
 use Rattle.std.proofs.lemmas.List.{length-map}
-use Rattle.sp_ids.specs.declared.ids.ValueId.{ValueId}
-use Rattle.ir_ast.specs.declared.ops.Operand.{Operand}
 use Rattle.ir_ast.specs.Funcs.{Function}
-use Rattle.rewriting_forms.specs.Numbered.{preds}
 use Rattle.live_sets.specs.Joins.{AreJoins}
 use Rattle.statepoint_insert.specs.Groups.{groups_of}
 use Rattle.statepoint_insert.specs.Marked.{IsReady}
 use Rattle.ssa_rebuild.specs.declared.slots.Slot.{Slot}
 use Rattle.ssa_rebuild.specs.Forest.{AreInside}
-use Rattle.ssa_rebuild.specs.Rows.{all_owns, body_rows, group_list, only_preds, slots_in, starts_of, values_in}
+use Rattle.ssa_rebuild.specs.Rows.{all_owns, body_rows, group_list, slots_in, starts_of, values_in}
 use Rattle.ssa_rebuild.specs.Solved.{AreNumbered}
-use Rattle.ssa_rebuild.specs.Walks.{AreAnswered}
 use Rattle.ssa_rebuild.proofs.PartLaws.{bodies_whole, parents_inside, parents_whole}
 use Rattle.ssa_rebuild.proofs.SolvedLaws.{solved}
 use Rattle.ssa_rebuild.proofs.solve.solve.Goals as goal

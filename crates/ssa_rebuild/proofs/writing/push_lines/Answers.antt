@@ -1,7 +1,7 @@
 use Rattle.std.proofs.Common.{◌∙◌, ◌++◌, List, ap, sym, append_assoc}
 use Rattle.ir_ast.specs.Insts.{Instruction}
 use Rattle.ssa_rebuild.specs.declared.writing.Writing.{Writing}
-use Rattle.ssa_rebuild.specs.Written.{line_written, after, written, behind}
+use Rattle.ssa_rebuild.specs.Written.{line_written, after, written}
 use Rattle.ssa_rebuild.proofs.WrittenLemmas.{behind_push, written_push}
 use Rattle.ssa_rebuild.proofs.writing.push_lines.Goals as goal
 
