@@ -1,0 +1,2 @@
+pub mod NowPlaces
+pub mod EdgeFacts

@@ -1,0 +1,5 @@
+-- What is proved of the pairs of the rewritten function.
+use Rattle.std.specs.Prelude.{◌≡◌, ℕ}
+
+abbrev pub PlacesStand : Type 0
+PlacesStand = (n : ℕ) → n ≡ n
