@@ -3,11 +3,11 @@ use Rattle.std.proofs.Common.{◌≡◌, ℕ, zero, suc, ◌+◌, ◌<◌, ◌�
 use Rattle.std.specs.Prelude.{Option, Some, None, slice_get, slice_index_or}
 use Rattle.std.specs.List.{list_any, position, prefix_len}
 use Rattle.std.specs.Option.{option_map, option_map_or}
-use Rattle.std.proofs.lemmas.Bool.{cases_Bool, cases_eq, eqb-true, eq-eqb, false≢true, true≢false, or_parts}
+use Rattle.std.proofs.lemmas.Bool.{cases_Bool, cases_eq, eqb-true, eq-eqb, ne_eqb, false≢true, true≢false, or_parts}
 use Rattle.std.proofs.lemmas.List.{map-append, take-append-drop, length-map, length-append}
 use Rattle.std.proofs.lemmas.List.Quantifiers.{position-Some}
 use Rattle.std.proofs.lemmas.Option.{slice_get-get_or, slice_get_within}
-use Rattle.list_laws.proofs.Places.{get_front, get_map}
+use Rattle.list_laws.proofs.Places.{get_front, get_map, get_taken}
 use Rattle.sp_ids.specs.declared.ids.BlockId.{BlockId}
 use Rattle.ir_ast.specs.declared.ops.Operand.{Operand}
 use Rattle.ir_ast.specs.declared.ops.Operand.TheVariants.{Value, Int, Null, Fun}
@@ -33,7 +33,7 @@ use Rattle.rewriting_laws.proofs.JumpLemmas.{lines_split, one_piece, phi_lines, 
 use Rattle.rewriting_laws.proofs.LiveLaws.{any_at, table_closed}
 use Rattle.rewriting_laws.proofs.NameLemmas.{among_cons, among_filter, among_here, among_there, at_rest, filter_among, found, given_is, names_given, names_kept, names_owner, number_apart}
 use Rattle.rewritten_definite.proofs.NowLaws.{defines_piece, now, number, pieces, text}
-use Rattle.rewritten_definite.proofs.PieceLaws.{among_at}
+use Rattle.rewritten_definite.proofs.PieceLaws.{among_at, piece_at}
 use Rattle.pair_facts.specs.Lines.{operand_at, phis_in}
 use Rattle.pair_facts.specs.Pairs.{along, incoming, value_along}
 use Rattle.rewritten_pairs.proofs.NowPlaces.{lines, phis_now, plain_now, start_of, to, whole_rewriting, written}
@@ -154,9 +154,19 @@ module _ (func : Function) (table : List Operand) (naming : Naming) (fits : Fits
       operands_are = rw is refl
 
       go : (p : Option ℕ) → position (λ (label : BlockId). eqb label.0 from) phi.inst.labels ≡ p
-          → option_map_or (λ (k : ℕ). operand_at (renamed_inst func table naming numbered b k phi.inst).operands k) (position (λ (label : BlockId). eqb label.0 from) phi.inst.labels) Null
-          ≡ renamed numbered (names_at_end func table naming from) (option_map_or (λ (k : ℕ). operand_at phi.inst.operands k) (position (λ (label : BlockId). eqb label.0 from) phi.inst.labels) Null)
-      go = ?
+          → option_map_or (λ (e : ℕ). operand_at (renamed_inst func table naming numbered b k phi.inst).operands e) (position (λ (label : BlockId). eqb label.0 from) phi.inst.labels) Null
+          ≡ renamed numbered (names_at_end func table naming from) (option_map_or (λ (e : ℕ). operand_at phi.inst.operands e) (position (λ (label : BlockId). eqb label.0 from) phi.inst.labels) Null)
+      go None none =
+          ap (λ (p : Option ℕ). option_map_or (λ (e : ℕ). operand_at (renamed_inst func table naming numbered b k phi.inst).operands e) p Null) none
+          ∙ sym (ap (λ (p : Option ℕ). renamed numbered (names_at_end func table naming from) (option_map_or (λ (e : ℕ). operand_at phi.inst.operands e) p Null)) none)
+      go (Some i) at =
+          let label = position_get (λ (l : BlockId). eqb l.0 from) phi.inst.labels i at in
+          let block = eqb-true (label.0).0 from label.2 in
+          ap (λ (p : Option ℕ). option_map_or (λ (e : ℕ). operand_at (renamed_inst func table naming numbered b k phi.inst).operands e) p Null) at
+          ∙ ap (λ (os : List Operand). operand_at os i) operands_are
+          ∙ phi_operand phi.inst.labels phi.inst.operands i label.0 label.1
+          ∙ ap (λ (p : ℕ). renamed numbered (names_at_end func table naming p) (operand_at phi.inst.operands i)) block
+          ∙ sym (ap (λ (p : Option ℕ). renamed numbered (names_at_end func table naming from) (option_map_or (λ (e : ℕ). operand_at phi.inst.operands e) p Null)) at)
 
   -- ---- all phis
 
@@ -183,15 +193,15 @@ module _ (func : Function) (table : List Operand) (naming : Naming) (fits : Fits
   abbrev phis_written : ℕ → ℕ → List Line → List Line
   phis_written b j xs = map (written func table naming) (phi_pieces func table naming numbered b j xs)
 
-  own_apart : (x : Option ℕ) (m v : ℕ) → numbers.owner m ≡ Some v → option_map_or (λ (own : ℕ). eqb own v) x false ≡ false
-      → option_map_or (λ (own : ℕ). eqb own m) (option_map numbered (option_map own x)) false ≡ false
+  own_apart : (x : Option ℕ) (m v : ℕ) → numbers.owner m ≡ Some v → option_map_or (λ (given : ℕ). eqb given v) x false ≡ false
+      → option_map_or (λ (given : ℕ). eqb given m) (option_map numbered (option_map own x)) false ≡ false
   own_apart None m v owned other = refl
   own_apart (Some x) m v owned other =
       number_apart func table naming (live_table func table) fits numbered now_room numbers (own x) x m v refl owned
       (λ same. true≢false (sym (eq-eqb x v same) ∙ other))
 
-  own_hit : (x : Option ℕ) (v : ℕ) → option_map_or (λ (own : ℕ). eqb own v) x false ≡ true
-      → option_map_or (λ (own : ℕ). eqb own (numbered (own v))) (option_map numbered (option_map own x)) false ≡ true
+  own_hit : (x : Option ℕ) (v : ℕ) → option_map_or (λ (given : ℕ). eqb given v) x false ≡ true
+      → option_map_or (λ (given : ℕ). eqb given (numbered (own v))) (option_map numbered (option_map own x)) false ≡ true
   own_hit None v is = absurd (false≢true is)
   own_hit (Some x) v is = eq-eqb (numbered (own x)) (numbered (own v)) (ap (λ (y : ℕ). numbered (own y)) (eqb-true x v is))
 
@@ -212,6 +222,14 @@ module _ (func : Function) (table : List Operand) (naming : Naming) (fits : Fits
       rw (own_apart x.to m v owned parts.0) (phis_miss from b v m (suc j) xs owned parts.1)
 
   -- ---- names behind phis
+
+  phi_stays : (op : Op) → is_phi op ≡ true → is_call op ≡ false
+  phi_stays Phi is = refl
+  phi_stays _ is = cc
+
+  start_later : (b k : ℕ) → length (joined_at func naming b) ≤ start_of func table naming b k
+  start_later b zero = omega arith
+  start_later b (suc k) = let rest = start_later b k in omega arith
 
   names_phis : (b v j : ℕ) (xs rest : List Line) → drop j (lines_at func b) ≡ xs ++ rest → ((k : ℕ) (x : Line) → slice_get xs k ≡ Some x → is_phi x.inst.op ≡ true)
       → names_at func table naming b (j + length xs) v ≡ (if gives_any xs v then own v else names_at func table naming b j v)
@@ -234,10 +252,6 @@ module _ (func : Function) (table : List Operand) (naming : Naming) (fits : Fits
       either : (t : Bool) {name : Name} → name ≡ own v → (if t then own v else name) ≡ own v
       either true e = refl
       either false e = e
-
-      phi_stays : (op : Op) → is_phi op ≡ true → is_call op ≡ false
-      phi_stays Phi is = refl
-      phi_stays _ is = cc
 
   live_before : (b v j : ℕ) (xs rest : List Line) → drop j (lines_at func b) ≡ xs ++ rest → gives_any xs v ≡ false → live_table func table b (j + length xs) v ≡ true
       → live_table func table b j v ≡ true
@@ -287,9 +301,28 @@ module _ (func : Function) (table : List Operand) (naming : Naming) (fits : Fits
     -- an inserted phi and a phi of the block have different numbers
     joined_apart : (own_block : BasicBlock) → slice_get func.blocks b ≡ Some own_block → (v : ℕ) → gives_any phis v ≡ true → (x : ℕ) → among x (joined_at func naming b) ≡ true
         → eqb (numbered (joined b x)) (numbered (own v)) ≡ false
-    joined_apart own_block stands v given x is = ?
+    joined_apart own_block stands v given x is = ne_eqb (numbered (joined b x)) (numbered (own v)) (λ same.
+        let place = among_at x (joined_at func naming b) is in
+        let inside = slice_get_within (joined_at func naming b) place.0 x place.1 in
+        let one : slice_get (pieces func table naming b) place.0 ≡ Some (inserted_phi func table naming numbered b x) =
+        get_front (map (inserted_phi func table naming numbered b) (joined_at func naming b)) (expanded func table naming numbered b 0 (lines_at func b)) place.0
+        (inserted_phi func table naming numbered b x) (get_map (inserted_phi func table naming numbered b) (joined_at func naming b) place.0 x place.1) in
+        let phi = phi_found from v phis given in
+        let within = slice_get_within phis phi.0 phi.1 phi.2 in
+        let count = count_is in
+        let in_lines : slice_get (lines_at func b) phi.0 ≡ Some phi.1 = sym (get_taken (lines_at func b) phi.0 (phi_count (lines_at func b)) (omega arith)) ∙ phi.2 in
+        let phi_op = all_phis phi.0 phi.1 phi.2 in
+        let other : slice_get (pieces func table naming b) (start_of func table naming b phi.0 + 0) ≡ Some (plain func table naming numbered b phi.0 phi.1) =
+        piece_at func table naming numbered b phi.0 0 phi.1 (plain func table naming numbered b phi.0 phi.1) in_lines
+        (ap (λ (ps : List Piece). slice_get ps 0) (one_piece func table naming numbered b phi.0 phi.1 phi.1.inst.op (phi_stays phi.1.inst.op phi_op))) in
+        let first = defines_piece func table naming b place.0 (numbered (own v)) own_block (inserted_phi func table naming numbered b x) (joined b x) stands one refl same in
+        let second = defines_piece func table naming b (start_of func table naming b phi.0 + 0) (numbered (own v)) own_block (plain func table naming numbered b phi.0 phi.1) (own v) stands other
+        (ap (option_map own) (given_is phi.1.to v phi.3)) refl in
+        let places = one_definition (now func table naming) (numbered (own v)) b place.0 b (start_of func table naming b phi.0 + 0) first second in
+        let later = start_later b phi.0 in
+        omega (arith, places, inside, later))
 
-    edge_law : (own_block : BasicBlock) → slice_get func.blocks b ≡ Some own_block → (v : ℕ) → live_table func table b front v ≡ true
+    pub edge_law : (own_block : BasicBlock) → slice_get func.blocks b ≡ Some own_block → (v : ℕ) → live_table func table b front v ≡ true
         → along from (phis_in (lines func table naming b)) (named (numbered (names_at func table naming b front v)))
         ≡ renamed numbered (names_at_end func table naming from) (along from phis (named v))
     edge_law own_block stands v alive = elim (cases_Bool (gives_any phis v)) [

@@ -1,5 +1,5 @@
 -- The lines of a rewritten block by place: which line of the block before each stands for, and the groups among them.
-use Rattle.std.proofs.Common.{◌≡◌, ℕ, zero, suc, ◌+◌, ◌<◌, ◌≤◌, Bool, true, false, List, [], ◌∷◌, ◌++◌, length, map, take, drop, refl, sym, ap, subst, ◌∙◌, inl, inr, arith, append_assoc}
+use Rattle.std.proofs.Common.{◌≡◌, ℕ, zero, suc, ◌+◌, ◌-◌, ◌<◌, ◌≤◌, Bool, true, false, eqb, List, [], ◌∷◌, ◌++◌, length, map, take, drop, refl, sym, ap, subst, ◌∙◌, inl, inr, arith, append_assoc}
 use Rattle.std.specs.Prelude.{Option, Some, None, slice_get}
 use Rattle.std.specs.List.{prefix_len}
 use Rattle.std.proofs.lemmas.List.{length-append, length-map}
@@ -15,6 +15,7 @@ use Rattle.ir_ast.specs.declared.ops.Operand.{Operand}
 use Rattle.ir_ast.specs.Callees.{is_leaf}
 use Rattle.ir_ast.specs.Funcs.{Function}
 use Rattle.ir_ast.specs.Faults.GroupShape.{is_statepoint}
+use Rattle.ir_ast.specs.Faults.PhiEdges.{is_phi}
 use Rattle.object_meaning.specs.Frames.{is_member}
 use Rattle.object_meaning.specs.Jumps.{phi_count}
 use Rattle.object_meaning.specs.Lines.{Line}
@@ -142,7 +143,7 @@ module _ (func : Function) (table : List Operand) (naming : Naming) where
         | inl result ↦ result_of_is b k i line piece line.to refl result
         | inr there ↦
             let before = map_back (relocate_of func table naming to b k) (live_list func table b k) there.0 piece there.2 in
-            is_relocate before.before (any_at (λ (x : ℕ). x == before.before) (live_list func table b k) there.0 before.before before.stands (eq-eqb before.before before.before refl)) before.is
+            is_relocate before.before (any_at (λ (x : ℕ). eqb x before.before) (live_list func table b k) there.0 before.before before.stands (eq-eqb before.before before.before refl)) before.is
       ]
 
   pub member_is : (b k i : ℕ) (line : Line) (piece : Piece) → MemberOf b k i line piece → is_member piece.inst.op ≡ true
@@ -169,7 +170,7 @@ module _ (func : Function) (table : List Operand) (naming : Naming) where
 
   of_piece : (b j : ℕ) (piece : Piece) → PieceFrom func table naming to b j piece → ComesFrom b j (written piece)
   of_piece b j piece (from_join v at same) =
-      let parts = among_filter (naming.joins b) v (pointers func) (any_at (λ (x : ℕ). x == v) (joined_at func naming b) j v at (eq-eqb v v refl)) in
+      let parts = among_filter (naming.joins b) v (pointers func) (any_at (λ (x : ℕ). eqb x v) (joined_at func naming b) j v at (eq-eqb v v refl)) in
       from_inserted v parts.1 (ap written same)
   of_piece b j piece (from_line k i line at place there) = elim (call_or_not line.inst.op) [
     | is_none other ↦
@@ -189,7 +190,7 @@ module _ (func : Function) (table : List Operand) (naming : Naming) where
   -- ---- in a function before liveness
 
   module _ (room : ℕ) (plain_form : IsPlain func room) where
-    abbrev whole_rewriting : Rewriting
+    abbrev pub whole_rewriting : Rewriting
     whole_rewriting = record {
       func = func;
       table = table;
@@ -204,7 +205,6 @@ module _ (func : Function) (table : List Operand) (naming : Naming) where
     -- phis stand first, the inserted ones before all
     pub phis_now : (b : ℕ) → phi_count (lines b) ≡ start_of b (phi_count (lines_at func b))
     phis_now b =
-        let k = phi_count (lines_at func b) in
         let few = prefix_len-le-length (λ (line : Line). is_phi line.inst.op) (lines_at func b) in
         let here = cut func table naming to b (phi_count (lines_at func b)) (omega (arith, few)) in
         let rest = expanded func table naming to b (phi_count (lines_at func b)) (drop (phi_count (lines_at func b)) (lines_at func b)) in
@@ -248,7 +248,6 @@ module _ (func : Function) (table : List Operand) (naming : Naming) where
           (ap (λ (l : Line). is_statepoint l.inst.op) (in_place (lines b) (start_of b k) (written (statepoint func table naming to b k callee types line.inst)) (head_now b k line callee types at op no_leaf)))
           (omega arith)
           (λ place low high.
-          let j : ℕ = place - suc (start_of b k) in
           let some = get_some part (place - suc (start_of b k)) (omega arith) in
           let e : start_of b k + suc (place - suc (start_of b k)) ≡ place = omega arith in
           let there = in_place (lines b) place (written some.0) (ap (slice_get (lines b)) (sym e) ∙ member_now b k line callee types at op no_leaf (place - suc (start_of b k)) some.0 some.1) in
