@@ -1,2 +1,5 @@
 pub mod NowPlaces
 pub mod EdgeFacts
+pub mod HoldFacts
+pub mod LineFacts
+pub mod GroupFacts

@@ -5,6 +5,7 @@ use Rattle.ir_ast.specs.declared.ops.Op.{Op}
 use Rattle.ir_ast.specs.declared.ops.Op.TheVariants.{Call, Gep, Load, Select}
 use Rattle.ir_ast.specs.declared.ops.Operand.{Operand}
 use Rattle.ir_ast.specs.declared.ops.Operand.TheVariants.{Value, Null}
+use Rattle.ir_ast.specs.Callees.{is_leaf}
 use Rattle.ir_ast.specs.Faults.PhiEdges.{is_phi}
 use Rattle.ir_ast.specs.Funcs.{Function}
 use Rattle.ir_ast.specs.Types.{is_pointer}
@@ -12,7 +13,7 @@ use Rattle.object_meaning.specs.Jumps.{phi_count}
 use Rattle.object_meaning.specs.Lines.{Line}
 use Rattle.rewriting_forms.specs.Numbered.{among, base_at, gives, lines_at, named, pointers}
 use Rattle.rewriting_laws.specs.Laws.{Edge}
-use Rattle.pair_facts.specs.Lines.{operand_at, phis_in}
+use Rattle.pair_facts.specs.Lines.{operand_at, phis_in, same_operand}
 use Rattle.pair_facts.specs.Pairs.{along}
 use Rattle.pair_facts.specs.Uses.{Use, accessed_at, checked, compared, escaping, is_checked}
 
@@ -47,6 +48,7 @@ module _ (func : Function) (table : List Operand) where
     pub gives_other : given.to ≡ Some other
     pub apart : other ≢ v
     pub base : base_at table v ≡ named other
+    pub is_condition : same_operand (operand_at line.inst.operands 0) (operand_at line.inst.operands 0) ≡ true
     pub condition : operand_at given.inst.operands 0 ≡ operand_at line.inst.operands 0
     pub first : operand_at given.inst.operands 1 ≡ base_of (operand_at line.inst.operands 1)
     pub second : operand_at given.inst.operands 2 ≡ base_of (operand_at line.inst.operands 2)
@@ -64,7 +66,7 @@ module _ (func : Function) (table : List Operand) where
       IsPointer (operand_at line.inst.operands 0) × (base_at table v ≡ base_of (operand_at line.inst.operands 0)) × (base_at table v ≢ named v)
   Derives b k v line Select = (is_pointer line.inst.ty ≡ true)
       × (((base_at table v ≡ named v) × IsOwn (operand_at line.inst.operands 1) × IsOwn (operand_at line.inst.operands 2)) ⊎ Merges b k v line)
-  Derives b k v line (Call callee types) = (is_pointer line.inst.ty ≡ true) × (base_at table v ≡ named v)
+  Derives b k v line (Call callee types) = (is_leaf callee ≡ false) × (is_pointer line.inst.ty ≡ true) × (base_at table v ≡ named v)
   Derives b k v line op = ⊥
 
   -- what the line takes
