@@ -16,6 +16,7 @@ use Rattle.ir_ast.specs.declared.ops.Op.TheVariants.{Phi}
 use Rattle.ir_ast.specs.Insts.{Instruction}
 use Rattle.ir_ast.specs.Blocks.{BasicBlock}
 use Rattle.ir_ast.specs.Funcs.{Function}
+use Rattle.ir_ast.specs.Operands.{value_in}
 use Rattle.ir_ast.specs.Faults.PhiEdges.{is_phi}
 use Rattle.ir_cfg.specs.Graphs.{graph_of, preds_of}
 use Rattle.ir_cfg.specs.DefiniteUses.{Defines}
@@ -353,3 +354,18 @@ module _ (func : Function) (table : List Operand) (naming : Naming) (fits : Fits
               ∙ phis_miss from b v (numbered (naming.front b v)) 0 phis owned none
               ∙ ap (λ (name : Name). named (numbered name)) (fits.at_edge from b v edge alive apart)
         ]
+
+    -- what a phi puts for a live value is live at the end of the block before
+    pub alive_along : (v u : ℕ) → live_table func table b front v ≡ true → along from phis (named v) ≡ named u → live_table func table from (length (lines_at func from)) u ≡ true
+    alive_along v u alive is = elim (cases_Bool (gives_any phis v)) [
+      | inl given ↦
+          let phi = phi_found from v phis given in
+          let within = slice_get_within phis phi.0 phi.1 phi.2 in
+          let count = count_is in
+          let in_lines : slice_get (lines_at func b) phi.0 ≡ Some phi.1 = sym (get_taken (lines_at func b) phi.0 (phi_count (lines_at func b)) (omega arith)) ∙ phi.2 in
+          (table_closed func table).entries from b phi.0 u phi.1 edge in_lines (all_phis phi.0 phi.1 phi.2) (incoming_entry from u phi.1.inst (sym phi.4 ∙ is))
+      | inr none ↦
+          let both : Some v ≡ Some u = ap value_in (sym (no_phi from v phis none) ∙ is) in
+          let same : v ≡ u = cc in
+          subst (λ (n : ℕ). live_table func table from (length (lines_at func from)) n ≡ true) same ((table_closed func table).crosses from b v edge (live_front v none alive))
+    ]

@@ -3,3 +3,4 @@ pub mod EdgeFacts
 pub mod HoldFacts
 pub mod LineFacts
 pub mod GroupFacts
+pub mod PathFacts
