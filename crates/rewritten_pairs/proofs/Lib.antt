@@ -4,3 +4,4 @@ pub mod HoldFacts
 pub mod LineFacts
 pub mod GroupFacts
 pub mod PathFacts
+pub mod UseFacts

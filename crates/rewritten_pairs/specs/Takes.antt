@@ -1,10 +1,12 @@
 -- A function before its groups whose lines take pointers with their bases, as the verifier asks of the rewritten one.
 use Rattle.std.specs.Prelude.{◌≡◌, ◌≢◌, ◌⊎◌, ℕ, suc, ◌<◌, Bool, true, false, List, length, Some, None, slice_get}
 use Rattle.std.specs.List.{Contains}
+use Rattle.ir_ast.specs.declared.ops.Callee.TheVariants.{Check}
 use Rattle.ir_ast.specs.declared.ops.Op.{Op}
 use Rattle.ir_ast.specs.declared.ops.Op.TheVariants.{Call, Gep, Load, Select}
 use Rattle.ir_ast.specs.declared.ops.Operand.{Operand}
 use Rattle.ir_ast.specs.declared.ops.Operand.TheVariants.{Value, Null}
+use Rattle.ir_ast.specs.declared.types.Ty.{Ty}
 use Rattle.ir_ast.specs.Callees.{is_leaf}
 use Rattle.ir_ast.specs.Faults.PhiEdges.{is_phi}
 use Rattle.ir_ast.specs.Funcs.{Function}
@@ -94,3 +96,8 @@ module _ (func : Function) (table : List Operand) where
     pub derives : (b k v : ℕ) (line : Line) → slice_get (lines_at func b) k ≡ Some line → is_phi line.inst.op ≡ false → gives line v ≡ true
         → among v (pointers func) ≡ true → Derives b k v line line.inst.op
     pub takes : (b k : ℕ) (line : Line) → slice_get (lines_at func b) k ≡ Some line → Takes b k line
+    -- a check gives nothing
+    pub silent : (b k : ℕ) (line : Line) (types : List Ty) → slice_get (lines_at func b) k ≡ Some line → line.inst.op ≡ Call Check types → line.to ≡ None
+    -- what a bundle holds is another value
+    pub held : (b k v : ℕ) (line : Line) (entry : Ty × Operand) → slice_get (lines_at func b) k ≡ Some line → Contains line.inst.bundle entry
+        → is_pointer entry.0 ≡ true → entry.1 ≡ named v → (among v (pointers func) ≡ true) × (gives line v ≡ false)
