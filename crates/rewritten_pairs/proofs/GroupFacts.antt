@@ -152,7 +152,7 @@ module _ (func : Function) (table : List Operand) (naming : Naming) (fits : Fits
       let first = found (λ (entry : Operand). forms.same_operand entry (named v)) (entries func table b k) _ (named v) there (eq-eqb v v refl) in
       (first.0, first.2, first.3 ∙ ap (λ o. Some o) (same_named first.1 v first.4))
 
-  index_place : (o : Operand) (place : ℕ) → position (λ (entry : Operand). forms.same_operand entry o) (entries func table b k) ≡ Some place → index_of func table b k o ≡ place
+  pub index_place : (o : Operand) (place : ℕ) → position (λ (entry : Operand). forms.same_operand entry o) (entries func table b k) ≡ Some place → index_of func table b k o ≡ place
   index_place o place is = ap (λ (p : Option ℕ). option_map_or (λ (x : ℕ). x) p 0) is
 
   pub entry_at : (v : ℕ) → among v list ≡ true → operand_at (entries_of head.inst) (index_of func table b k (named v)) ≡ at k (named v)
@@ -178,10 +178,10 @@ module _ (func : Function) (table : List Operand) (naming : Naming) (fits : Fits
 
   -- ---- what the members give
 
-  abbrev relocate_line : ℕ → Line
+  abbrev pub relocate_line : ℕ → Line
   relocate_line v = written func table naming (relocate_of func table naming to b k v)
 
-  relocate_there : (v : ℕ) → among v list ≡ true → (i : ℕ) × (slice_get members i ≡ Some (relocate_line v))
+  pub relocate_there : (v : ℕ) → among v list ≡ true → (i : ℕ) × (slice_get members i ≡ Some (relocate_line v))
   relocate_there v is =
       let place = relocate_at func table naming to b k line v is in
       (place.0, get_map (written func table naming) (group func table naming to b k line) place.0 (relocate_of func table naming to b k v) place.1)

@@ -5,3 +5,4 @@ pub mod LineFacts
 pub mod GroupFacts
 pub mod PathFacts
 pub mod UseFacts
+pub mod FaultFacts

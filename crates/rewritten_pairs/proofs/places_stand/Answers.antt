@@ -6,6 +6,7 @@ use Rattle.rewritten_pairs.proofs.LineFacts as line_facts
 use Rattle.rewritten_pairs.proofs.GroupFacts as group_facts
 use Rattle.rewritten_pairs.proofs.PathFacts as path_facts
 use Rattle.rewritten_pairs.proofs.UseFacts as use_facts
+use Rattle.rewritten_pairs.proofs.FaultFacts as fault_facts
 use Rattle.rewritten_pairs.proofs.places_stand.Goals as goal
 
 pub returns : goal.returns
