@@ -6,3 +6,4 @@ pub mod GroupFacts
 pub mod PathFacts
 pub mod UseFacts
 pub mod FaultFacts
+pub mod Verdict
