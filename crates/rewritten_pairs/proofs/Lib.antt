@@ -7,3 +7,4 @@ pub mod PathFacts
 pub mod UseFacts
 pub mod FaultFacts
 pub mod Verdict
+pub mod StayFacts
