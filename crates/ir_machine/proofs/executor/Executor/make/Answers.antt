@@ -1,0 +1,80 @@
+use Rattle.std.proofs.Common.{◌≡◌, ℕ, ℤ, ◌+◌, ◌<◌, ◌≤◌, true, false, List, [], ◌∷◌, ◌++◌, length, map, set, drop, take, refl, sym, ap, subst, ◌∙◌, arith}
+use Rattle.std.specs.Prelude.{Option, Some, None, Result, Ok, Err, slice_get}
+use Rattle.ir_ast.specs.Objects.{Datum, number}
+use Rattle.ir_ast.specs.declared.ops.Operand.{Operand}
+use Rattle.moving_heap.specs.Heaps.{HeapView, loaded}
+use Rattle.object_meaning.specs.Effects.{Effect, goes_on, prints, ends}
+use Rattle.object_meaning.specs.Jumps.{jumped, label_at, branch_taken, case_taken}
+use Rattle.object_meaning.specs.Calls.{stepped}
+use Rattle.object_meaning.specs.Lines.{following}
+use Rattle.object_meaning.specs.Registers.{operand, number_in, nothing}
+use Rattle.object_meaning.specs.States.{Frame, State}
+use Rattle.machine_meaning.specs.Machines.{Machine, Machinery, gone_on, lifted}
+use Rattle.machine_meaning.specs.MachineSteps.{passes, storing_word}
+use Rattle.machine_meaning.specs.Words.{worded_operand}
+use Rattle.machine_frames.specs.Frames.{line_of, lines_left}
+use Rattle.ir_machine.specs.Executors.{machinery, seen, still, told, acts_at, calls_at}
+use Rattle.ir_machine.proofs.StepLemmas.{does_as, does_told, compute_acts, done_ok, done_err}
+use Rattle.ir_machine.proofs.AccessLemmas.{load_is, store_is, check_is}
+use Rattle.ir_machine.proofs.CallLemmas.{jump_goes, steps_out, stop_goes, enter_goes, enter_out, enter_deep, print_goes, read_ends, read_goes, start_full, start_goes, ret_out, ret_step}
+use Rattle.ir_machine.specs.Executors.{waiting, kept, without_words, calls_kept}
+use Rattle.ir_machine.specs.Events.{or_lost, IsLost, gone_to, TaskWalked, SlotWalked, AllWalked}
+use Rattle.ir_machine.proofs.EventLemmas.{make_goes, make_none, make_full, happen_is, lost_running, lost_other, moved_goes}
+use Rattle.machine_meaning.specs.Moving.{eventful, moved_by, moves_due, moved_heap, walked_task, walked_tasks}
+use Rattle.moving_heap.specs.declared.stands.Moved.{Moved}
+use Rattle.machine_frames.specs.declared.tasks.Task.{Task}
+use Rattle.machine_frames.specs.Frames.{frame_of, frames_of, below_of}
+use Rattle.ir_machine.proofs.TaskLemmas.{with_task, switched_some, switched_none, handed_some, handed_none, same_frames, moved_seen, same_count, found_some, set_again, set_none}
+use Rattle.std.proofs.Common.{Bool}
+use Rattle.sp_ids.specs.Numbers.{signed}
+use Rattle.ir_ast.specs.Sizes.{fields_in}
+use Rattle.machine_meaning.specs.MachineTasks.{allocating_machine}
+use Rattle.ir_ast.specs.declared.cells.Cell.{Cell}
+use Rattle.ir_machine.proofs.executor.Executor.make.Goals as goal
+
+pub returns-then-lost : goal.returns-then-lost
+returns-then-lost c =
+    let now = c.args.self.now in let machine = seen now in let all = machinery c.args.program.now in let happened = c.happen.new.self in
+    let operands = map worded_operand c.args.operands.now in
+    let next : Machine → Effect Machine = λ m. allocating_machine m c.args.layout (fields_in c.args.program.now.code.layouts c.args.layout) (signed 64 (number_in (operand m.state.running.registers operands 0))) in
+    sym (c.in_ok-lost.ensures next ∙ ap (λ (b : Bool). told (or_lost b (seen happened) next)) c.if-lost.true)
+
+pub returns-in-Ok : goal.returns-in-Ok
+returns-in-Ok c =
+    let now = c.args.self.now in let machine = seen now in let all = machinery c.args.program.now in let happened = c.happen.new.self in
+    let operands = map worded_operand c.args.operands.now in
+    let next : Machine → Effect Machine = λ m. allocating_machine m c.args.layout (fields_in c.args.program.now.code.layouts c.args.layout) (signed 64 (number_in (operand m.state.running.registers operands 0))) in
+    let lost : told (next (seen happened)) ≡ told (eventful all machine next) = sym (c.in_ok-lost.ensures next ∙ ap (λ (b : Bool). told (or_lost b (seen happened) next)) c.if-lost.false) in
+    let count : c.sign-count.result ≡ signed 64 (number_in (operand (seen happened).state.running.registers operands 0)) = c.sign-count.ensures ∙ ap (λ (d : Datum). signed 64 (number_in d)) (sym c.argument.ensures) in
+    let fields : c.fields_of-fields.result.now ≡ fields_in c.args.program.now.code.layouts c.args.layout = rw c.module.ensures at (c.fields_of-fields.ensures ∙ ap (λ layouts. fields_in layouts c.args.layout) c.layouts.ensures.value) in
+    let of : allocating_machine (seen happened) c.args.layout c.fields_of-fields.result.now c.sign-count.result ≡ next (seen happened) =
+    ap (λ (fs : List Cell). allocating_machine (seen happened) c.args.layout fs c.sign-count.result) fields
+    ∙ ap (allocating_machine (seen happened) c.args.layout (fields_in c.args.program.now.code.layouts c.args.layout)) count in
+    does_told c.go_on.new.self c.go_on.result _ _
+    (ap told (make_goes (seen happened) c.args.layout c.fields_of-fields.result.now c.sign-count.result c.in-Ok.address (still c.alloc.new.self) c.in-Ok.ensures.address (ap still c.in-Ok.ensures.made) ∙ of) ∙ lost) c.go_on.ensures
+
+pub returns-in-Err-Count : goal.returns-in-Err-Count
+returns-in-Err-Count c =
+    let now = c.args.self.now in let machine = seen now in let all = machinery c.args.program.now in let happened = c.happen.new.self in
+    let operands = map worded_operand c.args.operands.now in
+    let next : Machine → Effect Machine = λ m. allocating_machine m c.args.layout (fields_in c.args.program.now.code.layouts c.args.layout) (signed 64 (number_in (operand m.state.running.registers operands 0))) in
+    let lost : told (next (seen happened)) ≡ told (eventful all machine next) = sym (c.in_ok-lost.ensures next ∙ ap (λ (b : Bool). told (or_lost b (seen happened) next)) c.if-lost.false) in
+    let count : c.sign-count.result ≡ signed 64 (number_in (operand (seen happened).state.running.registers operands 0)) = c.sign-count.ensures ∙ ap (λ (d : Datum). signed 64 (number_in d)) (sym c.argument.ensures) in
+    let fields : c.fields_of-fields.result.now ≡ fields_in c.args.program.now.code.layouts c.args.layout = rw c.module.ensures at (c.fields_of-fields.ensures ∙ ap (λ layouts. fields_in layouts c.args.layout) c.layouts.ensures.value) in
+    let of : allocating_machine (seen happened) c.args.layout c.fields_of-fields.result.now c.sign-count.result ≡ next (seen happened) =
+    ap (λ (fs : List Cell). allocating_machine (seen happened) c.args.layout fs c.sign-count.result) fields
+    ∙ ap (allocating_machine (seen happened) c.args.layout (fields_in c.args.program.now.code.layouts c.args.layout)) count in
+    ap told (make_none (seen happened) c.args.layout c.fields_of-fields.result.now c.sign-count.result (c.in-Err-Count.ensures.count refl) ∙ of) ∙ lost
+
+pub returns-in-Err-Full : goal.returns-in-Err-Full
+returns-in-Err-Full c =
+    let now = c.args.self.now in let machine = seen now in let all = machinery c.args.program.now in let happened = c.happen.new.self in
+    let operands = map worded_operand c.args.operands.now in
+    let next : Machine → Effect Machine = λ m. allocating_machine m c.args.layout (fields_in c.args.program.now.code.layouts c.args.layout) (signed 64 (number_in (operand m.state.running.registers operands 0))) in
+    let lost : told (next (seen happened)) ≡ told (eventful all machine next) = sym (c.in_ok-lost.ensures next ∙ ap (λ (b : Bool). told (or_lost b (seen happened) next)) c.if-lost.false) in
+    let count : c.sign-count.result ≡ signed 64 (number_in (operand (seen happened).state.running.registers operands 0)) = c.sign-count.ensures ∙ ap (λ (d : Datum). signed 64 (number_in d)) (sym c.argument.ensures) in
+    let fields : c.fields_of-fields.result.now ≡ fields_in c.args.program.now.code.layouts c.args.layout = rw c.module.ensures at (c.fields_of-fields.ensures ∙ ap (λ layouts. fields_in layouts c.args.layout) c.layouts.ensures.value) in
+    let of : allocating_machine (seen happened) c.args.layout c.fields_of-fields.result.now c.sign-count.result ≡ next (seen happened) =
+    ap (λ (fs : List Cell). allocating_machine (seen happened) c.args.layout fs c.sign-count.result) fields
+    ∙ ap (allocating_machine (seen happened) c.args.layout (fields_in c.args.program.now.code.layouts c.args.layout)) count in
+    ap told (make_full (seen happened) c.args.layout c.fields_of-fields.result.now c.sign-count.result (c.in-Err-Full.ensures.full refl) ∙ of) ∙ lost
