@@ -1,8 +1,6 @@
 -- A run by its steps, and what it has written.
-use Rattle.std.proofs.Common.{◌≡◌, ℕ, ℤ, suc, ◌+◌, ◌-◌, ◌^◌, min, List, [], ◌∷◌, ◌++◌, length, reverse, Option, Some, None, refl, sym, ap, subst, ◌∙◌, arith}
-use Rattle.std.proofs.lemmas.List.{append-nil, reverse-append}
-use Rattle.std.specs.List.{concat}
-use Rattle.std.proofs.lemmas.List.Folds.{concat-append}
+use Rattle.std.proofs.Common.{◌≡◌, ℕ, ℤ, suc, ◌+◌, ◌-◌, ◌^◌, min, List, [], ◌∷◌, ◌++◌, length, Option, Some, None, refl, sym, ap, subst, ◌∙◌, arith}
+use Rattle.std.proofs.lemmas.List.{append-nil}
 use Rattle.tool_io.specs.Sink.{append_known, AppendsFront}
 use Rattle.tool_io.proofs.AppendLaws.{append_known-nil, append_known-then, AppendsFront-second, AppendsFront-all, AppendsFront-same, AppendsFront-nothing}
 use Rattle.sp_ids.specs.declared.ends.End.{End}
@@ -150,11 +148,6 @@ front_none machinery start old =
 
 -- ---- what the run gives
 
-concat-reverse : (lines : List (List ℕ)) → concat (reverse lines) ≡ text_of lines
-concat-reverse [] = refl
-concat-reverse (line ∷ lines) =
-    ap concat (reverse-append (line ∷ []) lines) ∙ (concat-append (reverse lines) (line ∷ []) ∙ (ap (λ text. text ++ (line ++ [])) (concat-reverse lines) ∙ ap (λ more. text_of lines ++ more) (append-nil line)))
-
 ran_same : (ran : Ran) (func steps events lines : ℕ) → ran.func.0 ≡ func → ran.steps ≡ steps → ran.events ≡ events → ran.lines ≡ lines
     → ran ≡ record { end = ran.end; func = record { 0 = func }; steps = steps; events = events; lines = lines }
 ran_same ran func steps events lines one two three four =
@@ -172,5 +165,5 @@ run_is content map input plan bound old new ran run =
       outcome = machine_outcome machinery input run.run.within ran.end run.last;
       gives = record { last = run.last; run = run.run; is = refl };
       answer = ran_same ran run.last.state.state.running.func run.last.state.state.steps run.last.state.state.events (line_count run.last.lines) run.func run.steps run.events run.lines;
-      written = run.written ∙ ap (append_known old) (sym (concat-reverse run.last.lines));
+      written = run.written;
     }

@@ -1,6 +1,5 @@
 -- What a run of the machine answers.
 use Rattle.std.specs.Prelude.{◌≡◌, ℕ, ◌+◌, ◌-◌, ◌^◌, min, ℤ, List, [], ◌++◌, Option, Some, None}
-use Rattle.std.specs.List.{concat}
 use Rattle.tool_io.specs.Sink.{append_known, AppendsFront}
 use Rattle.sp_ids.specs.declared.ends.End.{End}
 use Rattle.ir_ast.specs.Modules.{ModuleContent}
@@ -24,12 +23,13 @@ ran_of outcome = record {
   lines = outcome.printed;
 }
 
--- the answer is that of the machine's run over a map, and what it prints was written
+-- the answer is that of the machine's run over a map, and what its steps print was written; at a trap without what the
+-- waiting frames show
 pub record IsRunOver (content : ModuleContent) (map : StackMap) (input : List ℤ) (plan : List PlanLine) (bound : ℕ) (ran : Ran) (old new : Option (List ℕ)) : Type 0 where
   pub outcome : MachineOutcome
   pub gives : MachineGives content map input plan bound outcome
   pub answer : ran ≡ ran_of outcome
-  pub written : new ≡ append_known old (concat outcome.lines)
+  pub written : new ≡ append_known old (text_of gives.last.lines)
 
 -- the same of the map that these bytes are
 pub record IsRun (content : ModuleContent) (bytes : List ℕ) (input : List ℤ) (plan : List PlanLine) (bound : ℕ) (ran : Ran) (old new : Option (List ℕ)) : Type 0 where
