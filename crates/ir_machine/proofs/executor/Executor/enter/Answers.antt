@@ -7,7 +7,7 @@ use Rattle.object_meaning.specs.Effects.{Effect, goes_on, prints, ends}
 use Rattle.object_meaning.specs.Jumps.{jumped, label_at, branch_taken, case_taken}
 use Rattle.object_meaning.specs.Calls.{stepped}
 use Rattle.object_meaning.specs.Lines.{following}
-use Rattle.object_meaning.specs.Registers.{operand, number_in, nothing}
+use Rattle.object_meaning.specs.Registers.{operand, number_in, nothing, value}
 use Rattle.object_meaning.specs.States.{Frame, State}
 use Rattle.machine_meaning.specs.Machines.{Machine, Machinery, gone_on, lifted}
 use Rattle.machine_meaning.specs.MachineSteps.{passes, storing_word}
@@ -34,6 +34,7 @@ returns c =
     let line = line_of next inst in let rest = lines_left (following next inst) c.args.rest.now in let all = machinery c.args.program.now in
     let task = c.args.self.now.run in
     let few : length (below_of task) + 1 < 4096 = omega (arith, c.len.ensures, length-map (reverse task.below.items) frame_of, length-reverse task.below.items) in
-    enter_goes all machine line rest c.args.func (map worded_operand c.args.operands.now) (map number c.as_slice-2.result.now) _ _ c.in_ok-address.address _
-    c.if-self-bound.false few (ap (map number) c.as_slice-2.ensures.value ∙ c.in_ok-arguments.ensures) c.in_ok-enter.ensures.frame c.in_ok-enter.ensures.below
-    (c.in_ok-address.ensures c.args.program.now.map.whole c.args.program.now.plan.now c.args.program.now.bound) c.in_ok-enter.ensures.stack
+    ap told (enter_goes all machine line rest c.args.func (map worded_operand c.args.operands.now) (map number c.as_slice-2.result.now) _ _ c.in_ok-address.address _
+    c.if-self-bound.false few (ap (map number) c.as_slice-2.ensures.value ∙ c.in_ok-arguments.ensures
+    ∙ ap (λ (rs : List ℕ). map (value (map number rs)) (map worded_operand c.args.operands.now)) c.as_slice.ensures.value) c.in_ok-enter.ensures.frame c.in_ok-enter.ensures.below
+    (c.in_ok-address.ensures c.args.program.now.map.whole c.args.program.now.plan.now c.args.program.now.bound) c.in_ok-enter.ensures.stack)

@@ -39,6 +39,6 @@ returns-in_default c =
 pub returns : goal.returns
 returns c =
     let now = c.args.self.now in let machine = seen now in let tasks : List (Option Task) = now.tasks.items in
-    let found = found_some c.in-Some.run (slice_get tasks 0) (sym c.in-Some.ensures.given) in
+    let found = found_some c.in-Some.run' (slice_get tasks 0) (sym c.in-Some.ensures.given) in
     does_as c.go_on.new.self c.go_on.result _ _
-    (handed_some machine now.run c.in-Some.run now.task tasks c.take_task.new.tasks.items c.in-Some.ensures.tasks found) c.go_on.ensures
+    (handed_some machine now.run c.in-Some.run' now.task tasks c.take_task.new.tasks.items c.in-Some.ensures.tasks found) c.go_on.ensures

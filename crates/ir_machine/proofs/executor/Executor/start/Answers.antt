@@ -58,11 +58,11 @@ returns c =
       stack = run.stack;
       stacks = words;
     }) in
-    ap (λ (run : Task). whole run (below_of run) c.len-task.result (map waiting c.push.new.self.items) (map kept c.push.new.self.items)) c.replace-waits.ensures.after
-    ∙ ap (λ (b : List Frame). whole c.in_ok-run.run b c.len-task.result (map waiting c.push.new.self.items) (map kept c.push.new.self.items)) begins.below
-    ∙ ap (λ (n : ℕ). whole c.in_ok-run.run [] n (map waiting c.push.new.self.items) (map kept c.push.new.self.items)) number_is
-    ∙ ap (λ (ts : List (List Frame)). whole c.in_ok-run.run [] (length (map waiting tasks)) ts (map kept c.push.new.self.items)) frames
-    ∙ ap (λ (ws : List (List ℕ)). whole c.in_ok-run.run [] (length (map waiting tasks)) (set (map waiting tasks) now.task (frames_of now.run) ++ [] ∷ []) ws) stacks
-    ∙ start_goes all machine c.function_in-func.result (number c.argument-argument.result) (frame_of c.in_ok-run.run.frame) c.in_ok-run.run.stack few begins.frame begins.stack
+    ap told (ap (λ (run : Task). whole run (below_of run) c.len-task.result (map waiting c.push.new.self.items) (map kept c.push.new.self.items)) c.replace-waits.ensures.after
+    ∙ ap (λ (b : List Frame). whole c.in_ok-run.run' b c.len-task.result (map waiting c.push.new.self.items) (map kept c.push.new.self.items)) begins.below
+    ∙ ap (λ (n : ℕ). whole c.in_ok-run.run' [] n (map waiting c.push.new.self.items) (map kept c.push.new.self.items)) number_is
+    ∙ ap (λ (ts : List (List Frame)). whole c.in_ok-run.run' [] (length (map waiting tasks)) ts (map kept c.push.new.self.items)) frames
+    ∙ ap (λ (ws : List (List ℕ)). whole c.in_ok-run.run' [] (length (map waiting tasks)) (set (map waiting tasks) now.task (frames_of now.run) ++ [] ∷ []) ws) stacks
+    ∙ start_goes all machine c.function_in-func.result (number c.argument-argument.result) (frame_of c.in_ok-run.run'.frame) c.in_ok-run.run'.stack few begins.frame begins.stack
     ∙ ap (λ (f : ℕ). started_machine all machine f (number c.argument-argument.result)) c.function_in-func.ensures
-    ∙ ap (started_machine all machine (function_in (slice_get operands 0))) (sym c.argument-argument.ensures)
+    ∙ ap (started_machine all machine (function_in (slice_get operands 0))) (sym c.argument-argument.ensures))
