@@ -1,16 +1,15 @@
 -- Jumps, calls, returns and tasks: what the executor does is what the machine does.
-use Rattle.std.proofs.Common.{◌≡◌, ℕ, ℤ, zero, suc, ◌+◌, ◌<◌, ◌≤◌, true, false, List, [], ◌∷◌, ◌++◌, length, map, set, drop, replicate, refl, sym, ap, subst, ◌∙◌, lt-ltb, append_assoc}
+use Rattle.std.proofs.Common.{◌≡◌, ℕ, ℤ, ◌+◌, ◌<◌, ◌≤◌, List, [], ◌∷◌, ◌++◌, length, map, set, drop, refl, sym, ap, ◌∙◌, lt-ltb}
 use Rattle.std.proofs.lemmas.Bool.{le-ltb}
-use Rattle.std.specs.Prelude.{Option, Some, None, slice_get, slice_index_or, unwrap_or, ◌==◌, if◌then◌else◌}
+use Rattle.std.specs.Prelude.{Some, None, slice_get}
 use Rattle.std.specs.Int.{w64, cast_unsigned}
-use Rattle.sp_ids.specs.Numbers.{signed}
-use Rattle.sp_ids.specs.declared.ends.End.TheVariants.{Trap, OutOfSteps, Return}
+use Rattle.sp_ids.specs.declared.ends.End.TheVariants.{Trap, OutOfSteps}
 use Rattle.sp_ids.specs.declared.ends.Trap.TheVariants.{Unreachable, Depth, Input, Tasks}
-use Rattle.ir_ast.specs.declared.ops.Callee.TheVariants.{Fun, Print, Read, TaskStart}
+use Rattle.ir_ast.specs.declared.ops.Callee.TheVariants.{Fun, Print, Read}
 use Rattle.ir_ast.specs.declared.ops.Op.TheVariants.{Ret}
 use Rattle.ir_ast.specs.declared.ops.Operand.{Operand}
 use Rattle.ir_ast.specs.Objects.{Datum, number}
-use Rattle.object_meaning.specs.Calls.{stepped, entering, function_in, taking}
+use Rattle.object_meaning.specs.Calls.{stepped, entering, taking}
 use Rattle.object_meaning.specs.Effects.{Effect, goes_on, prints, ends}
 use Rattle.object_meaning.specs.Frames.{entered}
 use Rattle.object_meaning.specs.Jumps.{arrived, jumped}
@@ -18,9 +17,8 @@ use Rattle.object_meaning.specs.Lines.{Line}
 use Rattle.object_meaning.specs.Numbers.{width_of}
 use Rattle.object_meaning.specs.Registers.{value, operand, nothing, number_in}
 use Rattle.object_meaning.specs.States.{Frame, State, Setting}
-use Rattle.object_meaning.specs.Tasks.{started}
 use Rattle.machine_meaning.specs.Machines.{Machine, Machinery, lifted, then_on, address_behind, gone_from, gone_on}
-use Rattle.machine_meaning.specs.MachineTasks.{new_frame, pushed, started_machine, ended_machine, handed_machine}
+use Rattle.machine_meaning.specs.MachineTasks.{new_frame, pushed, started_machine}
 use Rattle.machine_meaning.specs.MachineSteps.{calls, machine_acts, returns, behind_step}
 use Rattle.ir_machine.proofs.StepLemmas.{out_of_steps, step_left}
 

@@ -1,6 +1,6 @@
 -- Events: what the executor moves is what the machine moves.
-use Rattle.std.proofs.Common.{◌≡◌, ◌≢◌, ℕ, ℤ, ◌+◌, Bool, true, false, List, [], ◌∷◌, length, map, set, get_or, refl, sym, ap, subst, ◌∙◌, arith, ◌<◌}
-use Rattle.std.specs.Prelude.{Option, Some, None, slice_get, slice_set, slice_index_or, if◌then◌else◌, unsigned_abs, Result, Ok, Err}
+use Rattle.std.proofs.Common.{◌≡◌, ◌≢◌, ℕ, ℤ, true, List, [], ◌∷◌, length, map, set, refl, sym, ap, ◌∙◌, arith, ◌<◌}
+use Rattle.std.specs.Prelude.{Option, Some, None, slice_get, unsigned_abs, Result, Ok, Err}
 use Rattle.std.proofs.lemmas.List.{length-map, get_or-set_same}
 use Rattle.std.proofs.lemmas.Option.{slice_get_within}
 use Rattle.sp_ids.specs.declared.ends.End.TheVariants.{LostFrame, Trap}
@@ -12,12 +12,10 @@ use Rattle.tool_io.specs.Counts.{raised}
 use Rattle.moving_heap.specs.declared.stands.Moved.{Moved}
 use Rattle.moving_heap.specs.Heaps.{HeapView, alloc_answer, with_object}
 use Rattle.object_meaning.specs.Effects.{Effect, goes_on, ends}
-use Rattle.object_meaning.specs.States.{Frame, State}
-use Rattle.machine_meaning.specs.Machines.{Machine, Machinery, all_frames, all_stacks, gone_on}
+use Rattle.machine_meaning.specs.Machines.{Machine, Machinery, gone_on}
 use Rattle.machine_meaning.specs.MachineTasks.{allocated_machine, allocating_machine}
 use Rattle.machine_meaning.specs.Moving.{eventful, moves_due, after_walk, moved_by, moved_heap, walked_all, walked_task, walked_tasks}
 use Rattle.machine_frames.specs.declared.tasks.Task.{Task}
-use Rattle.machine_frames.specs.Frames.{frames_of}
 use Rattle.ir_machine.specs.Executors.{waiting, kept, told, without_words}
 use Rattle.ir_machine.specs.Events.{or_lost, IsLost}
 use Rattle.ir_machine.proofs.TaskLemmas.{hole_walks, hole_again, lost_here, lost_there, set_twice}

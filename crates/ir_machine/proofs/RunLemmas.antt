@@ -1,25 +1,24 @@
 -- A run by its steps, and what it has written.
-use Rattle.std.proofs.Common.{◌≡◌, ℕ, ℤ, suc, ◌+◌, ◌-◌, ◌^◌, min, List, [], ◌∷◌, ◌++◌, length, Option, Some, None, refl, sym, ap, subst, ◌∙◌, arith}
+use Rattle.std.proofs.Common.{◌≡◌, ℕ, ℤ, suc, ◌+◌, ◌-◌, ◌^◌, min, List, [], ◌∷◌, length, Option, Some, None, refl, sym, ap, ◌∙◌, arith}
 use Rattle.std.proofs.lemmas.List.{append-nil}
 use Rattle.tool_io.specs.Sink.{append_known, AppendsFront}
 use Rattle.tool_io.proofs.AppendLaws.{append_known-nil, append_known-then, AppendsFront-second, AppendsFront-all, AppendsFront-same, AppendsFront-nothing}
 use Rattle.sp_ids.specs.declared.ends.End.{End}
-use Rattle.sp_ids.specs.declared.ids.FuncId.{FuncId}
 use Rattle.ir_ast.specs.Modules.{ModuleContent}
 use Rattle.map_bytes.specs.Maps.{StackMap}
 use Rattle.move_plan.specs.declared.plan_lines.PlanLine.{PlanLine}
 use Rattle.object_meaning.specs.Effects.{Effect, goes_on, prints, ends, Progress, after, printed_line, text_of, line_count}
-use Rattle.object_meaning.specs.Runs.{Reaches, Ends}
+use Rattle.object_meaning.specs.Runs.{Reaches}
 use Rattle.object_meaning.proofs.RunLaws.{reaches_more, ends_more}
 use Rattle.machine_meaning.specs.Machines.{Machine, Machinery}
 use Rattle.machine_meaning.specs.MachineSteps.{machine_step}
-use Rattle.machine_meaning.specs.MachineRuns.{MachineOutcome, MachineryGives, machine_outcome, machine_proceeds, machine_opening}
+use Rattle.machine_meaning.specs.MachineRuns.{machine_outcome, machine_proceeds, machine_opening}
 use Rattle.machine_meaning.specs.Code.{machinery_of}
 use Rattle.ir_machine.specs.declared.executor.Did.{Did}
 use Rattle.ir_machine.specs.declared.executor.Did.TheVariants.{GoesOn, Prints, Ends as Finishes}
 use Rattle.ir_machine.specs.declared.run.Ran.{Ran}
 use Rattle.ir_machine.specs.Executors.{effect_of, told, without_words}
-use Rattle.ir_machine.specs.Answers.{ran_of, IsRunOver, IsRunFrom, WritesFrontFrom, unprinted, Follows, ended_of, Wrote, WroteFront}
+use Rattle.ir_machine.specs.Answers.{IsRunOver, IsRunFrom, WritesFrontFrom, unprinted, Follows, ended_of, Wrote, WroteFront}
 
 pub follows_start : (machinery : Machinery) (machine : Machine) (old : Option (List ℕ)) → Follows machinery (unprinted machine) machine 0 old old
 follows_start machinery machine old = record {

@@ -1,5 +1,5 @@
 -- What the executor does at a line is what the machine does there.
-use Rattle.std.proofs.Common.{◌≡◌, ℕ, ◌+◌, ◌<◌, ◌≤◌, Bool, true, false, List, [], ◌∷◌, map, refl, sym, ap, subst, ◌∙◌, lt-ltb}
+use Rattle.std.proofs.Common.{◌≡◌, ℕ, ◌+◌, ◌<◌, ◌≤◌, true, List, [], refl, sym, ap, subst, ◌∙◌, lt-ltb}
 use Rattle.std.proofs.lemmas.Bool.{le-ltb}
 use Rattle.std.specs.Prelude.{Result, Ok, Err}
 use Rattle.std.specs.Result.{IfOk}
@@ -14,7 +14,7 @@ use Rattle.moving_heap.specs.declared.heap.Deny.{Deny}
 use Rattle.moving_heap.specs.Heaps.{done}
 use Rattle.object_meaning.specs.Calls.{stepped}
 use Rattle.object_meaning.specs.Computing.{computed, with_number}
-use Rattle.object_meaning.specs.Effects.{Effect, goes_on, ends}
+use Rattle.object_meaning.specs.Effects.{Effect, ends}
 use Rattle.object_meaning.specs.Lines.{Line}
 use Rattle.object_meaning.specs.Registers.{operand}
 use Rattle.object_meaning.specs.States.{State, Setting}

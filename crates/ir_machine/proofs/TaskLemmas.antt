@@ -1,16 +1,16 @@
 -- Tasks that wait, by number.
-use Rattle.std.proofs.Common.{◌≡◌, ℕ, zero, suc, ◌+◌, ◌<◌, List, [], ◌∷◌, ◌++◌, ◌≤◌, length, map, set, take, drop, get_or, refl, sym, ap, subst, ◌∙◌, append_assoc, arith}
+use Rattle.std.proofs.Common.{◌≡◌, ℕ, zero, suc, ◌+◌, ◌<◌, List, [], ◌∷◌, ◌++◌, ◌≤◌, length, map, set, take, drop, get_or, refl, sym, ap, ◌∙◌, append_assoc, arith}
 use Rattle.std.specs.Prelude.{Option, Some, None, unwrap_or, slice_get, slice_index_or, Result, Ok, Err}
 use Rattle.std.specs.Option.{option_map}
 use Rattle.std.proofs.lemmas.List.{map-set, length-map, append-nil}
 use Rattle.flat_code.proofs.RegisterLemmas.{rest_at}
-use Rattle.std.proofs.lemmas.Option.{slice_get-map, slice_get_within}
+use Rattle.std.proofs.lemmas.Option.{slice_get-map}
 use Rattle.moving_heap.specs.Heaps.{HeapView}
 use Rattle.sp_ids.specs.declared.ends.End.TheVariants.{Trap}
 use Rattle.sp_ids.specs.declared.ends.Trap.TheVariants.{Unreachable}
 use Rattle.moving_heap.specs.declared.stands.Moved.{Moved}
 use Rattle.object_meaning.specs.Registers.{nothing}
-use Rattle.object_meaning.specs.States.{Frame, State}
+use Rattle.object_meaning.specs.States.{Frame}
 use Rattle.object_meaning.specs.Effects.{Effect, goes_on, ends}
 use Rattle.machine_meaning.specs.Machines.{Machine, Machinery, gone_on}
 use Rattle.machine_meaning.specs.MachineTasks.{switched_machine, handed_machine}

@@ -1,5 +1,5 @@
 -- What an event does to the executor: its moves with the walk over all stacks, and its `go` line.
-use Rattle.std.specs.Prelude.{◌≡◌, ℕ, Bool, true, false, if◌then◌else◌, List, [], ◌++◌, map, Option, Some, None, slice_get, Result, Ok, Err}
+use Rattle.std.specs.Prelude.{◌≡◌, ℕ, Bool, true, false, if◌then◌else◌, List, ◌++◌, map, Option, slice_get, Result, Ok, Err}
 use Rattle.std.specs.Option.{option_map_or}
 use Rattle.sp_ids.specs.declared.ends.End.TheVariants.{LostFrame}
 use Rattle.moving_heap.specs.declared.stands.Moved.{Moved}
@@ -9,7 +9,7 @@ use Rattle.machine_meaning.specs.MachineTasks.{switched_machine}
 use Rattle.machine_meaning.specs.Moving.{walked_task, walked_tasks}
 use Rattle.machine_frames.specs.declared.tasks.Task.{Task}
 use Rattle.machine_frames.specs.Frames.{frames_of}
-use Rattle.ir_machine.specs.Executors.{waiting, kept, told}
+use Rattle.ir_machine.specs.Executors.{waiting, kept}
 
 -- what an effect is that first moves, and then does this
 abbrev pub or_lost : Bool → Machine → (Machine → Effect Machine) → Effect Machine

@@ -1,11 +1,9 @@
 -- What the executor's state stands for, and what a step did.
 use Rattle.std.specs.Prelude.{◌≡◌, ℕ, List, [], map, take, Option, Some, None}
-use Rattle.sp_ids.specs.declared.ends.End.{End}
 use Rattle.ir_ast.specs.declared.ops.Op.{Op}
 use Rattle.ir_ast.specs.declared.ops.Operand.{Operand}
 use Rattle.ir_ast.specs.declared.ops.Callee.{Callee}
 use Rattle.ir_ast.specs.Insts.{Instruction}
-use Rattle.ir_ast.specs.Modules.{ModuleContent}
 use Rattle.moving_heap.specs.Heaps.{HeapView}
 use Rattle.object_meaning.specs.Lines.{following}
 use Rattle.object_meaning.specs.States.{Frame}

@@ -1,4 +1,4 @@
-use Rattle.std.proofs.Common.{ℕ, ◌<◌, List, length, get_or, ap, arith}
+use Rattle.std.proofs.Common.{◌<◌, List, length, get_or, ap, arith}
 use Rattle.std.specs.Prelude.{Option}
 use Rattle.machine_frames.specs.declared.tasks.Task.{Task}
 use Rattle.ir_machine.specs.Executors.{machinery}

@@ -1,4 +1,4 @@
-use Rattle.std.proofs.Common.{◌≡◌, ◌≤◌}
+use Rattle.std.proofs.Common.{◌≤◌}
 use Rattle.ir_machine.specs.Executors.{machinery, seen}
 use Rattle.ir_machine.specs.Answers.{Follows, unprinted}
 use Rattle.ir_machine.proofs.run.run.Given as goal

@@ -1,6 +1,5 @@
 use Rattle.std.proofs.Common.{◌≡◌, refl, subst}
 use Rattle.map_bytes.specs.Faults.{IsFirstFault}
-use Rattle.stackmap_view.specs.Maps.{stack_map}
 use Rattle.ir_machine.proofs.run.run_any.Goals as goal
 
 pub returns-in-Err-clause-bad : goal.returns-in-Err-clause-bad
