@@ -7,7 +7,10 @@ mod lines;
 mod listed;
 mod lists;
 mod numbers;
+mod rebuilding;
 mod rows;
 mod slots;
 mod versions;
 mod walk;
+
+pub use rebuilding::rebuild;
