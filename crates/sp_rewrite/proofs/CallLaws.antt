@@ -1,7 +1,8 @@
 -- What the passes over the functions of a module give together.
-use Rattle.std.proofs.Common.{◌≡◌, ◌<◌, ◌≤◌, List, [], ◌∷◌, map, refl, sym, ap, subst, ◌∙◌}
+use Rattle.std.proofs.Common.{◌≡◌, ◌<◌, ◌≤◌, List, map, refl, sym, ap, subst, ◌∙◌}
 use Rattle.std.specs.Prelude.{sum}
 use Rattle.std.specs.List.{All}
+use Rattle.std.proofs.lemmas.Simd.{map-map}
 use Rattle.ir_ast.specs.Funcs.{Function}
 use Rattle.ir_ast.specs.Layouts.{ObjectLayout}
 use Rattle.ir_ast.specs.Modules.{ModuleContent}
@@ -16,20 +17,16 @@ use Rattle.sp_rewrite.specs.Statements.{IsRewritten}
 use Rattle.sp_rewrite.proofs.MakingLaws.{functions_are_ready}
 use Rattle.sp_rewrite.proofs.RewrittenLaws.{rewriting_is_by_function}
 
-map_twice : {A B C : Type 0} (f : A → B) (g : B → C) (xs : List A) → map g (map f xs) ≡ map (λ x. g (f x)) xs
-map_twice f g [] = refl
-map_twice {C} f g (x ∷ xs) = ap (λ (rest : List C). g (f x) ∷ rest) (map_twice f g xs)
-
 module _ (content reached : ModuleContent) (drops : ModuleDropsUnreached content reached) where
   -- what is made of the functions with polls can have groups
   pub can_have_groups : IsSourceModule content → (funcs : List Function) (made : List BeforeGroups) → funcs ≡ (placed_module reached).funcs → made ≡ map made_of funcs
       → All CanHaveGroups made
   can_have_groups source funcs made placed_are made_are =
-      let same = made_are ∙ ap (map made_of) placed_are ∙ map_twice placed made_of reached.funcs in
+      let same = made_are ∙ ap (map made_of) placed_are ∙ map-map made_of placed reached.funcs in
       subst (All CanHaveGroups) (sym same) (functions_are_ready content reached source drops).groups
 
   relocates_same : (funcs : List Function) → funcs ≡ (placed_module reached).funcs → sum (map relocates_of funcs) ≡ relocates_in reached
-  relocates_same funcs placed_are = ap (λ (all : List Function). sum (map relocates_of all)) placed_are ∙ ap sum (map_twice placed relocates_of reached.funcs)
+  relocates_same funcs placed_are = ap (λ (all : List Function). sum (map relocates_of all)) placed_are ∙ ap sum (map-map relocates_of placed reached.funcs)
 
   pub few_relocates : (funcs : List Function) → funcs ≡ (placed_module reached).funcs → sum (map relocates_of funcs) ≤ 4194304 → HasFewRelocates content
   few_relocates funcs placed_are few = record { reached = reached; drops = drops; few = subst (λ n. n ≤ 4194304) (relocates_same funcs placed_are) few }
@@ -41,8 +38,8 @@ module _ (content reached : ModuleContent) (drops : ModuleDropsUnreached content
       → map rewritten_of made ≡ (rewritten_source reached).funcs
   functions_are funcs made placed_are made_are =
       let one : IsRewritten content (rewritten_source reached) = record { reached = reached; drops = drops; rest = refl } in
-      ap (map rewritten_of) (made_are ∙ ap (map made_of) placed_are ∙ map_twice placed made_of reached.funcs)
-      ∙ map_twice (λ func. made_of (placed func)) rewritten_of reached.funcs
+      ap (map rewritten_of) (made_are ∙ ap (map made_of) placed_are ∙ map-map made_of placed reached.funcs)
+      ∙ map-map rewritten_of (λ func. made_of (placed func)) reached.funcs
       ∙ sym (rewriting_is_by_function content (rewritten_source reached) one)
 
   pub is_rewritten : (funcs after : List Function) (made : List BeforeGroups) (layouts : List ObjectLayout) (whole : ModuleContent)
