@@ -8,8 +8,7 @@ use running::show_run;
 use std::process::ExitCode;
 use std::{env, io};
 
-const USAGE: &str =
-    "usage: machine_runs run MODULE INPUT PLAN STEPS, or machine_runs show NAME..";
+const USAGE: &str = "usage: machine_runs run MODULE INPUT PLAN STEPS, or machine_runs show NAME..";
 
 fn main(rt: HostRuntime) -> io::Result<ExitCode> {
     let words: Vec<String> = env::args(&rt)?.collect(rt.alloc())?;
