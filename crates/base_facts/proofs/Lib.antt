@@ -1,5 +1,4 @@
 pub mod SettleLemmas
-pub mod MemberLemmas
 pub mod StepLemmas
 pub mod PredLemmas
 pub mod EdgeLemmas

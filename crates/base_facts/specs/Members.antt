@@ -1,17 +1,10 @@
 -- What the lines of a group give, by their instructions.
-use Rattle.std.specs.Prelude.{ℕ, Bool, false, ◌==◌, ◌&&◌, slice_get}
+use Rattle.std.specs.Prelude.{ℕ, Bool, false, ◌==◌, ◌&&◌}
 use Rattle.ir_ast.specs.declared.ops.Op.{Op}
 use Rattle.ir_ast.specs.declared.ops.Op.TheVariants.{GcResult, GcRelocate}
-use Rattle.ir_ast.specs.Insts.{Instruction}
 use Rattle.ir_ast.specs.Types.{is_pointer}
 use Rattle.object_meaning.specs.Lines.{Line}
-use Rattle.object_meaning.specs.Frames.{index_in}
-use Rattle.pair_facts.specs.Lines.{is_relocate}
 use Rattle.pair_facts.specs.Pairs.{base_index, relocates_base}
-
-abbrev pub relocates_base_of : ℕ → Instruction → Bool
-relocates_base_of entry inst =
-    is_relocate inst.op && (index_in (slice_get inst.operands 1) == entry && index_in (slice_get inst.operands 2) == entry)
 
 -- the pairs of a member with a base that this line of the group gives
 abbrev pub member_named : ℕ → Line → Op → ℕ → Line → Bool

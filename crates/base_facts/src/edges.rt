@@ -1,16 +1,16 @@
-ghost use Rattle.std.specs.Prelude.{◌≡◌, ◌<◌, ◌==◌, length, position};
+ghost use Rattle.std.specs.Prelude.{◌≡◌, ◌<◌, length};
 ghost use Rattle.pair_facts.specs.Lines.{lines_at, phis_in};
-ghost use Rattle.pair_facts.specs.Pairs.{at_entry, null_pairs, is_pointer_argument, incoming, value_along, along, base_along};
+ghost use Rattle.pair_facts.specs.Pairs.{at_entry, null_pairs, is_pointer_argument, value_along, along, base_along};
 ghost use Rattle.base_facts.specs.Facts.{operand_in, base_in, fact_at};
 ghost use Rattle.fact_tables.specs.Tables.{AreTables};
 ghost use Rattle.base_facts.specs.Edges.{FindsPhi, place_below};
 
 use crate::facts::{Fact, Pointer, Wanted, fact_at};
-use crate::members::{inst_at, is_pointer, operand_at};
+use crate::members::is_pointer;
 use crate::steps::is_own;
 use fact_tables::homes::{Home, home_of};
-use fact_tables::tables::{Tables, front_of};
-use ir_ast::{Func, Inst, Operand};
+use fact_tables::tables::{Tables, front_of, incoming};
+use ir_ast::{Func, Operand};
 use pair_facts::Base;
 use sp_ids::{BlockId, ValueId};
 
@@ -69,7 +69,7 @@ fn value_along(func: &Func, tables: &Tables, from: BlockId, block: usize, value:
     ensures { result ≡ value_along from.0 (phis_in (lines_at func.now.content block)) value }
 {
     match phi_of(func, tables, block, value) {
-        Some(place) => incoming(from, inst_at(func, block, place)),
+        Some(place) => incoming(func, tables, from, block, place),
         None => Operand::Value(ValueId(value)),
     }
 }
@@ -94,22 +94,6 @@ fn place_below(home: Home, block: usize, front: usize) -> Option<usize>
     } else {
         None
     }
-}
-
-// The operand of a phi on an edge from this block.
-fn incoming(from: BlockId, phi: &Inst) -> Operand
-    ensures { result ≡ incoming from.0 phi.now }
-{
-    match position_of(from, phi.labels()) {
-        Some(place) => operand_at(phi.operands(), place),
-        None => Operand::Null,
-    }
-}
-
-fn position_of(block: BlockId, labels: &[BlockId]) -> Option<usize>
-    ensures { result ≡ position (λ label. label.0 == block.0) labels.now }
-{
-    labels.iter().position(|label| label.0 == block.0)
 }
 
 /// Whether the fact holds at the entry.

@@ -1,13 +1,16 @@
-ghost use Rattle.std.specs.Prelude.{◌≡◌, ◌<◌, true, length, drop, slice_get};
+ghost use Rattle.std.specs.Prelude.{◌≡◌, ◌<◌, Some, length, drop, slice_get};
 ghost use Rattle.ir_ast.specs.Types.{is_pointer};
-ghost use Rattle.ir_ast.specs.Faults.GroupShape.{entries_of, is_statepoint};
-ghost use Rattle.object_meaning.specs.Frames.{index_in, is_member};
+ghost use Rattle.ir_ast.specs.Faults.GroupShape.{entries_of};
+ghost use Rattle.object_meaning.specs.Frames.{index_in};
 ghost use Rattle.pair_facts.specs.declared.bases.Base.TheVariants.{Any, Named};
-ghost use Rattle.pair_facts.specs.Lines.{lines_at, line_in, group_in, is_null, operand_at};
-ghost use Rattle.pair_facts.specs.Pairs.{relocates_base, has_base, relocated_pairs, member_pairs};
+ghost use Rattle.pair_facts.specs.Lines.{lines_at, line_in, head_at, group_in, is_null, operand_at};
+ghost use Rattle.pair_facts.specs.Pairs.{base_index, has_base, relocated_pairs, member_pairs};
 ghost use Rattle.pair_facts.specs.Uses.{entries_at};
-ghost use Rattle.base_facts.specs.Members.{relocates_base_of, member_named};
+ghost use Rattle.fact_tables.specs.Groups.{relocates_base_of};
+ghost use Rattle.fact_tables.specs.Tables.{AreTables};
+ghost use Rattle.base_facts.specs.Members.{member_named};
 
+use fact_tables::tables::{Tables, is_based};
 use ir_ast::{Func, Inst, Op, Operand, Ty};
 
 /// The instruction at a place of a block.
@@ -73,32 +76,6 @@ fn is_relocate_of_base(inst: &Inst, entry: u64) -> bool
     matches!(inst.op(), Op::GcRelocate) && index_at(inst, 1) == entry && index_at(inst, 2) == entry
 }
 
-fn is_member(op: &Op) -> bool
-    ensures { result ≡ is_member op.now }
-{
-    matches!(op, Op::GcResult | Op::GcRelocate)
-}
-
-/// Whether a relocate of the group keeps this entry as a base.
-pub(crate) fn has_base(func: &Func, block: usize, head: usize, entry: u64) -> bool
-    requires block { block < length func.now.content.blocks }
-    requires head { head < length (lines_at func.now.content block) }
-    requires statepoint { is_statepoint (line_in (lines_at func.now.content block) head).inst.op ≡ true }
-    ensures { result ≡ has_base (group_in (lines_at func.now.content block) head) entry }
-{
-    let insts = func.blocks()[block].insts();
-    for place in head + 1..insts.len() {
-        let inst = &insts[place];
-        if !is_member(inst.op()) {
-            return false;
-        }
-        if is_relocate_of_base(inst, entry) {
-            return true;
-        }
-    }
-    false
-}
-
 fn is_null_entry(func: &Func, block: usize, head: usize, entry: u64) -> bool
     requires block { block < length func.now.content.blocks }
     requires head { head < length (lines_at func.now.content block) }
@@ -108,30 +85,69 @@ fn is_null_entry(func: &Func, block: usize, head: usize, entry: u64) -> bool
 }
 
 /// Whether a line of a group gives a fresh pointer.
-pub(crate) fn is_fresh_member(func: &Func, block: usize, value: u32, at: usize, head: usize) -> bool
+pub(crate) fn is_fresh_member(
+    func: &Func,
+    tables: &Tables,
+    block: usize,
+    value: u32,
+    at: usize,
+    head: usize,
+) -> bool
+    requires tables { AreTables func.now.content tables.now }
     requires block { block < length func.now.content.blocks }
     requires at { at < length (lines_at func.now.content block) }
     requires head { head < length (lines_at func.now.content block) }
-    requires statepoint { is_statepoint (line_in (lines_at func.now.content block) head).inst.op ≡ true }
+    requires group { head_at (lines_at func.now.content block) at ≡ Some head }
     ensures { let lines = lines_at func.now.content block in
         result ≡ member_pairs (entries_at lines head) (group_in lines head) value (line_in lines at) (line_in lines at).inst.op Any }
 {
     let inst = inst_at(func, block, at);
     match inst.op() {
         Op::GcResult => is_pointer(inst.ty()),
-        Op::GcRelocate => is_fresh_entry(func, block, head, index_at(inst, 1)),
+        Op::GcRelocate => {
+            is_fresh_entry(func, tables, block, at, head, index_at(inst, 1))
+        }
         _ => false,
     }
 }
 
-fn is_fresh_entry(func: &Func, block: usize, head: usize, entry: u64) -> bool
+fn is_fresh_entry(
+    func: &Func,
+    tables: &Tables,
+    block: usize,
+    at: usize,
+    head: usize,
+    entry: u64,
+) -> bool
+    requires tables { AreTables func.now.content tables.now }
     requires block { block < length func.now.content.blocks }
+    requires at { at < length (lines_at func.now.content block) }
     requires head { head < length (lines_at func.now.content block) }
-    requires statepoint { is_statepoint (line_in (lines_at func.now.content block) head).inst.op ≡ true }
+    requires group { head_at (lines_at func.now.content block) at ≡ Some head }
+    requires entry { entry ≡ base_index (line_in (lines_at func.now.content block) at) }
     ensures { let lines = lines_at func.now.content block in
         result ≡ relocated_pairs (entries_at lines head) (group_in lines head) entry Any }
 {
-    has_base(func, block, head, entry) || is_null_entry(func, block, head, entry)
+    keeps_base(func, tables, block, at, head, entry) || is_null_entry(func, block, head, entry)
+}
+
+// Whether a relocate of the group keeps the base entry of this one as a base.
+fn keeps_base(
+    func: &Func,
+    tables: &Tables,
+    block: usize,
+    at: usize,
+    head: usize,
+    entry: u64,
+) -> bool
+    requires tables { AreTables func.now.content tables.now }
+    requires block { block < length func.now.content.blocks }
+    requires at { at < length (lines_at func.now.content block) }
+    requires group { head_at (lines_at func.now.content block) at ≡ Some head }
+    requires entry { entry ≡ base_index (line_in (lines_at func.now.content block) at) }
+    ensures { result ≡ has_base (group_in (lines_at func.now.content block) head) entry }
+{
+    is_based(func, tables, block, at)
 }
 
 /// Whether a line of a group gives a pointer whose base is `null`.

@@ -159,7 +159,7 @@ fn in_group(
     ensures { Decides func.now.content asked result }
 {
     match asked.base {
-        Wanted::Any => is_fresh_member(func, asked.block, value, at, head),
+        Wanted::Any => is_fresh_member(func, tables, asked.block, value, at, head),
         Wanted::Null => is_null_member(func, asked.block, value, at, head),
         Wanted::Value(base) => {
             match base_at {

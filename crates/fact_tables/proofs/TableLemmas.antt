@@ -18,6 +18,7 @@ use Rattle.fact_tables.specs.declared.notes.Notes.{Notes}
 use Rattle.fact_tables.specs.declared.tables.Tables.{Tables}
 use Rattle.fact_tables.specs.Homes.{GivesAt, home_at, home_in, KnowsHomes}
 use Rattle.fact_tables.specs.Notes.{IsNotes}
+use Rattle.fact_tables.specs.Groups.{is_based}
 use Rattle.fact_tables.specs.Tables.{AreNotes, AreTables, first_of, IsWithin, FindsWithin, place_between}
 use Rattle.fact_tables.proofs.LineLemmas.{plain_none}
 use Rattle.fact_tables.proofs.NoteLemmas.{told_at, length-told}
@@ -68,6 +69,14 @@ head_read lines one place found is within read =
     let at = slice_get_read one.heads.items (length one.heads.items) place found refl (omega arith) read in
     same_Some found (head_at lines place)
     (sym at ∙ ap (λ (xs : List (Option ℕ)). slice_get xs place) is.heads ∙ told_at (head_at lines) (length lines) place within)
+
+pub based_read : (lines : List Line) (one : Notes) (place : ℕ) (found : Bool) → IsNotes lines one → place < length lines → found ≡ get_or one.based.items place found
+    → found ≡ is_based lines place
+based_read lines one place found is within read =
+    let count : length one.based.items ≡ length lines = ap length is.based ∙ length-told (is_based lines) (length lines) in
+    let at = slice_get_read one.based.items (length one.based.items) place found refl (omega arith) read in
+    same_Some found (is_based lines place)
+    (sym at ∙ ap (λ (xs : List Bool). slice_get xs place) is.based ∙ told_at (is_based lines) (length lines) place within)
 
 -- ---- homes
 

@@ -1,3 +1,5 @@
 pub mod Homes
+pub mod Groups
+pub mod Phis
 pub mod Notes
 pub mod Tables

@@ -5,6 +5,8 @@ use Rattle.object_meaning.specs.Jumps.{phi_count}
 use Rattle.pair_facts.specs.Lines.{head_at}
 use Rattle.pair_facts.specs.Segments.{start_at}
 use Rattle.fact_tables.specs.declared.notes.Notes.{Notes}
+use Rattle.fact_tables.specs.Groups.{is_based}
+use Rattle.fact_tables.specs.Phis.{ArePhis}
 
 -- what a function gives at so many first places
 abbrev pub told : {A : Type 0} → (ℕ → A) → ℕ → List A
@@ -20,6 +22,8 @@ pub record IsNotes (lines : List Line) (notes : Notes) : Type 0 where
   pub front : notes.front ≡ phi_count lines
   pub starts : notes.starts.items ≡ told (start_at lines) (suc (length lines))
   pub heads : notes.heads.items ≡ told (head_at lines) (length lines)
+  pub based : notes.based.items ≡ told (is_based lines) (length lines)
+  pub phis : ArePhis lines (phi_count lines) notes.phis.items
 
 -- the notes as far as the lines were read
 pub record AreNoted (lines : List Line) (place start : ℕ) (head : Option ℕ) (starts : List ℕ) (heads : List (Option ℕ)) : Type 0 where

@@ -2,10 +2,12 @@ ghost use Rattle.std.specs.Prelude.{◌≡◌, ◌<◌, ◌^◌, Some, if◌then
 ghost use Rattle.std.specs.List.{prefix_len};
 ghost use Rattle.ir_ast.specs.Faults.GroupShape.{is_statepoint};
 ghost use Rattle.ir_ast.specs.Faults.PhiEdges.{is_phi};
-ghost use Rattle.object_meaning.specs.Frames.{is_member};
 ghost use Rattle.pair_facts.specs.Lines.{lines_at, head_here};
 ghost use Rattle.fact_tables.specs.Notes.{IsNotes};
 
+use crate::groups::based_of;
+use crate::insts::{is_member, is_statepoint};
+use crate::phis::{Entries, phis_of};
 use ir_ast::{Block, Func, Inst, Op};
 use sp_ids::Memory;
 use std::alloc::Global;
@@ -19,6 +21,10 @@ pub struct Notes {
     pub starts: Vec<usize>,
     /// For each line the statepoint whose group it is of.
     pub heads: Vec<Option<usize>>,
+    /// For each line whether a relocate of its group keeps the line's base entry as a base.
+    pub based: Vec<bool>,
+    /// For each of the first phis its operands, where it has many.
+    pub phis: Vec<Option<Entries>>,
 }
 
 /// The notes on the block with this number.
@@ -27,6 +33,8 @@ pub fn notes_of(alloc: Global, func: &Func, number: usize, block: &Block) -> Res
     ensures { IfOk result (λ notes. IsNotes (lines_at func.now.content number) notes) }
 {
     let front = phi_count(block.insts());
+    let based = based_of(alloc, func, number, block)?;
+    let phis = phis_of(alloc, func, number, front)?;
     let mut starts = Vec::new(alloc);
     let mut heads = Vec::new(alloc);
     let mut start = 0;
@@ -42,6 +50,8 @@ pub fn notes_of(alloc: Global, func: &Func, number: usize, block: &Block) -> Res
         front,
         starts,
         heads,
+        based,
+        phis,
     })
 }
 
@@ -60,18 +70,6 @@ fn is_phi(op: &Op) -> bool
     ensures { result ≡ is_phi op.now }
 {
     matches!(op, Op::Phi)
-}
-
-fn is_statepoint(op: &Op) -> bool
-    ensures { result ≡ is_statepoint op.now }
-{
-    matches!(op, Op::Statepoint { .. })
-}
-
-fn is_member(op: &Op) -> bool
-    ensures { result ≡ is_member op.now }
-{
-    matches!(op, Op::GcResult | Op::GcRelocate)
 }
 
 // The statepoint whose group a line is of, given that of the line before.

@@ -1,13 +1,17 @@
 ghost use Rattle.std.specs.Prelude.{◌≡◌, ◌<◌, length, IfOk};
 ghost use Rattle.object_meaning.specs.Jumps.{phi_count};
-ghost use Rattle.pair_facts.specs.Lines.{lines_at, head_at};
+ghost use Rattle.pair_facts.specs.Lines.{lines_at, line_in, head_at};
+ghost use Rattle.pair_facts.specs.Pairs.{incoming};
 ghost use Rattle.pair_facts.specs.Segments.{start_at};
+ghost use Rattle.fact_tables.specs.Groups.{is_based};
 ghost use Rattle.fact_tables.specs.Tables.{AreTables, AreNotes, IsPlace, FindsWithin, place_between};
 
 use crate::homes::{Home, home_of, homes};
+use crate::insts::inst_at;
 use crate::notes::{Notes, notes_of};
-use ir_ast::Func;
-use sp_ids::Memory;
+use crate::phis;
+use ir_ast::{Func, Operand};
+use sp_ids::{BlockId, Memory};
 use std::alloc::Global;
 
 /// Where values are defined, and the notes on each block.
@@ -64,6 +68,27 @@ pub fn head_at(func: &Func, tables: &Tables, block: usize, place: usize) -> Opti
     ensures { result ≡ head_at (lines_at func.now.content block) place }
 {
     tables.notes[block].heads[place]
+}
+
+/// Whether the group of the line at this place of a block keeps the line's base entry as a base.
+pub fn is_based(func: &Func, tables: &Tables, block: usize, place: usize) -> bool
+    requires tables { AreTables func.now.content tables.now }
+    requires block { block < length func.now.content.blocks }
+    requires place { place < length (lines_at func.now.content block) }
+    ensures { result ≡ is_based (lines_at func.now.content block) place }
+{
+    tables.notes[block].based[place]
+}
+
+/// The operand of the phi at this place of a block on an edge from a block.
+pub fn incoming(func: &Func, tables: &Tables, from: BlockId, block: usize, place: usize) -> Operand
+    requires tables { AreTables func.now.content tables.now }
+    requires block { block < length func.now.content.blocks }
+    requires place { place < phi_count (lines_at func.now.content block) }
+    ensures { result ≡ incoming from.0 (line_in (lines_at func.now.content block) place).inst }
+{
+    let phi = inst_at(func, block, place);
+    phis::incoming(from, phi, &tables.notes[block].phis[place])
 }
 
 /// Where a value is defined behind the last statepoint before a place of a block and the block's phis, if it is.

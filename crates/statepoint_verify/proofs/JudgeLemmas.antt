@@ -24,7 +24,7 @@ use Rattle.pair_facts.specs.Uses.{Use, Uses, relocates, checks, compares, escape
 use Rattle.pair_facts.specs.Faults.{IsStale, IsLoose}
 use Rattle.base_facts.specs.declared.asks.Ask.{Ask}
 use Rattle.base_facts.specs.Answers.{IsAskable, IsAnswered}
-use Rattle.base_facts.proofs.MemberLemmas.{insts_within, count_lines}
+use Rattle.fact_tables.proofs.InstLemmas.{insts_within, count_lines}
 use Rattle.base_facts.proofs.SettleLemmas.{head_stands}
 use Rattle.used_pairs.specs.declared.uses.UsedPair.{UsedPair}
 use Rattle.used_pairs.specs.Lists.{use_in, IsUse}

@@ -1,4 +1,3 @@
-pub mod GroupLemmas
 pub mod TestLemmas
 pub mod MarkLemmas
 pub mod JudgeLemmas

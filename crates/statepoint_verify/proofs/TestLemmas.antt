@@ -25,9 +25,10 @@ use Rattle.pair_facts.specs.Faults.{IsOpenGroup, IsUnchecked, IsPlainCall, IsLos
 use Rattle.pair_facts.proofs.BoolLemmas.{both, joined}
 use Rattle.pair_facts.proofs.PlaceLaws.{head_here}
 use Rattle.fact_tables.proofs.TableLemmas.{last_line}
-use Rattle.statepoint_verify.specs.declared.groups.Group.{Group}
-use Rattle.statepoint_verify.specs.Tests.{checks_by, is_open_entry, is_open_in, is_open, is_unchecked_at, is_unchecked, is_plain, is_plain_at, keeps_value, is_lost, loses}
-use Rattle.statepoint_verify.specs.Kept.{IsKept, IsGroup, opens_by, is_kept_by, is_lost_by}
+use Rattle.fact_tables.specs.declared.groups.Group.{Group}
+use Rattle.statepoint_verify.specs.Tests.{checks_by, is_open_entry, is_open_in, is_open, is_unchecked_at, is_unchecked, is_plain, is_plain_at, is_lost, loses}
+use Rattle.fact_tables.specs.Groups.{IsKept, IsGroup, keeps_value}
+use Rattle.statepoint_verify.specs.Kept.{opens_by, is_kept_by, is_lost_by}
 
 -- ---- lists
 

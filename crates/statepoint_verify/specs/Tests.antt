@@ -1,5 +1,5 @@
 -- The faults of a line that the text alone decides, as tests of the line.
-use Rattle.std.specs.Prelude.{ℕ, Bool, true, false, not, ◌==◌, ◌&&◌, List, Option, Some, None}
+use Rattle.std.specs.Prelude.{ℕ, Bool, true, false, not, ◌&&◌, List, Option, Some, None}
 use Rattle.std.specs.List.{list_any}
 use Rattle.ir_ast.specs.declared.types.Ty.{Ty}
 use Rattle.ir_ast.specs.declared.ops.Operand.{Operand}
@@ -15,7 +15,7 @@ use Rattle.ir_ast.specs.Faults.GroupShape.{is_statepoint}
 use Rattle.object_meaning.specs.Lines.{Line}
 use Rattle.object_meaning.specs.Accesses.{cell_of}
 use Rattle.pair_facts.specs.Lines.{line_in, operand_at, same_operand, is_null, is_relocate, head_at, group_in}
-use Rattle.pair_facts.specs.Pairs.{base_index, derived_index, has_base}
+use Rattle.pair_facts.specs.Pairs.{base_index, has_base}
 use Rattle.pair_facts.specs.Uses.{entries_at, accessed_at, is_checked, is_kept}
 
 -- ---- a base entry that no relocate keeps
@@ -59,9 +59,6 @@ abbrev pub is_plain_at : List Line → ℕ → Bool
 is_plain_at lines place = is_plain (line_in lines place).inst.op
 
 -- ---- a value of a bundle that no relocate keeps
-
-abbrev pub keeps_value : ℕ → Line → Bool
-keeps_value entry line = is_relocate line.inst.op && (derived_index line == entry)
 
 abbrev pub is_lost : List Operand → List Line → Ty × Operand → Bool
 is_lost entries group entry = is_pointer entry.0 && not (is_kept entries group entry.1)

@@ -4,13 +4,14 @@ ghost use Rattle.std.specs.Option.{option_map_or};
 ghost use Rattle.ir_ast.specs.Faults.GroupShape.{entries_of, is_statepoint};
 ghost use Rattle.pair_facts.specs.Lines.{lines_at, head_at, same_operand};
 ghost use Rattle.statepoint_verify.specs.Tests.{is_open, loses};
-ghost use Rattle.statepoint_verify.specs.Kept.{IsGroupOf, opens_by, is_kept_by, is_lost_by};
+ghost use Rattle.fact_tables.specs.Groups.{IsGroupOf};
+ghost use Rattle.statepoint_verify.specs.Kept.{opens_by, is_kept_by, is_lost_by};
 
-use crate::groups::{Group, Kept};
 use crate::insts::{
     entries_of, index_at, inst_at, is_null, is_pointer, is_relocate, is_statepoint, operand_at,
     same_operand,
 };
+use fact_tables::groups::{Group, Kept};
 use ir_ast::{Func, Inst, Operand, Ty};
 
 /// Whether the line at a place is a relocate whose base entry isn't `null` and is kept by no relocate of the group: a later move

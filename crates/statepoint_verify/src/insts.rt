@@ -2,7 +2,7 @@ ghost use Rattle.std.specs.Prelude.{◌≡◌, ◌<◌, length, drop, slice_get}
 ghost use Rattle.ir_ast.specs.Types.{is_pointer};
 ghost use Rattle.ir_ast.specs.Callees.{is_leaf};
 ghost use Rattle.ir_ast.specs.Faults.GroupShape.{entries_of, is_statepoint};
-ghost use Rattle.object_meaning.specs.Frames.{index_in, is_member};
+ghost use Rattle.object_meaning.specs.Frames.{index_in};
 ghost use Rattle.pair_facts.specs.Lines.{lines_at, line_in, is_null, is_relocate, operand_at, same_operand};
 ghost use Rattle.statepoint_verify.specs.Tests.{is_plain};
 
@@ -27,12 +27,6 @@ pub(crate) fn is_statepoint(op: &Op) -> bool
     ensures { result ≡ is_statepoint op.now }
 {
     matches!(op, Op::Statepoint { .. })
-}
-
-pub(crate) fn is_member(op: &Op) -> bool
-    ensures { result ≡ is_member op.now }
-{
-    matches!(op, Op::GcResult | Op::GcRelocate)
 }
 
 pub(crate) fn is_relocate(op: &Op) -> bool

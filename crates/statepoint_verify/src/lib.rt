@@ -4,7 +4,6 @@
 mod accesses;
 mod entries;
 mod faults;
-mod groups;
 mod insts;
 mod least;
 mod lines;

@@ -2,12 +2,12 @@ ghost use Rattle.std.specs.Prelude.{◌≡◌, ◌<◌, ◌+◌, ◌↔◌, Some
 ghost use Rattle.ir_cfg.specs.Graphs.{graph_of};
 ghost use Rattle.ir_cfg.specs.Paths.{Reached};
 ghost use Rattle.pair_facts.specs.Lines.{lines_at, head_at};
-ghost use Rattle.statepoint_verify.specs.Kept.{IsGroupOf};
+ghost use Rattle.fact_tables.specs.Groups.{IsGroupOf};
 ghost use Rattle.statepoint_verify.specs.Marks.{TextFault, AreAll, AreMarked, line_marked};
 
 use crate::accesses::is_unchecked;
 use crate::entries::{is_open, loses};
-use crate::groups::{Group, group_here};
+use fact_tables::groups::{Group, group_here};
 use crate::insts::{inst_at, is_plain};
 use crate::marks::{Mark, mark_where};
 use ir_ast::{Block, Func};

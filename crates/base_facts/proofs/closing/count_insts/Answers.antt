@@ -1,5 +1,5 @@
 use Rattle.std.proofs.Common.{◌∙◌, sym, ap, length}
-use Rattle.base_facts.proofs.MemberLemmas.{block_read, count_lines}
+use Rattle.fact_tables.proofs.InstLemmas.{block_read, count_lines}
 use Rattle.base_facts.proofs.closing.count_insts.Goals as goal
 
 pub returns : goal.returns

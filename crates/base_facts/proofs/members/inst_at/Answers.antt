@@ -1,5 +1,5 @@
 use Rattle.std.proofs.Common.{sym, ap, length, arith}
-use Rattle.base_facts.proofs.MemberLemmas.{insts_within, count_lines, inst_read, block_read}
+use Rattle.fact_tables.proofs.InstLemmas.{insts_within, count_lines, inst_read, block_read}
 use Rattle.base_facts.proofs.members.inst_at.Goals as goal
 
 pub offset_bounds-insts-place : goal.offset_bounds-insts-place

@@ -10,9 +10,6 @@ pub is_fresh_member-requires-clause-head : goal.is_fresh_member-requires-clause-
 is_fresh_member-requires-clause-head c =
     omega (arith, (head_stands (lines_at c.args.func.now.content c.args.asked.block) c.args.at c.args.head c.requires.head).1, c.requires.given.high, c.requires.place.place_inside)
 
-pub is_fresh_member-requires-clause-statepoint : goal.is_fresh_member-requires-clause-statepoint
-is_fresh_member-requires-clause-statepoint c = (head_stands (lines_at c.args.func.now.content c.args.asked.block) c.args.at c.args.head c.requires.head).0
-
 pub is_null_member-requires-clause-head : goal.is_null_member-requires-clause-head
 is_null_member-requires-clause-head c =
     omega (arith, (head_stands (lines_at c.args.func.now.content c.args.asked.block) c.args.at c.args.head c.requires.head).1, c.requires.given.high, c.requires.place.place_inside)

@@ -4,7 +4,8 @@ use Rattle.ir_ast.specs.Insts.{Instruction}
 use Rattle.ir_ast.specs.Faults.GroupShape.{entries_of}
 use Rattle.pair_facts.specs.Lines.{lines_at, line_in, head_at}
 use Rattle.base_facts.proofs.SettleLemmas.{head_stands}
-use Rattle.statepoint_verify.specs.Kept.{IsGroup, IsGroupOf, opens_by}
+use Rattle.fact_tables.specs.Groups.{IsGroup, IsGroupOf}
+use Rattle.statepoint_verify.specs.Kept.{opens_by}
 use Rattle.statepoint_verify.proofs.TestLemmas.{opens_here, opens_none}
 use Rattle.statepoint_verify.proofs.entries.is_open.Goals as goal
 

@@ -4,7 +4,8 @@ use Rattle.std.specs.List.{list_any}
 use Rattle.ir_ast.specs.Insts.{Instruction}
 use Rattle.ir_ast.specs.Faults.GroupShape.{entries_of, is_statepoint}
 use Rattle.pair_facts.specs.Lines.{lines_at, head_at}
-use Rattle.statepoint_verify.specs.Kept.{IsGroup, IsGroupOf, is_lost_by}
+use Rattle.fact_tables.specs.Groups.{IsGroup, IsGroupOf}
+use Rattle.statepoint_verify.specs.Kept.{is_lost_by}
 use Rattle.statepoint_verify.proofs.TestLemmas.{loses_here, loses_none}
 use Rattle.statepoint_verify.proofs.entries.loses.Goals as goal
 

@@ -2,8 +2,8 @@ use Rattle.std.proofs.Common.{◌≡◌, ◌<◌, ap, arith, sym, subst, ℕ, le
 use Rattle.std.proofs.lemmas.Option.{slice_get_within}
 use Rattle.pair_facts.specs.Lines.{lines_at}
 use Rattle.fact_tables.specs.Notes.{head_before}
-use Rattle.base_facts.proofs.MemberLemmas.{count_lines}
-use Rattle.statepoint_verify.specs.Kept.{IsGroupOf}
+use Rattle.fact_tables.proofs.InstLemmas.{count_lines}
+use Rattle.fact_tables.specs.Groups.{IsGroupOf}
 use Rattle.statepoint_verify.specs.Marks.{AreMarked}
 use Rattle.statepoint_verify.proofs.MarkLemmas.{marked_more, marked_next}
 use Rattle.statepoint_verify.proofs.lines.mark_block.Goals as goal

@@ -1,6 +1,6 @@
 use Rattle.pair_facts.specs.Lines.{lines_at}
 use Rattle.fact_tables.specs.Notes.{head_before}
-use Rattle.statepoint_verify.specs.Kept.{IsGroupOf}
+use Rattle.fact_tables.specs.Groups.{IsGroupOf}
 use Rattle.statepoint_verify.specs.Marks.{AreMarked}
 use Rattle.statepoint_verify.proofs.lines.mark_block.Given as goal
 

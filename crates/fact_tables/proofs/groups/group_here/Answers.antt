@@ -4,9 +4,9 @@ use Rattle.ir_ast.specs.Faults.GroupShape.{is_statepoint}
 use Rattle.object_meaning.specs.Frames.{is_member}
 use Rattle.pair_facts.specs.Lines.{lines_at, line_in}
 use Rattle.pair_facts.proofs.PlaceLaws.{head_here}
-use Rattle.statepoint_verify.specs.Kept.{IsGroupOf}
-use Rattle.statepoint_verify.proofs.GroupLemmas.{head_kept, head_none}
-use Rattle.statepoint_verify.proofs.groups.group_here.Goals as goal
+use Rattle.fact_tables.specs.Groups.{IsGroupOf}
+use Rattle.fact_tables.proofs.GroupLemmas.{head_kept, head_none}
+use Rattle.fact_tables.proofs.groups.group_here.Goals as goal
 
 pub returns-then-is_statepoint : goal.returns-then-is_statepoint
 returns-then-is_statepoint c =

@@ -1,34 +1,34 @@
-ghost use Rattle.std.specs.Prelude.{◌≡◌, ◌<◌, ◌+◌, suc, [], true, drop, length, IfOk};
+ghost use Rattle.std.specs.Prelude.{◌≡◌, ◌<◌, ◌+◌, suc, [], Some, drop, length, IfOk, slice_get};
 ghost use Rattle.ir_ast.specs.Faults.GroupShape.{is_statepoint};
 ghost use Rattle.object_meaning.specs.Frames.{group_length};
 ghost use Rattle.pair_facts.specs.Lines.{lines_at, line_in, head_at, group_in};
-ghost use Rattle.fact_tables.specs.Notes.{head_before};
-ghost use Rattle.statepoint_verify.specs.Kept.{IsKept, Keeps, KeepsBoth, IsGroupOf};
+ghost use Rattle.fact_tables.specs.Notes.{head_before, told};
+ghost use Rattle.fact_tables.specs.Groups.{IsKept, Keeps, KeepsBoth, IsGroupOf, is_based, is_based_by};
 
 use crate::insts::{index_at, inst_at, is_member, is_relocate, is_statepoint};
 use indexmap::IndexSet;
-use ir_ast::{Func, Inst};
+use ir_ast::{Block, Func, Inst};
 use sp_ids::Memory;
 use std::alloc::Global;
 
 /// What the relocates of a group keep, by the numbers of "gc-live" entries.
 #[derive(Drop)]
-pub(crate) struct Kept {
+pub struct Kept {
     /// The entries that a relocate names both as base and as derived pointer.
-    pub(crate) bases: IndexSet<u64>,
+    pub bases: IndexSet<u64>,
     /// The entries that a relocate names as derived pointer.
-    pub(crate) values: IndexSet<u64>,
+    pub values: IndexSet<u64>,
 }
 
 /// The group that a line is of: the place of its statepoint, and what its relocates keep.
 #[derive(Drop)]
-pub(crate) struct Group {
-    pub(crate) head: usize,
-    pub(crate) kept: Kept,
+pub struct Group {
+    pub head: usize,
+    pub kept: Kept,
 }
 
 /// The group of the line at a place, given that of the line before.
-pub(crate) fn group_here(
+pub fn group_here(
     alloc: Global,
     func: &Func,
     block: usize,
@@ -106,5 +106,43 @@ fn keep_both(base: u64, derived: u64, kept: &mut Kept) -> Result<(), Memory>
         Ok(())
     } else {
         Ok(())
+    }
+}
+
+/// For each line of a block whether a relocate of its group keeps the line's base entry as a base.
+pub(crate) fn based_of(
+    alloc: Global,
+    func: &Func,
+    number: usize,
+    block: &Block,
+) -> Result<Vec<bool>, Memory>
+    requires block { slice_get func.now.content.blocks number ≡ Some block.now }
+    ensures { let lines = lines_at func.now.content number in
+        IfOk result (λ based. based.items ≡ told (is_based lines) (length lines)) }
+{
+    let mut based = Vec::new(alloc);
+    let mut group = None;
+    for place in 0..block.insts().len() {
+        group = group_here(alloc, func, number, place, group)?;
+        based.push(is_based(func, number, place, &group))?;
+    }
+    Ok(based)
+}
+
+fn is_based(func: &Func, block: usize, place: usize, group: &Option<Group>) -> bool
+    requires block { block < length func.now.content.blocks }
+    requires place { place < length (lines_at func.now.content block) }
+    requires group { IsGroupOf (lines_at func.now.content block) (head_at (lines_at func.now.content block) place) group.now }
+    ensures { result ≡ is_based (lines_at func.now.content block) place }
+{
+    is_based_by(inst_at(func, block, place), group)
+}
+
+fn is_based_by(inst: &Inst, group: &Option<Group>) -> bool
+    ensures { result ≡ is_based_by inst.now group.now }
+{
+    match group {
+        Some(group) => group.kept.bases.contains(&index_at(inst, 1)),
+        None => false,
     }
 }

@@ -1,8 +1,8 @@
 use Rattle.std.proofs.Common.{◌≡◌, ◌-◌, ◌+◌, ℕ, suc, subst, arith, take}
 use Rattle.pair_facts.specs.Lines.{lines_at, group_in}
-use Rattle.statepoint_verify.specs.Kept.{IsKept}
-use Rattle.statepoint_verify.proofs.GroupLemmas.{kept_none, kept_more, kept_all, group_inside}
-use Rattle.statepoint_verify.proofs.groups.kept_by.Goals as goal
+use Rattle.fact_tables.specs.Groups.{IsKept}
+use Rattle.fact_tables.proofs.GroupLemmas.{kept_none, kept_more, kept_all, group_inside}
+use Rattle.fact_tables.proofs.groups.kept_by.Goals as goal
 
 pub loop-place-init : goal.loop-place-init
 loop-place-init c =

@@ -1,5 +1,5 @@
 -- Where a group ends, and the sets of what its relocates keep.
-use Rattle.std.proofs.Common.{◌≡◌, ◌∙◌, ◌≤◌, ◌<◌, inl, inr, ℕ, zero, suc, ◌+◌, ◌-◌, cond, Bool, true, false, List, [], ◌∷◌, ◌++◌, Option, Some, None, refl, ap, sym, subst, length, arith, get_or, take, drop, length-drop, take_all}
+use Rattle.std.proofs.Common.{◌≡◌, ◌∙◌, ◌≤◌, ◌<◌, inl, inr, ℕ, zero, suc, ◌+◌, ◌-◌, cond, Bool, true, false, List, [], ◌∷◌, ◌++◌, Option, Some, None, refl, ap, sym, subst, length, arith, add-one, get_or, take, drop, length-drop, take_all, Result, Ok, Err, IfOk}
 use Rattle.std.specs.Prelude.{◌==◌, ◌&&◌, ◌||◌, nat_eq, slice_get}
 use Rattle.std.specs.List.{list_any}
 use Rattle.std.proofs.lemmas.Bool.{cases_Bool, eq-eqb, eqb-true}
@@ -11,13 +11,13 @@ use Rattle.ir_ast.specs.Faults.GroupShape.{is_statepoint}
 use Rattle.object_meaning.specs.Lines.{Line}
 use Rattle.object_meaning.specs.Frames.{is_member, group_length, index_in}
 use Rattle.pair_facts.specs.Lines.{line_in, no_line, head_at, head_here, group_in, is_relocate}
-use Rattle.pair_facts.specs.Pairs.{relocates_base}
+use Rattle.pair_facts.specs.Pairs.{relocates_base, base_index, has_base}
 use Rattle.pair_facts.proofs.BoolLemmas.{or_false, or_first, same_tests, either}
-use Rattle.fact_tables.specs.Notes.{head_before}
-use Rattle.base_facts.specs.Members.{relocates_base_of}
-use Rattle.statepoint_verify.specs.declared.groups.Kept.{Kept}
-use Rattle.statepoint_verify.specs.Tests.{keeps_value}
-use Rattle.statepoint_verify.specs.Kept.{IsKept, Keeps, KeepsBoth, keeps_value_of}
+use Rattle.std.specs.Option.{option_map_or}
+use Rattle.fact_tables.specs.Notes.{head_before, told}
+use Rattle.fact_tables.specs.declared.groups.Group.{Group}
+use Rattle.fact_tables.specs.declared.groups.Kept.{Kept}
+use Rattle.fact_tables.specs.Groups.{IsKept, Keeps, KeepsBoth, relocates_base_of, keeps_value, keeps_value_of, IsGroupOf, is_based, is_based_by}
 
 -- ---- the statepoint of a line's group
 
@@ -184,3 +184,23 @@ kept_all lines head place kept past is =
 pub group_inside : (lines : List Line) (head place : ℕ) → head < length lines → place < suc head + group_length (drop (suc head) lines) → place < length lines
 group_inside lines head place low high =
     omega (arith, prefix_len-le-length (λ (line : Line). is_member line.inst.op) (drop (suc head) lines), length-drop (suc head) lines)
+
+-- ---- the group of a line, and whether it keeps the line's base
+
+pub ok_map : {T E : Type 0} (r : Result T E) (P Q : T → Type 0) → ((x : T) → P x → Q x) → IfOk r P → IfOk r Q
+ok_map (Ok x) P Q each h = each x h
+ok_map (Err e) P Q each h = h
+
+pub based_here : (lines : List Line) (place : ℕ) (inst : Instruction) (found : Option Group) → inst ≡ (line_in lines place).inst
+    → IsGroupOf lines (head_at lines place) found → is_based_by inst found ≡ is_based lines place
+based_here lines place inst None own none = sym (ap (λ (h : Option ℕ). option_map_or (λ head. has_base (group_in lines head) (base_index (line_in lines place))) h false) none)
+based_here lines place inst (Some group) own is =
+    ap (λ (i : Instruction). list_any (nat_eq (index_in (slice_get i.operands 1))) group.kept.bases.keys) own
+    ∙ is.kept.bases (base_index (line_in lines place))
+    ∙ sym (ap (λ (h : Option ℕ). option_map_or (λ head. has_base (group_in lines head) (base_index (line_in lines place))) h false) is.head_is)
+
+pub based_more : (lines : List Line) (place : ℕ) (based next : List Bool) (one : Bool) → one ≡ is_based lines place → next ≡ based ++ one ∷ []
+    → based ≡ told (is_based lines) place → next ≡ told (is_based lines) (place + 1)
+based_more lines place based next one is pushed old =
+    pushed ∙ ap (λ (b : Bool). based ++ b ∷ []) is ∙ ap (λ (xs : List Bool). xs ++ is_based lines place ∷ []) old
+    ∙ ap (told (is_based lines)) (sym (add-one place))

@@ -1,6 +1,6 @@
 use Rattle.std.proofs.Common.{refl}
-use Rattle.statepoint_verify.proofs.GroupLemmas.{keeps_same, keeps_apart}
-use Rattle.statepoint_verify.proofs.groups.keep_both.Goals as goal
+use Rattle.fact_tables.proofs.GroupLemmas.{keeps_same, keeps_apart}
+use Rattle.fact_tables.proofs.groups.keep_both.Goals as goal
 
 pub returns-in_ok-insert-2 : goal.returns-in_ok-insert-2
 returns-in_ok-insert-2 c =

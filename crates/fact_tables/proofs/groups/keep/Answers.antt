@@ -1,8 +1,8 @@
 use Rattle.std.proofs.Common.{◌≡◌, true, false}
 use Rattle.pair_facts.specs.Lines.{is_relocate}
-use Rattle.base_facts.proofs.ClosingLemmas.{ok_map}
-use Rattle.statepoint_verify.proofs.GroupLemmas.{keeps_relocate, keeps_other}
-use Rattle.statepoint_verify.proofs.groups.keep.Goals as goal
+use Rattle.fact_tables.proofs.GroupLemmas.{ok_map}
+use Rattle.fact_tables.proofs.GroupLemmas.{keeps_relocate, keeps_other}
+use Rattle.fact_tables.proofs.groups.keep.Goals as goal
 
 pub returns-then-is_relocate : goal.returns-then-is_relocate
 returns-then-is_relocate c =

@@ -5,9 +5,9 @@ use Rattle.ir_ast.specs.Insts.{Instruction}
 use Rattle.object_meaning.specs.Lines.{Line}
 use Rattle.object_meaning.specs.Frames.{is_member}
 use Rattle.pair_facts.specs.Lines.{lines_at, line_in, no_line}
-use Rattle.base_facts.proofs.MemberLemmas.{insts_within, count_lines, inst_read, block_read}
-use Rattle.statepoint_verify.proofs.GroupLemmas.{group_ends}
-use Rattle.statepoint_verify.proofs.groups.group_end.Goals as goal
+use Rattle.fact_tables.proofs.InstLemmas.{insts_within, count_lines, inst_read, block_read}
+use Rattle.fact_tables.proofs.GroupLemmas.{group_ends}
+use Rattle.fact_tables.proofs.groups.group_end.Goals as goal
 
 pub overflow_step-place : goal.overflow_step-place
 overflow_step-place c =
