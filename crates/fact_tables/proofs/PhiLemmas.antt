@@ -66,7 +66,7 @@ operand_shift (operand ∷ operands) n = refl
 
 later_operand : (operands : List Operand) (n : ℕ) (b : Bool)
     → option_map_or (operand_at operands) (cond b (Some (1 + n)) None) Null ≡ option_map_or (operand_at (drop 1 operands)) (cond b (Some n) None) Null
-later_operand operands n true = operand_shift operands n
+later_operand operands n true = (let same : 1 + n ≡ suc n = omega arith in ap (operand_at operands) same ∙ operand_shift operands n)
 later_operand operands n false = refl
 
 both_below : (n m : ℕ) → nat_lt (1 + n) (suc m) ≡ nat_lt n m
@@ -75,7 +75,7 @@ both_below n m = same_tests (nat_lt (1 + n) (suc m)) (nat_lt n m)
     (λ h. lt-ltb (1 + n) (suc m) (omega (arith, ltb-true n m h)))
 
 -- the operand beside the label's place, where that place lies within
-operand_found : List Operand → ℕ → ℕ → Operand
+abbrev operand_found : List Operand → ℕ → ℕ → Operand
 operand_found operands n m = option_map_or (operand_at operands) (cond (nat_lt n m) (Some n) None) Null
 
 pub incoming_beside : (labels : List BlockId) (operands : List Operand) (from : ℕ)
@@ -98,8 +98,11 @@ incoming_beside (label ∷ labels) operands from = elim (cases_Bool (label.0 == 
 
 -- ---- a phi more
 
-pub phis_none : {S : Type 0} (lines : List Line) → ArePhis {S = S} lines 0 []
-phis_none lines = record { whole = refl; each = λ place one at. absurd (none-some one at) }
+pub phis_none : {S : Type 0} (lines : List Line) (phis : List (Option (IndexMap ℕ Operand S))) → phis ≡ [] → ArePhis lines 0 phis
+phis_none {S} lines phis is = record {
+  whole = ap length is;
+  each = λ place one at. absurd (none-some one (ap (λ (xs : List (Option (IndexMap ℕ Operand S))). slice_get xs place) (sym is) ∙ at));
+}
 
 pub phis_pushed : {S : Type 0} (lines : List Line) (count : ℕ) (phis next : List (Option (IndexMap ℕ Operand S))) (one : Option (IndexMap ℕ Operand S)) (inst : Instruction)
     → next ≡ phis ++ one ∷ [] → inst ≡ (line_in lines count).inst → AreEntries inst one → ArePhis lines count phis → ArePhis lines (count + 1) next

@@ -1,11 +1,9 @@
-use Rattle.std.proofs.Common.{◌≡◌, ℕ, subst, arith}
 use Rattle.pair_facts.specs.Lines.{lines_at}
-use Rattle.fact_tables.specs.Phis.{ArePhis}
 use Rattle.fact_tables.proofs.PhiLemmas.{phis_none, phis_pushed}
 use Rattle.fact_tables.proofs.phis.phis_of.Goals as goal
 
 pub loop-place-init : goal.loop-place-init
-loop-place-init c = phis_none (lines_at c.args.func.now.content c.args.number)
+loop-place-init c = phis_none (lines_at c.args.func.now.content c.args.number) c.new-phis.result.items c.new-phis.ensures.items
 
 pub loop-place-preserved : goal.loop-place-preserved
 loop-place-preserved c =
