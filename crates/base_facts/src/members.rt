@@ -104,9 +104,7 @@ pub(crate) fn is_fresh_member(
     let inst = inst_at(func, block, at);
     match inst.op() {
         Op::GcResult => is_pointer(inst.ty()),
-        Op::GcRelocate => {
-            is_fresh_entry(func, tables, block, at, head, index_at(inst, 1))
-        }
+        Op::GcRelocate => is_fresh_entry(func, tables, block, at, head, index_at(inst, 1)),
         _ => false,
     }
 }

@@ -29,7 +29,7 @@ drop_whole (x ∷ xs) = drop_whole xs
 
 beside_next : (labels : List BlockId) (operands : List Operand) (place from : ℕ) (d : BlockId) → place < length labels
     → operand_beside from (drop place labels) (drop place operands)
-      ≡ cond ((get_or labels place d).0 == from) (Some (operand_at operands place)) (operand_beside from (drop (suc place) labels) (drop (suc place) operands))
+    ≡ cond ((get_or labels place d).0 == from) (Some (operand_at operands place)) (operand_beside from (drop (suc place) labels) (drop (suc place) operands))
 beside_next [] operands place from d below = absurd (omega arith)
 beside_next (first ∷ labels) operands zero from d below = refl
 beside_next (first ∷ labels) [] (suc place) from d below =
@@ -80,7 +80,7 @@ operand_found operands n m = option_map_or (operand_at operands) (cond (nat_lt n
 
 pub incoming_beside : (labels : List BlockId) (operands : List Operand) (from : ℕ)
     → option_map_or (λ place. operand_at operands place) (position (λ label. label.0 == from) labels) Null
-      ≡ option_map_or (λ operand. operand) (operand_beside from labels operands) Null
+    ≡ option_map_or (λ operand. operand) (operand_beside from labels operands) Null
 incoming_beside [] operands from = refl
 incoming_beside (label ∷ labels) operands from = elim (cases_Bool (label.0 == from)) [
   | inl same ↦ ap (λ b. operand_found operands (cond (not b) (1 + n) 0) (suc (length labels))) same

@@ -7,9 +7,9 @@ ghost use Rattle.statepoint_verify.specs.Marks.{TextFault, AreAll, AreMarked, li
 
 use crate::accesses::is_unchecked;
 use crate::entries::{is_open, loses};
-use fact_tables::groups::{Group, group_here};
 use crate::insts::{inst_at, is_plain};
 use crate::marks::{Mark, mark_where};
+use fact_tables::groups::{Group, group_here};
 use ir_ast::{Block, Func};
 use ir_cfg::Cfg;
 use sp_ids::{BlockId, Memory};
