@@ -1,4 +1,4 @@
-use Rattle.std.proofs.Common.{◌≡◌, ◌∙◌, ◌<◌, ap, arith, sym, subst, ℕ, length, add-one}
+use Rattle.std.proofs.Common.{◌≡◌, ◌∙◌, ap, arith, sym, subst, ℕ, length, add-one}
 use Rattle.std.proofs.lemmas.Option.{slice_get_within}
 use Rattle.pair_facts.specs.Lines.{lines_at}
 use Rattle.fact_tables.specs.Notes.{told, head_before}

@@ -1,4 +1,3 @@
-use Rattle.std.proofs.Common.{◌≡◌}
 use Rattle.pair_facts.specs.Lines.{lines_at}
 use Rattle.fact_tables.specs.Phis.{ArePhis}
 use Rattle.fact_tables.proofs.phis.phis_of.Given as goal
