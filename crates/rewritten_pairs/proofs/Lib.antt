@@ -8,3 +8,5 @@ pub mod UseFacts
 pub mod FaultFacts
 pub mod Verdict
 pub mod StayFacts
+pub mod BaseFacts
+pub mod PhiFacts
