@@ -10,3 +10,4 @@ pub mod Verdict
 pub mod StayFacts
 pub mod BaseFacts
 pub mod PhiFacts
+pub mod DeriveFacts
