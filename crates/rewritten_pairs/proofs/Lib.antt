@@ -11,3 +11,4 @@ pub mod StayFacts
 pub mod BaseFacts
 pub mod PhiFacts
 pub mod DeriveFacts
+pub mod PairsFacts
