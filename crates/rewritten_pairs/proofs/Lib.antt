@@ -10,5 +10,6 @@ pub mod Verdict
 pub mod StayFacts
 pub mod BaseFacts
 pub mod PhiFacts
+pub mod UnderivedFacts
 pub mod DeriveFacts
 pub mod PairsFacts

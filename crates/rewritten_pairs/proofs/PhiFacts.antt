@@ -137,7 +137,7 @@ null_has func merged _ _ (of_itself value none) is = absurd cc
 null_has func merged _ _ (of_step value inst pointer base gives_it step first rest) is = absurd cc
 null_has func merged _ _ (of_merge value inst gives_it merge derived) is = absurd cc
 
-fits_repeated : (values : List Ty) (given : List Operand) (n k : ℕ) (ty : Ty) (o : Operand) → AllZip (Fits values) given (replicate n ty) → slice_get given k ≡ Some o → Fits values o ty
+pub fits_repeated : (values : List Ty) (given : List Operand) (n k : ℕ) (ty : Ty) (o : Operand) → AllZip (Fits values) given (replicate n ty) → slice_get given k ≡ Some o → Fits values o ty
 fits_repeated values [] n k ty o fits at = absurd (none-some o at)
 fits_repeated values (x ∷ given) zero k ty o fits at = absurd fits
 fits_repeated values (x ∷ given) (suc n) zero ty o fits at = let same : x ≡ o = cc in subst (λ (y : Operand). Fits values y ty) same fits.0

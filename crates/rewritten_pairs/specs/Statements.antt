@@ -3,9 +3,7 @@ use Rattle.std.specs.Prelude.{◌≡◌, ℕ, List, Some, length, slice_get}
 use Rattle.std.specs.List.{All}
 use Rattle.sp_ids.specs.declared.ids.ValueId.{ValueId}
 use Rattle.ir_ast.specs.declared.ops.Operand.{Operand}
-use Rattle.ir_ast.specs.declared.ops.Operand.TheVariants.{Value}
-use Rattle.ir_ast.specs.Bases.{Base, IsBaseTable}
-use Rattle.ir_ast.specs.Derived.{Derived}
+use Rattle.ir_ast.specs.Bases.{IsBaseTable}
 use Rattle.ir_ast.specs.Faults.PhiEdges.{PhisAreRight}
 use Rattle.ir_ast.specs.Faults.TypeClash.{IsTyped}
 use Rattle.ir_ast.specs.Funcs.{Function, instructions_of}
@@ -42,8 +40,6 @@ pub record HasTypedBases (content : ModuleContent) (func : Function) (merged : �
   pub reached : IsReached func
   pub bases : HasDefiniteBases func merged
   pub table_bases : IsBaseTable func merged table
-  -- no base is derived
-  pub underived : (pointer base : ValueId) → Base func merged (Value pointer) (Value base) → ¬ Derived func base.0
   pub phis : PhisAreRight func
   pub bare : PhisAreBare func
   pub lines : All IsLine (instructions_of func.blocks)
