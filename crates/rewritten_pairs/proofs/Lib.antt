@@ -13,3 +13,4 @@ pub mod PhiFacts
 pub mod UnderivedFacts
 pub mod DeriveFacts
 pub mod PairsFacts
+pub mod SourceFacts

@@ -16,10 +16,13 @@ use Rattle.rewriting_forms.specs.Names.{Naming}
 use Rattle.rewriting_forms.specs.Numbered.{lines_at}
 use Rattle.rewriting_forms.specs.Rewritten.{names_of, place_in, rewritten_with}
 use Rattle.rewriting_laws.specs.Laws.{Fits, IsNumbering, IsPlain}
+use Rattle.base_forms.specs.Polls.{placed}
+use Rattle.base_forms.specs.Based.{base_table, based}
 use Rattle.base_paths.specs.Statements.{HasDefiniteBases}
 use Rattle.base_relations.specs.Statements.{IsReached}
 use Rattle.rewritten_definite.specs.LeadsOut.{PhisAreBare}
-use Rattle.pair_facts.specs.Faults.{FaultAt}
+use Rattle.rewritten_definite.specs.Statements.{IsReachedSource, rewritten_source}
+use Rattle.pair_facts.specs.Faults.{FaultAt, IsVerified}
 use Rattle.rewritten_pairs.specs.Takes.{HasPairs, Takes}
 
 -- a function before its groups that takes pointers with their bases, and a choice of inserted phis by which names fit at every edge
@@ -50,3 +53,11 @@ pub record HasTypedBases (content : ModuleContent) (func : Function) (merged : �
 abbrev pub BasesHavePairs : Type 0
 BasesHavePairs = (content : ModuleContent) (func : Function) (merged : ℕ → ValueId) (table : List Operand) (room : ℕ) → HasTypedBases content func merged table room
     → HasPairs func table (live_table func table)
+
+-- each line of the function with polls and bases takes pointers with their bases
+abbrev pub TakesBases : Function → Type 0
+TakesBases func = (b k : ℕ) (line : Line) → slice_get (lines_at (based (placed func)) b) k ≡ Some line → Takes (based (placed func)) (base_table (placed func)) b k line
+
+-- so the rewritten module of a source module without unreached blocks is verified, where its functions do
+abbrev pub SourceIsVerified : Type 0
+SourceIsVerified = (content : ModuleContent) → IsReachedSource content → All TakesBases content.funcs → IsVerified (rewritten_source content)
