@@ -165,9 +165,9 @@ module _ (func : Function) (table : List Operand) (naming : Naming) (fits : Fits
         let two = own_apart 2 second in (
           and_from (without mine pairs (operand_at operands 1) Any) (without mine pairs (operand_at operands 2) Any) (fresh_apart 1 first.0) (fresh_apart 2 second.0),
           rw (own_base base) (
-            or_left (eqb mine mine && are_own (without mine pairs) operands) _
-                (and_from (eqb mine mine) (are_own (without mine pairs) operands) (eq-eqb mine mine refl)
-                (and_from _ _ one two))),
+              or_left (eqb mine mine && are_own (without mine pairs) operands) _
+              (and_from (eqb mine mine) (are_own (without mine pairs) operands) (eq-eqb mine mine refl)
+              (and_from _ _ one two))),
         )
 
     -- v isn't a base, since its own is another
