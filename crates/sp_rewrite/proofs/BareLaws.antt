@@ -17,7 +17,7 @@ use Rattle.ir_ast.specs.Derived.{is_merge}
 use Rattle.ir_ast.specs.Funcs.{Function}
 use Rattle.ir_ast.specs.Insts.{Instruction}
 use Rattle.ir_ast.specs.Modules.{ModuleContent}
-use Rattle.ir_cfg.specs.Unreached.{DropsUnreached, ModuleDropsUnreached, block_kept, inst_kept, kept_by, kept_of, operand_kept}
+use Rattle.ir_cfg.specs.Unreached.{DropsUnreached, block_kept, inst_kept, kept_by, kept_of, operand_kept}
 use Rattle.ir_cfg.proofs.KeepsForms.{all_flat, flat_all}
 use Rattle.ir_cfg.proofs.KeepsPlaces.{kept_all}
 use Rattle.object_meaning.specs.Lines.{Line, after_all, following, insts_in, registers_of, retreats}
