@@ -1,6 +1,5 @@
 -- A stack shows nothing where no record of the map has "deopt" locations.
-use Rattle.std.proofs.Common.{◌≡◌, ℕ, zero, suc, ◌+◌, ◌-◌, ◌==◌, if◌then◌else◌, Bool, true, false, List, [], ◌∷◌, ◌++◌, map, take, drop, length, slice_index, Option, Some, None, refl, sym, ap, ◌∙◌}
-use Rattle.std.proofs.lemmas.List.{append-nil}
+use Rattle.std.proofs.Common.{◌≡◌, ℕ, zero, suc, ◌+◌, ◌-◌, ◌==◌, if◌then◌else◌, Bool, true, false, List, [], ◌∷◌, ◌++◌, map, take, drop, length, slice_index, Option, Some, None, refl, ap, ◌∙◌}
 use Rattle.sp_ids.specs.declared.ends.End.{End}
 use Rattle.sp_ids.specs.declared.ends.End.TheVariants.{Trap}
 use Rattle.moving_heap.specs.declared.stands.Stand.{Stand}
@@ -8,6 +7,7 @@ use Rattle.frame_walk.specs.Maps.{FrameEntry, pairs_in}
 use Rattle.frame_walk.specs.Walks.{frame_words}
 use Rattle.machine_meaning.specs.Machines.{Machine, Machinery}
 use Rattle.machine_meaning.specs.TrapLines.{deopt_places, pair_places, is_readable, frame_line, values_of, shown_place, lines_with, lines_at, lines_from, closing_of}
+use Rattle.ir_machine.specs.Answers.{IsUntrapped}
 
 -- what a map may have at each return address
 abbrev Quiet : Machinery → Type 0
@@ -47,3 +47,7 @@ closing_nothing machinery (Trap trap) machine quiet =
     from_nothing (length machine.stack) machinery machine.heap.stands 1 (slice_index machine.stack (machinery.frame_words machine.state.running.func))
     (drop (machinery.frame_words machine.state.running.func + 1) machine.stack) quiet
 closing_nothing machinery _ machine quiet = refl
+
+pub closing_untrapped : (machinery : Machinery) (end : End) (machine : Machine) → IsUntrapped end → closing_of machinery end machine ≡ []
+closing_untrapped machinery (Trap trap) machine ended = absurd ended
+closing_untrapped machinery _ machine is = refl

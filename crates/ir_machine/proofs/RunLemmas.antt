@@ -22,7 +22,7 @@ use Rattle.ir_machine.specs.declared.executor.Did.TheVariants.{GoesOn, Prints, E
 use Rattle.ir_machine.specs.declared.run.Ran.{Ran}
 use Rattle.ir_machine.specs.Executors.{effect_of, told, without_words}
 use Rattle.ir_machine.specs.Answers.{IsRunOver, IsRunFrom, WritesFrontFrom, unprinted, Follows, ended_of, Wrote, WroteFront}
-use Rattle.ir_machine.proofs.QuietLemmas.{closing_nothing}
+use Rattle.ir_machine.proofs.QuietLemmas.{closing_nothing, closing_untrapped}
 
 pub follows_start : (machinery : Machinery) (machine : Machine) (old : Option (List ℕ)) → Follows machinery (unprinted machine) machine 0 old old
 follows_start machinery machine old = record {
@@ -177,5 +177,6 @@ run_is content map input plan bound old new ran run =
       gives = record { last = run.last; run = run.run; is = refl };
       answer = ran_same ran run.last.state.state.running.func run.last.state.state.steps run.last.state.state.events (line_count run.last.lines) run.func run.steps run.events run.lines;
       written = run.written;
-      whole = λ bare. run.written ∙ ap (append_known old) (sym (printed_all run.last.lines (closing_of machinery ran.end run.last.state) (closing_nothing machinery ran.end run.last.state bare)));
+      untrapped = λ end. run.written ∙ ap (append_known old) (sym (printed_all run.last.lines (closing_of machinery ran.end run.last.state) (closing_untrapped machinery ran.end run.last.state end)));
+      unnamed = λ bare. run.written ∙ ap (append_known old) (sym (printed_all run.last.lines (closing_of machinery ran.end run.last.state) (closing_nothing machinery ran.end run.last.state bare)));
     }

@@ -3,6 +3,7 @@ use Rattle.std.specs.Prelude.{◌≡◌, ℕ, ◌+◌, ◌-◌, ◌^◌, min, �
 use Rattle.std.specs.List.{concat}
 use Rattle.tool_io.specs.Sink.{append_known, AppendsFront}
 use Rattle.sp_ids.specs.declared.ends.End.{End}
+use Rattle.sp_ids.specs.declared.ends.End.TheVariants.{Trap}
 use Rattle.ir_ast.specs.Modules.{ModuleContent}
 use Rattle.move_plan.specs.declared.plan_lines.PlanLine.{PlanLine}
 use Rattle.map_bytes.specs.Maps.{StackMap, IsMapOf}
@@ -30,14 +31,20 @@ ran_of outcome = record {
 abbrev pub NamesNothing : StackMap → Type 0
 NamesNothing map = (address : ℕ) (one : FrameEntry) → found_in map address ≡ Some one → deopt_places one ≡ []
 
+-- the end of a run at which waiting frames show nothing
+abbrev pub IsUntrapped : End → Type 0
+IsUntrapped (Trap trap) = ⊥
+IsUntrapped end = Unit {0}
+
 -- the answer is that of the machine's run over a map, and what its steps print was written; at a trap without what the
--- waiting frames show. Over a map that has nothing for them to show, that is the whole output
+-- waiting frames show. Where they show nothing, that is the whole output
 pub record IsRunOver (content : ModuleContent) (map : StackMap) (input : List ℤ) (plan : List PlanLine) (bound : ℕ) (ran : Ran) (old new : Option (List ℕ)) : Type 0 where
   pub outcome : MachineOutcome
   pub gives : MachineGives content map input plan bound outcome
   pub answer : ran ≡ ran_of outcome
   pub written : new ≡ append_known old (text_of gives.last.lines)
-  pub whole : NamesNothing map → new ≡ append_known old (concat outcome.lines)
+  pub untrapped : IsUntrapped ran.end → new ≡ append_known old (concat outcome.lines)
+  pub unnamed : NamesNothing map → new ≡ append_known old (concat outcome.lines)
 
 -- the same of the map that these bytes are
 pub record IsRun (content : ModuleContent) (bytes : List ℕ) (input : List ℤ) (plan : List PlanLine) (bound : ℕ) (ran : Ran) (old new : Option (List ℕ)) : Type 0 where
