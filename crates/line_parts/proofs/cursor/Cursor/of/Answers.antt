@@ -13,6 +13,7 @@ within line (Ok None) first = first
 within line (Err byte) first = first
 
 pub invariant_of-result : goal.invariant_of-result
-invariant_of-result c =
-    (within c.args.line.bytes.now c.token_at-next.result c.token_at-next.ensures.token,
-    subst (λ (found : List Tok). length found < 2 ^ 63) c.token_at-next.ensures.remaining (omega (arith, tokens-le c.args.line.bytes.now)))
+invariant_of-result c = (
+  within c.args.line.bytes.now c.token_at-next.result c.token_at-next.ensures.token,
+  subst (λ (found : List Tok). length found < 2 ^ 63) c.token_at-next.ensures.remaining (omega (arith, tokens-le c.args.line.bytes.now)),
+)
