@@ -45,7 +45,7 @@ take_front : {A : Type 0} (xs ys : List A) → take (length xs) (xs ++ ys) ≡ x
 take_front [] ys = refl
 take_front (x ∷ xs) ys = ap (λ zs. x ∷ zs) (take_front xs ys)
 
-prefix_all : {A : Type 0} (p : A → Bool) (xs : List A) (k : ℕ) (x : A) → slice_get (take (prefix_len p xs) xs) k ≡ Some x → p x ≡ true
+pub prefix_all : {A : Type 0} (p : A → Bool) (xs : List A) (k : ℕ) (x : A) → slice_get (take (prefix_len p xs) xs) k ≡ Some x → p x ≡ true
 prefix_all p [] k x is = absurd (cc)
 prefix_all p (y ∷ xs) k x is = elim (cases_Bool (p y)) [
   | inr other ↦ absurd (let h = rw other at is in cc)
@@ -56,7 +56,7 @@ prefix_all p (y ∷ xs) k x is = elim (cases_Bool (p y)) [
     go zero is here rest = let e : y ≡ x = cc in ap p (sym e) ∙ here
     go (suc k) is here rest = rest k is
 
-prefix_within : {A : Type 0} (p : A → Bool) (xs : List A) → length (take (prefix_len p xs) xs) ≡ prefix_len p xs
+pub prefix_within : {A : Type 0} (p : A → Bool) (xs : List A) → length (take (prefix_len p xs) xs) ≡ prefix_len p xs
 prefix_within p [] = refl
 prefix_within p (y ∷ xs) = elim (cases_Bool (p y)) [
   | inr other ↦ rw other refl
@@ -89,7 +89,7 @@ operand_there (o ∷ operands) (suc place) v is = operand_there operands place v
 abbrev pub gives_any : List Line → ℕ → Bool
 gives_any xs v = list_any (λ (x : Line). gives x v) xs
 
-no_phi : (from v : ℕ) (xs : List Line) → gives_any xs v ≡ false → value_along from xs v ≡ named v
+pub no_phi : (from v : ℕ) (xs : List Line) → gives_any xs v ≡ false → value_along from xs v ≡ named v
 no_phi from v [] none = refl
 no_phi from v (x ∷ xs) none =
     let parts = or_parts (gives x v) (gives_any xs v) none in

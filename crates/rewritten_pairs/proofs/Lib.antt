@@ -8,3 +8,9 @@ pub mod UseFacts
 pub mod FaultFacts
 pub mod Verdict
 pub mod StayFacts
+pub mod BaseFacts
+pub mod PhiFacts
+pub mod UnderivedFacts
+pub mod DeriveFacts
+pub mod PairsFacts
+pub mod SourceFacts

@@ -49,6 +49,20 @@ base_stands table x v is = elim (cases_lt x (length table)) [
   | inr past ↦ absurd (let none : operands.Null ≡ named v = sym (get_or_past table x operands.Null past) ∙ is in cc)
 ]
 
+-- the table has an entry for each pointer
+pub table_there : (func : Function) (table : List Operand) (merged : ℕ → ValueId) → IsBaseTable func merged table → (v : ℕ) → among v (pointers func) ≡ true
+    → slice_get table v ≡ Some (base_at table v)
+table_there func table merged bases v pointer =
+    let typed = (among_filter (λ (x : ℕ). option_map_or is_pointer (slice_get (value_types func) x) false) v (range_with_len 0 (length (value_types func))) pointer).1 in
+    let below = some_below (slice_get (value_types func) v) refl typed in
+    let count = length-map (definitions_of func) definition_type in
+    let long = bases.whole in
+    slice_get-get_or table v operands.Null (omega (arith, below, count, long))
+  where
+    some_below : (t : Option Ty) → slice_get (value_types func) v ≡ t → option_map_or is_pointer t false ≡ true → v < length (value_types func)
+    some_below None none is = absurd (false≢true is)
+    some_below (Some ty) at is = slice_get_within (value_types func) v ty at
+
 truly : (s t : Bool) → s ≡ true → (not s || t) ≡ true → t ≡ true
 truly true t is either = either
 truly false t is either = absurd (false≢true is)
@@ -167,18 +181,6 @@ module _ (func : Function) (table : List Operand) (merged : ℕ → ValueId) (ha
       | inl below ↦ (below, argument_own v below pointer (base_at table v) refl)
     ]
       where
-        null_stands : (v : ℕ) → among v (pointers func) ≡ true → base_at table v ≡ operands.Null → slice_get table v ≡ Some operands.Null
-        null_stands v pointer is =
-            let typed = (among_filter (λ (x : ℕ). option_map_or is_pointer (slice_get (value_types func) x) false) v (range_with_len 0 (length (value_types func))) pointer).1 in
-            let below = some_below (slice_get (value_types func) v) refl typed in
-            let count = length-map (definitions_of func) definition_type in
-            let long = bases.whole in
-            slice_get-get_or table v operands.Null (omega (arith, below, count, long)) ∙ ap (λ o. Some o) is
-          where
-            some_below : (t : Option Ty) → slice_get (value_types func) v ≡ t → option_map_or is_pointer t false ≡ true → v < length (value_types func)
-            some_below None none is = absurd (false≢true is)
-            some_below (Some ty) at is = slice_get_within (value_types func) v ty at
-
         no_null : (one two : Operand) → Base func merged one two → (v : ℕ) → one ≡ named v → two ≡ operands.Null → v < length func.args → ⊥
         no_null _ _ of_null v is null below = cc
         no_null _ _ (of_itself value none) v is null below = cc
@@ -194,7 +196,7 @@ module _ (func : Function) (table : List Operand) (merged : ℕ → ValueId) (ha
           | inl same ↦ ap named (sym same)
           | inr apart ↦ absurd (let high = derived_high func merged has.bases (numbered v) value (based v value.0 is) apart in omega (arith, high, below))
         ]
-        argument_own v below pointer operands.Null is = absurd (no_null (named v) operands.Null (bases.each (numbered v) operands.Null (null_stands v pointer is)) v refl refl below)
+        argument_own v below pointer operands.Null is = absurd (no_null (named v) operands.Null (bases.each (numbered v) operands.Null (table_there func table merged bases v pointer ∙ ap (λ o. Some o) is)) v refl refl below)
         argument_own v below pointer (operands.Int word) is = absurd (subst (IsPointer func table) is (own v pointer).0)
         argument_own v below pointer (operands.Fun called) is = absurd (subst (IsPointer func table) is (own v pointer).0)
 

@@ -14,7 +14,7 @@ use Rattle.statepoint_tool.specs.Statuses.{CauseOf, Exactly, IsDue, NoteFailed, 
 use Rattle.statepoint_tool.specs.Steps.{Step, Go, Stop}
 use Rattle.statepoint_tool.specs.Taken.{FilesSeen}
 use Rattle.statepoint_tool.specs.Words.{command_of}
-use Rattle.statepoint_tool.specs.Work.{Output, Given, MayGiveNamed, content_of, shown, output_of, work}
+use Rattle.statepoint_tool.specs.Work.{Output, Given, MayGiveNamed, content_of, shown, written_of, output_of, work}
 use Rattle.statepoint_tool.specs.Closings.{status_of_end}
 use Rattle.statepoint_tool.specs.declared.refusal.Cause.{Cause}
 use Rattle.statepoint_tool.specs.declared.refusal.Cause.TheVariants as cause
@@ -140,7 +140,7 @@ module _ (words : List (List ℕ)) (files : FilesSeen) (out notes : SinkSeen) (g
   writes_output _ (by_showing shows) written =
       record { given = given; may = may; holds = ((shown (content_of shows.lines), by_showing shows, refl), written) }
   writes_output _ (by_rewriting rewrites) written =
-      record { given = given; may = may; holds = ((shown rewrites.after, by_rewriting rewrites, refl), written) }
+      record { given = given; may = may; holds = ((written_of rewrites.reads.asks.part rewrites.after, by_rewriting rewrites, refl), written) }
   writes_output _ (by_running runs outcome gives) written = writes_run runs outcome gives written
 
   writes_nothing : (reason : Cause) → Gained out [] → Writes (status_of_cause reason) words files out

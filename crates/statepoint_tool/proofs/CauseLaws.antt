@@ -14,12 +14,12 @@ use Rattle.object_meaning.specs.SourceRuns.{source_setting}
 use Rattle.object_meaning.proofs.EndLaws.{IsFinal}
 use Rattle.object_meaning.proofs.OutcomeLaws.{gives_final}
 use Rattle.tool_io.specs.Counts.{Rose}
-use Rattle.statepoint_tool.specs.Causes.{AsksToShow, AsksToRewrite, AsksForRun, ReadsToRewrite, Rewrites, ReadsModule, ReadsInput, Runs, RunGives, module_run, steps_asked, Ends, by_showing, by_rewriting, by_running, EndsWith, NoCommand, NamesModule, to_show, to_rewrite, to_run, HasModuleFault, in_text, too_many, HasSomeModuleFault, HasSomeInputFault, HasSomePlanFault, FileGives, module_gives, input_gives, plan_gives, CannotRead, IsTooLong, StopsBy}
+use Rattle.statepoint_tool.specs.Causes.{AsksToShow, AsksToRewrite, AsksForRun, ReadsToRewrite, ReadsModule, ReadsInput, Runs, RunGives, module_run, steps_asked, Ends, by_showing, by_rewriting, by_running, EndsWith, NoCommand, NamesModule, to_show, to_rewrite, to_run, HasModuleFault, in_text, too_many, HasSomeModuleFault, HasSomeInputFault, HasSomePlanFault, FileGives, module_gives, input_gives, plan_gives, CannotRead, IsTooLong, StopsBy}
 use Rattle.statepoint_tool.specs.Statuses.{CauseOf, status_of_step}
 use Rattle.statepoint_tool.specs.Steps.{Step, Go, Stop, Then, goes_on, stops}
 use Rattle.statepoint_tool.specs.Taken.{Taken, Bytes, Longer, Faulty, FilesSeen, MayGive, file_phase}
 use Rattle.statepoint_tool.specs.Words.{command_of}
-use Rattle.statepoint_tool.specs.Work.{Output, Given, MayGiveAll, MayGiveNamed, content_of, shown, module_phase, Rewriting, rewritten, too_many as has_too_many, after_rewriting, rewrite_phase, ReadingInput, has_numbers, no_input, ReadingPlan, planned, no_plan, show_phase, after_input, after_module, Running, run_work, comes, output_of, command_work, work}
+use Rattle.statepoint_tool.specs.Work.{Output, Given, MayGiveAll, MayGiveNamed, content_of, shown, written_of, module_phase, Rewriting, rewritten, too_many as has_too_many, after_rewriting, rewrite_phase, ReadingInput, has_numbers, no_input, ReadingPlan, planned, no_plan, show_phase, after_input, after_module, Running, run_work, comes, output_of, command_work, work}
 use Rattle.statepoint_tool.specs.Closings.{status_of_end}
 use Rattle.statepoint_tool.specs.declared.refusal.Cause.{Cause}
 use Rattle.statepoint_tool.specs.declared.refusal.Cause.TheVariants as cause
@@ -61,9 +61,9 @@ Once-command None given = Once-comes_to (Stop cause.Words)
 Once-command (Some (Show module_file)) given =
     Once-Then (file_phase module_file (module_phase text_forms.Source) given.module_file) show_phase
     (Once-file_phase module_file (module_phase text_forms.Source) (Once-module_phase text_forms.Source) given.module_file) (λ (whole : LinedModule). Once-comes_to (Go (shown whole.content)))
-Once-command (Some (Rewrite module_file)) given =
-    Once-Then (file_phase module_file (module_phase text_forms.Source) given.module_file) rewrite_phase
-    (Once-file_phase module_file (module_phase text_forms.Source) (Once-module_phase text_forms.Source) given.module_file) Once-rewrite_phase
+Once-command (Some (Rewrite module_file part)) given =
+    Once-Then (file_phase module_file (module_phase text_forms.Source) given.module_file) (rewrite_phase part)
+    (Once-file_phase module_file (module_phase text_forms.Source) (Once-module_phase text_forms.Source) given.module_file) (Once-rewrite_phase part)
 Once-command (Some (Source request)) given = Once-run_work request given
 Once-command (Some (Run request)) given = Once-run_work request given
 
@@ -111,9 +111,9 @@ module _ (words : List (List ℕ)) (given : Given) where
   -- rewriting
 
   rewrites_output : (reads : ReadsToRewrite words given) (step : Step ModuleContent) (after : ModuleContent) → step ≡ Go after
-      → Rewriting (content_of reads.lines) step → Ends words given (shown after)
+      → Rewriting (content_of reads.lines) step → Ends words given (written_of reads.asks.part after)
   rewrites_output reads _ after is (rewritten own own_is few) =
-      subst (λ (c : ModuleContent). Ends words given (shown c)) (same-value own after is)
+      subst (λ (c : ModuleContent). Ends words given (written_of reads.asks.part c)) (same-value own after is)
       (by_rewriting (record { reads = reads; after = own; is = own_is; few = few }))
   rewrites_output reads _ after is (has_too_many many) = absurd (not_both after (cause.Module TooManyRelocations) (sym is))
 
@@ -123,19 +123,19 @@ module _ (words : List (List ℕ)) (given : Given) where
   rewriting_stops reads _ reason is (has_too_many many) =
       stop-at reason (cause.Module TooManyRelocations) (sym is) (too_many reads many)
 
-  rewriting_explains : (reads : ReadsToRewrite words given) (step : Step Output) → Then (Rewriting (content_of reads.lines)) after_rewriting step → Explains step words given
+  rewriting_explains : (reads : ReadsToRewrite words given) (step : Step Output) → Then (Rewriting (content_of reads.lines)) (after_rewriting reads.asks.part) step → Explains step words given
   rewriting_explains reads _ (goes_on after step first rest) =
-      explains-at step (Go (shown after)) rest (rewrites_output reads (Go after) after refl first)
+      explains-at step (Go (written_of reads.asks.part after)) rest (rewrites_output reads (Go after) after refl first)
   rewriting_explains reads _ (stops reason first) = rewriting_stops reads (Stop reason) reason refl first
 
   rewrites_text : (asks : AsksToRewrite words) (text : List ℕ) → given.module_file ≡ Bytes text → (whole : LinedModule) → Accepts text_forms.Source text whole →
-      (step : Step Output) → rewrite_phase whole step → Explains step words given
+      (step : Step Output) → rewrite_phase asks.part whole step → Explains step words given
   rewrites_text asks text taken whole accepted step rest =
       rewriting_explains (record { asks = asks; text = text; taken = taken; lines = accepted.lines; accepted = accepted.accepted }) step
-      (subst (λ (w : LinedModule). rewrite_phase w step) accepted.is rest)
+      (subst (λ (w : LinedModule). rewrite_phase asks.part w step) accepted.is rest)
 
   rewrite_explains : (asks : AsksToRewrite words) (taken : Taken) → given.module_file ≡ taken → (step : Step Output) →
-      Then (file_phase asks.module_file (module_phase text_forms.Source) taken) rewrite_phase step → Explains step words given
+      Then (file_phase asks.module_file (module_phase text_forms.Source) taken) (rewrite_phase asks.part) step → Explains step words given
   rewrite_explains asks (Bytes text) is _ (goes_on whole step first rest) = rewrites_text asks text is whole (accepts text_forms.Source text whole first) step rest
   rewrite_explains asks (Bytes text) is _ (stops reason first) = stops_text text_forms.Source asks.module_file text reason (to_rewrite asks) is (refuses text_forms.Source text reason first)
   rewrite_explains asks Longer is _ (goes_on whole step first rest) = absurd (not_both whole (cause.TooLong asks.module_file) first)
@@ -197,7 +197,7 @@ module _ (words : List (List ℕ)) (given : Given) where
   command_explains : (command : Option Command) → command_of words ≡ command → (step : Step Output) → command_work command given step → Explains step words given
   command_explains None is step due = explains-at step (Stop cause.Words) due is
   command_explains (Some (Show module_file)) is step due = show_explains (record { module_file = module_file; command = is }) given.module_file refl step due
-  command_explains (Some (Rewrite module_file)) is step due = rewrite_explains (record { module_file = module_file; command = is }) given.module_file refl step due
+  command_explains (Some (Rewrite module_file part)) is step due = rewrite_explains (record { module_file = module_file; part = part; command = is }) given.module_file refl step due
   command_explains (Some (Source request)) is step due = run_explains (record { request = request; command = inl is }) given.module_file refl step due
   command_explains (Some (Run request)) is step due = run_explains (record { request = request; command = inr is }) given.module_file refl step due
 
@@ -215,7 +215,7 @@ module _ (words : List (List ℕ)) (given : Given) where
 
   cause_of_output : (output : Output) → Ends words given output → CauseOf output.status words given
   cause_of_output _ (by_showing shows) = (shown (content_of shows.lines), by_showing shows, refl)
-  cause_of_output _ (by_rewriting rewrites) = (shown rewrites.after, by_rewriting rewrites, refl)
+  cause_of_output _ (by_rewriting rewrites) = (written_of rewrites.reads.asks.part rewrites.after, by_rewriting rewrites, refl)
   cause_of_output _ (by_running runs outcome gives) =
       cause_at_end runs outcome gives outcome.end refl
       (gives_final (source_setting (module_run runs) (go runs.plan) (steps_asked runs)) runs.reads.numbers outcome gives)
@@ -250,9 +250,9 @@ module _ (words : List (List ℕ)) (given : Given) where
       (as-accepted text_forms.Source accepted.text accepted.lines accepted.accepted))
       rest)
 
-  with_source : (reads : ReadsToRewrite words given) (step : Step Output) → Then (Rewriting (content_of reads.lines)) after_rewriting step → work words given step
+  with_source : (reads : ReadsToRewrite words given) (step : Step Output) → Then (Rewriting (content_of reads.lines)) (after_rewriting reads.asks.part) step → work words given step
   with_source reads step rest =
-      commanded (Some (Rewrite reads.asks.module_file)) step reads.asks.command
+      commanded (Some (Rewrite reads.asks.module_file reads.asks.part)) step reads.asks.command
       (goes_on (module_of text_forms.Source reads.lines) step
       (subst (λ (taken : Taken). file_phase reads.asks.module_file (module_phase text_forms.Source) taken (Go (module_of text_forms.Source reads.lines))) (sym reads.taken)
       (as-accepted text_forms.Source reads.text reads.lines reads.accepted))
@@ -276,7 +276,8 @@ module _ (words : List (List ℕ)) (given : Given) where
       (as-accepted text_forms.Source shows.text shows.lines shows.accepted))
       refl)
   work-ends _ (by_rewriting rewrites) =
-      with_source rewrites.reads (Go (shown rewrites.after)) (goes_on rewrites.after (Go (shown rewrites.after)) (rewritten rewrites.after rewrites.is rewrites.few) refl)
+      let output = written_of rewrites.reads.asks.part rewrites.after in
+      with_source rewrites.reads (Go output) (goes_on rewrites.after (Go output) (rewritten rewrites.after rewrites.is rewrites.few) refl)
   work-ends _ (by_running runs outcome gives) =
       with_input runs.reads (Go (output_of (module_run runs) outcome))
       (goes_on runs.plan (Go (output_of (module_run runs) outcome))
@@ -297,7 +298,7 @@ module _ (words : List (List ℕ)) (given : Given) where
   module_stops : (form : TextForm) (name : List ℕ) (reason : Cause) → NamesModule words form name → file_phase name (module_phase form) given.module_file (Stop reason) →
       work words given (Stop reason)
   module_stops _ _ reason (to_show asks) stopped = commanded (Some (Show asks.module_file)) (Stop reason) asks.command (stops reason stopped)
-  module_stops _ _ reason (to_rewrite asks) stopped = commanded (Some (Rewrite asks.module_file)) (Stop reason) asks.command (stops reason stopped)
+  module_stops _ _ reason (to_rewrite asks) stopped = commanded (Some (Rewrite asks.module_file asks.part)) (Stop reason) asks.command (stops reason stopped)
   module_stops _ _ reason (to_run asks) stopped = commanded_run asks (Stop reason) (stops reason stopped)
 
   stops-HasModuleFault : (fault : ModuleFault) → HasModuleFault words given fault → work words given (Stop (cause.Module fault))

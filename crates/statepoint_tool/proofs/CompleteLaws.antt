@@ -42,9 +42,9 @@ same_work files None given told may is step due = due
 same_work files (Some (Show module_file)) given told may is step due =
     let code : given.module_file ≡ told.module_file = same_taken files module_file given.module_file told.module_file may is in
     subst (λ (taken : Taken). show_work module_file (record { module_file = taken; input = told.input; plan = told.plan }) step) (sym code) due
-same_work files (Some (Rewrite module_file)) given told may is step due =
+same_work files (Some (Rewrite module_file part)) given told may is step due =
     let code : given.module_file ≡ told.module_file = same_taken files module_file given.module_file told.module_file may is in
-    subst (λ (taken : Taken). rewrite_work module_file (record { module_file = taken; input = told.input; plan = told.plan }) step) (sym code) due
+    subst (λ (taken : Taken). rewrite_work part module_file (record { module_file = taken; input = told.input; plan = told.plan }) step) (sym code) due
 same_work files (Some (Source request)) given told may is step due = same_run files request given told may is step due
 same_work files (Some (Run request)) given told may is step due = same_run files request given told may is step due
 

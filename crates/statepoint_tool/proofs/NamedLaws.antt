@@ -22,7 +22,7 @@ abbrev pub all_as_told : FilesSeen → Option Command → Given
 all_as_told files None = record { module_file = Bytes []; input = Bytes []; plan = Bytes [] }
 all_as_told files (Some (Show module_file)) =
     record { module_file = as_told files module_file; input = Bytes []; plan = Bytes [] }
-all_as_told files (Some (Rewrite module_file)) =
+all_as_told files (Some (Rewrite module_file part)) =
     record { module_file = as_told files module_file; input = Bytes []; plan = Bytes [] }
 all_as_told files (Some (Source request)) = run_as_told files request
 all_as_told files (Some (Run request)) = run_as_told files request
@@ -34,7 +34,7 @@ MayGiveAll-as_told files request =
 pub MayGiveNamed-as_told : (files : FilesSeen) (command : Option Command) → MayGiveNamed files command (all_as_told files command)
 MayGiveNamed-as_told files None = tt
 MayGiveNamed-as_told files (Some (Show module_file)) = MayGive-as_told files module_file
-MayGiveNamed-as_told files (Some (Rewrite module_file)) = MayGive-as_told files module_file
+MayGiveNamed-as_told files (Some (Rewrite module_file part)) = MayGive-as_told files module_file
 MayGiveNamed-as_told files (Some (Source request)) = MayGiveAll-as_told files request
 MayGiveNamed-as_told files (Some (Run request)) = MayGiveAll-as_told files request
 

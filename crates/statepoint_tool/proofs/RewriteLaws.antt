@@ -1,10 +1,11 @@
 -- What rewriting a module comes to.
-use Rattle.std.proofs.Common.{◌≡◌, ℕ, ◌<◌, ◌≤◌, refl, ap, subst, arith}
+use Rattle.std.proofs.Common.{◌≡◌, ◌<◌, ◌≤◌, refl, ap, subst, arith}
 use Rattle.ir_ast.specs.Modules.{ModuleContent, LinedModule}
 use Rattle.sp_rewrite.specs.Relocates.{HasFewRelocates, HasManyRelocates, relocates_in}
 use Rattle.sp_rewrite.proofs.RewrittenLaws.{one_reached, rewriting_is_one}
 use Rattle.statepoint_tool.specs.Steps.{Go}
-use Rattle.statepoint_tool.specs.Work.{Rewriting, rewritten, too_many, after_rewriting, rewrite_phase, shown}
+use Rattle.statepoint_tool.specs.Work.{Rewriting, rewritten, too_many, after_rewriting, rewrite_phase, written_of}
+use Rattle.statepoint_tool.specs.declared.request.Part.{Part}
 use Rattle.statepoint_tool.proofs.StepLaws.{Once, Once-comes_to, Once-Then}
 
 -- a module doesn't have few and many
@@ -21,6 +22,6 @@ Once-Rewriting content _ _ (rewritten after is few) (too_many many) = absurd (fe
 Once-Rewriting content _ _ (too_many many) (rewritten after is few) = absurd (few_or_many content few many)
 Once-Rewriting content _ _ (too_many one) (too_many other) = refl
 
-pub Once-rewrite_phase : (whole : LinedModule) → Once (rewrite_phase whole)
-Once-rewrite_phase whole =
-    Once-Then (Rewriting whole.content) after_rewriting (Once-Rewriting whole.content) (λ (after : ModuleContent). Once-comes_to (Go (shown after)))
+pub Once-rewrite_phase : (part : Part) (whole : LinedModule) → Once (rewrite_phase part whole)
+Once-rewrite_phase part whole =
+    Once-Then (Rewriting whole.content) (after_rewriting part) (Once-Rewriting whole.content) (λ (after : ModuleContent). Once-comes_to (Go (written_of part after)))

@@ -18,12 +18,13 @@ use Rattle.object_meaning.specs.SourceRuns.{SourceGives}
 use Rattle.statepoint_tool.specs.PlanFaults.{IsLeastPlanFault}
 use Rattle.statepoint_tool.specs.Taken.{Taken, Bytes, Longer, Faulty}
 use Rattle.statepoint_tool.specs.Words.{command_of}
-use Rattle.statepoint_tool.specs.Work.{Given, Output, content_of, shown, output_of}
+use Rattle.statepoint_tool.specs.Work.{Given, Output, content_of, shown, written_of, output_of}
 use Rattle.statepoint_tool.specs.declared.refusal.Cause.{Cause}
 use Rattle.statepoint_tool.specs.declared.refusal.Cause.TheVariants as cause
 use Rattle.statepoint_tool.specs.declared.refusal.ModuleFault.{ModuleFault}
 use Rattle.statepoint_tool.specs.declared.refusal.ModuleFault.TheVariants.{Syntax, Limit, Typed, TooManyRelocations}
 use Rattle.statepoint_tool.specs.declared.refusal.PlanFault.{PlanFault}
+use Rattle.statepoint_tool.specs.declared.request.Part.{Part}
 use Rattle.statepoint_tool.specs.declared.request.RunRequest.{RunRequest}
 use Rattle.statepoint_tool.specs.declared.request.Command.TheVariants.{Show, Rewrite, Source, Run}
 use Rattle.statepoint_tool.specs.declared.status.Status.{Status}
@@ -55,10 +56,11 @@ pub record AsksToShow (words : List (List ℕ)) : Type 0 where
   pub module_file : List ℕ
   pub command : command_of words ≡ Some (Show module_file)
 
--- the words ask to rewrite the module of this file
+-- the words ask to rewrite the module of this file, and for this of its rewritten module
 pub record AsksToRewrite (words : List (List ℕ)) : Type 0 where
   pub module_file : List ℕ
-  pub command : command_of words ≡ Some (Rewrite module_file)
+  pub part : Part
+  pub command : command_of words ≡ Some (Rewrite module_file part)
 
 -- the words ask for this run
 pub record AsksForRun (words : List (List ℕ)) : Type 0 where
@@ -127,11 +129,11 @@ RunGives runs outcome = SourceGives (module_run runs) runs.reads.numbers (go run
 
 -- ---- the causes
 
--- the work comes to its end, with this output: a module is shown, or its rewritten module is, or it runs, and so ends by the
+-- the work comes to its end, with this output: a module is shown, or its rewritten module or the stack map of that is, or it runs, and so ends by the
 -- source meaning
 pub data Ends (words : List (List ℕ)) (given : Given) : Output → Type 0 where
   by_showing : (shows : Shows words given) → Ends words given (shown (content_of shows.lines))
-  by_rewriting : (rewrites : Rewrites words given) → Ends words given (shown rewrites.after)
+  by_rewriting : (rewrites : Rewrites words given) → Ends words given (written_of rewrites.reads.asks.part rewrites.after)
   by_running : (runs : Runs words given) (outcome : Outcome) → RunGives runs outcome → Ends words given (output_of (module_run runs) outcome)
 
 abbrev pub EndsWith : Status → List (List ℕ) → Given → Type 0

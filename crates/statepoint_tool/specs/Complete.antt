@@ -30,7 +30,7 @@ RunIsTold files request given =
 abbrev pub AllTold : FilesSeen → Option Command → Given → Type 0
 AllTold files None given = ⊤
 AllTold files (Some (Show module_file)) given = IsTold files module_file given.module_file
-AllTold files (Some (Rewrite module_file)) given = IsTold files module_file given.module_file
+AllTold files (Some (Rewrite module_file part)) given = IsTold files module_file given.module_file
 AllTold files (Some (Source request)) given = RunIsTold files request given
 AllTold files (Some (Run request)) given = RunIsTold files request given
 

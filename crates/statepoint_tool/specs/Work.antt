@@ -1,5 +1,5 @@
 -- The order of work: the words; then the module is taken, read and typed; to show it, its text is written; to rewrite
--- it, that of its rewritten module; to run it, the input is taken and read, then the plan, and it runs by the source meaning.
+-- it, that of its rewritten module, or that one's stack map; to run it, the input is taken and read, then the plan, and it runs by the source meaning.
 use Rattle.std.specs.Prelude.{ℕ, ℤ, ⊤, List, ◌++◌, Option, Some, None, Result, Ok, Err}
 use Rattle.ir_ast.specs.declared.modules.Form.{Form as TextForm}
 use Rattle.ir_ast.specs.declared.modules.Form.TheVariants as text_forms
@@ -10,6 +10,9 @@ use Rattle.ir_lines.specs.Statements.{Line, lines_of}
 use Rattle.ir_types.specs.FaultSet.{HasNoFault, IsLeastFault}
 use Rattle.ir_lines.specs.Modules.{module_of}
 use Rattle.ir_printer.specs.Texts.{text_of}
+use Rattle.map_bytes.specs.Maps.{map_bytes}
+use Rattle.stackmap_write.specs.ModuleMaps.{map_of}
+use Rattle.tool_report.specs.MapTexts.{text_of_map}
 use Rattle.sp_rewrite.specs.Relocates.{HasFewRelocates, HasManyRelocates}
 use Rattle.sp_rewrite.specs.Statements.{IsRewritten}
 use Rattle.move_plan.specs.declared.plan_lines.PlanLine.{PlanLine}
@@ -26,6 +29,8 @@ use Rattle.statepoint_tool.specs.Words.{command_of}
 use Rattle.statepoint_tool.specs.declared.refusal.Cause.TheVariants.{Words, Module, Input, Plan}
 use Rattle.statepoint_tool.specs.declared.refusal.ModuleFault.TheVariants.{Syntax, Limit, Typed, TooManyRelocations}
 use Rattle.statepoint_tool.specs.declared.refusal.PlanFault.{PlanFault}
+use Rattle.statepoint_tool.specs.declared.request.Part.{Part}
+use Rattle.statepoint_tool.specs.declared.request.Part.TheVariants.{Text, MapText, MapBytes}
 use Rattle.statepoint_tool.specs.declared.request.RunRequest.{RunRequest}
 use Rattle.statepoint_tool.specs.declared.request.Command.{Command}
 use Rattle.statepoint_tool.specs.declared.request.Command.TheVariants.{Show, Rewrite, Source, Run}
@@ -97,12 +102,20 @@ pub data Rewriting (content : ModuleContent) : Step ModuleContent → Type 0 whe
   rewritten : (after : ModuleContent) → IsRewritten content after → HasFewRelocates content → Rewriting content (Go after)
   too_many : HasManyRelocates content → Rewriting content (Stop (Module TooManyRelocations))
 
--- whose text is written
-abbrev pub after_rewriting : ModuleContent → Step Output → Type 0
-after_rewriting after = comes_to (Go (shown after))
+-- of which this is written, its text, or its stack map as text or as bytes
+abbrev pub text_of_part : Part → ModuleContent → List ℕ
+text_of_part Text content = text_of content
+text_of_part MapText content = text_of_map (map_of content)
+text_of_part MapBytes content = map_bytes (map_of content)
 
-abbrev pub rewrite_phase : LinedModule → Step Output → Type 0
-rewrite_phase whole = Then (Rewriting whole.content) after_rewriting
+abbrev pub written_of : Part → ModuleContent → Output
+written_of part content = record { text = text_of_part part content; status = Done }
+
+abbrev pub after_rewriting : Part → ModuleContent → Step Output → Type 0
+after_rewriting part after = comes_to (Go (written_of part after))
+
+abbrev pub rewrite_phase : Part → LinedModule → Step Output → Type 0
+rewrite_phase part whole = Then (Rewriting whole.content) (after_rewriting part)
 
 -- what a run writes that gives this outcome, and the status that it ends with
 abbrev pub output_of : ModuleContent → Outcome → Output
@@ -119,9 +132,9 @@ pub data Running (content : ModuleContent) (input : List ℤ) (plan : List PlanL
 abbrev pub show_work : List ℕ → Given → Step Output → Type 0
 show_work module_file given = Then (file_phase module_file (module_phase text_forms.Source) given.module_file) show_phase
 
--- the order of work of `rewrite`
-abbrev pub rewrite_work : List ℕ → Given → Step Output → Type 0
-rewrite_work module_file given = Then (file_phase module_file (module_phase text_forms.Source) given.module_file) rewrite_phase
+-- the order of work of `rewrite` and of `maps`
+abbrev pub rewrite_work : Part → List ℕ → Given → Step Output → Type 0
+rewrite_work part module_file given = Then (file_phase module_file (module_phase text_forms.Source) given.module_file) (rewrite_phase part)
 
 -- the order of work of `source` and of `run`, from its last phase to its first
 abbrev pub after_input : (plan : List ℕ) → ModuleContent → List ℤ → ℕ → Taken → Step Output → Type 0
@@ -141,7 +154,7 @@ run_work request given =
 abbrev pub command_work : Option Command → Given → Step Output → Type 0
 command_work None given = comes_to (Stop Words)
 command_work (Some (Show module_file)) given = show_work module_file given
-command_work (Some (Rewrite module_file)) given = rewrite_work module_file given
+command_work (Some (Rewrite module_file part)) given = rewrite_work part module_file given
 command_work (Some (Source request)) given = run_work request given
 command_work (Some (Run request)) given = run_work request given
 
@@ -152,6 +165,6 @@ work words given = command_work (command_of words) given
 abbrev pub MayGiveNamed : FilesSeen → Option Command → Given → Type 0
 MayGiveNamed files None given = ⊤
 MayGiveNamed files (Some (Show module_file)) given = MayGiveShown files module_file given
-MayGiveNamed files (Some (Rewrite module_file)) given = MayGiveShown files module_file given
+MayGiveNamed files (Some (Rewrite module_file part)) given = MayGiveShown files module_file given
 MayGiveNamed files (Some (Source request)) given = MayGiveAll files request given
 MayGiveNamed files (Some (Run request)) given = MayGiveAll files request given

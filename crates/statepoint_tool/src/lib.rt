@@ -2,6 +2,7 @@
 #![tactic(auto)]
 
 mod closing;
+mod maps;
 mod notes;
 mod phases;
 mod refusal;

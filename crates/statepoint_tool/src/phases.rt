@@ -1,6 +1,8 @@
 //! The phases that take a file and read it.
 ghost use Rattle.std.specs.Prelude.{◌≡◌, ◌≤◌, ℕ, List, length, vec_len, IfOk};
 ghost use Rattle.tool_io.specs.Counts.{NoneFell};
+ghost use Rattle.std.specs.List.{All};
+ghost use Rattle.ir_ast.specs.Bundles.{HasNoBundle};
 ghost use Rattle.ir_ast.specs.Formed.{IsFormedModule};
 ghost use Rattle.ir_ast.specs.declared.modules.Form.TheVariants.{Source};
 ghost use Rattle.ir_cfg.specs.SourceModules.{IsSourceModule};
@@ -50,6 +52,7 @@ pub(crate) fn take_module<F: Files>(
         (module_phase Source) (λ read. read) result }
     ensures formed { IfOk result (λ read. IsFormedModule read.content) }
     ensures source { IfOk result (λ read. IsSourceModule read.content) }
+    ensures no_bundle { IfOk result (λ read. All HasNoBundle read.content.funcs) }
     ensures kept { F.contents files.new ≡ F.contents files.old }
     ensures counted { NoneFell (F.faults files.old) (F.faults files.new) }
 {
@@ -111,6 +114,7 @@ fn type_in(alloc: Global, raw: Raw) -> Result<Module, Refusal>
     ensures typed { Agrees (λ read. read) result (Typing Source (seen_lines raw.entry.lines)) }
     ensures formed { IfOk result (λ read. IsFormedModule read.content) }
     ensures source { IfOk result (λ read. IsSourceModule read.content) }
+    ensures no_bundle { IfOk result (λ read. All HasNoBundle read.content.funcs) }
 {
     match typed(alloc, raw) {
         Ok(read) => Ok(read),
@@ -126,6 +130,7 @@ fn module_in(alloc: Global, text: &[u8]) -> Result<Module, Refusal>
     ensures read { Agrees (λ read. read) result (module_phase Source text.now) }
     ensures formed { IfOk result (λ read. IsFormedModule read.content) }
     ensures source { IfOk result (λ read. IsSourceModule read.content) }
+    ensures no_bundle { IfOk result (λ read. All HasNoBundle read.content.funcs) }
 {
     let raw = read_in(alloc, text)?;
     type_in(alloc, raw)

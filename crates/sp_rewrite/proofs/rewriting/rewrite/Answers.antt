@@ -6,6 +6,7 @@ use Rattle.ir_ast.specs.declared.modules.Form.TheVariants.{Rewritten}
 use Rattle.ir_cfg.proofs.TypedLemmas.{formed_module}
 use Rattle.poll_place.proofs.PlacedLemmas.{all_under}
 use Rattle.rewrite_passes.specs.Before.{CanBeMade, made_of, relocates_of}
+use Rattle.sp_rewrite.proofs.BareLaws.{no_bundle}
 use Rattle.sp_rewrite.proofs.CallLaws.{can_have_groups, few_relocates, is_rewritten, many_relocates}
 use Rattle.sp_rewrite.proofs.MakingLaws.{functions_are_ready}
 use Rattle.sp_rewrite.proofs.RewrittenLaws as laws
@@ -55,3 +56,6 @@ returns-in-None-clause-many c = λ _.
     let placed_are = c.into_parts-layouts.ensures.funcs ∙ ap (λ (now : ModuleContent). now.funcs) c.in_ok-with_polls.ensures.placed in
     let many = subst (λ made. IfNone made (4194304 < sum (map relocates_of funcs))) c.in-None.is c.in_ok-before_groups.ensures.many in
     many_relocates c.args.source.content c.in_ok-reached.reached.content c.in_ok-reached.ensures.drops funcs placed_are many
+
+pub returns-in_ok-after-in-Some-clause-no_bundle : goal.returns-in_ok-after-in-Some-clause-no_bundle
+returns-in_ok-after-in-Some-clause-no_bundle c = no_bundle c.args.source.content c.of.result.content (returns-in_ok-after-in-Some-clause-rewritten c)

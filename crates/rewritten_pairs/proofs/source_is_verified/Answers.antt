@@ -1,0 +1,5 @@
+use Rattle.rewritten_pairs.proofs.SourceFacts as laws
+use Rattle.rewritten_pairs.proofs.source_is_verified.Goals as goal
+
+pub returns : goal.returns
+returns c = laws.source_is_verified
