@@ -1,5 +1,5 @@
 -- The rewritten module of a source module whose functions take pointers with their bases is verified.
-use Rattle.std.proofs.Common.{◌≡◌, ℕ, true, List, length, refl, sym, ap, subst, ◌∙◌}
+use Rattle.std.proofs.Common.{◌≡◌, ℕ, true, List, refl, sym, ap, subst, ◌∙◌}
 use Rattle.std.specs.Prelude.{Option, Some, None, slice_get}
 use Rattle.std.specs.List.{All}
 use Rattle.std.specs.Option.{option_map}
@@ -15,11 +15,9 @@ use Rattle.ir_ast.specs.Faultless.{FunctionHasNoFault}
 use Rattle.ir_ast.specs.Faults.PhiEdges.{is_phi}
 use Rattle.ir_ast.specs.Faults.TypeClash.{FunctionIsTyped}
 use Rattle.ir_ast.specs.Funcs.{Function, instructions_of}
-use Rattle.ir_ast.specs.Insts.{Instruction}
 use Rattle.ir_ast.specs.Lines.{IsLine, LineOf}
 use Rattle.ir_ast.specs.Modules.{ModuleContent}
 use Rattle.ir_ast.specs.Scope.{scope_of}
-use Rattle.ir_cfg.specs.DefiniteUses.{Stands}
 use Rattle.ir_cfg.specs.TargetModules.{IsTargetModule}
 use Rattle.ir_cfg.specs.TypedModules.{IsTypedFunction}
 use Rattle.definite_assign.proofs.TextLemmas.{stands_in_text}
@@ -43,7 +41,7 @@ use Rattle.rewritten_definite.specs.Statements.{IsReachedSource, base_tables, re
 use Rattle.rewritten_definite.proofs.Instance.{based_is_before, is_ready}
 use Rattle.rewritten_shape.proofs.TargetLaws.{based_is_target}
 use Rattle.pair_facts.specs.Faults.{FaultAt}
-use Rattle.rewritten_pairs.specs.Statements.{HasFittingPairs, HasTypedBases, SourceIsVerified, TakesBases}
+use Rattle.rewritten_pairs.specs.Statements.{HasTypedBases, SourceIsVerified, TakesBases}
 use Rattle.rewritten_pairs.specs.Takes.{HasPairs}
 use Rattle.rewritten_pairs.proofs.PairsFacts.{bases_have_pairs}
 use Rattle.rewritten_pairs.proofs.Verdict.{fitting_is_verified}
