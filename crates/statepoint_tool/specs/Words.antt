@@ -4,9 +4,11 @@ use Rattle.std.specs.List.{list_all}
 use Rattle.std.specs.Char.{is_ascii_digit}
 use Rattle.std.specs.Str.{bytes_eq}
 use Rattle.std.specs.Str.Parse.{digits_value}
+use Rattle.statepoint_tool.specs.declared.request.Part.{Part}
+use Rattle.statepoint_tool.specs.declared.request.Part.TheVariants.{Text, MapText, MapBytes}
 use Rattle.statepoint_tool.specs.declared.request.RunRequest.{RunRequest}
 use Rattle.statepoint_tool.specs.declared.request.Command.{Command}
-use Rattle.statepoint_tool.specs.declared.request.Command.TheVariants.{Show, Source, Run}
+use Rattle.statepoint_tool.specs.declared.request.Command.TheVariants.{Show, Rewrite, Source, Run}
 
 -- a word that may name a file: it isn't empty, and begins with `-` only where it is `-`
 abbrev pub names_file : List ℕ → Bool
@@ -40,9 +42,22 @@ run_of code input plan steps = option_map (λ request. Run request) (request_of 
 abbrev pub show_of : List ℕ → Option Command
 show_of module_file = if names_file module_file then Some (Show module_file) else None
 
+-- and so do those that write of its rewritten module
+abbrev pub rewrite_of : Part → List ℕ → Option Command
+rewrite_of part module_file = if names_file module_file then Some (Rewrite module_file part) else None
+
 -- the commands that take a module, and those that take all that a run needs
 unfoldable pub of_module : (name module_file : List ℕ) → Option Command
-of_module name module_file = if bytes_eq name (codes "show") then show_of module_file else None
+of_module name module_file =
+    if bytes_eq name (codes "show") then show_of module_file
+    else if bytes_eq name (codes "rewrite") then rewrite_of Text module_file
+    else if bytes_eq name (codes "maps") then rewrite_of MapText module_file
+    else None
+
+-- with an option
+unfoldable pub of_raw : (name module_file option : List ℕ) → Option Command
+of_raw name module_file option =
+    if bytes_eq name (codes "maps") then (if bytes_eq option (codes "--raw") then rewrite_of MapBytes module_file else None) else None
 
 unfoldable pub of_run : (name code input plan steps : List ℕ) → Option Command
 of_run name code input plan steps =
@@ -53,5 +68,6 @@ of_run name code input plan steps =
 -- the program's name, the command's name, and what the command takes; nothing else is a command
 abbrev pub command_of : List (List ℕ) → Option Command
 command_of (program ∷ name ∷ module_file ∷ []) = of_module name module_file
+command_of (program ∷ name ∷ module_file ∷ option ∷ []) = of_raw name module_file option
 command_of (program ∷ name ∷ code ∷ input ∷ plan ∷ steps ∷ []) = of_run name code input plan steps
 command_of _ = None

@@ -2,10 +2,12 @@
 #![tactic(auto)]
 
 mod closing;
+mod maps;
 mod notes;
 mod phases;
 mod refusal;
 mod request;
+mod rewrite;
 mod run;
 mod show;
 mod status;

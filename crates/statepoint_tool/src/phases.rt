@@ -1,6 +1,8 @@
 //! The phases that take a file and read it.
 ghost use Rattle.std.specs.Prelude.{◌≡◌, ◌≤◌, ℕ, List, length, vec_len, IfOk};
 ghost use Rattle.tool_io.specs.Counts.{NoneFell};
+ghost use Rattle.std.specs.List.{All};
+ghost use Rattle.ir_ast.specs.Bundles.{HasNoBundle};
 ghost use Rattle.ir_ast.specs.Formed.{IsFormedModule};
 ghost use Rattle.ir_ast.specs.declared.modules.Form.TheVariants.{Source};
 ghost use Rattle.ir_cfg.specs.SourceModules.{IsSourceModule};
@@ -47,9 +49,10 @@ pub(crate) fn take_module<F: Files>(
     name: FileName,
 ) -> Result<Module, Refusal>
     ensures read { Reads (files_seen (F.contents files.old) (F.faults files.old) (F.faults files.new)) name
-        module_phase (λ read. read.content) result }
+        (module_phase Source) (λ read. read) result }
     ensures formed { IfOk result (λ read. IsFormedModule read.content) }
     ensures source { IfOk result (λ read. IsSourceModule read.content) }
+    ensures no_bundle { IfOk result (λ read. All HasNoBundle read.content.funcs) }
     ensures kept { F.contents files.new ≡ F.contents files.old }
     ensures counted { NoneFell (F.faults files.old) (F.faults files.new) }
 {
@@ -90,7 +93,7 @@ pub(crate) fn take_plan<F: Files>(
 // The readings of a text.
 fn read_in(alloc: Global, text: &[u8]) -> Result<Raw<'_>, Refusal>
     requires { length text.now ≤ 16777216 }
-    ensures read { Agrees (λ raw. seen_lines raw.lines) result (reading text.now) }
+    ensures read { Agrees (λ raw. seen_lines raw.lines) result (reading Source text.now) }
     ensures form { IfOk result (λ raw. raw.form ≡ Source) }
 {
     match read(alloc, text) {
@@ -108,9 +111,10 @@ fn read_in(alloc: Global, text: &[u8]) -> Result<Raw<'_>, Refusal>
 // The module that readings stand for.
 fn type_in(alloc: Global, raw: Raw) -> Result<Module, Refusal>
     requires { raw.form ≡ Source }
-    ensures typed { Agrees (λ read. read.content) result (Typing (seen_lines raw.entry.lines)) }
+    ensures typed { Agrees (λ read. read) result (Typing Source (seen_lines raw.entry.lines)) }
     ensures formed { IfOk result (λ read. IsFormedModule read.content) }
     ensures source { IfOk result (λ read. IsSourceModule read.content) }
+    ensures no_bundle { IfOk result (λ read. All HasNoBundle read.content.funcs) }
 {
     match typed(alloc, raw) {
         Ok(read) => Ok(read),
@@ -123,9 +127,10 @@ fn type_in(alloc: Global, raw: Raw) -> Result<Module, Refusal>
 
 fn module_in(alloc: Global, text: &[u8]) -> Result<Module, Refusal>
     requires { length text.now ≤ 16777216 }
-    ensures read { Agrees (λ read. read.content) result (module_phase text.now) }
+    ensures read { Agrees (λ read. read) result (module_phase Source text.now) }
     ensures formed { IfOk result (λ read. IsFormedModule read.content) }
     ensures source { IfOk result (λ read. IsSourceModule read.content) }
+    ensures no_bundle { IfOk result (λ read. All HasNoBundle read.content.funcs) }
 {
     let raw = read_in(alloc, text)?;
     type_in(alloc, raw)

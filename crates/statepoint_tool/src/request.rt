@@ -52,11 +52,23 @@ pub(crate) struct RunRequest {
     pub(crate) steps: u64,
 }
 
+/// What is written of a rewritten module.
+#[derive(Clone, Copy, Debug, PartialEq, Eq)]
+pub(crate) enum Part {
+    Text,
+    /// Its stack map as text.
+    MapText,
+    /// The bytes of its stack map.
+    MapBytes,
+}
+
 /// What the words of the command line ask for.
 #[derive(Debug, Drop)]
 pub(crate) enum Command {
     /// Write the text of the module.
     Show { module: FileName },
+    /// Write this of the rewritten module.
+    Rewrite { module: FileName, part: Part },
     /// Run the module by the source meaning, over the input and under the plan, for at most so many steps.
     Source(RunRequest),
     /// The same, of the rewritten module. No module is rewritten yet, so that this is the run of the source meaning.

@@ -1,9 +1,9 @@
 ghost use Rattle.std.specs.Prelude.{◌≡◌, Some, None, map, string_bytes, IfOk, IsErrOf};
 ghost use Rattle.std.specs.Char.{is_ascii_digit};
 ghost use Rattle.std.specs.List.{list_all};
-ghost use Rattle.statepoint_tool.specs.Words.{command_of, names_file, of_module, of_run, request_of, run_of, show_of, source_of, steps_of};
+ghost use Rattle.statepoint_tool.specs.Words.{command_of, names_file, of_module, of_raw, of_run, request_of, rewrite_of, run_of, show_of, source_of, steps_of};
 
-use crate::request::{Command, FileName, RunRequest};
+use crate::request::{Command, FileName, Part, RunRequest};
 use sp_ids::{Memory, limits};
 use std::alloc::Global;
 
@@ -33,6 +33,9 @@ pub(crate) fn command(alloc: Global, words: &[String]) -> Result<Command, WordsF
 {
     match words {
         [_program, name, module_name] => of_module(alloc, name.as_str(), module_name.as_str()),
+        [_program, name, module_name, option] => {
+            of_raw(alloc, name.as_str(), module_name.as_str(), option.as_str())
+        }
         [_program, name, code, input, plan, steps] => of_run(
             alloc,
             name.as_str(),
@@ -53,6 +56,10 @@ fn of_module(alloc: Global, name: &str, module_name: &str) -> Result<Command, Wo
 {
     if name == "show" {
         show_command(alloc, module_name)
+    } else if name == "rewrite" {
+        rewrite_command(alloc, Part::Text, module_name)
+    } else if name == "maps" {
+        rewrite_command(alloc, Part::MapText, module_name)
     } else {
         Err(WordsFault::Words)
     }
@@ -90,6 +97,35 @@ fn show_command(alloc: Global, module_name: &str) -> Result<Command, WordsFault>
     }
     Ok(Command::Show {
         module: FileName::of(alloc, module_name)?,
+    })
+}
+
+// The command of this name over a module, with this option.
+#[tactic(auto, unfolding(crate::specs::Words::of_raw))]
+fn of_raw(alloc: Global, name: &str, module_name: &str, option: &str) -> Result<Command, WordsFault>
+    ensures gives { IfOk result (λ command. of_raw name.now module_name.now option.now ≡ Some command) }
+    ensures none { IsErrOf result WordsFault.Words → of_raw name.now module_name.now option.now ≡ None }
+{
+    if name != "maps" {
+        return Err(WordsFault::Words);
+    }
+    if option != "--raw" {
+        return Err(WordsFault::Words);
+    }
+    rewrite_command(alloc, Part::MapBytes, module_name)
+}
+
+// The command that writes this of a rewritten module, over this word.
+fn rewrite_command(alloc: Global, part: Part, module_name: &str) -> Result<Command, WordsFault>
+    ensures gives { IfOk result (λ command. rewrite_of part module_name.now ≡ Some command) }
+    ensures none { IsErrOf result WordsFault.Words → rewrite_of part module_name.now ≡ None }
+{
+    if !may_name_file(module_name) {
+        return Err(WordsFault::Words);
+    }
+    Ok(Command::Rewrite {
+        module: FileName::of(alloc, module_name)?,
+        part,
     })
 }
 

@@ -1,0 +1,21 @@
+//! The words of the command line.
+
+/// What the words ask for.
+#[derive(Drop)]
+pub(crate) enum Command<'a> {
+    /// Say how many instructions the rewritten module of this file has.
+    Tell(&'a str),
+    /// Judge the cases of these files.
+    Judge(&'a [String]),
+}
+
+/// The command of these words, of which the first names the program.
+pub(crate) fn command_of(words: &[String]) -> Option<Command<'_>> {
+    let (_, words) = words.split_first()?;
+    let (verb, names) = words.split_first()?;
+    match (verb.as_str(), names) {
+        ("judge", _) => Some(Command::Judge(names)),
+        ("rewritten", [name]) => Some(Command::Tell(name.as_str())),
+        _ => None,
+    }
+}

@@ -1,0 +1,95 @@
+//! The commands that write of a rewritten module.
+ghost use Rattle.std.specs.Prelude.{◌≡◌, ◌≤◌, IfOk};
+ghost use Rattle.std.specs.List.{All};
+ghost use Rattle.ir_ast.specs.Bundles.{HasNoBundle};
+ghost use Rattle.ir_ast.specs.Formed.{IsFormedModule};
+ghost use Rattle.ir_cfg.specs.SourceModules.{IsSourceModule};
+ghost use Rattle.ir_cfg.specs.TargetModules.{IsTargetModule};
+ghost use Rattle.tool_io.specs.Counts.{NoneFell};
+ghost use Rattle.statepoint_tool.specs.Answers.{Agrees, Came, Works, sink_seen};
+ghost use Rattle.statepoint_tool.specs.Taken.{files_seen};
+ghost use Rattle.statepoint_tool.specs.Work.{MayGiveShown, Rewriting, after_rewriting, rewrite_phase, rewrite_work};
+
+use crate::maps::{write_map_bytes, write_map_text};
+use crate::phases::take_module;
+use crate::refusal::{Cause, ModuleFault, Refusal};
+use crate::request::{FileName, Part};
+use crate::show::show_module;
+use crate::status::Status;
+use ir_ast::Module;
+use sp_rewrite::RewriteFault;
+use std::alloc::Global;
+use tool_io::{Files, Sink};
+
+/// Writes this of the rewritten module of the module in the file of this name.
+pub(crate) fn rewrite<F: Files, O: Sink>(
+    alloc: Global,
+    name: FileName,
+    part: Part,
+    files: &mut F,
+    out: &mut O,
+) -> Result<Status, Refusal>
+    ensures works { Works (MayGiveShown (files_seen (F.contents files.old) (F.faults files.old) (F.faults files.new)) name)
+        (rewrite_work part name) result
+        (sink_seen (O.written out.old) (O.written out.new) (O.faults out.old) (O.faults out.new)) }
+    ensures kept { F.contents files.new ≡ F.contents files.old }
+    ensures counted { NoneFell (F.faults files.old) (F.faults files.new) }
+    ensures out_counted { O.faults out.old ≤ O.faults out.new }
+{
+    let read = take_module(alloc, files, name)?;
+    rewrite_module(alloc, read, part, out)
+}
+
+fn rewrite_module<O: Sink>(
+    alloc: Global,
+    read: Module,
+    part: Part,
+    out: &mut O,
+) -> Result<Status, Refusal>
+    requires source { IsSourceModule read.content }
+    requires no_bundle { All HasNoBundle read.content.funcs }
+    ensures came { Came result (rewrite_phase part read)
+        (sink_seen (O.written out.old) (O.written out.new) (O.faults out.old) (O.faults out.new)) }
+    ensures out_counted { O.faults out.old ≤ O.faults out.new }
+{
+    let after = rewritten(alloc, read)?;
+    write_part(alloc, &after, part, out)
+}
+
+fn write_part<O: Sink>(
+    alloc: Global,
+    after: &Module,
+    part: Part,
+    out: &mut O,
+) -> Result<Status, Refusal>
+    requires formed { IsFormedModule after.now.content }
+    requires target { IsTargetModule after.now.content }
+    requires no_bundle { All HasNoBundle after.now.content.funcs }
+    ensures came { Came result (after_rewriting part after.now.content)
+        (sink_seen (O.written out.old) (O.written out.new) (O.faults out.old) (O.faults out.new)) }
+    ensures out_counted { O.faults out.old ≤ O.faults out.new }
+{
+    match part {
+        Part::Text => show_module(after, out),
+        Part::MapText => write_map_text(alloc, after, out),
+        Part::MapBytes => write_map_bytes(alloc, after, out),
+    }
+}
+
+// The rewritten module.
+fn rewritten(alloc: Global, read: Module) -> Result<Module, Refusal>
+    requires source { IsSourceModule read.content }
+    requires no_bundle { All HasNoBundle read.content.funcs }
+    ensures rewrites { Agrees (λ after. after.content) result (Rewriting read.content) }
+    ensures formed { IfOk result (λ after. IsFormedModule after.content) }
+    ensures target { IfOk result (λ after. IsTargetModule after.content) }
+    ensures no_bundle { IfOk result (λ after. All HasNoBundle after.content.funcs) }
+{
+    match sp_rewrite::rewrite(alloc, read) {
+        Ok(after) => Ok(after),
+        Err(RewriteFault::TooManyRelocations) => Err(Refusal::Defined(Cause::Module(
+            ModuleFault::TooManyRelocations,
+        ))),
+        Err(RewriteFault::Memory) => Err(Refusal::Memory),
+    }
+}
