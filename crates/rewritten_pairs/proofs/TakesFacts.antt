@@ -246,10 +246,7 @@ module _ (content : ModuleContent) (is : IsReachedSource content) (number : ℕ)
         let left = filter_map_forth value_in (leaving op here.inst.operands) pointer.place (operands.Value value) value.0 (source.stands ∙ ap (λ (o : Operand). Some o) is_value) refl in
         let keeps = all_at (KeepsDerived (placed func)) (instructions_of (placed func).blocks) (text_place (placed func) b here.from) here.inst stay from_text in
         all_at (λ (v : ℕ). Derived (placed func) v → ⊥) (values_leaving here.inst) left.0 value.0 keeps
-        (ap (λ (o : Op). slice_get (filter_map_values o) left.0) op_before ∙ left.1) (marked_derived (placed func) value.0 marked))
-      where
-        filter_map_values : Op → List ℕ
-        filter_map_values o = values_leaving (record here.inst { op = o })
+        (ap (λ (o : Op). slice_get (values_leaving (record here.inst { op = o })) left.0) op_before ∙ left.1) (marked_derived (placed func) value.0 marked))
 
     compared_own : line.inst ≡ kept_line (placed func) marks here.inst → (pred : Pred) → line.inst.op ≡ ops.Icmp pred → (operand : Operand)
         → Contains (escaping (ops.Icmp pred) line.inst) operand → IsOwn made table operand
@@ -336,7 +333,7 @@ module _ (content : ModuleContent) (is : IsReachedSource content) (number : ℕ)
         eq-eqb (kind_of (cell_of here.inst.ty)) (kind_of (cell_of line.inst.ty)) (ap (λ (t : Ty). kind_of (cell_of t)) (sym access.type_is)) in
         ap (λ (n : ℕ). is_checked (lines_at made b) n address line.inst.ty) next
         ∙ (ap (λ (l : Option Line). option_map_or (checks_access address line.inst.ty) l false) forth.1
-        ∙ (ap (λ (i : Instruction). checks_access address line.inst.ty (record forth.0 { inst = i })) forth.2 ∙ both_true true _ _ refl is_address is_kind))
+        ∙ (ap (λ (i : Instruction). checks_access address line.inst.ty (record (forth.0) { inst = i })) forth.2 ∙ both_true true _ _ refl is_address is_kind))
       where
         all_at_ready : slice_get (instructions_of (placed func).blocks) (text_place (placed func) b here.from) ≡ Some here.inst → IsReady (renamings content) (placed func) here.inst
         all_at_ready at = all_at (IsReady (renamings content) (placed func)) (instructions_of (placed func).blocks) (text_place (placed func) b here.from) here.inst (all_ready content is.source number func found) at
