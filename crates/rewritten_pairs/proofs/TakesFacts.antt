@@ -1,5 +1,5 @@
 -- In a source module without unreached blocks, each line of the functions with polls and bases takes pointers with their bases.
-use Rattle.std.proofs.Common.{◌≡◌, ℕ, zero, suc, ◌+◌, Bool, true, false, ◌&&◌, List, [], ◌∷◌, length, map, take, refl, sym, ap, subst, ◌∙◌, inl, inr, arith}
+use Rattle.std.proofs.Common.{◌≡◌, ℕ, suc, ◌+◌, Bool, true, false, ◌&&◌, List, [], ◌∷◌, length, map, take, refl, sym, ap, subst, ◌∙◌, inl, inr, arith}
 use Rattle.std.specs.Prelude.{Option, Some, None, slice_get}
 use Rattle.std.specs.List.{All, AllZip, Contains}
 use Rattle.std.specs.Option.{option_map_or}
@@ -16,7 +16,6 @@ use Rattle.ir_ast.specs.declared.ops.Operand.{Operand}
 use Rattle.ir_ast.specs.declared.ops.Operand.TheVariants as operands
 use Rattle.ir_ast.specs.declared.ops.Pred.{Pred}
 use Rattle.ir_ast.specs.Bases.{Base}
-use Rattle.ir_ast.specs.Blocks.{BasicBlock}
 use Rattle.ir_ast.specs.Cells.{kind_of}
 use Rattle.ir_ast.specs.Derived.{Derived, by_merge, by_step, is_merge}
 use Rattle.ir_ast.specs.Insts.{Instruction}
@@ -26,9 +25,9 @@ use Rattle.ir_ast.specs.Lines.{IsLine, LineOf, is_rewritten}
 use Rattle.ir_ast.specs.Modules.{ModuleContent}
 use Rattle.ir_ast.specs.Operands.{value_in, values_used}
 use Rattle.ir_ast.specs.Scope.{scope_of}
-use Rattle.ir_ast.specs.Values.{outcome, value_types}
+use Rattle.ir_ast.specs.Values.{value_types}
 use Rattle.ir_ast.specs.Faults.DerivedEscapes.{DerivedStay, KeepsDerived, leaving, values_leaving}
-use Rattle.ir_ast.specs.Faults.PointerOrder.{is_order, orders_pointers}
+use Rattle.ir_ast.specs.Faults.PointerOrder.{orders_pointers}
 use Rattle.ir_ast.specs.Faults.Reserved.{IsSource}
 use Rattle.ir_ast.specs.Faults.TypeClash.{Fits, IsTyped, asked}
 use Rattle.ir_cfg.specs.DefiniteUses.{Stands, text_place}
@@ -54,12 +53,12 @@ use Rattle.rewriting_forms.specs.Numbered.{lines_at}
 use Rattle.rewritten_definite.specs.Statements.{IsReachedSource}
 use Rattle.rewritten_definite.proofs.LineLaws.{line_forth, line_from}
 use Rattle.rewritten_definite.proofs.UsedLaws.{uses_operand}
-use Rattle.pair_facts.specs.Lines.{line_before, operand_at, same_operand}
+use Rattle.pair_facts.specs.Lines.{operand_at, same_operand}
 use Rattle.pair_facts.specs.Uses.{Use, accessed_at, checked, checks_access, compared, escaping, is_checked, use_at}
 use Rattle.rewritten_pairs.specs.Statements.{SourceIsVerified, SourceTakesBases, TakesBases}
-use Rattle.rewritten_pairs.specs.Takes.{IsBased, IsOwn, IsPointer, base_of}
+use Rattle.rewritten_pairs.specs.Takes.{IsBased, IsOwn, base_of}
 use Rattle.rewritten_pairs.proofs.BaseFacts.{fits_pointer, underived_own}
-use Rattle.rewritten_pairs.proofs.EscapeFacts.{PointerIn, compared_pointer, compared_type, leaving_map, left_pointer, no_checked, no_compared, no_source_takes, takes_pairs}
+use Rattle.rewritten_pairs.proofs.EscapeFacts.{compared_pointer, compared_type, leaving_map, left_pointer, no_checked, no_compared, no_source_takes, takes_pairs}
 use Rattle.rewritten_pairs.proofs.MadeFacts.{Accesses, MadeBlock, MadeLine, accesses, block_made, checking, comparing, group_stands, is_compare, kept, made_lines, merging, negating, plain_compare}
 use Rattle.rewritten_pairs.proofs.PhiFacts.{base_same}
 use Rattle.rewritten_pairs.proofs.SourceFacts.{bare_there, bases_there, lines_there, phis_there, reached_there, table_there, taking_is_verified, typed_there}
