@@ -2,8 +2,8 @@
 use Rattle.std.proofs.Common.{◌≡◌, ℕ, zero, suc, ◌+◌, ◌<◌, Bool, true, false, if◌then◌else◌, List, [], ◌∷◌, ◌++◌, length, map, take, drop, refl, sym, ap, subst, ◌∙◌, ◌⊎◌, inl, inr, arith}
 use Rattle.std.specs.Prelude.{Option, Some, slice_get, slice_index_or}
 use Rattle.std.specs.List.{All}
+use Rattle.std.specs.Option.{option_map_or}
 use Rattle.std.proofs.lemmas.Bool.{false≢true, true≢false}
-use Rattle.std.proofs.lemmas.List.Elements.{All-cons, All-nil}
 use Rattle.std.proofs.lemmas.Option.{none-some}
 use Rattle.list_laws.proofs.Contents.{all_at}
 use Rattle.list_laws.proofs.Places.{get_front, get_past, split_at}
@@ -65,17 +65,20 @@ module _ (func : Function) (marks : List Bool) (value : ℕ) (inst : Instruction
       → (uses_marked marks inst ≡ false) ⊎ (is_order pred ≡ true)
   plain_compare pred index line at compares = by (uses_marked marks inst) refl pred at
     where
-      none : (lines : List Instruction) → All (λ each. is_compare each.op ≡ false) lines → slice_get lines index ≡ Some line → ⊥
-      none lines all at = true≢false (sym compares ∙ all_at (λ each. is_compare each.op ≡ false) lines index line all at)
+      equal : (k : ℕ) → slice_get (compared func marks value inst preds.Eq) k ≡ Some line → is_compare line.op ≡ false
+      equal zero at = sym (ap (λ (found : Option Instruction). option_map_or (λ (each : Instruction). is_compare each.op) found false) at)
+      equal (suc k) at = absurd (none-some line at)
+
+      unequal : (k : ℕ) → slice_get (compared func marks value inst preds.Ne) k ≡ Some line → is_compare line.op ≡ false
+      unequal zero at = sym (ap (λ (found : Option Instruction). option_map_or (λ (each : Instruction). is_compare each.op) found false) at)
+      unequal (suc zero) at = sym (ap (λ (found : Option Instruction). option_map_or (λ (each : Instruction). is_compare each.op) found false) at)
+      unequal (suc (suc k)) at = absurd (none-some line at)
 
       by : (b : Bool) → uses_marked marks inst ≡ b → (pred : Pred) → slice_get (if b then compared func marks value inst pred else kept_line func marks inst ∷ []) index ≡ Some line
           → (uses_marked marks inst ≡ false) ⊎ (is_order pred ≡ true)
       by false same pred at = inl same
-      by true same preds.Eq at = absurd (none (compared func marks value inst preds.Eq) (All-cons (λ each. is_compare each.op ≡ false) _ [] refl (All-nil (λ each. is_compare each.op ≡ false))) at)
-      by true same preds.Ne at =
-          absurd
-          (none (compared func marks value inst preds.Ne)
-          (All-cons (λ each. is_compare each.op ≡ false) _ _ refl (All-cons (λ each. is_compare each.op ≡ false) _ [] refl (All-nil (λ each. is_compare each.op ≡ false)))) at)
+      by true same preds.Eq at = absurd (true≢false (sym compares ∙ equal index at))
+      by true same preds.Ne at = absurd (true≢false (sym compares ∙ unequal index at))
       by true same pred at = inr refl
 
   -- an access stands behind its check
