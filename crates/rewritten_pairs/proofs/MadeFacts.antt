@@ -7,7 +7,6 @@ use Rattle.std.proofs.lemmas.Bool.{false≢true, true≢false}
 use Rattle.std.proofs.lemmas.Option.{none-some}
 use Rattle.list_laws.proofs.Contents.{all_at}
 use Rattle.list_laws.proofs.Places.{get_front, get_past, split_at}
-use Rattle.ir_ast.specs.declared.types.Ty.{Ty}
 use Rattle.ir_ast.specs.declared.ops.Pred.{Pred}
 use Rattle.ir_ast.specs.declared.ops.Pred.TheVariants as preds
 use Rattle.ir_ast.specs.declared.ops.Op.{Op}

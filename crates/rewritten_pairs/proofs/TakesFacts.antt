@@ -59,7 +59,7 @@ use Rattle.rewritten_pairs.specs.Statements.{SourceIsVerified, SourceTakesBases,
 use Rattle.rewritten_pairs.specs.Takes.{IsBased, IsOwn, base_of}
 use Rattle.rewritten_pairs.proofs.BaseFacts.{fits_pointer, underived_own}
 use Rattle.rewritten_pairs.proofs.EscapeFacts.{compared_pointer, compared_type, leaving_map, left_pointer, no_checked, no_compared, no_source_takes, takes_pairs}
-use Rattle.rewritten_pairs.proofs.MadeFacts.{Accesses, MadeBlock, MadeLine, accesses, block_made, checking, comparing, group_stands, is_compare, kept, made_lines, merging, negating, plain_compare}
+use Rattle.rewritten_pairs.proofs.MadeFacts.{MadeBlock, MadeLine, accesses, block_made, checking, comparing, group_stands, is_compare, kept, made_lines, merging, negating, plain_compare}
 use Rattle.rewritten_pairs.proofs.PhiFacts.{base_same}
 use Rattle.rewritten_pairs.proofs.SourceFacts.{bare_there, bases_there, lines_there, phis_there, reached_there, table_there, taking_is_verified, typed_there}
 use Rattle.rewritten_pairs.proofs.UnderivedFacts.{underived}
