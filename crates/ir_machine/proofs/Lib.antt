@@ -4,4 +4,5 @@ pub mod TaskLemmas
 pub mod CallLemmas
 pub mod EventLemmas
 pub mod OpeningLemmas
+pub mod QuietLemmas
 pub mod RunLemmas

@@ -1,6 +1,8 @@
 -- A run by its steps, and what it has written.
-use Rattle.std.proofs.Common.{◌≡◌, ℕ, ℤ, suc, ◌+◌, ◌-◌, ◌^◌, min, List, [], ◌∷◌, length, Option, Some, None, refl, sym, ap, ◌∙◌, arith}
-use Rattle.std.proofs.lemmas.List.{append-nil}
+use Rattle.std.proofs.Common.{◌≡◌, ℕ, ℤ, suc, ◌+◌, ◌-◌, ◌^◌, min, List, [], ◌∷◌, ◌++◌, reverse, length, Option, Some, None, refl, sym, ap, ◌∙◌, arith}
+use Rattle.std.specs.List.{concat}
+use Rattle.std.proofs.lemmas.List.{append-nil, reverse-append}
+use Rattle.std.proofs.lemmas.List.Folds.{concat-append}
 use Rattle.tool_io.specs.Sink.{append_known, AppendsFront}
 use Rattle.tool_io.proofs.AppendLaws.{append_known-nil, append_known-then, AppendsFront-second, AppendsFront-all, AppendsFront-same, AppendsFront-nothing}
 use Rattle.sp_ids.specs.declared.ends.End.{End}
@@ -13,12 +15,14 @@ use Rattle.object_meaning.proofs.RunLaws.{reaches_more, ends_more}
 use Rattle.machine_meaning.specs.Machines.{Machine, Machinery}
 use Rattle.machine_meaning.specs.MachineSteps.{machine_step}
 use Rattle.machine_meaning.specs.MachineRuns.{machine_outcome, machine_proceeds, machine_opening}
+use Rattle.machine_meaning.specs.TrapLines.{closing_of}
 use Rattle.machine_meaning.specs.Code.{machinery_of}
 use Rattle.ir_machine.specs.declared.executor.Did.{Did}
 use Rattle.ir_machine.specs.declared.executor.Did.TheVariants.{GoesOn, Prints, Ends as Finishes}
 use Rattle.ir_machine.specs.declared.run.Ran.{Ran}
 use Rattle.ir_machine.specs.Executors.{effect_of, told, without_words}
 use Rattle.ir_machine.specs.Answers.{IsRunOver, IsRunFrom, WritesFrontFrom, unprinted, Follows, ended_of, Wrote, WroteFront}
+use Rattle.ir_machine.proofs.QuietLemmas.{closing_nothing, closing_untrapped}
 
 pub follows_start : (machinery : Machinery) (machine : Machine) (old : Option (List ℕ)) → Follows machinery (unprinted machine) machine 0 old old
 follows_start machinery machine old = record {
@@ -155,6 +159,14 @@ ran_same ran func steps events lines one two three four =
     ∙ (ap (λ (e : ℕ). record ran { func = record { 0 = func }; steps = steps; events = e }) three
     ∙ ap (λ (l : ℕ). record ran { func = record { 0 = func }; steps = steps; events = events; lines = l }) four))
 
+concat-reverse : (lines : List (List ℕ)) → concat (reverse lines) ≡ text_of lines
+concat-reverse [] = refl
+concat-reverse (line ∷ lines) =
+    ap concat (reverse-append (line ∷ []) lines) ∙ (concat-append (reverse lines) (line ∷ []) ∙ (ap (λ text. text ++ (line ++ [])) (concat-reverse lines) ∙ ap (λ more. text_of lines ++ more) (append-nil line)))
+
+printed_all : (lines shown : List (List ℕ)) → shown ≡ [] → concat (reverse lines ++ shown) ≡ text_of lines
+printed_all lines shown none = ap (λ more. concat (reverse lines ++ more)) none ∙ (ap concat (append-nil (reverse lines)) ∙ concat-reverse lines)
+
 pub run_is : (content : ModuleContent) (map : StackMap) (input : List ℤ) (plan : List PlanLine) (bound : ℕ) (old new : Option (List ℕ)) (ran : Ran)
     → IsRunFrom (machinery_of content map plan bound) (machine_opening (machinery_of content map plan bound) input) ran old new
     → IsRunOver content map input plan bound ran old new
@@ -165,4 +177,6 @@ run_is content map input plan bound old new ran run =
       gives = record { last = run.last; run = run.run; is = refl };
       answer = ran_same ran run.last.state.state.running.func run.last.state.state.steps run.last.state.state.events (line_count run.last.lines) run.func run.steps run.events run.lines;
       written = run.written;
+      untrapped = λ end. run.written ∙ ap (append_known old) (sym (printed_all run.last.lines (closing_of machinery ran.end run.last.state) (closing_untrapped machinery ran.end run.last.state end)));
+      unnamed = λ bare. run.written ∙ ap (append_known old) (sym (printed_all run.last.lines (closing_of machinery ran.end run.last.state) (closing_nothing machinery ran.end run.last.state bare)));
     }

@@ -1,14 +1,18 @@
 -- What a run of the machine answers.
 use Rattle.std.specs.Prelude.{◌≡◌, ℕ, ◌+◌, ◌-◌, ◌^◌, min, ℤ, List, [], Option, Some, None}
+use Rattle.std.specs.List.{concat}
 use Rattle.tool_io.specs.Sink.{append_known, AppendsFront}
 use Rattle.sp_ids.specs.declared.ends.End.{End}
+use Rattle.sp_ids.specs.declared.ends.End.TheVariants.{Trap}
 use Rattle.ir_ast.specs.Modules.{ModuleContent}
 use Rattle.move_plan.specs.declared.plan_lines.PlanLine.{PlanLine}
 use Rattle.map_bytes.specs.Maps.{StackMap, IsMapOf}
+use Rattle.frame_walk.specs.Maps.{FrameEntry, found_in}
 use Rattle.object_meaning.specs.Runs.{Ends, Reaches}
 use Rattle.object_meaning.specs.Effects.{Progress, line_count, printed_line, text_of}
 use Rattle.machine_meaning.specs.Machines.{Machine, Machinery}
 use Rattle.machine_meaning.specs.MachineRuns.{MachineOutcome, MachineGives, machine_proceeds, machine_opening}
+use Rattle.machine_meaning.specs.TrapLines.{deopt_places}
 use Rattle.machine_meaning.specs.Code.{machinery_of}
 use Rattle.ir_machine.specs.declared.run.Ran.{Ran}
 use Rattle.ir_machine.specs.declared.executor.Did.{Did}
@@ -23,13 +27,24 @@ ran_of outcome = record {
   lines = outcome.printed;
 }
 
+-- no record that a map has at a return address has "deopt" locations
+abbrev pub NamesNothing : StackMap → Type 0
+NamesNothing map = (address : ℕ) (one : FrameEntry) → found_in map address ≡ Some one → deopt_places one ≡ []
+
+-- the end of a run at which waiting frames show nothing
+abbrev pub IsUntrapped : End → Type 0
+IsUntrapped (Trap trap) = ⊥
+IsUntrapped end = Unit {0}
+
 -- the answer is that of the machine's run over a map, and what its steps print was written; at a trap without what the
--- waiting frames show
+-- waiting frames show. Where they show nothing, that is the whole output
 pub record IsRunOver (content : ModuleContent) (map : StackMap) (input : List ℤ) (plan : List PlanLine) (bound : ℕ) (ran : Ran) (old new : Option (List ℕ)) : Type 0 where
   pub outcome : MachineOutcome
   pub gives : MachineGives content map input plan bound outcome
   pub answer : ran ≡ ran_of outcome
   pub written : new ≡ append_known old (text_of gives.last.lines)
+  pub untrapped : IsUntrapped ran.end → new ≡ append_known old (concat outcome.lines)
+  pub unnamed : NamesNothing map → new ≡ append_known old (concat outcome.lines)
 
 -- the same of the map that these bytes are
 pub record IsRun (content : ModuleContent) (bytes : List ℕ) (input : List ℤ) (plan : List PlanLine) (bound : ℕ) (ran : Ran) (old new : Option (List ℕ)) : Type 0 where

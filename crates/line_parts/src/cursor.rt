@@ -4,25 +4,27 @@ ghost use Rattle.std.specs.Prelude.{◌≡◌, ◌≤◌, ◌<◌, ◌^◌, ◌�
 ghost use Rattle.sp_text.specs.Tokens.{tok, bad, tokens};
 ghost use Rattle.line_parts.specs.Gives.{BeginsWith, is_nil};
 
-use sp_text::{Line, Token};
+use sp_text::{BadByte, Line, Token};
 use std::marker::Model;
 
 /// A place in a line. Contracts see the tokens from there on.
 #[derive(Drop)]
 pub struct Cursor<'a> {
     line: Line<'a>,
-    at: usize,
+    // Each token is looked at several times, so it is kept from when the place is reached.
+    next: Result<Option<Token<'a>>, BadByte>,
 }
 
 impl<'a> Model for Cursor<'a> {
-    ghost use Rattle.std.specs.Prelude.{List, drop, length, ◌≤◌, ◌<◌, ◌^◌};
-    ghost use Rattle.sp_text.specs.Tokens.{Tok, tokens};
+    ghost use Rattle.std.specs.Prelude.{List, length, IfOk, IfSome, ◌≤◌, ◌<◌, ◌^◌};
+    ghost use Rattle.sp_text.specs.Tokens.{Tok};
+    ghost use Rattle.sp_text.specs.TokenAt.{tokens_by};
 
     ghost Value = { List Tok };
 
-    ghost view = { λ c. tokens (drop c.at c.line.bytes.now) };
+    ghost view = { λ c. tokens_by c.line.bytes.now c.next };
 
-    ghost invariant = { λ c. (c.at ≤ length c.line.bytes.now) × (length (tokens (drop c.at c.line.bytes.now)) < 2 ^ 63) };
+    ghost invariant = { λ c. IfOk c.next (λ found. IfSome found (λ token. token.to ≤ length c.line.bytes.now)) × (length (tokens_by c.line.bytes.now c.next) < 2 ^ 63) };
 }
 
 impl<'a> Cursor<'a> {
@@ -30,7 +32,8 @@ impl<'a> Cursor<'a> {
     pub fn of(line: Line<'a>) -> Cursor<'a>
         ensures { result ≡ tokens line.entry.bytes.now }
     {
-        Cursor { line, at: 0 }
+        let next = line.token_at(0);
+        Cursor { line, next }
     }
 
     /// The next token, which is passed. There may be none: the line ends there, or a byte begins no token.
@@ -38,9 +41,9 @@ impl<'a> Cursor<'a> {
         ensures { MatchOption result ((self.new ≡ self.old) × ((self.old ≡ []) ⊎ (self.old ≡ bad ∷ [])))
             (λ token. self.old ≡ tok token.kind token.bytes.now ∷ self.new) }
     {
-        match self.line.token_at(self.at) {
+        match self.next {
             Ok(Some(token)) => {
-                self.at = token.to;
+                self.next = self.line.token_at(token.to);
                 Some(token)
             }
             Ok(None) => None,
@@ -53,7 +56,7 @@ impl<'a> Cursor<'a> {
         ensures { MatchOption result ((self.now ≡ []) ⊎ (self.now ≡ bad ∷ []))
             (λ token. BeginsWith token.kind token.bytes.now self.now) }
     {
-        match self.line.token_at(self.at) {
+        match self.next {
             Ok(found) => found,
             Err(_) => None,
         }
@@ -63,7 +66,7 @@ impl<'a> Cursor<'a> {
     pub fn is_at_end(&self) -> bool
         ensures { result ≡ is_nil self.now }
     {
-        match self.line.token_at(self.at) {
+        match self.next {
             Ok(None) => true,
             Ok(Some(_)) => false,
             Err(_) => false,
@@ -77,7 +80,7 @@ impl<'a> Cursor<'a> {
     {
         Cursor {
             line: self.line,
-            at: self.at,
+            next: self.next,
         }
     }
 }

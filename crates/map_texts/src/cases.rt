@@ -2,7 +2,7 @@
 
 use crate::bases::Bases;
 use crate::found::{
-    found_at, found_entry, lent_and_changed, shown_functions, shown_records, shown_view,
+    found_at, found_entry, lent_and_changed, shown_cuts, shown_functions, shown_records, shown_view,
 };
 use crate::words::{cut, hexadecimal, number};
 use std::alloc::{AllocError, Global};
@@ -11,6 +11,7 @@ use std::alloc::{AllocError, Global};
 #[derive(Clone, Copy, Debug, PartialEq, Eq)]
 pub(crate) enum Asked {
     View,
+    Cuts,
     Functions,
     Records,
     Entry(u64),
@@ -47,6 +48,7 @@ impl<'a> Case<'a> {
         let mut bytes = spelled_map(alloc, bases, self.spelled)?;
         match self.asked {
             Asked::View => shown_view(alloc, &bytes),
+            Asked::Cuts => shown_cuts(alloc, &bytes),
             Asked::Functions => shown_functions(alloc, &bytes),
             Asked::Records => shown_records(alloc, &bytes),
             Asked::Entry(index) => found_entry(alloc, &bytes, index),
@@ -59,6 +61,9 @@ impl<'a> Case<'a> {
 fn asked_by(words: &[u8]) -> Option<Asked> {
     if words == b"view".as_slice() {
         return Some(Asked::View);
+    }
+    if words == b"cuts".as_slice() {
+        return Some(Asked::Cuts);
     }
     if words == b"functions".as_slice() {
         return Some(Asked::Functions);

@@ -1,6 +1,6 @@
 //! What is found in a map, as a line of text.
 
-use stackmap_view::{MapIndex, MapView, RecordRef};
+use stackmap_view::{MapFault, MapIndex, MapRule, MapView, RecordRef};
 use std::alloc::{AllocError, Global};
 
 pub(crate) fn shown_view(alloc: Global, bytes: &[u8]) -> Result<String, AllocError> {
@@ -8,6 +8,23 @@ pub(crate) fn shown_view(alloc: Global, bytes: &[u8]) -> Result<String, AllocErr
         Ok(_view) => String::from_str(alloc, "ok"),
         Err(fault) => format!(in alloc; "{fault}"),
     }
+}
+
+// What is found in each front of the bytes that isn't the whole, from the empty one on: of a field that isn't whole its place alone.
+pub(crate) fn shown_cuts(alloc: Global, bytes: &[u8]) -> Result<String, AllocError> {
+    let mut shown = String::new(alloc);
+    for length in 0..bytes.len() {
+        let (front, _behind) = bytes.split_at(length);
+        if length > 0 {
+            shown.push_str(" ")?;
+        }
+        match MapView::of(front) {
+            Ok(_view) => shown.push_str("ok")?,
+            Err(MapFault { at, rule }) if rule == MapRule::Short => write!(shown, "{at}")?,
+            Err(fault) => write!(shown, "{fault}")?,
+        }
+    }
+    Ok(shown)
 }
 
 // Each function's address, frame size and record count.

@@ -1,0 +1,53 @@
+-- A stack shows nothing where no record of the map has "deopt" locations.
+use Rattle.std.proofs.Common.{◌≡◌, ℕ, zero, suc, ◌+◌, ◌-◌, ◌==◌, if◌then◌else◌, Bool, true, false, List, [], ◌∷◌, ◌++◌, map, take, drop, length, slice_index, Option, Some, None, refl, ap, ◌∙◌}
+use Rattle.sp_ids.specs.declared.ends.End.{End}
+use Rattle.sp_ids.specs.declared.ends.End.TheVariants.{Trap}
+use Rattle.moving_heap.specs.declared.stands.Stand.{Stand}
+use Rattle.frame_walk.specs.Maps.{FrameEntry, pairs_in}
+use Rattle.frame_walk.specs.Walks.{frame_words}
+use Rattle.machine_meaning.specs.Machines.{Machine, Machinery}
+use Rattle.machine_meaning.specs.TrapLines.{deopt_places, pair_places, is_readable, frame_line, values_of, shown_place, lines_with, lines_at, lines_from, closing_of}
+use Rattle.ir_machine.specs.Answers.{IsUntrapped}
+
+-- what a map may have at each return address
+abbrev Quiet : Machinery → Type 0
+Quiet machinery = (address : ℕ) (one : FrameEntry) → machinery.found address ≡ Some one → deopt_places one ≡ []
+
+either_nothing : (b : Bool) (lines : List (List ℕ)) → lines ≡ [] → (if b then lines else []) ≡ []
+either_nothing true lines e = e
+either_nothing false lines e = refl
+
+or_nothing : (b : Bool) (lines : List (List ℕ)) → lines ≡ [] → (if b then [] else lines) ≡ []
+or_nothing true lines e = refl
+or_nothing false lines e = e
+
+with_nothing : (machinery : Machinery) (stands : List Stand) (number : ℕ) (stack : List ℕ) (below : ℕ → List ℕ → List (List ℕ)) (one : FrameEntry) (name : Option (List ℕ))
+    → deopt_places one ≡ [] → ((next : ℕ) (rest : List ℕ) → below next rest ≡ []) → lines_with machinery stands number stack below one name ≡ []
+with_nothing machinery stands number stack below one None bare rest = refl
+with_nothing machinery stands number stack below one (Some name) bare rest =
+    let next = slice_index stack (frame_words one) in let others = drop (frame_words one + 1) stack in
+    let shown = shown_place machinery stands (take (frame_words one) stack) (pairs_in (pair_places one)) in
+    ap (λ places. frame_line number name (map shown places) ++ below next others) bare ∙ rest next others
+
+at_nothing : (machinery : Machinery) (stands : List Stand) (number address : ℕ) (stack : List ℕ) (below : ℕ → List ℕ → List (List ℕ)) (found : Option FrameEntry)
+    → ((one : FrameEntry) → found ≡ Some one → deopt_places one ≡ []) → ((next : ℕ) (rest : List ℕ) → below next rest ≡ []) → lines_at machinery stands number address stack below found ≡ []
+at_nothing machinery stands number address stack below None bare rest = refl
+at_nothing machinery stands number address stack below (Some one) bare rest =
+    either_nothing (is_readable (length stack) one) _ (with_nothing machinery stands number stack below one (machinery.name_at address) (bare one refl) rest)
+
+from_nothing : (fuel : ℕ) (machinery : Machinery) (stands : List Stand) (number address : ℕ) (stack : List ℕ) → Quiet machinery → lines_from fuel machinery stands number address stack ≡ []
+from_nothing zero machinery stands number address stack quiet = refl
+from_nothing (suc fuel) machinery stands number address stack quiet =
+    or_nothing (address == 0) _
+    (at_nothing machinery stands number address stack (λ next rest. lines_from fuel machinery stands (number + 1) next rest) (machinery.found address)
+    (quiet address) (λ next rest. from_nothing fuel machinery stands (number + 1) next rest quiet))
+
+pub closing_nothing : (machinery : Machinery) (end : End) (machine : Machine) → Quiet machinery → closing_of machinery end machine ≡ []
+closing_nothing machinery (Trap trap) machine quiet =
+    from_nothing (length machine.stack) machinery machine.heap.stands 1 (slice_index machine.stack (machinery.frame_words machine.state.running.func))
+    (drop (machinery.frame_words machine.state.running.func + 1) machine.stack) quiet
+closing_nothing machinery _ machine quiet = refl
+
+pub closing_untrapped : (machinery : Machinery) (end : End) (machine : Machine) → IsUntrapped end → closing_of machinery end machine ≡ []
+closing_untrapped machinery (Trap trap) machine ended = absurd ended
+closing_untrapped machinery _ machine is = refl
