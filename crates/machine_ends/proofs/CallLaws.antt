@@ -1,6 +1,6 @@
 -- Calls of the machine lead on.
 use Rattle.std.proofs.Common.{◌≡◌, ℕ, ◌+◌, Bool, true, false, ◌==◌, List, [], ◌∷◌, map, Option, Some, None, Result, Ok, Err, refl, arith}
-use Rattle.std.specs.Prelude.{ℤ, if◌then◌else◌, ◌&&◌, slice_get, slice_index_or, slice_set, unsigned_abs}
+use Rattle.std.specs.Prelude.{ℤ, if◌then◌else◌, ◌&&◌, slice_get, unsigned_abs}
 use Rattle.std.specs.Option.{option_map_or}
 use Rattle.std.specs.Int.{w64, cast_unsigned}
 use Rattle.sp_ids.specs.Numbers.{signed}
@@ -15,19 +15,19 @@ use Rattle.moving_heap.specs.declared.heap.AllocFault.{AllocFault}
 use Rattle.moving_heap.specs.declared.heap.AllocFault.TheVariants as faults
 use Rattle.moving_heap.specs.declared.heap.Deny.{Deny}
 use Rattle.moving_heap.specs.declared.heap.Deny.TheVariants as denies
-use Rattle.moving_heap.specs.Heaps.{alloc_answer, checked as heap_checked, with_object}
+use Rattle.moving_heap.specs.Heaps.{alloc_answer, checked as heap_checked}
 use Rattle.object_meaning.specs.Accesses.{cell_named}
 use Rattle.object_meaning.specs.Comparisons.{bit}
 use Rattle.object_meaning.specs.Effects.{Effect, goes_on, prints, ends}
 use Rattle.object_meaning.specs.Lines.{Line}
-use Rattle.object_meaning.specs.Calls.{called, entering, function_in, stepped, taking}
+use Rattle.object_meaning.specs.Calls.{entering, function_in, stepped, taking}
 use Rattle.object_meaning.specs.Registers.{nothing, number_in, operand, value}
-use Rattle.object_meaning.specs.States.{Frame, State, Setting}
+use Rattle.object_meaning.specs.States.{Frame, State}
 use Rattle.object_meaning.specs.Tasks.{started, with_event}
 use Rattle.machine_meaning.specs.Machines.{Machine, Machinery, address_behind, gone_on, lifted}
-use Rattle.machine_meaning.specs.MachineTasks.{allocated_machine, allocating_machine, ended_machine, handed_machine, new_frame, polled_machine, pushed, switched_machine}
+use Rattle.machine_meaning.specs.MachineTasks.{allocated_machine, allocating_machine, ended_machine, handed_machine, polled_machine, pushed, switched_machine}
 use Rattle.machine_meaning.specs.MachineSteps.{at, calls, checking, denied, returns}
-use Rattle.machine_ends.proofs.EffectLaws.{LeadsOn, Leads, Fares, IsSwitched, Counts, counts_entering, fares_eventful, fares_lifted, fares_then, gone_leads, leads_input, leads_started, leads_stepped, switched_same, switched_then, switches}
+use Rattle.machine_ends.proofs.EffectLaws.{LeadsOn, Leads, Fares, IsSwitched, counts_entering, fares_eventful, fares_lifted, fares_then, gone_leads, leads_input, leads_started, leads_stepped, switched_same, switched_then, switches}
 
 pub fares_denied : (bound : ℕ) (state : State) (machine : Machine) (deny : Deny) → Fares bound state (denied machine deny)
 fares_denied bound state machine denies.Null = tt

@@ -6,7 +6,6 @@ use Rattle.std.specs.Option.{option_map_or}
 use Rattle.std.proofs.lemmas.Bool.Decides.{nat_tests}
 use Rattle.std.proofs.lemmas.List.{length-append, length-set}
 use Rattle.sp_ids.specs.declared.ends.End.TheVariants as ended
-use Rattle.sp_ids.specs.declared.ends.Trap.{Trap}
 use Rattle.sp_ids.specs.declared.ends.Trap.TheVariants as traps
 use Rattle.ir_ast.specs.declared.ops.Op.{Op}
 use Rattle.ir_ast.specs.declared.ops.Op.TheVariants as ops
@@ -16,12 +15,12 @@ use Rattle.object_meaning.specs.Effects.{Effect, goes_on, prints, ends}
 use Rattle.object_meaning.specs.Frames.{entered, group_length}
 use Rattle.object_meaning.specs.Calls.{entering, stepped}
 use Rattle.object_meaning.specs.States.{Frame, State, Setting}
-use Rattle.object_meaning.specs.Tasks.{started, switched_to, with_event}
+use Rattle.object_meaning.specs.Tasks.{started, with_event}
 use Rattle.machine_meaning.specs.Machines.{Machine, Machinery, gone_behind, gone_from, lifted, then_on}
 use Rattle.machine_meaning.specs.MachineTasks.{switched_machine}
 use Rattle.machine_meaning.specs.Moving.{after_walk, eventful, moved_by, moves_due, walked_all}
 use Rattle.moving_heap.specs.declared.stands.Moved.{Moved}
-use Rattle.machine_ends.proofs.LineCounts.{lines_left, waiting_lines, changed_within, dropped_less}
+use Rattle.machine_ends.proofs.LineCounts.{lines_left, changed_within, dropped_less}
 
 pub data LeadsOn (bound : ℕ) (state next : State) : Type 0 where
   counted : state.steps < bound → next.steps ≡ state.steps + 1 → LeadsOn bound state next

@@ -1,7 +1,6 @@
 -- Each run of the machine comes to an end, whatever the map and the plan are: the steps that count are bounded, so are the
 -- tasks that are started, and any other step leaves fewer lines to the frames in which the tasks stand.
 use Rattle.std.proofs.Common.{◌≡◌, ℕ, zero, suc, ◌-◌, ◌<◌, List, [], ◌∷◌, length, refl, ap, ◌∙◌, arith}
-use Rattle.std.specs.Prelude.{ℤ}
 use Rattle.sp_ids.specs.declared.ends.End.{End}
 use Rattle.sp_ids.specs.declared.ends.End.TheVariants as ended
 use Rattle.sp_ids.specs.declared.ends.Trap.TheVariants as traps

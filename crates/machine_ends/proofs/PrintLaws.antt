@@ -1,12 +1,11 @@
 -- What was printed on the way stands first in what a run prints.
-use Rattle.std.proofs.Common.{◌≡◌, ℕ, zero, suc, List, [], ◌∷◌, ◌++◌, refl, sym, ap, ◌∙◌, append_assoc, append-nil}
-use Rattle.std.specs.Prelude.{ℤ}
+use Rattle.std.proofs.Common.{◌≡◌, ℕ, zero, suc, List, [], ◌∷◌, ◌++◌, sym, ap, ◌∙◌, append_assoc, append-nil}
 use Rattle.sp_ids.specs.declared.ends.End.{End}
 use Rattle.object_meaning.specs.Effects.{Effect, goes_on, prints, ends, Progress, after, printed_line, text_of}
 use Rattle.object_meaning.specs.Runs.{Go, End as Over, goes}
 use Rattle.object_meaning.proofs.RunLaws.{ends_at, goes_over, not_over, same_over}
 use Rattle.machine_meaning.specs.Machines.{Machine, Machinery}
-use Rattle.machine_meaning.specs.MachineRuns.{MachineOutcome, machine_opening, machine_proceeds}
+use Rattle.machine_meaning.specs.MachineRuns.{machine_opening, machine_proceeds}
 use Rattle.machine_meaning.specs.MachineSteps.{machine_step}
 use Rattle.machine_ends.specs.Statements.{PrintedFirst, PrintsMore}
 

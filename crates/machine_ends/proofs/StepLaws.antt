@@ -15,11 +15,11 @@ use Rattle.object_meaning.specs.Jumps.{branch_taken, case_taken, jumped, label_a
 use Rattle.object_meaning.specs.Lines.{Line}
 use Rattle.object_meaning.specs.Numbers.{width_of}
 use Rattle.object_meaning.specs.Registers.{operand}
-use Rattle.object_meaning.specs.States.{Frame, State}
+use Rattle.object_meaning.specs.States.{State}
 use Rattle.object_meaning.specs.Steps.{acts, settled}
 use Rattle.machine_meaning.specs.Machines.{Machine, Machinery, spilled}
 use Rattle.machine_meaning.specs.MachineSteps.{at, behind_step, loading_word, machine_acts, machine_at, machine_step, returns, storing_word}
-use Rattle.machine_ends.proofs.EffectLaws.{LeadsOn, counted, fewer, Leads, Fares, fares_lifted, leads_stepped, under_bound}
+use Rattle.machine_ends.proofs.EffectLaws.{counted, fewer, Leads, Fares, fares_lifted, leads_stepped, under_bound}
 use Rattle.machine_ends.proofs.CallLaws.{CountsOn, counts_returns, fares_calls, fares_denied}
 
 leads_settled : (bound : ℕ) (state : State) (line : Line) (rest : List Line) (result : Result Datum Trap) → length rest < length state.running.rest
