@@ -33,6 +33,18 @@ Came-goes_on phase rest value (Err WriteFault) out first came = (came.0, begun-g
 Came-goes_on phase rest value (Err Memory) out first (inl unwritten) = inl unwritten
 Came-goes_on phase rest value (Err Memory) out first (inr begun) = inr (begun-goes_on phase rest value out first begun)
 
+-- phases of which each step is one of others
+pub Came-like : (phase other : Step Output → Type 0) (result : Result Status Refusal) (out : SinkSeen) → ((step : Step Output) → phase step → other step) →
+    Came result phase out → Came result other out
+Came-like phase other (Ok status) out like came =
+    record { output = came.output; defined = like (Go came.output) came.defined; status_is = came.status_is; written = came.written }
+Came-like phase other (Err (Defined cause)) out like came = record { defined = like (Stop cause) came.defined; unwritten = came.unwritten }
+Came-like phase other (Err WriteFault) out like came =
+    (came.0, record { output = came.1.output; defined = like (Go came.1.output) came.1.defined; front = came.1.front })
+Came-like phase other (Err Memory) out like (inl unwritten) = inl unwritten
+Came-like phase other (Err Memory) out like (inr begun) =
+    inr (record { output = begun.output; defined = like (Go begun.output) begun.defined; front = begun.front })
+
 -- where a phase refuses, so does the phase that it begins
 pub Agrees-stops : {A B C D : Type 0} (phase : Step A → Type 0) (view : B → A) (refusal : Refusal) (rest : A → Step C → Type 0) (last : D → C) →
     Agrees view (Err refusal) phase → Agrees last (Err refusal) (Then phase rest)
@@ -99,12 +111,13 @@ Works-goes_on {A} {B} {G} {contents} {before} {mid} {name} {read} {view} {value}
     }
 
 -- the same, where what the files gave has its names
-pub Works-given : {may : Taken × (Taken × Taken) → Type 0} {phases : Taken × (Taken × Taken) → Step Output → Type 0} {result : Result Status Refusal} {out : SinkSeen} →
+pub Works-given : {may : Taken × (Taken × (Taken × Taken)) → Type 0} {phases : Taken × (Taken × (Taken × Taken)) → Step Output → Type 0} {result : Result Status Refusal} {out : SinkSeen} →
     Works may phases result out →
-    Works {G = Given} (λ given. may (given.module_file, (given.input, given.plan))) (λ given. phases (given.module_file, (given.input, given.plan))) result out
+    Works {G = Given} (λ given. may (given.module_file, (given.input, (given.plan, given.map_file))))
+    (λ given. phases (given.module_file, (given.input, (given.plan, given.map_file)))) result out
 Works-given works =
     record {
-      given = record { module_file = works.given.0; input = works.given.1.0; plan = works.given.1.1 };
+      given = record { module_file = works.given.0; input = works.given.1.0; plan = works.given.1.1.0; map_file = works.given.1.1.1 };
       may = works.may;
       came = works.came;
     }
@@ -115,7 +128,7 @@ pub Works-shown : {may : Taken → Type 0} {phases : Taken → Step Output → T
     Works {G = Given} (λ given. may given.module_file) (λ given. phases given.module_file) result out
 Works-shown works =
     record {
-      given = record { module_file = works.given; input = works.given; plan = works.given };
+      given = record { module_file = works.given; input = works.given; plan = works.given; map_file = works.given };
       may = works.may;
       came = works.came;
     }

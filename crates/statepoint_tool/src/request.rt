@@ -1,5 +1,7 @@
 ghost use Rattle.std.specs.Prelude.{◌≡◌, IfOk, string_bytes};
+ghost use Rattle.statepoint_tool.specs.Work.{form_of};
 
+use ir_ast::Form;
 use sp_ids::Memory;
 use std::alloc::Global;
 use std::marker::Model;
@@ -52,6 +54,27 @@ pub(crate) struct RunRequest {
     pub(crate) steps: u64,
 }
 
+/// What a module runs on.
+#[derive(Debug, Drop)]
+pub(crate) enum Engine {
+    /// The reference interpreter: a source module runs by its meaning.
+    Meaning,
+    /// The address machine: a rewritten module runs over the stack map in the file of this name, or else over its own.
+    Machine { map: Option<FileName> },
+}
+
+impl Engine {
+    /// The form of the modules that it runs.
+    pub(crate) fn form(&self) -> Form
+        ensures { result ≡ form_of self.now }
+    {
+        match self {
+            Engine::Meaning => Form::Source,
+            Engine::Machine { .. } => Form::Rewritten,
+        }
+    }
+}
+
 /// What is written of a rewritten module.
 #[derive(Clone, Copy, Debug, PartialEq, Eq)]
 pub(crate) enum Part {
@@ -73,4 +96,10 @@ pub(crate) enum Command {
     Source(RunRequest),
     /// The same, of the rewritten module. No module is rewritten yet, so that this is the run of the source meaning.
     Run(RunRequest),
+    /// Run this rewritten module on the address machine, without checking it first, over the stack map in the file of this
+    /// name, or else over its own.
+    Exec {
+        request: RunRequest,
+        map: Option<FileName>,
+    },
 }
