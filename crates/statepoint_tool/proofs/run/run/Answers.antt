@@ -14,7 +14,7 @@ returns-in_err-read-clause-works g c =
     (MayGiveFromInput files c.args.request.input c.args.request.plan c.args.engine)
     (from_input_as_told files c.args.request.input c.args.request.plan c.args.engine)
     (MayGiveFromInput-as_told files c.args.request.input c.args.request.plan c.args.engine)
-    (g.O.Sink.written c.args.out.now) (g.O.Sink.faults c.args.out.now) c.in_err-read.ensures.read))
+    (g.O.Sink.written c.args.out.now) (g.O.Sink.faults c.args.out.now) (rw c.form.ensures at c.in_err-read.ensures.read)))
 
 pub returns-clause-works : goal.returns-clause-works
 returns-clause-works g c =
@@ -25,4 +25,4 @@ returns-clause-works g c =
     Works-given (Works-goes_on (λ (whole : LinedModule). after_module c.args.request.input c.args.request.plan c.args.engine whole.content c.args.request.steps)
     (MayGiveFromInput files c.args.request.input c.args.request.plan c.args.engine)
     (λ given. MayGiveFromInput-earlier _ _ _ _ after kept counted c.args.request.input c.args.request.plan c.args.engine given)
-    after c.run_module.ensures.counted c.in_ok-read.ensures.read c.run_module.ensures.works)
+    after c.run_module.ensures.counted (rw c.form.ensures at c.in_ok-read.ensures.read) c.run_module.ensures.works)
