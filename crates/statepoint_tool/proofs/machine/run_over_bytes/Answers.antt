@@ -1,4 +1,4 @@
-use Rattle.std.proofs.Common.{◌∙◌, inr, sym}
+use Rattle.std.proofs.Common.{◌∙◌, Err, inr, sym, ap}
 use Rattle.tool_io.proofs.AppendLaws.{append_known-nil}
 use Rattle.tool_io.proofs.CountLaws.{Rose-earlier}
 use Rattle.statepoint_tool.specs.Answers.{sink_seen}
@@ -36,13 +36,13 @@ returns-in-Err-BadMap-clause-came g c =
 pub returns-in-Err-Write-clause-came : goal.returns-in-Err-Write-clause-came
 returns-in-Err-Write-clause-came g c =
     let out = sink_seen (g.O.Sink.written c.args.out.now) (g.O.Sink.written c.run_any.new.out) (g.O.Sink.faults c.args.out.now) (g.O.Sink.faults c.run_any.new.out) in (
-      c.in-Err-Write.ensures.failed c.in-Err-Write.field-0-is,
+      c.in-Err-Write.ensures.failed (ap Err c.in-Err-Write.field-0-is),
       begun-machine c.args.read.now.content c.args.bytes.now c.args.numbers.now c.args.plan.now c.args.steps out
-          (c.in-Err-Write.ensures.write c.in-Err-Write.field-0-is),
+          (c.in-Err-Write.ensures.write (ap Err c.in-Err-Write.field-0-is)),
     )
 
 pub returns-in-Err-Memory-clause-came : goal.returns-in-Err-Memory-clause-came
 returns-in-Err-Memory-clause-came g c =
     let out = sink_seen (g.O.Sink.written c.args.out.now) (g.O.Sink.written c.run_any.new.out) (g.O.Sink.faults c.args.out.now) (g.O.Sink.faults c.run_any.new.out) in
     inr (begun-machine c.args.read.now.content c.args.bytes.now c.args.numbers.now c.args.plan.now c.args.steps out
-    (c.in-Err-Memory.ensures.front c.in-Err-Memory.field-0-is))
+    (c.in-Err-Memory.ensures.front (ap Err c.in-Err-Memory.field-0-is)))
