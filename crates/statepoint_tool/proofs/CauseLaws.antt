@@ -1,5 +1,5 @@
 -- Each status of the work comes exactly by its cause.
-use Rattle.std.proofs.Common.{◌≡◌, inl, inr, ℕ, List, Option, Some, None, refl, sym, ap, subst}
+use Rattle.std.proofs.Common.{◌≡◌, ℕ, List, Option, Some, None, refl, sym, ap, subst}
 use Rattle.std.specs.Prelude.{ℤ}
 use Rattle.sp_ids.specs.declared.ends.End.{End}
 use Rattle.sp_ids.specs.declared.ends.End.TheVariants as ended
@@ -8,12 +8,10 @@ use Rattle.ir_ast.specs.declared.modules.Form.TheVariants as text_forms
 use Rattle.ir_ast.specs.Modules.{ModuleContent, LinedModule}
 use Rattle.ir_lines.specs.Modules.{module_of}
 use Rattle.move_plan.specs.declared.plan_lines.PlanLine.{PlanLine}
-use Rattle.object_meaning.specs.Outcomes.{Outcome}
 use Rattle.map_bytes.specs.Maps.{StackMap}
-use Rattle.machine_meaning.specs.MachineRuns.{MachineOutcome}
 use Rattle.stackmap_write.specs.ModuleMaps.{map_of}
 use Rattle.tool_io.specs.Counts.{Rose}
-use Rattle.statepoint_tool.specs.Causes.{AsksToShow, AsksToRewrite, IsAskedFor, by_source, by_run, by_exec, AsksForRun, ReadsToRewrite, ReadsModule, ReadsInput, ReadsPlan, Runs, RunGives, Executes, MachineRunGives, ReadsForMap, engine_asked, module_run, steps_asked, Ends, by_showing, by_rewriting, by_running, by_executing, EndsWith, NoCommand, NamesModule, to_show, to_rewrite, to_run, HasModuleFault, in_text, too_many, HasSomeModuleFault, HasSomeInputFault, HasSomePlanFault, HasSomeMapFault, FileGives, module_gives, input_gives, plan_gives, map_gives, CannotRead, IsTooLong, StopsBy}
+use Rattle.statepoint_tool.specs.Causes.{AsksToShow, AsksToRewrite, IsAskedFor, by_source, by_run, by_exec, AsksForRun, ReadsToRewrite, ReadsModule, ReadsInput, ReadsPlan, Runs, Executes, ReadsForMap, engine_asked, module_run, steps_asked, Ends, by_showing, by_rewriting, by_running, by_executing, EndsWith, NoCommand, NamesModule, to_show, to_rewrite, to_run, HasModuleFault, in_text, too_many, HasSomeModuleFault, HasSomeInputFault, HasSomePlanFault, HasSomeMapFault, FileGives, module_gives, input_gives, plan_gives, map_gives, CannotRead, IsTooLong, StopsBy}
 use Rattle.statepoint_tool.specs.Statuses.{CauseOf, status_of_step}
 use Rattle.statepoint_tool.specs.Steps.{Step, Go, Stop, Then, goes_on, stops}
 use Rattle.statepoint_tool.specs.Taken.{Taken, Bytes, Longer, Faulty, FilesSeen, MayGive, file_phase}
@@ -426,7 +424,6 @@ module _ (words : List (List ℕ)) (given : Given) where
       let name = reads.accepts.asks.request.plan in
       with_input reads (Stop (reason name))
       (stops (reason name) (subst (λ (t : Taken). file_phase name ReadingPlan t (Stop (reason name))) (sym is) (stopping (List PlanLine) name ReadingPlan)))
-
   file_stops what reason stopping _ (map_gives reads is) =
       let name = reads.map_file in
       map_phase_stops reads (reason name) (subst (λ (t : Taken). file_phase name ReadingMap t (Stop (reason name))) (sym is) (stopping StackMap name ReadingMap))

@@ -9,7 +9,7 @@ use Rattle.statepoint_tool.specs.Complete.{IsTold, MapIsTold, RunIsTold, AllTold
 use Rattle.statepoint_tool.specs.Steps.{Step, Go, Stop, Then, goes_on, stops}
 use Rattle.statepoint_tool.specs.Taken.{Taken, Bytes, Longer, Faulty, FilesSeen, MayGive}
 use Rattle.statepoint_tool.specs.Words.{command_of}
-use Rattle.statepoint_tool.specs.Work.{Output, Given, MayGiveMap, MayGiveAll, MayGiveNamed, command_work, show_work, rewrite_work, run_phase, run_work, after_module, work}
+use Rattle.statepoint_tool.specs.Work.{Output, Given, MayGiveMap, MayGiveAll, MayGiveNamed, command_work, show_work, rewrite_work, run_phase, run_work, work}
 use Rattle.statepoint_tool.specs.declared.refusal.Refusal.{Refusal}
 use Rattle.statepoint_tool.specs.declared.refusal.Refusal.TheVariants.{Defined, WriteFault, Memory}
 use Rattle.statepoint_tool.specs.declared.request.Engine.{Engine}

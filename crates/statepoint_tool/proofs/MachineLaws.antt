@@ -1,5 +1,5 @@
 -- Runs on the machine, as a phase of the work.
-use Rattle.std.proofs.Common.{◌≡◌, ℕ, List, ◌++◌, Option, Result, Ok, Err, inl, inr, refl, sym, ap, subst, ◌∙◌, append_assoc}
+use Rattle.std.proofs.Common.{◌≡◌, ℕ, List, ◌++◌, Option, refl, sym, ap, ◌∙◌, append_assoc}
 use Rattle.std.specs.Prelude.{ℤ}
 use Rattle.ir_ast.specs.Modules.{ModuleContent}
 use Rattle.map_bytes.specs.Maps.{StackMap, IsMapOf}
@@ -10,7 +10,7 @@ use Rattle.move_plan.specs.declared.plan_lines.PlanLine.{PlanLine}
 use Rattle.object_meaning.specs.Effects.{text_of as text_of_lines}
 use Rattle.object_meaning.proofs.RunLaws.{one_end}
 use Rattle.machine_meaning.specs.Code.{machinery_of}
-use Rattle.machine_meaning.specs.MachineRuns.{MachineOutcome, MachineGives, machine_opening, machine_proceeds}
+use Rattle.machine_meaning.specs.MachineRuns.{MachineOutcome, machine_opening, machine_proceeds}
 use Rattle.machine_meaning.proofs.OutcomeLaws.{gives_one}
 use Rattle.machine_ends.proofs.EndLaws.{each_run_ends}
 use Rattle.machine_ends.proofs.PrintLaws.{printed_first}
@@ -21,12 +21,11 @@ use Rattle.tool_io.proofs.AppendLaws.{append_known-then, AppendsFront-front, App
 use Rattle.statepoint_tool.specs.Answers.{IsBegun, IsDone, SinkSeen, sink_seen}
 use Rattle.statepoint_tool.specs.Closings.{closing_line, status_of_end}
 use Rattle.statepoint_tool.specs.Steps.{Step, Go, Stop, Then, goes_on, stops, comes_to}
-use Rattle.statepoint_tool.specs.Taken.{Taken}
-use Rattle.statepoint_tool.specs.Work.{Executing, executes, executed, Output, ReadingMap, has_map, no_map, map_phase}
+use Rattle.statepoint_tool.specs.Work.{Executing, executes, executed, Output, ReadingMap, has_map, no_map}
 use Rattle.statepoint_tool.specs.declared.refusal.Cause.{Cause}
 use Rattle.statepoint_tool.specs.declared.refusal.Cause.TheVariants.{Map}
 use Rattle.statepoint_tool.specs.declared.status.Status.{Status}
-use Rattle.statepoint_tool.proofs.StepLaws.{Once, stop_in, same-value, not_both, Once-comes_to, Once-Then, Once-file_phase}
+use Rattle.statepoint_tool.proofs.StepLaws.{Once, stop_in, not_both}
 
 -- ---- a run has one output
 

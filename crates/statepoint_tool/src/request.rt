@@ -89,9 +89,14 @@ pub(crate) enum Part {
 #[derive(Debug, Drop)]
 pub(crate) enum Command {
     /// Write the text of the module.
-    Show { module: FileName },
+    Show {
+        module: FileName,
+    },
     /// Write this of the rewritten module.
-    Rewrite { module: FileName, part: Part },
+    Rewrite {
+        module: FileName,
+        part: Part,
+    },
     /// Run the module by the source meaning, over the input and under the plan, for at most so many steps.
     Source(RunRequest),
     /// The same, of the rewritten module. No module is rewritten yet, so that this is the run of the source meaning.

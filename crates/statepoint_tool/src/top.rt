@@ -167,7 +167,13 @@ fn work<F: Files, O: Sink>(
         Ok(Command::Rewrite { module, part }) => rewrite(alloc, module, part, files, out),
         Ok(Command::Source(request)) => run(alloc, Engine::Meaning, request, files, out),
         Ok(Command::Run(request)) => run(alloc, Engine::Meaning, request, files, out),
-        Ok(Command::Exec { request, map }) => run(alloc, Engine::Machine { map }, request, files, out),
+        Ok(Command::Exec { request, map }) => run(
+            alloc,
+            Engine::Machine { map },
+            request,
+            files,
+            out,
+        ),
         Err(WordsFault::Words) => Err(Refusal::Defined(Cause::Words)),
         Err(WordsFault::Memory) => Err(Refusal::Memory),
     }

@@ -53,7 +53,17 @@ pub(crate) fn command(alloc: Global, words: &[String]) -> Result<Command, WordsF
             steps.as_str(),
             trust.as_str(),
         ),
-        [_program, name, code, input, plan, steps, trust, option, map_file] => of_exec_over(
+        [
+            _program,
+            name,
+            code,
+            input,
+            plan,
+            steps,
+            trust,
+            option,
+            map_file,
+        ] => of_exec_over(
             alloc,
             name.as_str(),
             code.as_str(),

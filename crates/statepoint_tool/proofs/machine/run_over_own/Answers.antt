@@ -1,5 +1,3 @@
-use Rattle.std.proofs.Common.{◌≡◌}
-use Rattle.map_bytes.specs.Maps.{IsMapOf}
 use Rattle.stackmap_write.specs.ModuleMaps.{map_of}
 use Rattle.statepoint_tool.specs.Answers.{sink_seen}
 use Rattle.statepoint_tool.specs.Steps.{Go, Then, comes_to}
