@@ -1,3 +1,4 @@
 pub mod HeapLaws
 pub mod RegisterLaws
 pub mod AddressedLaws
+pub mod CellLaws
