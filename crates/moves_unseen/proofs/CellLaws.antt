@@ -30,22 +30,22 @@ use Rattle.machine_meaning.proofs.CheckLaws.{asks_as_access, repeated-get}
 use Rattle.moves_unseen.specs.Objects.{AreHeld, Holds, IsHeld}
 use Rattle.moves_unseen.proofs.AddressedLaws.{base_address, blank, distance, numbered, owned_by, stands_here, word_inside}
 
-none_or : (n : ℕ) → (n ≡ 0) ⊎ ((k : ℕ) × (n ≡ suc k))
+pub none_or : (n : ℕ) → (n ≡ 0) ⊎ ((k : ℕ) × (n ≡ suc k))
 none_or zero = inl refl
 none_or (suc k) = inr (k, refl)
 
-abbrev no_object : Object
+abbrev pub no_object : Object
 no_object = record { layout = 0; count = 0; cells = [] }
 
-abbrev no_content : Content
+abbrev pub no_content : Content
 no_content = record { layout = 0; count = 0; kinds = []; words = [] }
 
 -- ---- the access of the target meaning
 
-access_of_none : (layouts : List ObjectLayout) (objects : List Object) (asked : Cell) (to : Pointer) → to.object ≡ 0 → accessed layouts objects asked to ≡ Err Null
+pub access_of_none : (layouts : List ObjectLayout) (objects : List Object) (asked : Cell) (to : Pointer) → to.object ≡ 0 → accessed layouts objects asked to ≡ Err Null
 access_of_none layouts objects asked to none = rw (eq-eqb to.object 0 none) refl
 
-access_of_object : (layouts : List ObjectLayout) (objects : List Object) (asked : Cell) (to : Pointer) (place : ℕ) (found : Option Object) → to.object ≡ suc place → slice_get objects place ≡ found
+pub access_of_object : (layouts : List ObjectLayout) (objects : List Object) (asked : Cell) (to : Pointer) (place : ℕ) (found : Option Object) → to.object ≡ suc place → slice_get objects place ≡ found
     → accessed layouts objects asked to ≡ option_map_or (λ object. within to (fields_in layouts object.layout) asked object.count) found (Err Null)
 access_of_object layouts objects asked to place found is here =
     let back : to.object - 1 ≡ place = omega arith in

@@ -91,18 +91,55 @@ module _ (layouts : List ObjectLayout) (objects : List Object) (heap : HeapView)
   abbrev found : IsFound objects heap.stands heap.contents asked to place
   found = access_found layouts objects heap.stands heap.contents are asked to place is
 
-  abbrev own : Stand
-  own = get_or heap.stands found.at blank
-
-  address_is : word ≡ (get_or heap.stands (access_found layouts objects heap.stands heap.contents are asked to place is).at blank).address + to.offset
+  pub address_is : word ≡ (get_or heap.stands found.at blank).address + to.offset
   address_is = word_is ∙ word_inside heap.stands are.settled found.at found.standing to found.number found.inside
 
-  owned_is : owner heap.stands word ≡ Some (get_or heap.stands (access_found layouts objects heap.stands heap.contents are asked to place is).at blank)
+  pub owned_is : owner heap.stands word ≡ Some (get_or heap.stands found.at blank)
   owned_is = ap (owner heap.stands) address_is ∙ owned_by heap.stands are.settled found.at found.standing to.offset found.inside
 
-  apart : word - (get_or heap.stands (access_found layouts objects heap.stands heap.contents are asked to place is).at blank).address ≡ to.offset
-  apart = let address = address_is in omega arith
+  pub distance_is : word - (get_or heap.stands found.at blank).address ≡ to.offset
+  distance_is = let address = address_is in omega arith
 
-  number_back : (get_or heap.stands (access_found layouts objects heap.stands heap.contents are asked to place is).at blank).number - 1
-      ≡ (access_found layouts objects heap.stands heap.contents are asked to place is).at
+  pub number_back : (get_or heap.stands found.at blank).number - 1 ≡ found.at
   number_back = let numbered_so = numbered heap.stands are.settled found.at found.standing in omega arith
+
+  pub object_back : place.object - 1 ≡ found.at
+  object_back = let same = ap (λ (p : Place). p.object) found.is in let number = found.number in omega arith
+
+  pub cell_back : place.cell ≡ to.offset / 8
+  cell_back = ap (λ (p : Place). p.cell) found.is
+
+  pub datum_is : datum_at objects place ≡ get_or found.object.cells (to.offset / 8) nothing
+  datum_is =
+      ap (λ (n : ℕ). option_map_or (λ (object : Object). get_or object.cells n nothing) (slice_get objects (place.object - 1)) nothing) cell_back
+      ∙ (ap (λ (n : ℕ). option_map_or (λ (object : Object). get_or object.cells (to.offset / 8) nothing) (slice_get objects n) nothing) object_back
+      ∙ ap (λ (o : Option Object). option_map_or (λ (object : Object). get_or object.cells (to.offset / 8) nothing) o nothing) found.here)
+
+  pub loads_word : loaded heap word ≡ Ok (get_or found.content.words (to.offset / 8) 0)
+  loads_word =
+      let held = are.each found.at found.object found.content found.here found.there in
+      let within : to.offset / 8 < length found.content.words =
+      subst (λ (n : ℕ). to.offset / 8 < n) (sym held.words_count) (slice_get_within found.content.kinds (to.offset / 8) asked found.kind) in
+      ap (load_stand heap.contents word) owned_is
+      ∙ (ap (λ (d : ℕ). cond (not (eqb (d % 8) 0)) (Err denies.Poison) (word_found (word_in heap.contents ((get_or heap.stands found.at blank).number - 1) (d / 8)))) distance_is
+      ∙ (ap (λ (n : ℕ). cond (not (eqb (to.offset % 8) 0)) (Err denies.Poison) (word_found (word_in heap.contents n (to.offset / 8)))) number_back
+      ∙ (ap (λ (b : Bool). cond (not b) (Err denies.Poison) (word_found (word_in heap.contents found.at (to.offset / 8)))) (eq-eqb (to.offset % 8) 0 found.whole)
+      ∙ (ap (λ (o : Option Content). word_found (option_and_then (λ (c : Content). slice_get c.words (to.offset / 8)) o)) found.there
+      ∙ ap word_found (slice_get-get_or found.content.words (to.offset / 8) 0 within)))))
+
+  -- a load of a cell: the machine loads what it holds
+  pub load_is_access : Loads objects heap asked word place
+  load_is_access =
+      let held = are.each found.at found.object found.content found.here found.there in
+      let same = ap (λ (p : Place). p.object) found.is in
+      let number = found.number in
+      let numbered_so = numbered heap.stands are.settled found.at found.standing in
+      record {
+        held = get_or found.content.words (to.offset / 8) 0;
+        is = loads_word;
+        holds = subst (λ (datum : Datum). Holds heap.stands asked datum (get_or found.content.words (to.offset / 8) 0)) (sym datum_is) (held.cells (to.offset / 8) asked found.kind);
+        own = get_or heap.stands found.at blank;
+        owned = owned_is;
+        object = omega arith;
+        offset = distance_is ∙ sym (ap (λ (p : Place). p.offset) found.is);
+      }

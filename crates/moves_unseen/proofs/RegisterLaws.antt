@@ -1,6 +1,7 @@
 -- A value that a line gives: the registers of the target meaning and the words of the machine after it.
-use Rattle.std.proofs.Common.{◌≡◌, ◌≢◌, ℕ, ◌==◌, ◌<◌, Bool, true, false, List, length, get_or, set, map, refl, sym, ap, ◌∙◌, subst, arith, Some}
+use Rattle.std.proofs.Common.{◌≡◌, ◌≢◌, ℕ, ◌==◌, ◌<◌, Bool, true, false, List, length, get_or, set, map, refl, sym, ap, ◌∙◌, subst, arith, Option, Some, inl, inr}
 use Rattle.std.specs.Prelude.{slice_get, if◌then◌else◌}
+use Rattle.std.proofs.lemmas.Bool.{cases_eq, true≢false}
 use Rattle.std.proofs.lemmas.Bool.Decides.{nat_tests}
 use Rattle.std.proofs.lemmas.List.{get_or-set_same, get_or-set_other, length-set, map-set}
 use Rattle.std.proofs.lemmas.Option.{slice_get_within}
@@ -55,3 +56,85 @@ given_word words given word (operands.Value at) own within =
 given_word words given word (operands.Int literal) own within = cc
 given_word words given word operands.Null own within = cc
 given_word words given word (operands.Fun func) own within = cc
+
+-- ---- the registers after a line that gives a value
+
+-- a pair of values that are these
+pub alike : (stands : List Stand) (derived other_derived base other_base : Datum) (word other_word base_word other_base_word : ℕ)
+    → derived ≡ other_derived → base ≡ other_base → word ≡ other_word → base_word ≡ other_base_word
+    → IsPair stands (pointer_in derived) (pointer_in base) word base_word → IsPair stands (pointer_in other_derived) (pointer_in other_base) other_word other_base_word
+alike stands derived other_derived base other_base word other_word base_word other_base_word one two three four pair =
+    subst (λ (d : Datum). IsPair stands (pointer_in d) (pointer_in other_base) other_word other_base_word) one
+    (subst (λ (b : Datum). IsPair stands (pointer_in derived) (pointer_in b) other_word other_base_word) two
+    (subst (λ (w : ℕ). IsPair stands (pointer_in derived) (pointer_in base) w other_base_word) three
+    (subst (λ (w : ℕ). IsPair stands (pointer_in derived) (pointer_in base) word w) four pair)))
+
+the_type : (one other : Ty) (found : Option Ty) → found ≡ Some one → found ≡ Some other → one ≡ other
+the_type one other found first second = cc
+
+module _ (stands : List Stand) (types : List Ty) (pairs : Pairs) (registers : List Datum) (words : List ℕ) (given : ℕ) (ty : Ty) (datum : Datum) (word : ℕ)
+    (are : AreWords stands types pairs registers words) (typed : slice_get types given ≡ Some ty) where
+  in_registers : given < length registers
+  in_registers = subst (λ (n : ℕ). given < n) (sym are.registers_count) (slice_get_within types given ty typed)
+
+  in_words : given < length words
+  in_words = subst (λ (n : ℕ). given < n) (sym are.words_count) (slice_get_within types given ty typed)
+
+  numbers_after : (is_pointer ty ≡ false → word ≡ number_in datum) → AreNumbers types (set registers given datum) (set words given word)
+  numbers_after same_number at other is plain =
+      elim (cases_eq at given) [
+        | inl same ↦ (
+            let type_is : ty ≡ other = the_type ty other (slice_get types given) typed (ap (slice_get types) (sym same) ∙ is) in
+            ap (λ (k : ℕ). get_or (set words given word) k 0) same
+            ∙ (get_or-set_same words given word 0 in_words
+            ∙ (same_number (ap is_pointer type_is ∙ plain)
+            ∙ sym (ap (λ (k : ℕ). number_in (get_or (set registers given datum) k nothing)) same
+            ∙ ap number_in (get_or-set_same registers given datum nothing in_registers)))))
+        | inr differ ↦ (
+            get_or-set_other words given at word 0 differ
+            ∙ (are.numbers at other is plain ∙ sym (ap number_in (get_or-set_other registers given at datum nothing differ))))
+      ]
+
+  -- pairs without the name of the value stand as before
+  pub kept_pair : (derived base : Operand) → without given pairs derived (Named base) ≡ true
+      → IsPair stands (pointer_in (value (set registers given datum) derived)) (pointer_in (value (set registers given datum) base)) (word_in (set words given word) derived) (word_in (set words given word) base)
+  kept_pair derived base stood = by (is_named given derived) (is_named given base) refl refl
+    where
+      by : (one two : Bool) → is_named given derived ≡ one → is_named given base ≡ two
+          → IsPair stands (pointer_in (value (set registers given datum) derived)) (pointer_in (value (set registers given datum) base)) (word_in (set words given word) derived) (word_in (set words given word) base)
+      by true two first second =
+          absurd (true≢false (sym stood ∙ ap (λ (b : Bool). if b then false else (if is_named given base then false else pairs derived (Named base))) first))
+      by false true first second =
+          absurd (true≢false (sym stood ∙ (ap (λ (b : Bool). if b then false else (if is_named given base then false else pairs derived (Named base))) first
+          ∙ ap (λ (b : Bool). if b then false else pairs derived (Named base)) second)))
+      by false false first second =
+          let before : pairs derived (Named base) ≡ true =
+          sym (ap (λ (b : Bool). if b then false else (if is_named given base then false else pairs derived (Named base))) first
+          ∙ ap (λ (b : Bool). if b then false else pairs derived (Named base)) second) ∙ stood in
+          alike stands (value registers derived) (value (set registers given datum) derived) (value registers base) (value (set registers given datum) base)
+          (word_in words derived) (word_in (set words given word) derived) (word_in words base) (word_in (set words given word) base)
+          (sym (other_value registers given datum derived first)) (sym (other_value registers given datum base second))
+          (sym (other_word words given word derived first)) (sym (other_word words given word base second))
+          (are.pointers derived base before)
+
+  -- a value is given with pairs of its own
+  pub given_words : (own : Base → Bool) → (is_pointer ty ≡ false → word ≡ number_in datum)
+      → ((base : Operand) → own (Named base) ≡ true
+      → IsPair stands (pointer_in datum) (pointer_in (value (set registers given datum) base)) word (word_in (set words given word) base))
+      → AreWords stands types (with_own given own pairs) (set registers given datum) (set words given word)
+  given_words own same_number pointer = record {
+    registers_count = length-set registers given datum ∙ are.registers_count;
+    words_count = length-set words given word ∙ are.words_count;
+    numbers = numbers_after same_number;
+    pointers = λ derived base stood. by derived base (is_named given derived) refl stood;
+  }
+    where
+      by : (derived base : Operand) (one : Bool) → is_named given derived ≡ one → with_own given own pairs derived (Named base) ≡ true
+          → IsPair stands (pointer_in (value (set registers given datum) derived)) (pointer_in (value (set registers given datum) base)) (word_in (set words given word) derived) (word_in (set words given word) base)
+      by derived base true first stood =
+          alike stands datum (value (set registers given datum) derived) (value (set registers given datum) base) (value (set registers given datum) base)
+          word (word_in (set words given word) derived) (word_in (set words given word) base) (word_in (set words given word) base)
+          (sym (given_value registers given datum derived first in_registers)) refl (sym (given_word words given word derived first in_words)) refl
+          (pointer base (sym (ap (λ (b : Bool). if b then own (Named base) else without given pairs derived (Named base)) first) ∙ stood))
+      by derived base false first stood =
+          kept_pair derived base (sym (ap (λ (b : Bool). if b then own (Named base) else without given pairs derived (Named base)) first) ∙ stood)

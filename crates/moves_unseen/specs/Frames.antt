@@ -4,7 +4,7 @@ use Rattle.std.specs.List.{flat_map}
 use Rattle.ir_ast.specs.declared.types.Ty.{Ty}
 use Rattle.ir_ast.specs.declared.ops.Callee.TheVariants.{Check}
 use Rattle.ir_ast.specs.declared.ops.Operand.{Operand}
-use Rattle.ir_ast.specs.declared.ops.Op.TheVariants.{Call}
+use Rattle.ir_ast.specs.declared.ops.Op.TheVariants.{Call, Select}
 use Rattle.ir_ast.specs.Layouts.{ObjectLayout}
 use Rattle.ir_ast.specs.Types.{is_pointer}
 use Rattle.ir_ast.specs.Values.{value_types}
@@ -17,10 +17,10 @@ use Rattle.frame_walk.specs.Maps.{Pair}
 use Rattle.frame_forms.specs.FrameSizes.{frame_words}
 use Rattle.object_meaning.specs.Accesses.{Place, accessed, cell_named}
 use Rattle.object_meaning.specs.Lines.{Line}
-use Rattle.object_meaning.specs.Registers.{nothing, value, operand, number_in, pointer_in}
+use Rattle.object_meaning.specs.Registers.{nothing, value, operand, is_set, number_in, pointer_in}
 use Rattle.object_meaning.specs.States.{Frame}
 use Rattle.pair_facts.specs.declared.bases.Base.TheVariants.{Named}
-use Rattle.pair_facts.specs.Lines.{lines_at, line_before, operand_at, is_relocate, group_in}
+use Rattle.pair_facts.specs.Lines.{named, lines_at, line_before, operand_at, is_relocate, group_in}
 use Rattle.pair_facts.specs.Pairs.{Pairs, base_index, derived_index}
 use Rattle.pair_facts.specs.Paths.{At}
 use Rattle.machine_meaning.specs.Relations.{word_in, IsPair, AreSlots}
@@ -37,7 +37,8 @@ AreNumbers types registers words = (value : ℕ) (ty : Ty) → slice_get types v
 
 -- the registers of a frame as words
 pub record AreWords (stands : List Stand) (types : List Ty) (pairs : Pairs) (registers : List Datum) (words : List ℕ) : Type 0 where
-  pub count : length words ≡ length registers
+  pub registers_count : length registers ≡ length types
+  pub words_count : length words ≡ length types
   pub numbers : AreNumbers types registers words
   -- where a pair with a named base stands, both have one object or none has one, the base has the offset 0, and the words
   -- are their addresses
@@ -57,6 +58,14 @@ pub record IsGuarded (layouts : List ObjectLayout) (objects : List Object) (pair
       (pointer_in (operand registers check.inst.operands 1)) ≡ Ok place
   pub pair : pairs (operand_at check.inst.operands 1) (Named (operand_at check.inst.operands 0)) ≡ true
 
+-- behind a select: its value is that of the operand which its condition chooses
+pub record IsChosen (registers : List Datum) (words : List ℕ) (select : Line) (to : ℕ) : Type 0 where
+  pub value : value registers (named to)
+      ≡ (if is_set (operand registers select.inst.operands 0) then operand registers select.inst.operands 1 else operand registers select.inst.operands 2)
+  pub word : word_in words (named to)
+      ≡ (if is_set (operand registers select.inst.operands 0)
+      then word_in words (operand_at select.inst.operands 1) else word_in words (operand_at select.inst.operands 2))
+
 -- the running frame, before the line at which it stands
 pub record IsRunning (content : ModuleContent) (objects : List Object) (stands : List Stand) (frame : Frame) (held : FrameWords) : Type 0 where
   pub func : Function
@@ -67,6 +76,8 @@ pub record IsRunning (content : ModuleContent) (objects : List Object) (stands :
   pub slots : length held.slots ≡ frame_words func
   pub guarded : (check : Line) (types : List Ty) → line_before (lines_at func frame.block) place ≡ Some check
       → check.inst.op ≡ Call Check types → IsGuarded content.layouts objects pairs frame.registers check
+  pub chosen : (select : Line) (to : ℕ) → line_before (lines_at func frame.block) place ≡ Some select → select.inst.op ≡ Select
+      → is_pointer select.inst.ty ≡ true → select.to ≡ Some to → IsChosen frame.registers held.words select to
 
 -- ---- frames that wait
 
@@ -87,7 +98,8 @@ pub record IsWaiting (content : ModuleContent) (stands : List Stand) (frame : Fr
   pub call : Line
   pub is : slice_get (lines_at func frame.block) place ≡ Some call
   pub statepoint : is_statepoint call.inst.op ≡ true
-  pub count : length held.words ≡ length frame.registers
+  pub registers_count : length frame.registers ≡ length (value_types func)
+  pub words_count : length held.words ≡ length (value_types func)
   pub numbers : AreNumbers (value_types func) frame.registers held.words
   pub room : length held.slots ≡ frame_words func
   pub slots : AreSlots stands (map (λ entry. pointer_in (value frame.registers entry)) (entries_of call.inst)) held.slots
