@@ -89,7 +89,7 @@ blank_at [] cell kind is = cc
 blank_at (first ∷ kinds) zero kind is = let same : first ≡ kind = cc in ap blank same
 blank_at (first ∷ kinds) (suc cell) kind is = blank_at kinds cell kind is
 
-zero_at : (count cell : ℕ) → get_or (replicate count 0) cell 0 ≡ 0
+zero_at : (count cell : ℕ) → ◌≡◌ {A = ℕ} (get_or (replicate count 0) cell 0) 0
 zero_at zero cell = refl
 zero_at (suc count) zero = refl
 zero_at (suc count) (suc cell) = zero_at count cell

@@ -5,3 +5,4 @@ pub mod CellLaws
 pub mod MemoryLaws
 pub mod StoreLaws
 pub mod AllocLaws
+pub mod ValueLaws

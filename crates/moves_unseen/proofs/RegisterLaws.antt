@@ -69,6 +69,28 @@ alike stands derived other_derived base other_base word other_word base_word oth
     (subst (λ (w : ℕ). IsPair stands (pointer_in derived) (pointer_in base) w other_base_word) three
     (subst (λ (w : ℕ). IsPair stands (pointer_in derived) (pointer_in base) word w) four pair)))
 
+-- neither has the name of the value
+pub record IsApart (pairs : Pairs) (given : ℕ) (derived base : Operand) : Type 0 where
+  pub derived_apart : is_named given derived ≡ false
+  pub base_apart : is_named given base ≡ false
+  pub stood : pairs derived (Named base) ≡ true
+
+pub apart_of : (pairs : Pairs) (given : ℕ) (derived base : Operand) → without given pairs derived (Named base) ≡ true → IsApart pairs given derived base
+apart_of pairs given derived base stood = by (is_named given derived) (is_named given base) refl refl
+  where
+    by : (one two : Bool) → is_named given derived ≡ one → is_named given base ≡ two → IsApart pairs given derived base
+    by true two first second =
+        absurd (true≢false (sym stood ∙ ap (λ (b : Bool). if b then false else (if is_named given base then false else pairs derived (Named base))) first))
+    by false true first second =
+        absurd (true≢false (sym stood ∙ (ap (λ (b : Bool). if b then false else (if is_named given base then false else pairs derived (Named base))) first
+        ∙ ap (λ (b : Bool). if b then false else pairs derived (Named base)) second)))
+    by false false first second = record {
+      derived_apart = first;
+      base_apart = second;
+      stood = sym (ap (λ (b : Bool). if b then false else (if is_named given base then false else pairs derived (Named base))) first
+          ∙ ap (λ (b : Bool). if b then false else pairs derived (Named base)) second) ∙ stood;
+    }
+
 the_type : (one other : Ty) (found : Option Ty) → found ≡ Some one → found ≡ Some other → one ≡ other
 the_type one other found first second = cc
 
@@ -98,24 +120,13 @@ module _ (stands : List Stand) (types : List Ty) (pairs : Pairs) (registers : Li
   -- pairs without the name of the value stand as before
   pub kept_pair : (derived base : Operand) → without given pairs derived (Named base) ≡ true
       → IsPair stands (pointer_in (value (set registers given datum) derived)) (pointer_in (value (set registers given datum) base)) (word_in (set words given word) derived) (word_in (set words given word) base)
-  kept_pair derived base stood = by (is_named given derived) (is_named given base) refl refl
-    where
-      by : (one two : Bool) → is_named given derived ≡ one → is_named given base ≡ two
-          → IsPair stands (pointer_in (value (set registers given datum) derived)) (pointer_in (value (set registers given datum) base)) (word_in (set words given word) derived) (word_in (set words given word) base)
-      by true two first second =
-          absurd (true≢false (sym stood ∙ ap (λ (b : Bool). if b then false else (if is_named given base then false else pairs derived (Named base))) first))
-      by false true first second =
-          absurd (true≢false (sym stood ∙ (ap (λ (b : Bool). if b then false else (if is_named given base then false else pairs derived (Named base))) first
-          ∙ ap (λ (b : Bool). if b then false else pairs derived (Named base)) second)))
-      by false false first second =
-          let before : pairs derived (Named base) ≡ true =
-          sym (ap (λ (b : Bool). if b then false else (if is_named given base then false else pairs derived (Named base))) first
-          ∙ ap (λ (b : Bool). if b then false else pairs derived (Named base)) second) ∙ stood in
-          alike stands (value registers derived) (value (set registers given datum) derived) (value registers base) (value (set registers given datum) base)
-          (word_in words derived) (word_in (set words given word) derived) (word_in words base) (word_in (set words given word) base)
-          (sym (other_value registers given datum derived first)) (sym (other_value registers given datum base second))
-          (sym (other_word words given word derived first)) (sym (other_word words given word base second))
-          (are.pointers derived base before)
+  kept_pair derived base stood =
+      let apart = apart_of pairs given derived base stood in
+      alike stands (value registers derived) (value (set registers given datum) derived) (value registers base) (value (set registers given datum) base)
+      (word_in words derived) (word_in (set words given word) derived) (word_in words base) (word_in (set words given word) base)
+      (sym (other_value registers given datum derived apart.derived_apart)) (sym (other_value registers given datum base apart.base_apart))
+      (sym (other_word words given word derived apart.derived_apart)) (sym (other_word words given word base apart.base_apart))
+      (are.pointers derived base apart.stood)
 
   -- a value is given with pairs of its own
   pub given_words : (own : Base → Bool) → (is_pointer ty ≡ false → word ≡ number_in datum)
