@@ -6,3 +6,5 @@ pub mod MemoryLaws
 pub mod StoreLaws
 pub mod AllocLaws
 pub mod ValueLaws
+pub mod ComparisonLaws
+pub mod StandLaws
