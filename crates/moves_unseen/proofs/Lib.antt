@@ -8,3 +8,6 @@ pub mod AllocLaws
 pub mod ValueLaws
 pub mod ComparisonLaws
 pub mod StandLaws
+mod Samples
+pub mod PassLaws
+pub mod ArithmeticLaws

@@ -1,0 +1,114 @@
+-- A run in which an object moves under a frame that waits, in both meanings: at the call, at the event and behind it the machine
+-- is what `machine_of` makes of the target meaning's state.
+use Rattle.std.proofs.Common.{◌≡◌, ℕ, ◌+◌, ◌-◌, ◌^◌, List, [], ◌∷◌, refl, codes, pos}
+use Rattle.sp_ids.specs.declared.ends.End.{End}
+use Rattle.ir_ast.specs.declared.cells.Cell.TheVariants as cells
+use Rattle.ir_ast.specs.declared.ops.Callee.TheVariants as callees
+use Rattle.ir_ast.specs.declared.types.Ty.TheVariants.{Void, Int, Ptr}
+use Rattle.ir_ast.specs.Modules.{ModuleContent}
+use Rattle.ir_ast.specs.Sizes.{laid, size_of}
+use Rattle.map_bytes.specs.Entries.{entries_of}
+use Rattle.move_plan.specs.declared.plan_lines.PlanLine.{PlanLine}
+use Rattle.move_plan.specs.declared.plan_lines.PlanLine.TheVariants.{Move}
+use Rattle.move_plan.specs.Plans.{go}
+use Rattle.moving_heap.specs.Heaps.{HeapView}
+use Rattle.object_meaning.specs.Accesses.{field_at}
+use Rattle.object_meaning.specs.Effects.{Progress}
+use Rattle.object_meaning.specs.Outcomes.{opening, proceeds}
+use Rattle.object_meaning.specs.Runs.{Next, Go, End as Over, goes}
+use Rattle.object_meaning.specs.States.{State, Setting}
+use Rattle.object_meaning.specs.Steps.{step}
+use Rattle.object_meaning.specs.TargetRuns.{target_setting}
+use Rattle.stackmap_write.specs.ModuleMaps.{map_of}
+use Rattle.machine_meaning.specs.Code.{machinery_of}
+use Rattle.machine_meaning.specs.Machines.{Machine, Machinery}
+use Rattle.machine_meaning.specs.MachineRuns.{machine_opening, machine_proceeds}
+use Rattle.machine_meaning.specs.MachineSteps.{machine_step}
+use Rattle.machine_meaning.proofs.Samples.{rewritten, function, value, literal, byte, load, store, print, return, return_void, statepoint, poll, new_cell, result, relocate, check}
+use Rattle.moves_unseen.specs.Frames.{FrameWords}
+use Rattle.moves_unseen.specs.States.{Extra, machine_of}
+
+-- %3 lies 8 bytes before the object %2; both are kept over the call of @f, which polls, and read behind it as %6 and %5
+abbrev kept_over : ModuleContent
+kept_over = rewritten
+    (function (codes "f") Void [] (poll [] ∷ return_void ∷ [])
+    ∷ function (codes "main") (Int 64) []
+    (poll [] ∷ new_cell ∷ result 1 ∷ check (value 2) (value 2) 0 ∷ store (Int 64) (literal 7) (value 2) ∷ byte (value 2) (2 ^ 64 - 8)
+    ∷ statepoint (callees.Fun (record { 0 = 0 })) [] (value 2 ∷ value 3 ∷ []) ∷ relocate 4 0 0 ∷ relocate 4 0 1
+    ∷ byte (value 6) 8 ∷ check (value 5) (value 7) 0 ∷ load (Int 64) (value 7) ∷ print (value 8) ∷ return (literal 0) ∷ []) ∷ [])
+
+abbrev plan : List PlanLine
+plan = Move 3 1 (2 ^ 40) ∷ []
+
+abbrev setting : Setting
+setting = target_setting kept_over (go plan) 1000
+
+-- over the module's own map
+abbrev machinery : Machinery
+machinery = machinery_of kept_over (map_of kept_over) plan 1000
+
+abbrev Is : Next End (Progress State) → Next End (Progress Machine) → Extra → Type 0
+Is (Go here) (Go there) extra = there.state ≡ machine_of machinery here.state extra
+Is _ _ extra = ⊥
+
+-- so many steps from the opening
+abbrev After : ℕ → Extra → Type 0
+After count extra = Is (goes (proceeds setting) count (Go (opening setting []))) (goes (machine_proceeds machinery) count (Go (machine_opening machinery []))) extra
+
+abbrev heap_at : ℕ → ℕ → HeapView
+heap_at address word = record {
+  stands = record { number = 1; size = 16; address = address } ∷ [];
+  contents = record { layout = 0; count = 1; kinds = cells.I64 ∷ cells.Ptr ∷ []; words = word ∷ 0 ∷ [] } ∷ [];
+  moves = [];
+}
+
+abbrev of_f : FrameWords
+of_f = record { words = 0 ∷ []; slots = [] }
+
+at_the_opening : After 0 (record {
+  running = record { words = 0 ∷ 0 ∷ 0 ∷ 0 ∷ 0 ∷ 0 ∷ 0 ∷ 0 ∷ 0 ∷ []; slots = 0 ∷ 0 ∷ [] };
+  below = [];
+  tasks = [] ∷ [];
+  heap = record { stands = []; contents = []; moves = [] };
+})
+unfolding proceeds machine_proceeds machine_step step laid size_of field_at entries_of
+at_the_opening = refl
+
+behind_the_store : After 4 (record {
+  running = record { words = 0 ∷ 0 ∷ 65536 ∷ 0 ∷ 0 ∷ 0 ∷ 0 ∷ 0 ∷ 0 ∷ []; slots = 0 ∷ 0 ∷ [] };
+  below = [];
+  tasks = [] ∷ [];
+  heap = heap_at 65536 7;
+})
+unfolding proceeds machine_proceeds machine_step step laid size_of field_at entries_of
+behind_the_store = refl
+
+-- @main waits with both pointers in its slots
+in_the_call : After 6 (record {
+  running = of_f;
+  below = record { words = 0 ∷ 0 ∷ 65536 ∷ 65528 ∷ 0 ∷ 0 ∷ 0 ∷ 0 ∷ 0 ∷ []; slots = 65536 ∷ 65528 ∷ [] } ∷ [];
+  tasks = [] ∷ [];
+  heap = heap_at 65536 7;
+})
+unfolding proceeds machine_proceeds machine_step step laid size_of field_at entries_of
+in_the_call = refl
+
+-- the object moved: the slots went with it, the registers didn't
+behind_the_event : After 7 (record {
+  running = of_f;
+  below = record { words = 0 ∷ 0 ∷ 65536 ∷ 65528 ∷ 0 ∷ 0 ∷ 0 ∷ 0 ∷ 0 ∷ []; slots = 2 ^ 40 ∷ 2 ^ 40 - 8 ∷ [] } ∷ [];
+  tasks = [] ∷ [];
+  heap = heap_at (2 ^ 40) 7;
+})
+unfolding proceeds machine_proceeds machine_step step laid size_of field_at entries_of
+behind_the_event = refl
+
+-- the relocates are read from the slots
+behind_the_call : After 8 (record {
+  running = record { words = 0 ∷ 0 ∷ 65536 ∷ 65528 ∷ 0 ∷ 2 ^ 40 ∷ 2 ^ 40 - 8 ∷ 0 ∷ 0 ∷ []; slots = 2 ^ 40 ∷ 2 ^ 40 - 8 ∷ [] };
+  below = [];
+  tasks = [] ∷ [];
+  heap = heap_at (2 ^ 40) 7;
+})
+unfolding proceeds machine_proceeds machine_step step laid size_of field_at entries_of
+behind_the_call = refl

@@ -1,0 +1,66 @@
+-- A step of the target meaning, and that of the machine.
+use Rattle.std.specs.Prelude.{◌≡◌, ℕ, false, List, Some, slice_get}
+use Rattle.sp_ids.specs.declared.ends.End.{End}
+use Rattle.ir_ast.specs.declared.types.Ty.{Ty}
+use Rattle.ir_ast.specs.declared.ops.Op.{Op}
+use Rattle.ir_ast.specs.declared.ops.Op.TheVariants as ops
+use Rattle.ir_ast.specs.declared.ops.Operand.{Operand}
+use Rattle.ir_ast.specs.Faults.TypeClash.{Fits}
+use Rattle.ir_ast.specs.Modules.{ModuleContent}
+use Rattle.ir_ast.specs.Types.{is_pointer}
+use Rattle.object_meaning.specs.Effects.{Effect, goes_on, prints, ends}
+use Rattle.object_meaning.specs.Lines.{Line}
+use Rattle.object_meaning.specs.States.{State}
+use Rattle.machine_meaning.specs.Machines.{Machine, Machinery}
+use Rattle.pair_facts.specs.Lines.{operand_at}
+use Rattle.moves_unseen.specs.Objects.{AreHeld}
+use Rattle.moves_unseen.specs.States.{Extra, Follows, machine_of}
+
+-- the last states of a run: nothing is asked of frames
+pub record IsLast (content : ModuleContent) (machinery : Machinery) (state : State) (machine : Machine) : Type 0 where
+  pub extra : Extra
+  pub is : machine ≡ machine_of machinery state extra
+  pub objects : AreHeld content.layouts state.objects extra.heap.stands extra.heap.contents
+
+-- both do the same, and the relation holds after it
+pub data StepFollows (content : ModuleContent) (machinery : Machinery) : Effect State → Effect Machine → Type 0 where
+  both_go : (state : State) (machine : Machine) → Follows content machinery state machine → StepFollows content machinery (goes_on state) (goes_on machine)
+  both_print : (word : ℕ) (state : State) (machine : Machine) → Follows content machinery state machine
+      → StepFollows content machinery (prints word state) (prints word machine)
+  both_end : (end : End) (state : State) (machine : Machine) → IsLast content machinery state machine
+      → StepFollows content machinery (ends end state) (ends end machine)
+
+-- operators on integers
+pub data IsArithmetic : Op → Type 0 where
+  add : IsArithmetic ops.Add
+  sub : IsArithmetic ops.Sub
+  mul : IsArithmetic ops.Mul
+  udiv : IsArithmetic ops.Udiv
+  sdiv : IsArithmetic ops.Sdiv
+  urem : IsArithmetic ops.Urem
+  srem : IsArithmetic ops.Srem
+  conjunction : IsArithmetic ops.And
+  disjunction : IsArithmetic ops.Or
+  difference : IsArithmetic ops.Xor
+  shl : IsArithmetic ops.Shl
+  lshr : IsArithmetic ops.Lshr
+  ashr : IsArithmetic ops.Ashr
+  trunc : (width : ℕ) → IsArithmetic (ops.Trunc width)
+  zext : (width : ℕ) → IsArithmetic (ops.Zext width)
+  sext : (width : ℕ) → IsArithmetic (ops.Sext width)
+
+-- a value of a type that is no pointer
+pub record IsNumber (types : List Ty) (operand : Operand) : Type 0 where
+  pub ty : Ty
+  pub fits : Fits types operand ty
+  pub plain : is_pointer ty ≡ false
+
+-- a line whose first two operands are numbers, and which gives a number
+pub record GivesNumber (types : List Ty) (line : Line) : Type 0 where
+  pub first : IsNumber types (operand_at line.inst.operands 0)
+  pub second : IsNumber types (operand_at line.inst.operands 1)
+  pub given : ℕ
+  pub to : line.to ≡ Some given
+  pub ty : Ty
+  pub typed : slice_get types given ≡ Some ty
+  pub plain : is_pointer ty ≡ false
