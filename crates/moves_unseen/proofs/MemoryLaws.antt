@@ -23,7 +23,7 @@ use Rattle.object_meaning.specs.Registers.{nothing}
 use Rattle.machine_meaning.specs.Relations.{addr, check_of, IsInHeap, IsPair}
 use Rattle.machine_meaning.proofs.AddressLaws.{addr_none}
 use Rattle.machine_meaning.proofs.CheckLaws.{asks_as_access}
-use Rattle.moves_unseen.specs.Objects.{AreHeld, Holds, IsHeld}
+use Rattle.moves_unseen.specs.Objects.{AreHeld, Holds, IsHeld, Loads}
 use Rattle.moves_unseen.proofs.AddressedLaws.{base_address, blank, distance, numbered, owned_by, stands_here, word_inside}
 use Rattle.moves_unseen.proofs.CellLaws.{IsFound, access_found, access_of_none, access_of_object, no_content, no_object, none_or}
 
@@ -75,16 +75,6 @@ module _ (layouts : List ObjectLayout) (objects : List Object) (heap : HeapView)
   check_is_access = elim (none_or to.object) [ inl none ↦ check_none none | inr some ↦ check_some some.0 some.1 ]
 
 -- ---- loads
-
--- the machine loads the word of the cell, of the object that owns the address
-pub record Loads (objects : List Object) (heap : HeapView) (asked : Cell) (word : ℕ) (place : Place) : Type 0 where
-  pub held : ℕ
-  pub is : loaded heap word ≡ Ok held
-  pub holds : Holds heap.stands asked (datum_at objects place) held
-  pub own : Stand
-  pub owned : owner heap.stands word ≡ Some own
-  pub object : own.number ≡ place.object
-  pub offset : word - own.address ≡ place.offset
 
 module _ (layouts : List ObjectLayout) (objects : List Object) (heap : HeapView) (are : AreHeld layouts objects heap.stands heap.contents)
     (asked : Cell) (to : Pointer) (word : ℕ) (word_is : word ≡ addr heap.stands to) (place : Place) (is : accessed layouts objects asked to ≡ Ok place) where

@@ -1,11 +1,23 @@
 -- A run in which an object moves under a frame that waits, in both meanings: at the call, at the event and behind it the machine
 -- is what `machine_of` makes of the target meaning's state.
-use Rattle.std.proofs.Common.{◌≡◌, ℕ, ◌+◌, ◌-◌, ◌^◌, List, [], ◌∷◌, refl, codes, pos}
+use Rattle.std.proofs.Common.{◌≡◌, ℕ, ◌+◌, ◌-◌, ◌^◌, List, [], ◌∷◌, Option, Some, None, refl, codes, pos}
 use Rattle.sp_ids.specs.declared.ends.End.{End}
 use Rattle.ir_ast.specs.declared.cells.Cell.TheVariants as cells
+use Rattle.ir_ast.specs.declared.modules.Form.TheVariants as form
+use Rattle.ir_ast.specs.declared.ops.Callee.{Callee}
 use Rattle.ir_ast.specs.declared.ops.Callee.TheVariants as callees
-use Rattle.ir_ast.specs.declared.types.Ty.TheVariants.{Void, Int, Ptr}
+use Rattle.ir_ast.specs.declared.ops.Elem.TheVariants as elems
+use Rattle.ir_ast.specs.declared.ops.Op.{Op}
+use Rattle.ir_ast.specs.declared.ops.Op.TheVariants as ops
+use Rattle.ir_ast.specs.declared.ops.Operand.{Operand}
+use Rattle.ir_ast.specs.declared.ops.Operand.TheVariants as operands
+use Rattle.ir_ast.specs.declared.funcs.Arg.{Arg}
+use Rattle.ir_ast.specs.Layouts.{ObjectLayout}
+use Rattle.ir_ast.specs.Funcs.{Function}
 use Rattle.ir_ast.specs.Modules.{ModuleContent}
+use Rattle.ir_ast.specs.declared.types.Ty.{Ty}
+use Rattle.ir_ast.specs.declared.types.Ty.TheVariants.{Void, Int, Ptr, Token}
+use Rattle.ir_ast.specs.Insts.{Instruction}
 use Rattle.ir_ast.specs.Sizes.{laid, size_of}
 use Rattle.map_bytes.specs.Entries.{entries_of}
 use Rattle.move_plan.specs.declared.plan_lines.PlanLine.{PlanLine}
@@ -24,9 +36,71 @@ use Rattle.machine_meaning.specs.Code.{machinery_of}
 use Rattle.machine_meaning.specs.Machines.{Machine, Machinery}
 use Rattle.machine_meaning.specs.MachineRuns.{machine_opening, machine_proceeds}
 use Rattle.machine_meaning.specs.MachineSteps.{machine_step}
-use Rattle.machine_meaning.proofs.Samples.{rewritten, function, value, literal, byte, load, store, print, return, return_void, statepoint, poll, new_cell, result, relocate, check}
 use Rattle.moves_unseen.specs.Frames.{FrameWords}
 use Rattle.moves_unseen.specs.States.{Extra, machine_of}
+
+-- %N = type { i64, ptr addrspace(1) }
+abbrev node : ObjectLayout
+node = record { name = codes "N"; fields = cells.I64 ∷ cells.Ptr ∷ [] }
+
+abbrev value : ℕ → Operand
+value number = operands.Value (record { 0 = number })
+
+abbrev literal : ℕ → Operand
+literal number = operands.Int number
+
+-- a line with a result, and one without
+abbrev gives : Op → Ty → List Operand → Instruction
+gives op ty operands = record { result = Some []; op = op; ty = ty; operands = operands; labels = []; bundle = [] }
+
+abbrev does : Op → Ty → List Operand → Instruction
+does op ty operands = record { result = None; op = op; ty = ty; operands = operands; labels = []; bundle = [] }
+
+abbrev load : Ty → Operand → Instruction
+load ty from = gives ops.Load ty (from ∷ [])
+
+abbrev store : Ty → Operand → Operand → Instruction
+store ty word to = does ops.Store ty (word ∷ to ∷ [])
+
+-- getelementptr i8, ptr addrspace(1) from, i64 index
+abbrev byte : Operand → ℕ → Instruction
+byte from index = gives (ops.Gep (elems.Int 8) 64 None) Ptr (from ∷ literal index ∷ [])
+
+abbrev print : Operand → Instruction
+print operand = does (ops.Call callees.Print (Int 64 ∷ [])) Void (operand ∷ [])
+
+abbrev return_void : Instruction
+return_void = does ops.Ret Void []
+
+abbrev return : Operand → Instruction
+return operand = does ops.Ret (Int 64) (operand ∷ [])
+
+-- a function with one block, and a module of such functions and this layout
+abbrev function : List ℕ → Ty → List Arg → List Instruction → Function
+function name answer args insts = record { name = name; answer = answer; args = args; blocks = record { name = codes "0"; insts = insts } ∷ [] }
+
+abbrev rewritten : List Function → ModuleContent
+rewritten funcs = record { layouts = node ∷ []; funcs = funcs; form = form.Rewritten }
+
+-- a statepoint with these arguments and live entries
+abbrev statepoint : Callee → List Ty → List Operand → Instruction
+statepoint callee types operands = gives (ops.Statepoint 2882400000 callee types) Token operands
+
+abbrev poll : List Operand → Instruction
+poll live = statepoint callees.Poll [] live
+
+abbrev new_cell : Instruction
+new_cell = statepoint (callees.New 0) (Int 64 ∷ []) (literal 1 ∷ [])
+
+abbrev result : ℕ → Instruction
+result token = gives ops.GcResult Ptr (value token ∷ [])
+
+-- of the statepoint with this token, by the places of base and derived among its live entries
+abbrev relocate : ℕ → ℕ → ℕ → Instruction
+relocate token base derived = gives ops.GcRelocate Ptr (value token ∷ literal base ∷ literal derived ∷ [])
+
+abbrev check : Operand → Operand → ℕ → Instruction
+check base address kind = does (ops.Call callees.Check (Ptr ∷ Ptr ∷ Int 64 ∷ [])) Void (base ∷ address ∷ literal kind ∷ [])
 
 -- %3 lies 8 bytes before the object %2; both are kept over the call of @f, which polls, and read behind it as %6 and %5
 abbrev kept_over : ModuleContent

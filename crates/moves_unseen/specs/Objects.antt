@@ -1,5 +1,5 @@
 -- The objects of the target meaning and the heap of the machine: each cell holds what its kind says.
-use Rattle.std.specs.Prelude.{◌≡◌, ℕ, ◌<◌, List, length, Some, slice_get, slice_index, slice_index_or}
+use Rattle.std.specs.Prelude.{◌≡◌, ℕ, ◌<◌, List, length, Some, slice_get, slice_index, slice_index_or, ◌-◌, Ok}
 use Rattle.ir_ast.specs.declared.cells.Cell.{Cell}
 use Rattle.ir_ast.specs.declared.cells.Cell.TheVariants.{I64, Ptr}
 use Rattle.ir_ast.specs.Layouts.{ObjectLayout}
@@ -8,6 +8,10 @@ use Rattle.ir_ast.specs.Objects.{Pointer, Datum, Object, footprint}
 use Rattle.moving_heap.specs.declared.stands.Stand.{Stand}
 use Rattle.moving_heap.specs.Contents.{Content, repeated}
 use Rattle.moving_heap.specs.Settled.{AreSettled}
+use Rattle.moving_heap.specs.Heaps.{HeapView, loaded}
+use Rattle.moving_heap.specs.Places.{owner}
+use Rattle.object_meaning.specs.Accesses.{Place}
+use Rattle.object_meaning.specs.Accesses.{loaded as datum_at}
 use Rattle.object_meaning.specs.Registers.{nothing, number_in, pointer_in}
 use Rattle.machine_meaning.specs.Relations.{addr, IsInHeap}
 
@@ -40,3 +44,13 @@ pub record AreHeld (layouts : List ObjectLayout) (objects : List Object) (stands
       → slice_get stands place ≡ Some stand → stand.size ≡ footprint layouts object
   pub each : (place : ℕ) (object : Object) (content : Content) → slice_get objects place ≡ Some object
       → slice_get contents place ≡ Some content → IsHeld layouts stands object content
+
+-- the machine loads the word of the cell, of the object that owns the address
+pub record Loads (objects : List Object) (heap : HeapView) (asked : Cell) (word : ℕ) (place : Place) : Type 0 where
+  pub held : ℕ
+  pub is : loaded heap word ≡ Ok held
+  pub holds : Holds heap.stands asked (datum_at objects place) held
+  pub own : Stand
+  pub owned : owner heap.stands word ≡ Some own
+  pub object : own.number ≡ place.object
+  pub offset : word - own.address ≡ place.offset

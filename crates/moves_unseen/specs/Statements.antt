@@ -1,17 +1,87 @@
--- What is stated of moves: the law of whole runs, which is open, and its parts.
-use Rattle.std.specs.Prelude.{◌≡◌, ℕ, ℤ, List, map}
-use Rattle.std.specs.List.{All}
+-- What is proved of moves, and the law of whole runs, which is open.
+use Rattle.std.specs.Prelude.{◌≡◌, ℕ, ℤ, ◌+◌, ◌==◌, ◌&&◌, nat_lt, true, false, List, [], ◌∷◌, ◌++◌, map, Option, Ok}
+use Rattle.std.specs.List.{All, sum_by}
+use Rattle.ir_ast.specs.declared.cells.Cell.{Cell}
 use Rattle.ir_ast.specs.Bundles.{HasNoBundle}
+use Rattle.ir_ast.specs.Layouts.{ObjectLayout}
 use Rattle.ir_ast.specs.Modules.{ModuleContent}
+use Rattle.ir_ast.specs.Objects.{Datum, Object, Pointer}
+use Rattle.ir_ast.specs.Sizes.{fields_in}
+use Rattle.ir_ast.specs.Values.{value_types}
 use Rattle.ir_cfg.specs.TargetModules.{IsTargetModule}
+use Rattle.move_plan.specs.declared.plan_lines.Move.{Move}
 use Rattle.move_plan.specs.declared.plan_lines.PlanLine.{PlanLine}
 use Rattle.move_plan.specs.Plans.{go}
+use Rattle.moving_heap.specs.Contents.{after_moves}
+use Rattle.moving_heap.specs.Heaps.{HeapView, checked, footprint, stored_at, with_object}
+use Rattle.moving_heap.specs.Places.{carried, group_moves, owner}
+use Rattle.moving_heap.specs.Settled.{AreSettled}
+use Rattle.moving_heap.specs.declared.stands.Stand.{Stand}
+use Rattle.object_meaning.specs.Accesses.{Place, accessed, stored}
+use Rattle.object_meaning.specs.Calls.{made}
+use Rattle.object_meaning.specs.Comparisons.{same_pointer}
+use Rattle.object_meaning.specs.Lines.{Line}
 use Rattle.object_meaning.specs.Outcomes.{Outcome}
+use Rattle.object_meaning.specs.States.{Setting, State}
+use Rattle.object_meaning.specs.Steps.{step}
 use Rattle.object_meaning.specs.TargetRuns.{TargetGives}
 use Rattle.pair_facts.specs.Faults.{IsVerified}
 use Rattle.stackmap_write.specs.ModuleMaps.{map_of}
 use Rattle.machine_meaning.specs.MachineRuns.{MachineOutcome, MachineGives}
-use Rattle.moves_unseen.specs.Objects.{AreHeld}
+use Rattle.machine_meaning.specs.MachineSteps.{machine_step}
+use Rattle.machine_meaning.specs.Machines.{Machinery}
+use Rattle.machine_meaning.specs.Relations.{addr, check_of, IsPair}
+use Rattle.moves_unseen.specs.Objects.{AreHeld, Holds, Loads}
+use Rattle.moves_unseen.specs.States.{Extra, IsRelated, machine_of}
+use Rattle.moves_unseen.specs.Steps.{GivesNumber, IsArithmetic, StepFollows}
+
+-- ---- proved
+
+-- after the moves of an event each cell holds what it held
+abbrev pub GroupsKeepObjects : Type 0
+GroupsKeepObjects = (layouts : List ObjectLayout) (objects : List Object) (heap : HeapView) (lines : List Move) (flip : Option ℕ)
+    → AreHeld layouts objects heap.stands heap.contents → (group_moves heap.stands lines flip ≡ [] → ⊥)
+    → AreHeld layouts objects (map (carried (group_moves heap.stands lines flip)) heap.stands) (map (after_moves (group_moves heap.stands lines flip)) heap.contents)
+
+-- a check of a pair answers what an access of its pointer does
+abbrev pub ChecksAreAccesses : Type 0
+ChecksAreAccesses = (layouts : List ObjectLayout) (objects : List Object) (heap : HeapView) → AreHeld layouts objects heap.stands heap.contents
+    → (asked : Cell) (to base : Pointer) (word base_word : ℕ) → IsPair heap.stands to base word base_word
+    → checked heap base_word word asked ≡ check_of (accessed layouts objects asked to)
+
+-- an access of a cell loads what the cell holds
+abbrev pub LoadsHold : Type 0
+LoadsHold = (layouts : List ObjectLayout) (objects : List Object) (heap : HeapView) → AreHeld layouts objects heap.stands heap.contents
+    → (asked : Cell) (to : Pointer) (word : ℕ) → word ≡ addr heap.stands to → (place : Place) → accessed layouts objects asked to ≡ Ok place
+    → Loads objects heap asked word place
+
+-- a store of what the cell's kind asks for keeps what all cells hold
+abbrev pub StoresHold : Type 0
+StoresHold = (layouts : List ObjectLayout) (objects : List Object) (heap : HeapView) → AreHeld layouts objects heap.stands heap.contents
+    → (asked : Cell) (to : Pointer) (word : ℕ) → word ≡ addr heap.stands to → (place : Place) → accessed layouts objects asked to ≡ Ok place
+    → (datum : Datum) (held : ℕ) → Holds heap.stands asked datum held
+    → AreHeld layouts (stored objects place datum) heap.stands (stored_at heap.contents word held (owner heap.stands word))
+
+-- a new object that there is room for holds zeros and null pointers, and the others what they held
+abbrev pub NewObjectsHold : Type 0
+NewObjectsHold = (layouts : List ObjectLayout) (objects : List Object) (heap : HeapView) → AreHeld layouts objects heap.stands heap.contents
+    → (layout count : ℕ) → nat_lt 67108864 (sum_by (λ (stand : Stand). stand.size) heap.stands + footprint (fields_in layouts layout) count) ≡ false
+    → AreHeld layouts (objects ++ made layouts layout count ∷ []) (with_object heap layout (fields_in layouts layout) count).stands
+    (with_object heap layout (fields_in layouts layout) count).contents
+
+-- two pairs are compared by the words of their bases and their own
+abbrev pub PairsAreCompared : Type 0
+PairsAreCompared = (stands : List Stand) → AreSettled stands → (one one_base two two_base : Pointer) (word base_word other_word other_base_word : ℕ)
+    → IsPair stands one one_base word base_word → IsPair stands two two_base other_word other_base_word
+    → (base_word == other_base_word) && (word == other_word) ≡ same_pointer one two
+
+-- a line that computes integers is one step of both
+abbrev pub IntegersFollow : Type 0
+IntegersFollow = (content : ModuleContent) (machinery : Machinery) (setting : Setting) (state : State) (extra : Extra) (related : IsRelated content state extra)
+    (line : Line) (rest : List Line) → state.running.rest ≡ line ∷ rest → IsArithmetic line.inst.op → GivesNumber (value_types related.running.func) line
+    → StepFollows content machinery (step setting state) (machine_step machinery (machine_of machinery state extra))
+
+-- ---- open
 
 -- the machine's run gives what the target meaning's gives: the same lines, end, function, steps, events and accesses, and
 -- objects whose cells are held
@@ -30,4 +100,4 @@ pub record IsSeen (content : ModuleContent) (outcome : Outcome) (machine : Machi
 abbrev pub MovesAreUnseen : Type 0
 MovesAreUnseen = (content : ModuleContent) → IsTargetModule content → All HasNoBundle content.funcs → IsVerified content
     → (input : List ℤ) (plan : List PlanLine) (bound : ℕ) (outcome : Outcome) → TargetGives content input (go plan) bound outcome
-    → (machine : MachineOutcome) → MachineGives content (map_of content) input plan bound machine → IsSeen content outcome machine
+    → (machine : MachineOutcome) × (MachineGives content (map_of content) input plan bound machine × IsSeen content outcome machine)

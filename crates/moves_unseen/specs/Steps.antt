@@ -1,5 +1,5 @@
 -- A step of the target meaning, and that of the machine.
-use Rattle.std.specs.Prelude.{◌≡◌, ℕ, false, List, Some, slice_get}
+use Rattle.std.specs.Prelude.{◌≡◌, ℕ, true, false, List, Some, slice_get}
 use Rattle.sp_ids.specs.declared.ends.End.{End}
 use Rattle.ir_ast.specs.declared.types.Ty.{Ty}
 use Rattle.ir_ast.specs.declared.ops.Op.{Op}
@@ -64,3 +64,11 @@ pub record GivesNumber (types : List Ty) (line : Line) : Type 0 where
   pub ty : Ty
   pub typed : slice_get types given ≡ Some ty
   pub plain : is_pointer ty ≡ false
+
+-- a line that gives a pointer
+pub record GivesPointer (types : List Ty) (line : Line) : Type 0 where
+  pub given : ℕ
+  pub to : line.to ≡ Some given
+  pub ty : Ty
+  pub typed : slice_get types given ≡ Some ty
+  pub managed : is_pointer ty ≡ true

@@ -1,2 +1,40 @@
 //! Laws towards "moves are never noticed": what the address machine has of the target meaning's state. No code.
 #![tactic(auto)]
+
+ghost use Rattle.moves_unseen.specs.Statements.{ChecksAreAccesses, GroupsKeepObjects, IntegersFollow, LoadsHold, NewObjectsHold, PairsAreCompared, StoresHold};
+
+/// After the moves of an event each cell holds what it held: integers are the same, and each pointer cell has the address of
+/// the same pointer.
+pub fn groups_keep_objects()
+    ensures { GroupsKeepObjects }
+{}
+
+/// A check of a pointer and its base answers what an access of the pointer does in the target meaning.
+pub fn checks_are_accesses()
+    ensures { ChecksAreAccesses }
+{}
+
+/// Where an access is one of a cell, the machine loads what the cell holds, and the object owns the address.
+pub fn loads_hold()
+    ensures { LoadsHold }
+{}
+
+/// A store into a cell keeps what all cells hold.
+pub fn stores_hold()
+    ensures { StoresHold }
+{}
+
+/// A new object holds zeros and null pointers, and the others what they held.
+pub fn new_objects_hold()
+    ensures { NewObjectsHold }
+{}
+
+/// Two pointers with bases are equal exactly where their words and the words of their bases are.
+pub fn pairs_are_compared()
+    ensures { PairsAreCompared }
+{}
+
+/// A line that computes integers is one step of the target meaning and one of the machine, and the relation holds behind it.
+pub fn integers_follow()
+    ensures { IntegersFollow }
+{}
