@@ -11,3 +11,4 @@ pub mod StandLaws
 mod Samples
 pub mod PassLaws
 pub mod ArithmeticLaws
+pub mod PointerLaws

@@ -170,7 +170,7 @@ in_the_call = refl
 -- the object moved: the slots went with it, the registers didn't
 behind_the_event : After 7 (record {
   running = of_f;
-  below = record { words = 0 ∷ 0 ∷ 65536 ∷ 65528 ∷ 0 ∷ 0 ∷ 0 ∷ 0 ∷ 0 ∷ []; slots = 2 ^ 40 ∷ 2 ^ 40 - 8 ∷ [] } ∷ [];
+  below = record { words = 0 ∷ 0 ∷ 65536 ∷ 65528 ∷ 0 ∷ 0 ∷ 0 ∷ 0 ∷ 0 ∷ []; slots = (2 ^ 40) ∷ (2 ^ 40 - 8) ∷ [] } ∷ [];
   tasks = [] ∷ [];
   heap = heap_at (2 ^ 40) 7;
 })
@@ -179,7 +179,7 @@ behind_the_event = refl
 
 -- the relocates are read from the slots
 behind_the_call : After 8 (record {
-  running = record { words = 0 ∷ 0 ∷ 65536 ∷ 65528 ∷ 0 ∷ 2 ^ 40 ∷ 2 ^ 40 - 8 ∷ 0 ∷ 0 ∷ []; slots = 2 ^ 40 ∷ 2 ^ 40 - 8 ∷ [] };
+  running = record { words = 0 ∷ 0 ∷ 65536 ∷ 65528 ∷ 0 ∷ (2 ^ 40) ∷ (2 ^ 40 - 8) ∷ 0 ∷ 0 ∷ []; slots = (2 ^ 40) ∷ (2 ^ 40 - 8) ∷ [] };
   below = [];
   tasks = [] ∷ [];
   heap = heap_at (2 ^ 40) 7;

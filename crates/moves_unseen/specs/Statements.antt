@@ -2,6 +2,8 @@
 use Rattle.std.specs.Prelude.{◌≡◌, ℕ, ℤ, ◌+◌, ◌==◌, ◌&&◌, nat_lt, true, false, List, [], ◌∷◌, ◌++◌, map, Option, Ok}
 use Rattle.std.specs.List.{All, sum_by}
 use Rattle.ir_ast.specs.declared.cells.Cell.{Cell}
+use Rattle.ir_ast.specs.declared.ops.Elem.{Elem}
+use Rattle.ir_ast.specs.declared.ops.Op.TheVariants.{Gep}
 use Rattle.ir_ast.specs.Bundles.{HasNoBundle}
 use Rattle.ir_ast.specs.Layouts.{ObjectLayout}
 use Rattle.ir_ast.specs.Modules.{ModuleContent}
@@ -26,6 +28,7 @@ use Rattle.object_meaning.specs.States.{Setting, State}
 use Rattle.object_meaning.specs.Steps.{step}
 use Rattle.object_meaning.specs.TargetRuns.{TargetGives}
 use Rattle.pair_facts.specs.Faults.{IsVerified}
+use Rattle.pair_facts.specs.Lines.{operand_at}
 use Rattle.stackmap_write.specs.ModuleMaps.{map_of}
 use Rattle.machine_meaning.specs.MachineRuns.{MachineOutcome, MachineGives}
 use Rattle.machine_meaning.specs.MachineSteps.{machine_step}
@@ -33,7 +36,7 @@ use Rattle.machine_meaning.specs.Machines.{Machinery}
 use Rattle.machine_meaning.specs.Relations.{addr, check_of, IsPair}
 use Rattle.moves_unseen.specs.Objects.{AreHeld, Holds, Loads}
 use Rattle.moves_unseen.specs.States.{Extra, IsRelated, machine_of}
-use Rattle.moves_unseen.specs.Steps.{GivesNumber, IsArithmetic, StepFollows}
+use Rattle.moves_unseen.specs.Steps.{GivesNumber, GivesPointer, IsArithmetic, IsNumber, StepFollows}
 
 -- ---- proved
 
@@ -79,6 +82,14 @@ PairsAreCompared = (stands : List Stand) → AreSettled stands → (one one_base
 abbrev pub IntegersFollow : Type 0
 IntegersFollow = (content : ModuleContent) (machinery : Machinery) (setting : Setting) (state : State) (extra : Extra) (related : IsRelated content state extra)
     (line : Line) (rest : List Line) → state.running.rest ≡ line ∷ rest → IsArithmetic line.inst.op → GivesNumber (value_types related.running.func) line
+    → StepFollows content machinery (step setting state) (machine_step machinery (machine_of machinery state extra))
+
+-- so is `getelementptr`, with the bases of the pointer from which it goes
+abbrev pub GepsFollow : Type 0
+GepsFollow = (content : ModuleContent) (machinery : Machinery) (setting : Setting) → machinery.setting.layouts ≡ setting.layouts
+    → (state : State) (extra : Extra) (related : IsRelated content state extra) (line : Line) (rest : List Line) → state.running.rest ≡ line ∷ rest
+    → (elem : Elem) (index_width : ℕ) (field : Option ℕ) → line.inst.op ≡ Gep elem index_width field
+    → IsNumber (value_types related.running.func) (operand_at line.inst.operands 1) → GivesPointer (value_types related.running.func) line
     → StepFollows content machinery (step setting state) (machine_step machinery (machine_of machinery state extra))
 
 -- ---- open

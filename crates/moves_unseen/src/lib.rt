@@ -1,7 +1,7 @@
 //! Laws towards "moves are never noticed": what the address machine has of the target meaning's state. No code.
 #![tactic(auto)]
 
-ghost use Rattle.moves_unseen.specs.Statements.{ChecksAreAccesses, GroupsKeepObjects, IntegersFollow, LoadsHold, NewObjectsHold, PairsAreCompared, StoresHold};
+ghost use Rattle.moves_unseen.specs.Statements.{ChecksAreAccesses, GepsFollow, GroupsKeepObjects, IntegersFollow, LoadsHold, NewObjectsHold, PairsAreCompared, StoresHold};
 
 /// After the moves of an event each cell holds what it held: integers are the same, and each pointer cell has the address of
 /// the same pointer.
@@ -37,4 +37,9 @@ pub fn pairs_are_compared()
 /// A line that computes integers is one step of the target meaning and one of the machine, and the relation holds behind it.
 pub fn integers_follow()
     ensures { IntegersFollow }
+{}
+
+/// So is a `getelementptr`, whose result has the bases of the pointer from which it goes.
+pub fn geps_follow()
+    ensures { GepsFollow }
 {}
