@@ -12,3 +12,4 @@ mod Samples
 pub mod PassLaws
 pub mod ArithmeticLaws
 pub mod PointerLaws
+pub mod OpeningLaws
