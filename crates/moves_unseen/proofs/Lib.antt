@@ -12,4 +12,6 @@ mod Samples
 pub mod PassLaws
 pub mod ArithmeticLaws
 pub mod PointerLaws
+pub mod MainLaws
 pub mod OpeningLaws
+pub mod CheckSteps

@@ -14,6 +14,7 @@ use Rattle.ir_ast.specs.Objects.{Datum, number}
 use Rattle.ir_ast.specs.Types.{is_pointer}
 use Rattle.ir_ast.specs.Values.{value_types}
 use Rattle.frame_forms.specs.FrameSizes.{frame_words}
+use Rattle.ir_cfg.specs.TargetModules.{IsTargetModule}
 use Rattle.map_bytes.specs.Maps.{StackMap}
 use Rattle.move_plan.specs.declared.plan_lines.PlanLine.{PlanLine}
 use Rattle.move_plan.specs.Plans.{go}
@@ -33,6 +34,7 @@ use Rattle.machine_meaning.specs.Machines.{Machine, Machinery}
 use Rattle.machine_meaning.specs.Relations.{word_in, IsPair}
 use Rattle.moves_unseen.specs.Frames.{AreWords, FrameWords, IsRunning}
 use Rattle.moves_unseen.specs.Objects.{AreHeld}
+use Rattle.moves_unseen.proofs.MainLaws.{main_found, register_for_each}
 use Rattle.moves_unseen.specs.States.{Extra, Follows, machine_of}
 
 none_settled : AreSettled []
@@ -136,3 +138,12 @@ module _ (content : ModuleContent) (map_given : StackMap) (input : List ℤ) (pl
       tasks = (tt, tt);
     };
   }
+
+-- of each target module
+pub openings_follow : (content : ModuleContent) → IsTargetModule content → (map_given : StackMap) (input : List ℤ) (plan : List PlanLine) (bound : ℕ)
+    → Follows content (machinery_of content map_given plan bound) (opening (target_setting content (go plan) bound) input).state
+    (machine_opening (machinery_of content map_given plan bound) input).state
+openings_follow content target map_given input plan bound =
+    let has = ((target.typed).no_fault).main in
+    let found = main_found content has in
+    opening_follows content map_given input plan bound has.main found has.args (register_for_each content (main_of content) has.main found)

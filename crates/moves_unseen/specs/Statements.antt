@@ -1,9 +1,11 @@
 -- What is proved of moves, and the law of whole runs, which is open.
-use Rattle.std.specs.Prelude.{◌≡◌, ℕ, ℤ, ◌+◌, ◌==◌, ◌&&◌, nat_lt, true, false, List, [], ◌∷◌, ◌++◌, map, Option, Ok}
+use Rattle.std.specs.Prelude.{◌≡◌, ℕ, ℤ, ◌+◌, ◌==◌, ◌&&◌, nat_lt, true, false, List, [], ◌∷◌, ◌++◌, map, Option, None, Ok}
 use Rattle.std.specs.List.{All, sum_by}
 use Rattle.ir_ast.specs.declared.cells.Cell.{Cell}
 use Rattle.ir_ast.specs.declared.ops.Elem.{Elem}
-use Rattle.ir_ast.specs.declared.ops.Op.TheVariants.{Gep}
+use Rattle.ir_ast.specs.declared.ops.Callee.TheVariants.{Check}
+use Rattle.ir_ast.specs.declared.ops.Op.TheVariants.{Call, Gep}
+use Rattle.ir_ast.specs.declared.types.Ty.{Ty}
 use Rattle.ir_ast.specs.Bundles.{HasNoBundle}
 use Rattle.ir_ast.specs.Layouts.{ObjectLayout}
 use Rattle.ir_ast.specs.Modules.{ModuleContent}
@@ -11,6 +13,7 @@ use Rattle.ir_ast.specs.Objects.{Datum, Object, Pointer}
 use Rattle.ir_ast.specs.Sizes.{fields_in}
 use Rattle.ir_ast.specs.Values.{value_types}
 use Rattle.ir_cfg.specs.TargetModules.{IsTargetModule}
+use Rattle.map_bytes.specs.Maps.{StackMap}
 use Rattle.move_plan.specs.declared.plan_lines.Move.{Move}
 use Rattle.move_plan.specs.declared.plan_lines.PlanLine.{PlanLine}
 use Rattle.move_plan.specs.Plans.{go}
@@ -23,19 +26,21 @@ use Rattle.object_meaning.specs.Accesses.{Place, accessed, stored}
 use Rattle.object_meaning.specs.Calls.{made}
 use Rattle.object_meaning.specs.Comparisons.{same_pointer}
 use Rattle.object_meaning.specs.Lines.{Line}
-use Rattle.object_meaning.specs.Outcomes.{Outcome}
+use Rattle.object_meaning.specs.Outcomes.{Outcome, opening}
 use Rattle.object_meaning.specs.States.{Setting, State}
 use Rattle.object_meaning.specs.Steps.{step}
-use Rattle.object_meaning.specs.TargetRuns.{TargetGives}
+use Rattle.object_meaning.specs.TargetRuns.{TargetGives, target_setting}
+use Rattle.pair_facts.specs.declared.bases.Base.TheVariants.{Named}
 use Rattle.pair_facts.specs.Faults.{IsVerified}
 use Rattle.pair_facts.specs.Lines.{operand_at}
 use Rattle.stackmap_write.specs.ModuleMaps.{map_of}
-use Rattle.machine_meaning.specs.MachineRuns.{MachineOutcome, MachineGives}
+use Rattle.machine_meaning.specs.Code.{machinery_of}
+use Rattle.machine_meaning.specs.MachineRuns.{MachineOutcome, MachineGives, machine_opening}
 use Rattle.machine_meaning.specs.MachineSteps.{machine_step}
 use Rattle.machine_meaning.specs.Machines.{Machinery}
 use Rattle.machine_meaning.specs.Relations.{addr, check_of, IsPair}
 use Rattle.moves_unseen.specs.Objects.{AreHeld, Holds, Loads}
-use Rattle.moves_unseen.specs.States.{Extra, IsRelated, machine_of}
+use Rattle.moves_unseen.specs.States.{Extra, Follows, IsRelated, machine_of}
 use Rattle.moves_unseen.specs.Steps.{GivesNumber, GivesPointer, IsArithmetic, IsNumber, StepFollows}
 
 -- ---- proved
@@ -91,6 +96,20 @@ GepsFollow = (content : ModuleContent) (machinery : Machinery) (setting : Settin
     → (elem : Elem) (index_width : ℕ) (field : Option ℕ) → line.inst.op ≡ Gep elem index_width field
     → IsNumber (value_types related.running.func) (operand_at line.inst.operands 1) → GivesPointer (value_types related.running.func) line
     → StepFollows content machinery (step setting state) (machine_step machinery (machine_of machinery state extra))
+
+-- so is a check of a pair, which traps as the access of its pointer does, or makes the access behind it one of a cell
+abbrev pub ChecksFollow : Type 0
+ChecksFollow = (content : ModuleContent) (machinery : Machinery) (setting : Setting) → setting.layouts ≡ content.layouts
+    → (state : State) (extra : Extra) (related : IsRelated content state extra) (line : Line) (rest : List Line) → state.running.rest ≡ line ∷ rest
+    → (types : List Ty) → line.inst.op ≡ Call Check types → line.to ≡ None → IsNumber (value_types related.running.func) (operand_at line.inst.operands 2)
+    → related.running.pairs (operand_at line.inst.operands 1) (Named (operand_at line.inst.operands 0)) ≡ true
+    → StepFollows content machinery (step setting state) (machine_step machinery (machine_of machinery state extra))
+
+-- the relation holds at the opening, whatever the map is
+abbrev pub OpeningsFollow : Type 0
+OpeningsFollow = (content : ModuleContent) → IsTargetModule content → (map_given : StackMap) (input : List ℤ) (plan : List PlanLine) (bound : ℕ)
+    → Follows content (machinery_of content map_given plan bound) (opening (target_setting content (go plan) bound) input).state
+    (machine_opening (machinery_of content map_given plan bound) input).state
 
 -- ---- open
 

@@ -1,18 +1,23 @@
 -- A step of the target meaning, and that of the machine.
 use Rattle.std.specs.Prelude.{◌≡◌, ℕ, true, false, List, Some, slice_get}
 use Rattle.sp_ids.specs.declared.ends.End.{End}
+use Rattle.ir_ast.specs.declared.cells.Cell.{Cell}
+use Rattle.ir_ast.specs.declared.ops.Callee.TheVariants.{Check}
 use Rattle.ir_ast.specs.declared.types.Ty.{Ty}
 use Rattle.ir_ast.specs.declared.ops.Op.{Op}
 use Rattle.ir_ast.specs.declared.ops.Op.TheVariants as ops
 use Rattle.ir_ast.specs.declared.ops.Operand.{Operand}
 use Rattle.ir_ast.specs.Faults.TypeClash.{Fits}
 use Rattle.ir_ast.specs.Modules.{ModuleContent}
+use Rattle.ir_ast.specs.Objects.{Datum}
 use Rattle.ir_ast.specs.Types.{is_pointer}
+use Rattle.object_meaning.specs.Accesses.{cell_named}
+use Rattle.object_meaning.specs.Registers.{operand, number_in}
 use Rattle.object_meaning.specs.Effects.{Effect, goes_on, prints, ends}
 use Rattle.object_meaning.specs.Lines.{Line}
 use Rattle.object_meaning.specs.States.{State}
 use Rattle.machine_meaning.specs.Machines.{Machine, Machinery}
-use Rattle.pair_facts.specs.Lines.{operand_at}
+use Rattle.pair_facts.specs.Lines.{line_before, operand_at}
 use Rattle.moves_unseen.specs.Objects.{AreHeld}
 use Rattle.moves_unseen.specs.States.{Extra, Follows, machine_of}
 
@@ -72,3 +77,12 @@ pub record GivesPointer (types : List Ty) (line : Line) : Type 0 where
   pub ty : Ty
   pub typed : slice_get types given ≡ Some ty
   pub managed : is_pointer ty ≡ true
+
+-- the line before is a check of this address, for a cell of this kind
+pub record IsCheckedBefore (lines : List Line) (place : ℕ) (registers : List Datum) (address : Operand) (asked : Cell) : Type 0 where
+  pub check : Line
+  pub types : List Ty
+  pub before : line_before lines place ≡ Some check
+  pub op : check.inst.op ≡ ops.Call Check types
+  pub same_address : operand_at check.inst.operands 1 ≡ address
+  pub kind : cell_named (number_in (operand registers check.inst.operands 2)) ≡ asked

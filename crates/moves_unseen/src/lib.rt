@@ -1,7 +1,7 @@
 //! Laws towards "moves are never noticed": what the address machine has of the target meaning's state. No code.
 #![tactic(auto)]
 
-ghost use Rattle.moves_unseen.specs.Statements.{ChecksAreAccesses, GepsFollow, GroupsKeepObjects, IntegersFollow, LoadsHold, NewObjectsHold, PairsAreCompared, StoresHold};
+ghost use Rattle.moves_unseen.specs.Statements.{ChecksAreAccesses, ChecksFollow, GepsFollow, GroupsKeepObjects, IntegersFollow, LoadsHold, NewObjectsHold, OpeningsFollow, PairsAreCompared, StoresHold};
 
 /// After the moves of an event each cell holds what it held: integers are the same, and each pointer cell has the address of
 /// the same pointer.
@@ -42,4 +42,14 @@ pub fn integers_follow()
 /// So is a `getelementptr`, whose result has the bases of the pointer from which it goes.
 pub fn geps_follow()
     ensures { GepsFollow }
+{}
+
+/// The relation holds at the opening of each target module's run, over any map, input, plan and bound.
+pub fn openings_follow()
+    ensures { OpeningsFollow }
+{}
+
+/// So is a check of a pair: it traps as the access of its pointer does, or the access behind it is one of a cell.
+pub fn checks_follow()
+    ensures { ChecksFollow }
 {}
