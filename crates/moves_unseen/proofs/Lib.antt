@@ -15,3 +15,4 @@ pub mod PointerLaws
 pub mod MainLaws
 pub mod OpeningLaws
 pub mod CheckSteps
+pub mod AccessSteps

@@ -1,12 +1,13 @@
 -- What is proved of moves, and the law of whole runs, which is open.
-use Rattle.std.specs.Prelude.{◌≡◌, ℕ, ℤ, ◌+◌, ◌==◌, ◌&&◌, nat_lt, true, false, List, [], ◌∷◌, ◌++◌, map, Option, None, Ok}
+use Rattle.std.specs.Prelude.{◌≡◌, ℕ, ℤ, ◌+◌, ◌==◌, ◌&&◌, nat_lt, true, false, List, [], ◌∷◌, ◌++◌, map, slice_get, Option, Some, None, Ok}
 use Rattle.std.specs.List.{All, sum_by}
 use Rattle.ir_ast.specs.declared.cells.Cell.{Cell}
 use Rattle.ir_ast.specs.declared.ops.Elem.{Elem}
 use Rattle.ir_ast.specs.declared.ops.Callee.TheVariants.{Check}
-use Rattle.ir_ast.specs.declared.ops.Op.TheVariants.{Call, Gep}
+use Rattle.ir_ast.specs.declared.ops.Op.TheVariants.{Call, Gep, Load}
 use Rattle.ir_ast.specs.declared.types.Ty.{Ty}
 use Rattle.ir_ast.specs.Bundles.{HasNoBundle}
+use Rattle.ir_ast.specs.Cells.{type_of}
 use Rattle.ir_ast.specs.Layouts.{ObjectLayout}
 use Rattle.ir_ast.specs.Modules.{ModuleContent}
 use Rattle.ir_ast.specs.Objects.{Datum, Object, Pointer}
@@ -32,7 +33,7 @@ use Rattle.object_meaning.specs.Steps.{step}
 use Rattle.object_meaning.specs.TargetRuns.{TargetGives, target_setting}
 use Rattle.pair_facts.specs.declared.bases.Base.TheVariants.{Named}
 use Rattle.pair_facts.specs.Faults.{IsVerified}
-use Rattle.pair_facts.specs.Lines.{operand_at}
+use Rattle.pair_facts.specs.Lines.{lines_at, operand_at}
 use Rattle.stackmap_write.specs.ModuleMaps.{map_of}
 use Rattle.machine_meaning.specs.Code.{machinery_of}
 use Rattle.machine_meaning.specs.MachineRuns.{MachineOutcome, MachineGives, machine_opening}
@@ -41,7 +42,7 @@ use Rattle.machine_meaning.specs.Machines.{Machinery}
 use Rattle.machine_meaning.specs.Relations.{addr, check_of, IsPair}
 use Rattle.moves_unseen.specs.Objects.{AreHeld, Holds, Loads}
 use Rattle.moves_unseen.specs.States.{Extra, Follows, IsRelated, machine_of}
-use Rattle.moves_unseen.specs.Steps.{GivesNumber, GivesPointer, IsArithmetic, IsNumber, StepFollows}
+use Rattle.moves_unseen.specs.Steps.{GivesNumber, GivesPointer, IsArithmetic, IsCheckedBefore, IsNumber, StepFollows}
 
 -- ---- proved
 
@@ -103,6 +104,15 @@ ChecksFollow = (content : ModuleContent) (machinery : Machinery) (setting : Sett
     → (state : State) (extra : Extra) (related : IsRelated content state extra) (line : Line) (rest : List Line) → state.running.rest ≡ line ∷ rest
     → (types : List Ty) → line.inst.op ≡ Call Check types → line.to ≡ None → IsNumber (value_types related.running.func) (operand_at line.inst.operands 2)
     → related.running.pairs (operand_at line.inst.operands 1) (Named (operand_at line.inst.operands 0)) ≡ true
+    → StepFollows content machinery (step setting state) (machine_step machinery (machine_of machinery state extra))
+
+-- so is a load behind its check, which is never poison
+abbrev pub LoadsFollow : Type 0
+LoadsFollow = (content : ModuleContent) (machinery : Machinery) (setting : Setting) → setting.layouts ≡ content.layouts
+    → (state : State) (extra : Extra) (related : IsRelated content state extra) (line : Line) (rest : List Line) → state.running.rest ≡ line ∷ rest
+    → line.inst.op ≡ Load → (cell : Cell) → type_of cell ≡ line.inst.ty
+    → IsCheckedBefore (lines_at related.running.func state.running.block) related.running.place state.running.registers (operand_at line.inst.operands 0) cell
+    → (given : ℕ) → line.to ≡ Some given → slice_get (value_types related.running.func) given ≡ Some line.inst.ty
     → StepFollows content machinery (step setting state) (machine_step machinery (machine_of machinery state extra))
 
 -- the relation holds at the opening, whatever the map is

@@ -1,7 +1,7 @@
 //! Laws towards "moves are never noticed": what the address machine has of the target meaning's state. No code.
 #![tactic(auto)]
 
-ghost use Rattle.moves_unseen.specs.Statements.{ChecksAreAccesses, ChecksFollow, GepsFollow, GroupsKeepObjects, IntegersFollow, LoadsHold, NewObjectsHold, OpeningsFollow, PairsAreCompared, StoresHold};
+ghost use Rattle.moves_unseen.specs.Statements.{ChecksAreAccesses, ChecksFollow, GepsFollow, GroupsKeepObjects, IntegersFollow, LoadsFollow, LoadsHold, NewObjectsHold, OpeningsFollow, PairsAreCompared, StoresHold};
 
 /// After the moves of an event each cell holds what it held: integers are the same, and each pointer cell has the address of
 /// the same pointer.
@@ -52,4 +52,9 @@ pub fn openings_follow()
 /// So is a check of a pair: it traps as the access of its pointer does, or the access behind it is one of a cell.
 pub fn checks_follow()
     ensures { ChecksFollow }
+{}
+
+/// So is a load behind its check; it is never poison.
+pub fn loads_follow()
+    ensures { LoadsFollow }
 {}
