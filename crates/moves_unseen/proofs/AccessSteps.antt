@@ -1,5 +1,5 @@
 -- A load and a store behind their check: the machine takes the same step, and never ends in poison.
-use Rattle.std.proofs.Common.{◌≡◌, ℕ, Bool, true, false, ◌&&◌, List, [], ◌∷◌, map, set, refl, sym, ap, ◌∙◌, subst, Option, Some, None, ◌⊎◌, inl, inr}
+use Rattle.std.proofs.Common.{◌≡◌, ℕ, ◌-◌, Bool, true, false, ◌&&◌, List, [], ◌∷◌, map, set, refl, sym, ap, ◌∙◌, subst, Option, Some, None, ◌⊎◌, inl, inr}
 use Rattle.std.specs.Prelude.{slice_get, Result, Ok, Err}
 use Rattle.ir_ast.specs.declared.cells.Cell.{Cell}
 use Rattle.ir_ast.specs.declared.cells.Cell.TheVariants.{I64, Ptr}
@@ -32,6 +32,9 @@ use Rattle.pair_facts.specs.declared.bases.Base.TheVariants.{Named}
 use Rattle.pair_facts.specs.Lines.{line_before, lines_at, operand_at}
 use Rattle.pair_facts.specs.Pairs.{after, given_pairs, own_pairs, with_given, without}
 use Rattle.machine_meaning.specs.Machines.{Machine, Machinery}
+use Rattle.moving_heap.specs.declared.stands.Stand.{Stand}
+use Rattle.object_meaning.specs.Traces.{access_of, accesses_at, reading, reads}
+use Rattle.machine_meaning.specs.Happenings.{access_by, accesses_by, owned}
 use Rattle.machine_meaning.specs.MachineSteps.{loading_word, machine_acts, machine_at, machine_step, passes, storing_word}
 use Rattle.machine_meaning.specs.Words.{worded, worded_operand}
 use Rattle.machine_meaning.specs.Relations.{addr, word_in, IsPair}
@@ -154,3 +157,16 @@ module _ (content : ModuleContent) (machinery : Machinery) (setting : Setting) (
       (pass_follows content machinery state extra related line rest is alone datum loads.held words_after
       (λ types op. absurd (not_call types line.inst.op op_is op))
       (λ to_given op managed gives_to. absurd (not_select line.inst.op op_is op)))))
+
+  -- and both see the same access
+  pub load_seen : accesses_by machine machine.state.running.rest ≡ accesses_at setting state state.running.rest
+  load_seen =
+      ap (accesses_by machine) (ap (map worded) is)
+      ∙ (ap (access_by machine (worded line)) op_is
+      ∙ (ap (λ (w : ℕ). owned reads w (owner extra.heap.stands w) (loaded extra.heap w)) (word_at extra.running.words line.inst.operands 0)
+      ∙ (ap (λ (o : Option Stand). owned reads word o (loaded extra.heap word)) loads.owned
+      ∙ (ap (owned reads word (Some loads.own)) loads.is
+      ∙ (ap (λ (n : ℕ). reads n (word - loads.own.address) ∷ []) loads.object
+      ∙ (ap (λ (n : ℕ). reads guard.place.object n ∷ []) loads.offset
+      ∙ (sym (ap reading accesses_so)
+      ∙ (sym (ap (access_of setting state line) op_is) ∙ sym (ap (accesses_at setting state) is)))))))))

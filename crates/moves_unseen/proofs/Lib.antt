@@ -16,3 +16,4 @@ pub mod MainLaws
 pub mod OpeningLaws
 pub mod CheckSteps
 pub mod AccessSteps
+pub mod StoreSteps

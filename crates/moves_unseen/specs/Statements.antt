@@ -4,7 +4,7 @@ use Rattle.std.specs.List.{All, sum_by}
 use Rattle.ir_ast.specs.declared.cells.Cell.{Cell}
 use Rattle.ir_ast.specs.declared.ops.Elem.{Elem}
 use Rattle.ir_ast.specs.declared.ops.Callee.TheVariants.{Check}
-use Rattle.ir_ast.specs.declared.ops.Op.TheVariants.{Call, Gep, Load}
+use Rattle.ir_ast.specs.declared.ops.Op.TheVariants.{Call, Gep, Load, Store}
 use Rattle.ir_ast.specs.declared.types.Ty.{Ty}
 use Rattle.ir_ast.specs.Bundles.{HasNoBundle}
 use Rattle.ir_ast.specs.Cells.{type_of}
@@ -42,7 +42,7 @@ use Rattle.machine_meaning.specs.Machines.{Machinery}
 use Rattle.machine_meaning.specs.Relations.{addr, check_of, IsPair}
 use Rattle.moves_unseen.specs.Objects.{AreHeld, Holds, Loads}
 use Rattle.moves_unseen.specs.States.{Extra, Follows, IsRelated, machine_of}
-use Rattle.moves_unseen.specs.Steps.{GivesNumber, GivesPointer, IsArithmetic, IsCheckedBefore, IsNumber, StepFollows}
+use Rattle.moves_unseen.specs.Steps.{GivesNumber, GivesPointer, IsArithmetic, IsCheckedBefore, IsNumber, IsStored, StepFollows}
 
 -- ---- proved
 
@@ -113,6 +113,15 @@ LoadsFollow = (content : ModuleContent) (machinery : Machinery) (setting : Setti
     → line.inst.op ≡ Load → (cell : Cell) → type_of cell ≡ line.inst.ty
     → IsCheckedBefore (lines_at related.running.func state.running.block) related.running.place state.running.registers (operand_at line.inst.operands 0) cell
     → (given : ℕ) → line.to ≡ Some given → slice_get (value_types related.running.func) given ≡ Some line.inst.ty
+    → StepFollows content machinery (step setting state) (machine_step machinery (machine_of machinery state extra))
+
+-- so is a store behind its check, of a number or of a pointer that is its own base
+abbrev pub StoresFollow : Type 0
+StoresFollow = (content : ModuleContent) (machinery : Machinery) (setting : Setting) → setting.layouts ≡ content.layouts
+    → (state : State) (extra : Extra) (related : IsRelated content state extra) (line : Line) (rest : List Line) → state.running.rest ≡ line ∷ rest
+    → line.inst.op ≡ Store → (cell : Cell) → type_of cell ≡ line.inst.ty
+    → IsCheckedBefore (lines_at related.running.func state.running.block) related.running.place state.running.registers (operand_at line.inst.operands 1) cell
+    → line.to ≡ None → IsStored (value_types related.running.func) related.running.pairs (operand_at line.inst.operands 0) cell
     → StepFollows content machinery (step setting state) (machine_step machinery (machine_of machinery state extra))
 
 -- the relation holds at the opening, whatever the map is

@@ -2,6 +2,7 @@
 use Rattle.std.specs.Prelude.{◌≡◌, ℕ, true, false, List, Some, slice_get}
 use Rattle.sp_ids.specs.declared.ends.End.{End}
 use Rattle.ir_ast.specs.declared.cells.Cell.{Cell}
+use Rattle.ir_ast.specs.declared.cells.Cell.TheVariants.{I64, Ptr}
 use Rattle.ir_ast.specs.declared.ops.Callee.TheVariants.{Check}
 use Rattle.ir_ast.specs.declared.types.Ty.{Ty}
 use Rattle.ir_ast.specs.declared.ops.Op.{Op}
@@ -17,6 +18,8 @@ use Rattle.object_meaning.specs.Effects.{Effect, goes_on, prints, ends}
 use Rattle.object_meaning.specs.Lines.{Line}
 use Rattle.object_meaning.specs.States.{State}
 use Rattle.machine_meaning.specs.Machines.{Machine, Machinery}
+use Rattle.pair_facts.specs.declared.bases.Base.TheVariants.{Named}
+use Rattle.pair_facts.specs.Pairs.{Pairs}
 use Rattle.pair_facts.specs.Lines.{line_before, operand_at}
 use Rattle.moves_unseen.specs.Objects.{AreHeld}
 use Rattle.moves_unseen.specs.States.{Extra, Follows, machine_of}
@@ -86,3 +89,8 @@ pub record IsCheckedBefore (lines : List Line) (place : ℕ) (registers : List D
   pub op : check.inst.op ≡ ops.Call Check types
   pub same_address : operand_at check.inst.operands 1 ≡ address
   pub kind : cell_named (number_in (operand registers check.inst.operands 2)) ≡ asked
+
+-- what a store puts into a cell of a kind: a number, or a pointer that is its own base
+abbrev pub IsStored : List Ty → Pairs → Operand → Cell → Type 0
+IsStored types pairs operand I64 = IsNumber types operand
+IsStored types pairs operand Ptr = pairs operand (Named operand) ≡ true

@@ -1,7 +1,7 @@
 //! Laws towards "moves are never noticed": what the address machine has of the target meaning's state. No code.
 #![tactic(auto)]
 
-ghost use Rattle.moves_unseen.specs.Statements.{ChecksAreAccesses, ChecksFollow, GepsFollow, GroupsKeepObjects, IntegersFollow, LoadsFollow, LoadsHold, NewObjectsHold, OpeningsFollow, PairsAreCompared, StoresHold};
+ghost use Rattle.moves_unseen.specs.Statements.{ChecksAreAccesses, ChecksFollow, GepsFollow, GroupsKeepObjects, IntegersFollow, LoadsFollow, LoadsHold, NewObjectsHold, OpeningsFollow, PairsAreCompared, StoresFollow, StoresHold};
 
 /// After the moves of an event each cell holds what it held: integers are the same, and each pointer cell has the address of
 /// the same pointer.
@@ -57,4 +57,9 @@ pub fn checks_follow()
 /// So is a load behind its check; it is never poison.
 pub fn loads_follow()
     ensures { LoadsFollow }
+{}
+
+/// So is a store behind its check, of a number or of a pointer that is its own base.
+pub fn stores_follow()
+    ensures { StoresFollow }
 {}
