@@ -17,3 +17,4 @@ pub mod OpeningLaws
 pub mod CheckSteps
 pub mod AccessSteps
 pub mod StoreSteps
+pub mod SameSteps

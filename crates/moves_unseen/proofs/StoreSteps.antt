@@ -1,5 +1,5 @@
 -- A store behind its check: the machine takes the same step, and each cell holds what it is to hold.
-use Rattle.std.proofs.Common.{◌≡◌, ℕ, Bool, true, false, List, [], ◌∷◌, map, refl, sym, ap, ◌∙◌, subst, Option, Some, None}
+use Rattle.std.proofs.Common.{◌≡◌, ℕ, ◌-◌, Bool, true, false, List, [], ◌∷◌, map, refl, sym, ap, ◌∙◌, subst, Option, Some, None}
 use Rattle.std.specs.Prelude.{slice_get, Result, Ok, Err}
 use Rattle.ir_ast.specs.declared.cells.Cell.{Cell}
 use Rattle.ir_ast.specs.declared.cells.Cell.TheVariants.{I64, Ptr}
@@ -30,6 +30,9 @@ use Rattle.pair_facts.specs.declared.bases.Base.TheVariants.{Named}
 use Rattle.pair_facts.specs.Lines.{line_before, lines_at, operand_at}
 use Rattle.pair_facts.specs.Pairs.{Pairs, after, given_pairs, with_given, without}
 use Rattle.machine_meaning.specs.Machines.{Machine, Machinery}
+use Rattle.moving_heap.specs.declared.stands.Stand.{Stand}
+use Rattle.object_meaning.specs.Traces.{access_of, accesses_at, writes, writing}
+use Rattle.machine_meaning.specs.Happenings.{access_by, accesses_by, owned}
 use Rattle.machine_meaning.specs.MachineSteps.{machine_acts, machine_at, machine_step, passes, storing_word}
 use Rattle.machine_meaning.specs.Words.{worded, worded_operand}
 use Rattle.machine_meaning.specs.Relations.{addr, word_in}
@@ -176,3 +179,16 @@ module _ (content : ModuleContent) (machinery : Machinery) (setting : Setting) (
   store_follows =
       subst (λ (effect : Effect State). StepFollows content machinery effect (machine_step machinery machine)) (sym here_is)
       (subst (StepFollows content machinery (goes_on here)) (sym there_is) (both_go here there follows_so))
+
+  -- and both see the same access
+  pub store_seen : accesses_by machine machine.state.running.rest ≡ accesses_at setting state state.running.rest
+  store_seen =
+      ap (accesses_by machine) (ap (map worded) is)
+      ∙ (ap (access_by machine (worded line)) op_is
+      ∙ (ap (λ (w : ℕ). owned writes w (owner extra.heap.stands w) (loaded extra.heap w)) (word_at extra.running.words line.inst.operands 1)
+      ∙ (ap (λ (o : Option Stand). owned writes word o (loaded extra.heap word)) loads.owned
+      ∙ (ap (owned writes word (Some loads.own)) loads.is
+      ∙ (ap (λ (n : ℕ). writes n (word - loads.own.address) ∷ []) loads.object
+      ∙ (ap (λ (n : ℕ). writes guard.place.object n ∷ []) loads.offset
+      ∙ (sym (ap writing accesses_so)
+      ∙ (sym (ap (access_of setting state line) op_is) ∙ sym (ap (accesses_at setting state) is)))))))))

@@ -3,7 +3,7 @@ use Rattle.std.specs.Prelude.{◌≡◌, ℕ, ℤ, ◌+◌, ◌==◌, ◌&&◌, 
 use Rattle.std.specs.List.{All, sum_by}
 use Rattle.ir_ast.specs.declared.cells.Cell.{Cell}
 use Rattle.ir_ast.specs.declared.ops.Elem.{Elem}
-use Rattle.ir_ast.specs.declared.ops.Callee.TheVariants.{Check}
+use Rattle.ir_ast.specs.declared.ops.Callee.TheVariants.{Check, Same}
 use Rattle.ir_ast.specs.declared.ops.Op.TheVariants.{Call, Gep, Load, Store}
 use Rattle.ir_ast.specs.declared.types.Ty.{Ty}
 use Rattle.ir_ast.specs.Bundles.{HasNoBundle}
@@ -30,12 +30,14 @@ use Rattle.object_meaning.specs.Lines.{Line}
 use Rattle.object_meaning.specs.Outcomes.{Outcome, opening}
 use Rattle.object_meaning.specs.States.{Setting, State}
 use Rattle.object_meaning.specs.Steps.{step}
+use Rattle.object_meaning.specs.Traces.{accesses_at}
 use Rattle.object_meaning.specs.TargetRuns.{TargetGives, target_setting}
 use Rattle.pair_facts.specs.declared.bases.Base.TheVariants.{Named}
 use Rattle.pair_facts.specs.Faults.{IsVerified}
 use Rattle.pair_facts.specs.Lines.{lines_at, operand_at}
 use Rattle.stackmap_write.specs.ModuleMaps.{map_of}
 use Rattle.machine_meaning.specs.Code.{machinery_of}
+use Rattle.machine_meaning.specs.Happenings.{accesses_by}
 use Rattle.machine_meaning.specs.MachineRuns.{MachineOutcome, MachineGives, machine_opening}
 use Rattle.machine_meaning.specs.MachineSteps.{machine_step}
 use Rattle.machine_meaning.specs.Machines.{Machinery}
@@ -106,7 +108,7 @@ ChecksFollow = (content : ModuleContent) (machinery : Machinery) (setting : Sett
     → related.running.pairs (operand_at line.inst.operands 1) (Named (operand_at line.inst.operands 0)) ≡ true
     → StepFollows content machinery (step setting state) (machine_step machinery (machine_of machinery state extra))
 
--- so is a load behind its check, which is never poison
+-- so is a load behind its check, which is never poison, and both see the same access
 abbrev pub LoadsFollow : Type 0
 LoadsFollow = (content : ModuleContent) (machinery : Machinery) (setting : Setting) → setting.layouts ≡ content.layouts
     → (state : State) (extra : Extra) (related : IsRelated content state extra) (line : Line) (rest : List Line) → state.running.rest ≡ line ∷ rest
@@ -114,14 +116,25 @@ LoadsFollow = (content : ModuleContent) (machinery : Machinery) (setting : Setti
     → IsCheckedBefore (lines_at related.running.func state.running.block) related.running.place state.running.registers (operand_at line.inst.operands 0) cell
     → (given : ℕ) → line.to ≡ Some given → slice_get (value_types related.running.func) given ≡ Some line.inst.ty
     → StepFollows content machinery (step setting state) (machine_step machinery (machine_of machinery state extra))
+    × (accesses_by (machine_of machinery state extra) (machine_of machinery state extra).state.running.rest ≡ accesses_at setting state state.running.rest)
 
--- so is a store behind its check, of a number or of a pointer that is its own base
+-- so is a store behind its check, of a number or of a pointer that is its own base, and both see the same access
 abbrev pub StoresFollow : Type 0
 StoresFollow = (content : ModuleContent) (machinery : Machinery) (setting : Setting) → setting.layouts ≡ content.layouts
     → (state : State) (extra : Extra) (related : IsRelated content state extra) (line : Line) (rest : List Line) → state.running.rest ≡ line ∷ rest
     → line.inst.op ≡ Store → (cell : Cell) → type_of cell ≡ line.inst.ty
     → IsCheckedBefore (lines_at related.running.func state.running.block) related.running.place state.running.registers (operand_at line.inst.operands 1) cell
     → line.to ≡ None → IsStored (value_types related.running.func) related.running.pairs (operand_at line.inst.operands 0) cell
+    → StepFollows content machinery (step setting state) (machine_step machinery (machine_of machinery state extra))
+    × (accesses_by (machine_of machinery state extra) (machine_of machinery state extra).state.running.rest ≡ accesses_at setting state state.running.rest)
+
+-- so is a comparison of two pairs
+abbrev pub ComparisonsFollow : Type 0
+ComparisonsFollow = (content : ModuleContent) (machinery : Machinery) (setting : Setting)
+    → (state : State) (extra : Extra) (related : IsRelated content state extra) (line : Line) (rest : List Line) → state.running.rest ≡ line ∷ rest
+    → (types : List Ty) → line.inst.op ≡ Call Same types → (given : ℕ) → line.to ≡ Some given → (ty : Ty) → slice_get (value_types related.running.func) given ≡ Some ty
+    → related.running.pairs (operand_at line.inst.operands 1) (Named (operand_at line.inst.operands 0)) ≡ true
+    → related.running.pairs (operand_at line.inst.operands 3) (Named (operand_at line.inst.operands 2)) ≡ true
     → StepFollows content machinery (step setting state) (machine_step machinery (machine_of machinery state extra))
 
 -- the relation holds at the opening, whatever the map is

@@ -1,7 +1,7 @@
 //! Laws towards "moves are never noticed": what the address machine has of the target meaning's state. No code.
 #![tactic(auto)]
 
-ghost use Rattle.moves_unseen.specs.Statements.{ChecksAreAccesses, ChecksFollow, GepsFollow, GroupsKeepObjects, IntegersFollow, LoadsFollow, LoadsHold, NewObjectsHold, OpeningsFollow, PairsAreCompared, StoresFollow, StoresHold};
+ghost use Rattle.moves_unseen.specs.Statements.{ChecksAreAccesses, ChecksFollow, ComparisonsFollow, GepsFollow, GroupsKeepObjects, IntegersFollow, LoadsFollow, LoadsHold, NewObjectsHold, OpeningsFollow, PairsAreCompared, StoresFollow, StoresHold};
 
 /// After the moves of an event each cell holds what it held: integers are the same, and each pointer cell has the address of
 /// the same pointer.
@@ -54,12 +54,17 @@ pub fn checks_follow()
     ensures { ChecksFollow }
 {}
 
-/// So is a load behind its check; it is never poison.
+/// So is a load behind its check; it is never poison, and both see the same access.
 pub fn loads_follow()
     ensures { LoadsFollow }
 {}
 
-/// So is a store behind its check, of a number or of a pointer that is its own base.
+/// So is a store behind its check, of a number or of a pointer that is its own base; both see the same access.
 pub fn stores_follow()
     ensures { StoresFollow }
+{}
+
+/// So is a comparison of two pairs, `gc_same`.
+pub fn comparisons_follow()
+    ensures { ComparisonsFollow }
 {}
