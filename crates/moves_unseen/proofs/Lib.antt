@@ -18,3 +18,4 @@ pub mod CheckSteps
 pub mod AccessSteps
 pub mod StoreSteps
 pub mod SameSteps
+pub mod VerifiedLaws

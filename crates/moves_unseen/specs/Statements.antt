@@ -23,7 +23,7 @@ use Rattle.moving_heap.specs.Heaps.{HeapView, checked, footprint, stored_at, wit
 use Rattle.moving_heap.specs.Places.{carried, group_moves, owner}
 use Rattle.moving_heap.specs.Settled.{AreSettled}
 use Rattle.moving_heap.specs.declared.stands.Stand.{Stand}
-use Rattle.object_meaning.specs.Accesses.{Place, accessed, stored}
+use Rattle.object_meaning.specs.Accesses.{Place, accessed, cell_of, stored}
 use Rattle.object_meaning.specs.Calls.{made}
 use Rattle.object_meaning.specs.Comparisons.{same_pointer}
 use Rattle.object_meaning.specs.Lines.{Line}
@@ -33,8 +33,13 @@ use Rattle.object_meaning.specs.Steps.{step}
 use Rattle.object_meaning.specs.Traces.{accesses_at}
 use Rattle.object_meaning.specs.TargetRuns.{TargetGives, target_setting}
 use Rattle.pair_facts.specs.declared.bases.Base.TheVariants.{Named}
-use Rattle.pair_facts.specs.Faults.{IsVerified}
+use Rattle.pair_facts.specs.Faults.{FaultAt, IsVerified}
 use Rattle.pair_facts.specs.Lines.{lines_at, operand_at}
+use Rattle.pair_facts.specs.Pairs.{Pairs}
+use Rattle.pair_facts.specs.Paths.{At}
+use Rattle.pair_facts.specs.Uses.{Use, Uses, accessed_at}
+use Rattle.ir_ast.specs.declared.ops.Operand.{Operand}
+use Rattle.ir_ast.specs.Funcs.{Function}
 use Rattle.stackmap_write.specs.ModuleMaps.{map_of}
 use Rattle.machine_meaning.specs.Code.{machinery_of}
 use Rattle.machine_meaning.specs.Happenings.{accesses_by}
@@ -142,6 +147,17 @@ abbrev pub OpeningsFollow : Type 0
 OpeningsFollow = (content : ModuleContent) → IsTargetModule content → (map_given : StackMap) (input : List ℤ) (plan : List PlanLine) (bound : ℕ)
     → Follows content (machinery_of content map_given plan bound) (opening (target_setting content (go plan) bound) input).state
     (machine_opening (machinery_of content map_given plan bound) input).state
+
+-- a pair that a line without a fault uses stands along each path to where it is judged, and its base is its own
+abbrev pub UsedPairsStand : Type 0
+UsedPairsStand = (func : Function) (block place : ℕ) → ((code : ℕ) → ¬ FaultAt func block place code) → (code at : ℕ) (pair : Use) → Uses (lines_at func block) place code at pair
+    → (pairs : Pairs) → At func block at pairs → (pairs pair.address (Named pair.base) ≡ true) × (pairs pair.base (Named pair.base) ≡ true)
+
+-- where a path leads to an access without a fault, a check of its address and kind stands directly before it
+abbrev pub AccessesAreChecked : Type 0
+AccessesAreChecked = (func : Function) (block place : ℕ) → ((code : ℕ) → ¬ FaultAt func block place code) → (pairs : Pairs) → At func block place pairs
+    → (line : Line) → slice_get (lines_at func block) place ≡ Some line → (address : Operand) → accessed_at line.inst.op line.inst ≡ Some address
+    → (registers : List Datum) → IsCheckedBefore (lines_at func block) place registers address (cell_of line.inst.ty)
 
 -- ---- open
 

@@ -1,7 +1,7 @@
 //! Laws towards "moves are never noticed": what the address machine has of the target meaning's state. No code.
 #![tactic(auto)]
 
-ghost use Rattle.moves_unseen.specs.Statements.{ChecksAreAccesses, ChecksFollow, ComparisonsFollow, GepsFollow, GroupsKeepObjects, IntegersFollow, LoadsFollow, LoadsHold, NewObjectsHold, OpeningsFollow, PairsAreCompared, StoresFollow, StoresHold};
+ghost use Rattle.moves_unseen.specs.Statements.{AccessesAreChecked, ChecksAreAccesses, ChecksFollow, ComparisonsFollow, GepsFollow, GroupsKeepObjects, IntegersFollow, LoadsFollow, LoadsHold, NewObjectsHold, OpeningsFollow, PairsAreCompared, StoresFollow, StoresHold, UsedPairsStand};
 
 /// After the moves of an event each cell holds what it held: integers are the same, and each pointer cell has the address of
 /// the same pointer.
@@ -67,4 +67,14 @@ pub fn stores_follow()
 /// So is a comparison of two pairs, `gc_same`.
 pub fn comparisons_follow()
     ensures { ComparisonsFollow }
+{}
+
+/// A pair that a line without a fault of the verifier uses stands along each path, so along that of a run.
+pub fn used_pairs_stand()
+    ensures { UsedPairsStand }
+{}
+
+/// An access without a fault of the verifier that a path leads to has a check directly before it.
+pub fn accesses_are_checked()
+    ensures { AccessesAreChecked }
 {}
