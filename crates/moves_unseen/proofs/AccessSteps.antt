@@ -1,11 +1,11 @@
 -- A load and a store behind their check: the machine takes the same step, and never ends in poison.
-use Rattle.std.proofs.Common.{◌≡◌, ℕ, ◌-◌, Bool, true, false, ◌&&◌, List, [], ◌∷◌, map, set, refl, sym, ap, ◌∙◌, subst, Option, Some, None, ◌⊎◌, inl, inr}
-use Rattle.std.specs.Prelude.{slice_get, Result, Ok, Err}
+use Rattle.std.proofs.Common.{◌≡◌, ℕ, ◌-◌, Bool, true, ◌&&◌, List, [], ◌∷◌, map, refl, sym, ap, ◌∙◌, subst, Option, Some}
+use Rattle.std.specs.Prelude.{slice_get, Ok}
 use Rattle.ir_ast.specs.declared.cells.Cell.{Cell}
 use Rattle.ir_ast.specs.declared.cells.Cell.TheVariants.{I64, Ptr}
 use Rattle.ir_ast.specs.declared.ops.Callee.TheVariants.{Check}
 use Rattle.ir_ast.specs.declared.ops.Op.{Op}
-use Rattle.ir_ast.specs.declared.ops.Op.TheVariants.{Call, Load, Select, Store}
+use Rattle.ir_ast.specs.declared.ops.Op.TheVariants.{Call, Load, Select}
 use Rattle.ir_ast.specs.declared.ops.Operand.{Operand}
 use Rattle.ir_ast.specs.declared.types.Ty.{Ty}
 use Rattle.ir_ast.specs.Cells.{type_of}
@@ -13,21 +13,19 @@ use Rattle.ir_ast.specs.Faults.GroupShape.{is_statepoint}
 use Rattle.ir_ast.specs.Faults.PhiEdges.{is_phi}
 use Rattle.ir_ast.specs.Layouts.{ObjectLayout}
 use Rattle.ir_ast.specs.Modules.{ModuleContent}
-use Rattle.ir_ast.specs.Objects.{Datum, Object, Pointer, number}
+use Rattle.ir_ast.specs.Objects.{Datum, Pointer}
 use Rattle.ir_ast.specs.Types.{is_pointer}
 use Rattle.ir_ast.specs.Values.{value_types}
-use Rattle.moving_heap.specs.declared.heap.Deny.{Deny}
-use Rattle.moving_heap.specs.Heaps.{loaded, stored_at}
+use Rattle.moving_heap.specs.Heaps.{loaded}
 use Rattle.moving_heap.specs.Places.{owner}
-use Rattle.object_meaning.specs.Accesses.{Place, accessed, cell_named, cell_of, stored}
+use Rattle.object_meaning.specs.Accesses.{accessed, cell_of}
 use Rattle.object_meaning.specs.Accesses.{loaded as datum_at}
 use Rattle.object_meaning.specs.Effects.{Effect, goes_on}
 use Rattle.object_meaning.specs.Frames.{is_member, passed}
 use Rattle.object_meaning.specs.Lines.{Line}
-use Rattle.object_meaning.specs.Registers.{nothing, operand, value, number_in, pointer_in, put}
+use Rattle.object_meaning.specs.Registers.{operand, value, pointer_in, put}
 use Rattle.object_meaning.specs.States.{State, Setting}
-use Rattle.object_meaning.specs.Steps.{accesses, acts, loading, step, steps_at, storing}
-use Rattle.pair_facts.specs.declared.bases.Base.{Base}
+use Rattle.object_meaning.specs.Steps.{accesses, acts, loading, step, steps_at}
 use Rattle.pair_facts.specs.declared.bases.Base.TheVariants.{Named}
 use Rattle.pair_facts.specs.Lines.{line_before, lines_at, operand_at}
 use Rattle.pair_facts.specs.Pairs.{after, given_pairs, own_pairs, with_given, without}
@@ -35,12 +33,12 @@ use Rattle.machine_meaning.specs.Machines.{Machine, Machinery}
 use Rattle.moving_heap.specs.declared.stands.Stand.{Stand}
 use Rattle.object_meaning.specs.Traces.{access_of, accesses_at, reading, reads}
 use Rattle.machine_meaning.specs.Happenings.{access_by, accesses_by, owned}
-use Rattle.machine_meaning.specs.MachineSteps.{loading_word, machine_acts, machine_at, machine_step, passes, storing_word}
-use Rattle.machine_meaning.specs.Words.{worded, worded_operand}
-use Rattle.machine_meaning.specs.Relations.{addr, word_in, IsPair}
+use Rattle.machine_meaning.specs.MachineSteps.{loading_word, machine_acts, machine_at, machine_step, passes}
+use Rattle.machine_meaning.specs.Words.{worded}
+use Rattle.machine_meaning.specs.Relations.{addr, word_in}
 use Rattle.moves_unseen.specs.Frames.{AreWords, IsGuarded}
 use Rattle.moves_unseen.specs.Objects.{Holds, Loads}
-use Rattle.moves_unseen.specs.States.{Extra, Follows, IsRelated, machine_of}
+use Rattle.moves_unseen.specs.States.{Extra, IsRelated, machine_of}
 use Rattle.moves_unseen.specs.Steps.{IsCheckedBefore, StepFollows, both_go}
 use Rattle.moves_unseen.proofs.MemoryLaws.{load_is_access}
 use Rattle.moves_unseen.proofs.PassLaws.{pass_follows}

@@ -1,15 +1,12 @@
 -- A pointer into an object, its word, and the object that the machine finds by it.
-use Rattle.std.proofs.Common.{◌≡◌, ℕ, zero, suc, ◌+◌, ◌-◌, ◌<◌, ◌≤◌, ◌%◌, ◌/◌, ◌^◌, Bool, true, false, not, List, length, get_or, refl, sym, ap, ◌∙◌, subst, arith, cond, eqb, ltb, leb, Option, Some, None}
-use Rattle.std.specs.Prelude.{slice_get, Result, Ok, Err}
-use Rattle.std.proofs.lemmas.Bool.{and_from, eq-eqb, ne_eqb, lt-ltb, le-leb}
-use Rattle.std.proofs.lemmas.Option.{slice_get-get_or}
-use Rattle.ir_ast.specs.declared.cells.Cell.{Cell}
+use Rattle.std.proofs.Common.{◌≡◌, ℕ, suc, ◌+◌, ◌-◌, ◌<◌, ◌%◌, ◌^◌, List, length, get_or, refl, ap, ◌∙◌, arith, ltb, leb, Some}
+use Rattle.std.proofs.lemmas.Bool.{and_from, eq-eqb, lt-ltb, le-leb}
 use Rattle.ir_ast.specs.Objects.{Pointer}
 use Rattle.moving_heap.specs.declared.stands.Stand.{Stand}
-use Rattle.moving_heap.specs.Places.{holds, owner, stands_at}
+use Rattle.moving_heap.specs.Places.{owner, stands_at}
 use Rattle.moving_heap.specs.Settled.{AreSettled}
 use Rattle.moving_heap.proofs.PlaceLemmas.{owner_is, stands_at_is, exactly}
-use Rattle.machine_meaning.specs.Relations.{addr, IsInHeap, IsPair}
+use Rattle.machine_meaning.specs.Relations.{addr, IsPair}
 use Rattle.machine_meaning.proofs.AddressLaws.{addr_of}
 
 abbrev pub blank : Stand

@@ -1,10 +1,10 @@
 -- A new object: it holds zeros and null pointers, and what others hold is untouched.
-use Rattle.std.proofs.Common.{◌≡◌, ◌≢◌, ℕ, zero, suc, ◌+◌, ◌*◌, ◌<◌, ◌≤◌, ◌%◌, ◌^◌, Bool, false, List, [], ◌∷◌, ◌++◌, length, get_or, map, replicate, refl, sym, ap, ◌∙◌, subst, arith, ltb, Option, Some, None, inl, inr, ◌⊎◌, max}
+use Rattle.std.proofs.Common.{◌≡◌, ℕ, zero, suc, ◌+◌, ◌*◌, ◌<◌, ◌≤◌, ◌%◌, ◌^◌, false, List, [], ◌∷◌, ◌++◌, length, get_or, map, replicate, refl, sym, ap, ◌∙◌, subst, arith, ltb, Option, Some, inl, inr}
 use Rattle.std.specs.Prelude.{slice_get}
 use Rattle.std.specs.List.{sum_by, flat_map}
 use Rattle.std.specs.Option.{option_map_or}
 use Rattle.std.proofs.lemmas.Bool.{cases_lt, ltb-false}
-use Rattle.std.proofs.lemmas.Option.{slice_get-get_or, slice_get_within, get_or_from_slice_get}
+use Rattle.std.proofs.lemmas.Option.{slice_get_within}
 use Rattle.std.proofs.lemmas.List.{length_push, length-map, length-replicate}
 use Rattle.ir_ast.specs.declared.cells.Cell.{Cell}
 use Rattle.ir_ast.specs.declared.cells.Cell.TheVariants.{I64, Ptr}
@@ -23,7 +23,7 @@ use Rattle.moving_heap.proofs.CellLemmas.{repeated-length}
 use Rattle.object_meaning.specs.Calls.{made}
 use Rattle.object_meaning.specs.Registers.{nothing, pointer_in}
 use Rattle.machine_meaning.specs.Relations.{addr, IsInHeap}
-use Rattle.moves_unseen.specs.Objects.{AreHeld, Holds, IsBase, IsHeld}
+use Rattle.moves_unseen.specs.Objects.{AreHeld, Holds, IsHeld}
 
 -- ---- a list with one more element
 

@@ -1,6 +1,6 @@
 -- Lines that compute integers: the machine takes the same step.
-use Rattle.std.proofs.Common.{◌≡◌, ℕ, Bool, true, false, List, [], ◌∷◌, map, set, refl, sym, ap, ◌∙◌, subst, Option, Some, None}
-use Rattle.std.specs.Prelude.{slice_get, Result, Ok, Err}
+use Rattle.std.proofs.Common.{◌≡◌, ℕ, false, List, ◌∷◌, map, refl, sym, ap, ◌∙◌, subst, Option}
+use Rattle.std.specs.Prelude.{Result, Ok, Err}
 use Rattle.sp_ids.specs.declared.ends.End.TheVariants.{Trap as Trapped}
 use Rattle.sp_ids.specs.declared.ends.Trap.{Trap}
 use Rattle.ir_ast.specs.declared.types.Ty.{Ty}
@@ -10,17 +10,15 @@ use Rattle.pair_facts.specs.declared.bases.Base.TheVariants as bases
 use Rattle.ir_ast.specs.declared.ops.Op.{Op}
 use Rattle.ir_ast.specs.declared.ops.Op.TheVariants.{Call, Select}
 use Rattle.ir_ast.specs.declared.ops.Callee.TheVariants.{Check}
-use Rattle.ir_ast.specs.declared.ops.Operand.{Operand}
 use Rattle.ir_ast.specs.Faults.GroupShape.{is_statepoint}
 use Rattle.ir_ast.specs.Faults.PhiEdges.{is_phi}
 use Rattle.ir_ast.specs.Insts.{Instruction}
 use Rattle.ir_ast.specs.Layouts.{ObjectLayout}
 use Rattle.ir_ast.specs.Modules.{ModuleContent}
 use Rattle.ir_ast.specs.Objects.{Datum, number}
-use Rattle.ir_ast.specs.Types.{is_pointer}
 use Rattle.ir_ast.specs.Values.{value_types}
 use Rattle.object_meaning.specs.Computing.{computed, value_of_line, with_number}
-use Rattle.object_meaning.specs.Effects.{Effect, goes_on, ends}
+use Rattle.object_meaning.specs.Effects.{Effect}
 use Rattle.object_meaning.specs.Frames.{is_member, passed}
 use Rattle.object_meaning.specs.Lines.{Line}
 use Rattle.object_meaning.specs.Numbers.{arithmetic, width_of, truncated, sign_extended}
@@ -29,14 +27,13 @@ use Rattle.object_meaning.specs.States.{State, Setting}
 use Rattle.object_meaning.specs.Steps.{acts, settled, step, steps_at}
 use Rattle.pair_facts.specs.declared.bases.Base.{Base}
 use Rattle.pair_facts.specs.Lines.{line_before, lines_at, operand_at}
-use Rattle.pair_facts.specs.Pairs.{Pairs, after, given_pairs, with_given, with_own, without}
+use Rattle.pair_facts.specs.Pairs.{Pairs, after, given_pairs, with_given, without}
 use Rattle.machine_meaning.specs.Machines.{Machine, Machinery, lifted}
 use Rattle.machine_meaning.specs.MachineSteps.{machine_acts, machine_at, machine_step, passes}
 use Rattle.machine_meaning.specs.Words.{worded, worded_operand, worded_type}
-use Rattle.machine_meaning.specs.Relations.{word_in}
-use Rattle.moves_unseen.specs.Frames.{AreNumbers, AreWords, IsChosen, IsGuarded}
-use Rattle.moves_unseen.specs.States.{Extra, Follows, IsRelated, machine_of}
-use Rattle.moves_unseen.specs.Steps.{GivesNumber, IsArithmetic, IsLast, IsNumber, StepFollows, both_end, both_go, add, sub, mul, udiv, sdiv, urem, srem, conjunction, disjunction, difference, shl, lshr, ashr, trunc, zext, sext}
+use Rattle.moves_unseen.specs.Frames.{AreWords}
+use Rattle.moves_unseen.specs.States.{Extra, IsRelated, machine_of}
+use Rattle.moves_unseen.specs.Steps.{GivesNumber, IsArithmetic, IsNumber, StepFollows, both_end, both_go, add, sub, mul, udiv, sdiv, urem, srem, conjunction, disjunction, difference, shl, lshr, ashr, trunc, zext, sext}
 use Rattle.moves_unseen.proofs.PassLaws.{pass_follows}
 use Rattle.moves_unseen.proofs.StandLaws.{IsAlone}
 use Rattle.moves_unseen.proofs.ValueLaws.{number_given, same_number, value_at, word_at}

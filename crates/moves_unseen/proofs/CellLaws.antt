@@ -1,34 +1,25 @@
 -- The cell that a pointer names, in the target meaning and in the heap: checks and loads.
-use Rattle.std.proofs.Common.{◌≡◌, ℕ, zero, suc, ◌+◌, ◌-◌, ◌*◌, ◌<◌, ◌≤◌, ◌%◌, ◌/◌, ◌^◌, Bool, true, false, not, ◌||◌, List, length, get_or, refl, sym, ap, ◌∙◌, subst, arith, cond, eqb, ltb, Option, Some, None, ◌⊎◌, inl, inr, max}
-use Rattle.std.specs.Prelude.{slice_get, Result, Ok, Err, []}
-use Rattle.std.specs.Option.{option_map_or, option_and_then}
+use Rattle.std.proofs.Common.{◌≡◌, ℕ, zero, suc, ◌+◌, ◌-◌, ◌*◌, ◌<◌, ◌≤◌, ◌%◌, ◌/◌, Bool, true, false, not, ◌||◌, List, length, get_or, refl, sym, ap, ◌∙◌, subst, arith, cond, eqb, ltb, Option, Some, None, ◌⊎◌, inl, inr, max}
+use Rattle.std.specs.Prelude.{slice_get, Ok, Err, []}
+use Rattle.std.specs.Option.{option_map_or}
 use Rattle.std.proofs.lemmas.Bool.{eqb-true, ne_eqb, ltb-false, eq-eqb}
-use Rattle.std.proofs.lemmas.Option.{slice_get-get_or, slice_get_within, get_or_from_slice_get}
+use Rattle.std.proofs.lemmas.Option.{slice_get-get_or, slice_get_within}
 use Rattle.std.proofs.Math.Nat.{le-max_right}
-use Rattle.sp_ids.specs.declared.ends.Trap.{Trap}
 use Rattle.sp_ids.specs.declared.ends.Trap.TheVariants.{Null, Bounds, Kind}
 use Rattle.ir_ast.specs.declared.cells.Cell.{Cell}
 use Rattle.ir_ast.specs.declared.cells.Cell.TheVariants.{I64, Ptr}
 use Rattle.ir_ast.specs.Cells.{kind_of}
 use Rattle.ir_ast.specs.Layouts.{ObjectLayout}
 use Rattle.ir_ast.specs.Sizes.{fields_in}
-use Rattle.ir_ast.specs.Objects.{Pointer, Datum, Object, footprint}
+use Rattle.ir_ast.specs.Objects.{Pointer, Object}
 use Rattle.ir_ast.proofs.SizeLaws.{footprint_is}
-use Rattle.moving_heap.specs.declared.heap.Deny.{Deny}
-use Rattle.moving_heap.specs.declared.heap.Deny.TheVariants as denies
 use Rattle.moving_heap.specs.declared.stands.Stand.{Stand}
-use Rattle.moving_heap.specs.Contents.{Content, kind_in, repeated, word_in}
-use Rattle.moving_heap.specs.Heaps.{HeapView, check_stand, checked, checked_at, kind_asked, load_stand, loaded, word_found}
-use Rattle.moving_heap.specs.Places.{owner, stands_at}
+use Rattle.moving_heap.specs.Contents.{Content}
 use Rattle.object_meaning.specs.Accesses.{Place, accessed, within}
-use Rattle.object_meaning.specs.Accesses.{loaded as datum_at}
-use Rattle.object_meaning.specs.Registers.{nothing}
 use Rattle.object_meaning.proofs.AccessLaws.{within_is}
-use Rattle.machine_meaning.specs.Relations.{addr, check_of, IsInHeap, IsPair}
-use Rattle.machine_meaning.proofs.AddressLaws.{addr_none}
-use Rattle.machine_meaning.proofs.CheckLaws.{asks_as_access, repeated-get}
-use Rattle.moves_unseen.specs.Objects.{AreHeld, Holds, IsHeld}
-use Rattle.moves_unseen.proofs.AddressedLaws.{base_address, blank, distance, numbered, owned_by, stands_here, word_inside}
+use Rattle.machine_meaning.proofs.CheckLaws.{repeated-get}
+use Rattle.moves_unseen.specs.Objects.{AreHeld}
+use Rattle.moves_unseen.proofs.AddressedLaws.{blank}
 
 pub none_or : (n : ℕ) → (n ≡ 0) ⊎ ((k : ℕ) × (n ≡ suc k))
 none_or zero = inl refl
@@ -89,7 +80,7 @@ module _ (layouts : List ObjectLayout) (objects : List Object) (stands : List St
   found_in asked to place at object number here is =
       let fields = fields_in layouts object.layout in
       let so = allowed (ltb (object.count * (8 * length fields)) (to.offset + 8)) (eqb (to.offset % 8) 0) (eqb (kind_of (get_or fields (to.offset / 8 % length fields) I64)) (kind_of asked))
-          (record { object = to.object; offset = to.offset; cell = to.offset / 8 }) place (sym (within_is to fields asked object.count) ∙ is) in
+      (record { object = to.object; offset = to.offset; cell = to.offset / 8 }) place (sym (within_is to fields asked object.count) ∙ is) in
       let low : at < length objects = slice_get_within objects at object here in
       let stood : at < length stands = subst (λ (n : ℕ). at < n) (sym are.stands_count) low in
       let listed : at < length contents = subst (λ (n : ℕ). at < n) (sym are.contents_count) low in

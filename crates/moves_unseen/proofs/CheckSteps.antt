@@ -1,5 +1,5 @@
 -- A check: the machine takes the same step, and the access behind it is one of a cell.
-use Rattle.std.proofs.Common.{◌≡◌, ℕ, zero, suc, ◌*◌, ◌+◌, ◌%◌, ◌/◌, Bool, true, false, not, ◌||◌, List, [], ◌∷◌, length, get_or, map, refl, sym, ap, ◌∙◌, subst, cond, eqb, ltb, Option, Some, None, inl, inr}
+use Rattle.std.proofs.Common.{◌≡◌, ℕ, ◌*◌, ◌+◌, ◌%◌, ◌/◌, Bool, true, false, not, ◌||◌, List, ◌∷◌, length, get_or, map, refl, sym, ap, ◌∙◌, subst, cond, eqb, ltb, Option, Some, None, inl, inr}
 use Rattle.std.specs.Prelude.{slice_get, Result, Ok, Err}
 use Rattle.std.specs.Option.{option_map_or}
 use Rattle.sp_ids.specs.declared.ends.End.TheVariants.{Trap as Trapped}
@@ -10,7 +10,6 @@ use Rattle.ir_ast.specs.declared.cells.Cell.TheVariants.{I64}
 use Rattle.ir_ast.specs.declared.ops.Callee.TheVariants.{Check}
 use Rattle.ir_ast.specs.declared.ops.Op.{Op}
 use Rattle.ir_ast.specs.declared.ops.Op.TheVariants.{Call, Select}
-use Rattle.ir_ast.specs.declared.ops.Operand.{Operand}
 use Rattle.ir_ast.specs.declared.types.Ty.{Ty}
 use Rattle.ir_ast.specs.Cells.{kind_of}
 use Rattle.ir_ast.specs.Faults.GroupShape.{is_statepoint}
@@ -20,7 +19,6 @@ use Rattle.ir_ast.specs.Modules.{ModuleContent}
 use Rattle.ir_ast.specs.Objects.{Datum, Object, Pointer, number}
 use Rattle.ir_ast.specs.Sizes.{fields_in}
 use Rattle.ir_ast.specs.Values.{value_types}
-use Rattle.moving_heap.specs.declared.heap.Deny.{Deny}
 use Rattle.moving_heap.specs.Heaps.{checked}
 use Rattle.object_meaning.specs.Accesses.{Place, accessed, cell_named, within}
 use Rattle.object_meaning.specs.Calls.{checked as checked_here}
@@ -40,7 +38,7 @@ use Rattle.machine_meaning.specs.Words.{worded, worded_operand}
 use Rattle.machine_meaning.specs.Relations.{check_of, deny_of, word_in, IsPair}
 use Rattle.moves_unseen.specs.Frames.{AreWords, IsGuarded}
 use Rattle.moves_unseen.specs.States.{Extra, Follows, IsRelated, machine_of}
-use Rattle.moves_unseen.specs.Steps.{IsLast, IsNumber, StepFollows, both_end, both_go}
+use Rattle.moves_unseen.specs.Steps.{IsNumber, StepFollows, both_end, both_go}
 use Rattle.moves_unseen.proofs.CellLaws.{access_of_none, access_of_object, none_or}
 use Rattle.moves_unseen.proofs.MemoryLaws.{check_is_access}
 use Rattle.moves_unseen.proofs.PassLaws.{pass_follows}
@@ -165,9 +163,9 @@ module _ (content : ModuleContent) (machinery : Machinery) (setting : Setting) (
       (subst (λ (given : Option ℕ). AreWords extra.heap.stands (value_types related.running.func) related.running.pairs (put given nothing state.running.registers) (put given 0 extra.running.words)) (sym gives_none)
       related.running.words))
       (λ again op.
-        subst (λ pairs. IsGuarded content.layouts state.objects pairs (put line.to nothing state.running.registers) line) (sym pairs_after)
-        (subst (λ (registers : List Datum). IsGuarded content.layouts state.objects related.running.pairs registers line) (sym registers_after)
-        (record { place = place; accesses = found; pair = pair })))
+      subst (λ pairs. IsGuarded content.layouts state.objects pairs (put line.to nothing state.running.registers) line) (sym pairs_after)
+      (subst (λ (registers : List Datum). IsGuarded content.layouts state.objects related.running.pairs registers line) (sym registers_after)
+      (record { place = place; accesses = found; pair = pair })))
       (λ given op managed gives. absurd (not_select types line.inst.op op_is op))
 
   by_access : (found : Result Place Trap) → accessed content.layouts state.objects asked to ≡ found

@@ -1,5 +1,5 @@
 -- Pointers with pairs are equal exactly where their words are.
-use Rattle.std.proofs.Common.{◌≡◌, ◌≢◌, ℕ, zero, suc, ◌+◌, ◌<◌, ◌≤◌, ◌%◌, ◌^◌, ◌==◌, ◌&&◌, Bool, true, false, List, length, get_or, refl, sym, ap, ◌∙◌, subst, arith, eqb, Option, inl, inr}
+use Rattle.std.proofs.Common.{◌≡◌, ℕ, suc, ◌+◌, ◌<◌, ◌≤◌, ◌%◌, ◌^◌, ◌==◌, ◌&&◌, Bool, true, false, List, length, get_or, refl, sym, ap, ◌∙◌, arith, eqb, inl, inr}
 use Rattle.std.specs.Option.{option_map_or}
 use Rattle.std.proofs.lemmas.Bool.{cases_eq, eq-eqb, ne_eqb}
 use Rattle.ir_ast.specs.Objects.{Pointer}
@@ -8,7 +8,7 @@ use Rattle.moving_heap.specs.Heaps.{of_number}
 use Rattle.moving_heap.specs.Settled.{AreSettled}
 use Rattle.moving_heap.proofs.PlaceLemmas.{different}
 use Rattle.object_meaning.specs.Comparisons.{same_pointer}
-use Rattle.machine_meaning.specs.Relations.{addr, IsPair}
+use Rattle.machine_meaning.specs.Relations.{IsPair}
 use Rattle.machine_meaning.proofs.AddressLaws.{addr_none}
 use Rattle.moves_unseen.proofs.AddressedLaws.{base_address, blank}
 use Rattle.moves_unseen.proofs.CellLaws.{none_or}
@@ -37,27 +37,27 @@ module _ (stands : List Stand) (are : AreSettled stands) (one one_base two two_b
   same_object same =
       elim (none_or one.object) [
         | inl none ↦ elim (none_or two.object) [
-            | inl also ↦ (none ∙ sym also)
-            | inr some ↦ (
-                let zero_word = null_base stands are one one_base word base_word first none in
-                let high = high_base stands are two two_base other_word other_base_word second some.0 some.1 in
-                absurd (let never : ⊥ = omega arith in never))
-          ]
+          | inl also ↦ (none ∙ sym also)
+          | inr some ↦ (
+              let zero_word = null_base stands are one one_base word base_word first none in
+              let high = high_base stands are two two_base other_word other_base_word second some.0 some.1 in
+              absurd (let never : ⊥ = omega arith in never))
+        ]
         | inr some ↦ elim (none_or two.object) [
-            | inl none ↦ (
-                let zero_word = null_base stands are two two_base other_word other_base_word second none in
-                let high = high_base stands are one one_base word base_word first some.0 some.1 in
-                absurd (let never : ⊥ = omega arith in never))
-            | inr other ↦ elim (cases_eq some.0 other.0) [
-                | inl alike ↦ (some.1 ∙ (ap suc alike ∙ sym other.1))
-                | inr differ ↦ (
-                    let low : some.0 < length stands = omega (arith, first.heap.object, some.1) in
-                    let other_low : other.0 < length stands = omega (arith, second.heap.object, other.1) in
-                    absurd (different stands are some.0 other.0 blank low other_low differ
-                    (sym (some_base stands are one one_base word base_word first some.0 some.1)
-                    ∙ (same ∙ some_base stands are two two_base other_word other_base_word second other.0 other.1))))
-              ]
+          | inl none ↦ (
+              let zero_word = null_base stands are two two_base other_word other_base_word second none in
+              let high = high_base stands are one one_base word base_word first some.0 some.1 in
+              absurd (let never : ⊥ = omega arith in never))
+          | inr other ↦ elim (cases_eq some.0 other.0) [
+            | inl alike ↦ (some.1 ∙ (ap suc alike ∙ sym other.1))
+            | inr differ ↦ (
+                let low : some.0 < length stands = omega (arith, first.heap.object, some.1) in
+                let other_low : other.0 < length stands = omega (arith, second.heap.object, other.1) in
+                absurd (different stands are some.0 other.0 blank low other_low differ
+                (sym (some_base stands are one one_base word base_word first some.0 some.1)
+                ∙ (same ∙ some_base stands are two two_base other_word other_base_word second other.0 other.1))))
           ]
+        ]
       ]
 
   same_base : one.object ≡ two.object → base_word ≡ other_base_word

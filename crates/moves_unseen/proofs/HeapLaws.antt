@@ -1,21 +1,20 @@
 -- A legal group of moves: each cell holds what it held.
 use Rattle.std.proofs.Common.{◌≡◌, ℕ, zero, suc, ◌<◌, ◌≤◌, List, [], ◌∷◌, length, get_or, map, refl, sym, ap, ◌∙◌, subst, arith, Option, Some, None}
 use Rattle.std.specs.Prelude.{slice_get}
-use Rattle.std.proofs.lemmas.Option.{slice_get-get_or, slice_get_within}
+use Rattle.std.proofs.lemmas.Option.{slice_get_within}
 use Rattle.std.proofs.lemmas.List.{length-map}
 use Rattle.ir_ast.specs.declared.cells.Cell.{Cell}
 use Rattle.ir_ast.specs.declared.cells.Cell.TheVariants.{I64, Ptr}
 use Rattle.ir_ast.specs.Layouts.{ObjectLayout}
-use Rattle.ir_ast.specs.Objects.{Datum, Object, footprint}
+use Rattle.ir_ast.specs.Objects.{Datum, Object}
 use Rattle.move_plan.specs.declared.plan_lines.Move.{Move}
 use Rattle.moving_heap.specs.declared.stands.Stand.{Stand}
 use Rattle.moving_heap.specs.declared.stands.Moved.{Moved}
 use Rattle.moving_heap.specs.Contents.{Content, moved_word, moved_words, after_moves}
 use Rattle.moving_heap.specs.Places.{moved, moves_of, carried, sent, group_moves, group_targets}
 use Rattle.moving_heap.specs.Settled.{AreSettled}
-use Rattle.moving_heap.proofs.PlaceLemmas.{moved-get, moved-length, group_is, group_places, group_settled}
+use Rattle.moving_heap.proofs.PlaceLemmas.{moved-length, group_is, group_places, group_settled}
 use Rattle.object_meaning.specs.Registers.{nothing, pointer_in}
-use Rattle.machine_meaning.specs.Relations.{addr, IsInHeap}
 use Rattle.machine_meaning.proofs.AddressLaws.{cell_moves}
 use Rattle.moves_unseen.specs.Objects.{AreHeld, Holds, IsHeld}
 

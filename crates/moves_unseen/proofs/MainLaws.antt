@@ -1,5 +1,5 @@
 -- The function with which a target module begins, and how many registers a function has.
-use Rattle.std.proofs.Common.{◌≡◌, ◌≢◌, ℕ, zero, suc, ◌+◌, ◌-◌, ◌<◌, ◌≤◌, Bool, true, false, not, List, [], ◌∷◌, ◌++◌, length, map, refl, sym, ap, ◌∙◌, subst, arith, ltb, Option, Some, None, codes}
+use Rattle.std.proofs.Common.{◌≡◌, ◌≢◌, ℕ, suc, ◌+◌, ◌-◌, ◌<◌, Bool, true, false, not, List, [], ◌∷◌, ◌++◌, length, map, refl, sym, ap, ◌∙◌, arith, ltb, Option, Some, None, codes}
 use Rattle.std.specs.Prelude.{slice_get, slice_index, is_some, unwrap_or, if◌then◌else◌}
 use Rattle.std.specs.List.{All, filter, position, prefix_len}
 use Rattle.std.specs.Option.{option_map_or}

@@ -1,29 +1,24 @@
 -- What the machine's checks, loads and stores do where the target meaning's accesses do it.
-use Rattle.std.proofs.Common.{◌≡◌, ◌≢◌, ℕ, zero, suc, ◌+◌, ◌-◌, ◌*◌, ◌<◌, ◌≤◌, ◌%◌, ◌/◌, ◌^◌, Bool, true, false, not, ◌||◌, List, [], ◌∷◌, length, get_or, set, map, refl, sym, ap, ◌∙◌, subst, arith, cond, eqb, ltb, Option, Some, None, ◌⊎◌, inl, inr}
-use Rattle.std.specs.Prelude.{slice_get, Result, Ok, Err}
+use Rattle.std.proofs.Common.{◌≡◌, ℕ, suc, ◌+◌, ◌-◌, ◌<◌, ◌%◌, ◌/◌, ◌^◌, Bool, false, not, List, length, get_or, sym, ap, ◌∙◌, subst, arith, cond, eqb, Option, Some, inl, inr}
+use Rattle.std.specs.Prelude.{slice_get, Ok, Err}
 use Rattle.std.specs.Option.{option_map_or, option_and_then}
-use Rattle.std.proofs.lemmas.Bool.{cases_eq, eqb-true, ne_eqb, eq-eqb}
-use Rattle.std.proofs.lemmas.Option.{slice_get-get_or, slice_get_within, get_or_from_slice_get}
-use Rattle.std.proofs.lemmas.List.{get_or-set_same, get_or-set_other, length-set}
-use Rattle.sp_ids.specs.declared.ends.Trap.{Trap}
-use Rattle.sp_ids.specs.declared.ends.Trap.TheVariants.{Null}
+use Rattle.std.proofs.lemmas.Bool.{ne_eqb, eq-eqb}
+use Rattle.std.proofs.lemmas.Option.{slice_get-get_or, slice_get_within}
 use Rattle.ir_ast.specs.declared.cells.Cell.{Cell}
 use Rattle.ir_ast.specs.Layouts.{ObjectLayout}
 use Rattle.ir_ast.specs.Sizes.{fields_in}
 use Rattle.ir_ast.specs.Objects.{Pointer, Datum, Object}
-use Rattle.moving_heap.specs.declared.heap.Deny.{Deny}
 use Rattle.moving_heap.specs.declared.heap.Deny.TheVariants as denies
-use Rattle.moving_heap.specs.declared.stands.Stand.{Stand}
-use Rattle.moving_heap.specs.Contents.{Content, kind_in, repeated, with_word, word_in}
-use Rattle.moving_heap.specs.Heaps.{HeapView, check_stand, checked, checked_at, kind_asked, load_stand, loaded, stored_at, word_found}
+use Rattle.moving_heap.specs.Contents.{Content, kind_in, repeated, word_in}
+use Rattle.moving_heap.specs.Heaps.{HeapView, check_stand, checked, checked_at, kind_asked, load_stand, loaded, word_found}
 use Rattle.moving_heap.specs.Places.{owner, stands_at}
-use Rattle.object_meaning.specs.Accesses.{Place, accessed, stored, within}
+use Rattle.object_meaning.specs.Accesses.{Place, accessed, within}
 use Rattle.object_meaning.specs.Accesses.{loaded as datum_at}
 use Rattle.object_meaning.specs.Registers.{nothing}
-use Rattle.machine_meaning.specs.Relations.{addr, check_of, IsInHeap, IsPair}
+use Rattle.machine_meaning.specs.Relations.{addr, check_of, IsPair}
 use Rattle.machine_meaning.proofs.AddressLaws.{addr_none}
 use Rattle.machine_meaning.proofs.CheckLaws.{asks_as_access}
-use Rattle.moves_unseen.specs.Objects.{AreHeld, Holds, IsHeld, Loads}
+use Rattle.moves_unseen.specs.Objects.{AreHeld, Holds, Loads}
 use Rattle.moves_unseen.proofs.AddressedLaws.{base_address, blank, distance, numbered, owned_by, stands_here, word_inside}
 use Rattle.moves_unseen.proofs.CellLaws.{IsFound, access_found, access_of_none, access_of_object, no_content, no_object, none_or}
 

@@ -1,5 +1,5 @@
 -- At the opening the machine is what it has of the target meaning's state.
-use Rattle.std.proofs.Common.{◌≡◌, ℕ, ℤ, zero, suc, ◌+◌, ◌-◌, ◌<◌, ◌≤◌, ◌^◌, ◌&&◌, Bool, true, false, List, [], ◌∷◌, ◌++◌, length, get_or, map, replicate, refl, sym, ap, ◌∙◌, subst, arith, Option, Some, None}
+use Rattle.std.proofs.Common.{◌≡◌, ℕ, ℤ, zero, suc, ◌-◌, ◌&&◌, true, false, List, [], ◌∷◌, length, get_or, map, replicate, refl, sym, ap, ◌∙◌, arith, Option, Some}
 use Rattle.std.specs.Prelude.{slice_get, slice_index}
 use Rattle.std.specs.Option.{option_map_or}
 use Rattle.std.proofs.lemmas.Bool.{true≢false}
@@ -19,18 +19,17 @@ use Rattle.map_bytes.specs.Maps.{StackMap}
 use Rattle.move_plan.specs.declared.plan_lines.PlanLine.{PlanLine}
 use Rattle.move_plan.specs.Plans.{go}
 use Rattle.moving_heap.specs.Settled.{AreSettled}
-use Rattle.object_meaning.specs.Frames.{entered}
 use Rattle.object_meaning.specs.Lines.{insts_in, main_of, register_count, registers_of}
 use Rattle.object_meaning.specs.Outcomes.{opening}
 use Rattle.object_meaning.specs.Registers.{nothing, value, number_in, pointer_in}
-use Rattle.object_meaning.specs.States.{Frame, Setting}
+use Rattle.object_meaning.specs.States.{Setting}
 use Rattle.object_meaning.specs.TargetRuns.{plain_lines, target_setting}
 use Rattle.pair_facts.specs.declared.bases.Base.TheVariants.{Named}
 use Rattle.pair_facts.specs.Pairs.{at_entry, own_pairs}
-use Rattle.pair_facts.specs.Paths.{Arrives, At, start}
+use Rattle.pair_facts.specs.Paths.{start}
 use Rattle.machine_meaning.specs.Code.{machinery_of, words_in}
 use Rattle.machine_meaning.specs.MachineRuns.{machine_opening}
-use Rattle.machine_meaning.specs.Machines.{Machine, Machinery}
+use Rattle.machine_meaning.specs.Machines.{Machinery}
 use Rattle.machine_meaning.specs.Relations.{word_in, IsPair}
 use Rattle.moves_unseen.specs.Frames.{AreWords, FrameWords, IsRunning}
 use Rattle.moves_unseen.specs.Objects.{AreHeld}

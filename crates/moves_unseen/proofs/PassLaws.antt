@@ -1,5 +1,5 @@
 -- Both go on behind a line with a result.
-use Rattle.std.proofs.Common.{◌≡◌, ℕ, List, [], ◌∷◌, map, set, refl, sym, ap, ◌∙◌, Option, Some, None, true}
+use Rattle.std.proofs.Common.{◌≡◌, ℕ, List, ◌∷◌, map, refl, sym, ap, Option, Some, None, true}
 use Rattle.std.proofs.lemmas.List.{map-set}
 use Rattle.ir_ast.specs.declared.types.Ty.{Ty}
 use Rattle.ir_ast.specs.declared.ops.Callee.TheVariants.{Check}
@@ -18,7 +18,7 @@ use Rattle.machine_meaning.specs.Machines.{Machinery}
 use Rattle.machine_meaning.specs.MachineSteps.{passes}
 use Rattle.machine_meaning.specs.Words.{worded}
 use Rattle.moves_unseen.specs.Frames.{AreWords, IsChosen, IsGuarded}
-use Rattle.moves_unseen.specs.States.{Extra, Follows, IsRelated, machine_of, worded_frame, worded_frames, worded_tasks, stack_of, stacks_of}
+use Rattle.moves_unseen.specs.States.{Extra, Follows, IsRelated, machine_of, worded_frame}
 use Rattle.moves_unseen.proofs.StandLaws.{IsAlone, goes_behind}
 
 put_words : (to : Option ℕ) (word : ℕ) (words : List ℕ) → put to (number word) (map number words) ≡ map number (put to word words)

@@ -1,29 +1,20 @@
 -- `getelementptr` and loads: the machine takes the same step.
-use Rattle.std.proofs.Common.{◌≡◌, ℕ, ◌+◌, ◌*◌, ◌%◌, ◌^◌, Bool, true, false, List, [], ◌∷◌, map, set, refl, sym, ap, ◌∙◌, subst, Option, Some, None}
-use Rattle.std.specs.Prelude.{slice_get, Result, Ok, Err}
+use Rattle.std.proofs.Common.{◌≡◌, ℕ, ◌+◌, ◌*◌, ◌%◌, ◌^◌, List, ◌∷◌, map, sym, ap, ◌∙◌, subst, Option}
 use Rattle.std.specs.Int.{w64, cast_unsigned}
 use Rattle.sp_ids.specs.Numbers.{signed}
-use Rattle.sp_ids.specs.declared.ends.Trap.{Trap}
-use Rattle.std.proofs.lemmas.Bool.{true≢false}
-use Rattle.ir_ast.specs.declared.cells.Cell.TheVariants as cells
 use Rattle.ir_ast.specs.declared.ops.Callee.TheVariants.{Check}
 use Rattle.ir_ast.specs.declared.ops.Elem.{Elem}
 use Rattle.ir_ast.specs.declared.ops.Op.{Op}
-use Rattle.ir_ast.specs.declared.ops.Op.TheVariants.{Call, Gep, Load, Select}
+use Rattle.ir_ast.specs.declared.ops.Op.TheVariants.{Call, Gep, Select}
 use Rattle.ir_ast.specs.declared.ops.Operand.{Operand}
 use Rattle.ir_ast.specs.declared.types.Ty.{Ty}
-use Rattle.ir_ast.specs.declared.types.Ty.TheVariants.{Int, Ptr}
+use Rattle.ir_ast.specs.declared.types.Ty.TheVariants.{Int}
 use Rattle.ir_ast.specs.Faults.GroupShape.{is_statepoint}
 use Rattle.ir_ast.specs.Faults.PhiEdges.{is_phi}
 use Rattle.ir_ast.specs.Layouts.{ObjectLayout}
 use Rattle.ir_ast.specs.Modules.{ModuleContent}
 use Rattle.ir_ast.specs.Objects.{Datum, number, pointer, advanced}
-use Rattle.ir_ast.specs.Types.{is_pointer}
 use Rattle.ir_ast.specs.Values.{value_types}
-use Rattle.moving_heap.specs.declared.heap.Deny.{Deny}
-use Rattle.moving_heap.specs.Heaps.{loaded}
-use Rattle.object_meaning.specs.Accesses.{Place, accessed, cell_of}
-use Rattle.object_meaning.specs.Accesses.{loaded as datum_at}
 use Rattle.object_meaning.specs.Computing.{element_bytes, field_bytes}
 use Rattle.object_meaning.specs.Effects.{Effect, goes_on}
 use Rattle.object_meaning.specs.Frames.{is_member, passed}
@@ -31,16 +22,15 @@ use Rattle.object_meaning.specs.Lines.{Line}
 use Rattle.object_meaning.specs.Numbers.{width_of}
 use Rattle.object_meaning.specs.Registers.{operand, value, number_in, pointer_in, put}
 use Rattle.object_meaning.specs.States.{State, Setting}
-use Rattle.object_meaning.specs.Steps.{acts, loading, step, steps_at}
-use Rattle.pair_facts.specs.declared.bases.Base.{Base}
+use Rattle.object_meaning.specs.Steps.{acts, step, steps_at}
 use Rattle.pair_facts.specs.Lines.{line_before, lines_at, operand_at}
 use Rattle.pair_facts.specs.Pairs.{after, given_pairs, with_given, without}
-use Rattle.machine_meaning.specs.Machines.{Machine, Machinery}
-use Rattle.machine_meaning.specs.MachineSteps.{loading_word, machine_acts, machine_at, machine_step, passes, stepped_word}
+use Rattle.machine_meaning.specs.Machines.{Machinery}
+use Rattle.machine_meaning.specs.MachineSteps.{machine_acts, machine_at, machine_step, passes, stepped_word}
 use Rattle.machine_meaning.specs.Words.{worded, worded_operand}
 use Rattle.machine_meaning.specs.Relations.{word_in}
 use Rattle.moves_unseen.specs.Frames.{AreWords}
-use Rattle.moves_unseen.specs.States.{Extra, Follows, IsRelated, machine_of}
+use Rattle.moves_unseen.specs.States.{Extra, IsRelated, machine_of}
 use Rattle.moves_unseen.specs.Steps.{GivesPointer, IsNumber, StepFollows, both_go}
 use Rattle.moves_unseen.proofs.PassLaws.{pass_follows}
 use Rattle.moves_unseen.proofs.StandLaws.{IsAlone}

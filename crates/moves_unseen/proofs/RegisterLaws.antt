@@ -1,21 +1,21 @@
 -- A value that a line gives: the registers of the target meaning and the words of the machine after it.
-use Rattle.std.proofs.Common.{◌≡◌, ◌≢◌, ℕ, ◌==◌, ◌<◌, Bool, true, false, List, length, get_or, set, map, refl, sym, ap, ◌∙◌, subst, arith, Option, Some, inl, inr}
+use Rattle.std.proofs.Common.{◌≡◌, ℕ, ◌<◌, Bool, true, false, List, length, get_or, set, map, refl, sym, ap, ◌∙◌, subst, arith, Option, Some, inl, inr}
 use Rattle.std.specs.Prelude.{slice_get, if◌then◌else◌}
 use Rattle.std.proofs.lemmas.Bool.{cases_eq, true≢false}
 use Rattle.std.proofs.lemmas.Bool.Decides.{nat_tests}
-use Rattle.std.proofs.lemmas.List.{get_or-set_same, get_or-set_other, length-set, map-set}
+use Rattle.std.proofs.lemmas.List.{get_or-set_same, get_or-set_other, length-set}
 use Rattle.std.proofs.lemmas.Option.{slice_get_within}
 use Rattle.std.proofs.Math.ListN.{get_or-map}
 use Rattle.ir_ast.specs.declared.types.Ty.{Ty}
 use Rattle.ir_ast.specs.declared.ops.Operand.{Operand}
 use Rattle.ir_ast.specs.declared.ops.Operand.TheVariants as operands
 use Rattle.ir_ast.specs.Types.{is_pointer}
-use Rattle.ir_ast.specs.Objects.{Pointer, Datum, number}
+use Rattle.ir_ast.specs.Objects.{Datum, number}
 use Rattle.moving_heap.specs.declared.stands.Stand.{Stand}
 use Rattle.object_meaning.specs.Registers.{nothing, value, number_in, pointer_in}
 use Rattle.pair_facts.specs.declared.bases.Base.{Base}
-use Rattle.pair_facts.specs.declared.bases.Base.TheVariants.{Any, Named}
-use Rattle.pair_facts.specs.Pairs.{Pairs, is_named, is_base_named, with_own, without}
+use Rattle.pair_facts.specs.declared.bases.Base.TheVariants.{Named}
+use Rattle.pair_facts.specs.Pairs.{Pairs, is_named, with_own, without}
 use Rattle.machine_meaning.specs.Relations.{word_in, IsPair}
 use Rattle.moves_unseen.specs.Frames.{AreNumbers, AreWords}
 

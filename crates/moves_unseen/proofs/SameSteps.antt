@@ -1,17 +1,14 @@
 -- A comparison of two pairs, `gc_same`: the machine takes the same step.
-use Rattle.std.proofs.Common.{◌≡◌, ℕ, ◌==◌, ◌&&◌, Bool, true, false, List, [], ◌∷◌, map, refl, sym, ap, ◌∙◌, subst, Option, Some, None}
+use Rattle.std.proofs.Common.{◌≡◌, ℕ, ◌==◌, ◌&&◌, Bool, true, List, ◌∷◌, map, refl, sym, ap, ◌∙◌, subst, Option, Some}
 use Rattle.std.specs.Prelude.{slice_get}
-use Rattle.ir_ast.specs.declared.ops.Callee.{Callee}
 use Rattle.ir_ast.specs.declared.ops.Callee.TheVariants.{Check, Same}
 use Rattle.ir_ast.specs.declared.ops.Op.{Op}
 use Rattle.ir_ast.specs.declared.ops.Op.TheVariants.{Call, Select}
-use Rattle.ir_ast.specs.declared.ops.Operand.{Operand}
 use Rattle.ir_ast.specs.declared.types.Ty.{Ty}
 use Rattle.ir_ast.specs.Faults.GroupShape.{is_statepoint}
 use Rattle.ir_ast.specs.Faults.PhiEdges.{is_phi}
 use Rattle.ir_ast.specs.Modules.{ModuleContent}
 use Rattle.ir_ast.specs.Objects.{Datum, Pointer, number}
-use Rattle.ir_ast.specs.Types.{is_pointer}
 use Rattle.ir_ast.specs.Values.{value_types}
 use Rattle.object_meaning.specs.Comparisons.{bit, same_pointer}
 use Rattle.object_meaning.specs.Effects.{Effect, goes_on}
@@ -26,9 +23,9 @@ use Rattle.pair_facts.specs.Pairs.{after, given_pairs, with_given, without}
 use Rattle.machine_meaning.specs.Machines.{Machine, Machinery, gone_behind, gone_from, gone_on}
 use Rattle.machine_meaning.specs.MachineSteps.{machine_acts, machine_at, machine_step, passes}
 use Rattle.machine_meaning.specs.Words.{worded, worded_operand}
-use Rattle.machine_meaning.specs.Relations.{word_in, IsPair}
+use Rattle.machine_meaning.specs.Relations.{word_in}
 use Rattle.moves_unseen.specs.Frames.{AreWords}
-use Rattle.moves_unseen.specs.States.{Extra, Follows, IsRelated, machine_of}
+use Rattle.moves_unseen.specs.States.{Extra, IsRelated, machine_of}
 use Rattle.moves_unseen.specs.Steps.{StepFollows, both_go}
 use Rattle.moves_unseen.proofs.ComparisonLaws.{pairs_compared}
 use Rattle.moves_unseen.proofs.PassLaws.{pass_follows}

@@ -1,6 +1,6 @@
 -- A run in which an object moves under a frame that waits, in both meanings: at the call, at the event and behind it the machine
 -- is what `machine_of` makes of the target meaning's state.
-use Rattle.std.proofs.Common.{◌≡◌, ℕ, ◌+◌, ◌-◌, ◌^◌, List, [], ◌∷◌, Option, Some, None, refl, codes, pos}
+use Rattle.std.proofs.Common.{◌≡◌, ℕ, ◌-◌, ◌^◌, List, [], ◌∷◌, Some, None, refl, codes}
 use Rattle.sp_ids.specs.declared.ends.End.{End}
 use Rattle.ir_ast.specs.declared.cells.Cell.TheVariants as cells
 use Rattle.ir_ast.specs.declared.modules.Form.TheVariants as form
@@ -27,7 +27,7 @@ use Rattle.moving_heap.specs.Heaps.{HeapView}
 use Rattle.object_meaning.specs.Accesses.{field_at}
 use Rattle.object_meaning.specs.Effects.{Progress}
 use Rattle.object_meaning.specs.Outcomes.{opening, proceeds}
-use Rattle.object_meaning.specs.Runs.{Next, Go, End as Over, goes}
+use Rattle.object_meaning.specs.Runs.{Next, Go, goes}
 use Rattle.object_meaning.specs.States.{State, Setting}
 use Rattle.object_meaning.specs.Steps.{step}
 use Rattle.object_meaning.specs.TargetRuns.{target_setting}

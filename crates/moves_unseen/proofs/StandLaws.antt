@@ -1,9 +1,8 @@
 -- A frame goes on behind a line: where it stands, and which pairs stand there.
-use Rattle.std.proofs.Common.{◌≡◌, ℕ, zero, suc, ◌+◌, ◌<◌, ◌≤◌, Bool, true, false, List, [], ◌∷◌, length, drop, refl, sym, ap, ◌∙◌, subst, arith, cond, ltb, Option, Some, None}
-use Rattle.std.specs.Prelude.{slice_get, slice_index_or, if◌then◌else◌}
-use Rattle.std.specs.List.{prefix_len}
+use Rattle.std.proofs.Common.{◌≡◌, ℕ, zero, suc, ◌+◌, ◌≤◌, Bool, true, false, List, [], ◌∷◌, drop, refl, sym, ap, ◌∙◌, subst, arith, cond, ltb, Option, Some, None}
+use Rattle.std.specs.Prelude.{slice_get, if◌then◌else◌}
 use Rattle.std.specs.Option.{option_map_or}
-use Rattle.std.proofs.lemmas.Bool.{le-ltb, true≢false}
+use Rattle.std.proofs.lemmas.Bool.{le-ltb}
 use Rattle.ir_ast.specs.declared.ops.Callee.TheVariants.{Check}
 use Rattle.ir_ast.specs.declared.ops.Op.TheVariants.{Call, Select}
 use Rattle.ir_ast.specs.declared.ops.Op.{Op}
@@ -20,9 +19,9 @@ use Rattle.object_meaning.specs.Frames.{is_member}
 use Rattle.object_meaning.specs.Jumps.{phi_count}
 use Rattle.object_meaning.specs.Lines.{Line}
 use Rattle.object_meaning.specs.States.{Frame}
-use Rattle.pair_facts.specs.Lines.{group_in, head_at, head_here, line_before, line_in, lines_at, no_line}
+use Rattle.pair_facts.specs.Lines.{group_in, head_at, head_here, line_before, line_in, lines_at}
 use Rattle.pair_facts.specs.Pairs.{Pairs, after, after_group}
-use Rattle.pair_facts.specs.Paths.{At, behind, pairs_at}
+use Rattle.pair_facts.specs.Paths.{behind}
 use Rattle.moves_unseen.specs.Frames.{AreWords, FrameWords, IsChosen, IsGuarded, IsRunning, StandsAt}
 
 -- a line that is no phi and no part of a group
@@ -127,12 +126,12 @@ module _ (content : ModuleContent) (objects : List Object) (stands : List Stand)
     slots = running.slots;
     guarded = λ one types found op.
         let same = the_line one line (slice_get (lines_at running.func frame.block) running.place) found
-            (line_here content frame running.func running.place running.pairs running.at line rest is) in
+        (line_here content frame running.func running.place running.pairs running.at line rest is) in
         subst (λ (l : Line). IsGuarded content.layouts after_objects (after running.pairs (line_before (lines_at running.func frame.block) running.place) line) registers l) (sym same)
         (check types (sym (ap (λ (l : Line). l.inst.op) same) ∙ op));
     chosen = λ one to found op managed gives.
         let same = the_line one line (slice_get (lines_at running.func frame.block) running.place) found
-            (line_here content frame running.func running.place running.pairs running.at line rest is) in
+        (line_here content frame running.func running.place running.pairs running.at line rest is) in
         subst (λ (l : Line). IsChosen registers words l to) (sym same)
         (select to (sym (ap (λ (l : Line). l.inst.op) same) ∙ op) (sym (ap (λ (l : Line). is_pointer l.inst.ty) same) ∙ managed) (sym (ap (λ (l : Line). l.to) same) ∙ gives));
   }

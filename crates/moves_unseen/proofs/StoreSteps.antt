@@ -1,6 +1,6 @@
 -- A store behind its check: the machine takes the same step, and each cell holds what it is to hold.
-use Rattle.std.proofs.Common.{◌≡◌, ℕ, ◌-◌, Bool, true, false, List, [], ◌∷◌, map, refl, sym, ap, ◌∙◌, subst, Option, Some, None}
-use Rattle.std.specs.Prelude.{slice_get, Result, Ok, Err}
+use Rattle.std.proofs.Common.{◌≡◌, ℕ, ◌-◌, List, [], ◌∷◌, map, refl, sym, ap, ◌∙◌, subst, Option, Some, None}
+use Rattle.std.specs.Prelude.{Ok}
 use Rattle.ir_ast.specs.declared.cells.Cell.{Cell}
 use Rattle.ir_ast.specs.declared.cells.Cell.TheVariants.{I64, Ptr}
 use Rattle.ir_ast.specs.declared.ops.Callee.TheVariants.{Check}
@@ -15,20 +15,18 @@ use Rattle.ir_ast.specs.Layouts.{ObjectLayout}
 use Rattle.ir_ast.specs.Modules.{ModuleContent}
 use Rattle.ir_ast.specs.Objects.{Datum, Object, Pointer, number}
 use Rattle.ir_ast.specs.Values.{value_types}
-use Rattle.moving_heap.specs.declared.heap.Deny.{Deny}
 use Rattle.moving_heap.specs.Contents.{Content}
-use Rattle.moving_heap.specs.Heaps.{HeapView, loaded, stored_at}
+use Rattle.moving_heap.specs.Heaps.{loaded, stored_at}
 use Rattle.moving_heap.specs.Places.{owner}
-use Rattle.object_meaning.specs.Accesses.{Place, accessed, cell_named, cell_of, stored}
+use Rattle.object_meaning.specs.Accesses.{accessed, cell_of, stored}
 use Rattle.object_meaning.specs.Effects.{Effect, goes_on}
 use Rattle.object_meaning.specs.Frames.{is_member, passed}
 use Rattle.object_meaning.specs.Lines.{Line}
 use Rattle.object_meaning.specs.Registers.{nothing, operand, value, number_in, pointer_in, put}
 use Rattle.object_meaning.specs.States.{State, Setting}
 use Rattle.object_meaning.specs.Steps.{accesses, acts, step, steps_at, storing}
-use Rattle.pair_facts.specs.declared.bases.Base.TheVariants.{Named}
 use Rattle.pair_facts.specs.Lines.{line_before, lines_at, operand_at}
-use Rattle.pair_facts.specs.Pairs.{Pairs, after, given_pairs, with_given, without}
+use Rattle.pair_facts.specs.Pairs.{after, given_pairs, with_given, without}
 use Rattle.machine_meaning.specs.Machines.{Machine, Machinery}
 use Rattle.moving_heap.specs.declared.stands.Stand.{Stand}
 use Rattle.object_meaning.specs.Traces.{access_of, accesses_at, writes, writing}
@@ -36,8 +34,8 @@ use Rattle.machine_meaning.specs.Happenings.{access_by, accesses_by, owned}
 use Rattle.machine_meaning.specs.MachineSteps.{machine_acts, machine_at, machine_step, passes, storing_word}
 use Rattle.machine_meaning.specs.Words.{worded, worded_operand}
 use Rattle.machine_meaning.specs.Relations.{addr, word_in}
-use Rattle.moves_unseen.specs.Frames.{AreWords, IsGuarded, IsRunning}
-use Rattle.moves_unseen.specs.Objects.{AreHeld, Holds, Loads}
+use Rattle.moves_unseen.specs.Frames.{AreWords, IsGuarded}
+use Rattle.moves_unseen.specs.Objects.{Holds, Loads}
 use Rattle.moves_unseen.specs.States.{Extra, Follows, IsRelated, machine_of}
 use Rattle.moves_unseen.specs.Steps.{IsCheckedBefore, IsStored, StepFollows, both_go}
 use Rattle.moves_unseen.proofs.MemoryLaws.{load_is_access}

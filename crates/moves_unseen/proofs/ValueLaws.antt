@@ -1,11 +1,10 @@
 -- The values that lines compute, in both meanings: integers, `getelementptr`, loads, comparisons of pointers.
-use Rattle.std.proofs.Common.{◌≡◌, ◌≢◌, ℕ, zero, suc, ◌+◌, ◌*◌, ◌<◌, ◌≤◌, ◌%◌, ◌^◌, ◌==◌, ◌&&◌, Bool, true, false, List, [], ◌∷◌, length, get_or, set, map, refl, sym, ap, ◌∙◌, subst, arith, eqb, Option, Some, None, ◌⊎◌, inl, inr}
+use Rattle.std.proofs.Common.{◌≡◌, ℕ, zero, suc, ◌+◌, ◌<◌, ◌%◌, ◌^◌, Bool, true, false, List, [], ◌∷◌, length, set, map, refl, sym, ap, ◌∙◌, subst, arith, Some}
 use Rattle.std.specs.Prelude.{slice_get}
 use Rattle.std.specs.Option.{option_map_or}
-use Rattle.std.proofs.lemmas.Bool.{cases_eq, eq-eqb, ne_eqb, true≢false}
+use Rattle.std.proofs.lemmas.Bool.{true≢false}
 use Rattle.std.proofs.lemmas.Option.{slice_get_within}
 use Rattle.ir_ast.specs.declared.types.Ty.{Ty}
-use Rattle.ir_ast.specs.declared.types.Ty.TheVariants.{Ptr}
 use Rattle.ir_ast.specs.declared.ops.Operand.{Operand}
 use Rattle.ir_ast.specs.declared.ops.Operand.TheVariants as operands
 use Rattle.ir_ast.specs.Types.{is_pointer}
@@ -13,21 +12,15 @@ use Rattle.ir_ast.specs.Faults.TypeClash.{Fits}
 use Rattle.ir_ast.specs.Objects.{Pointer, Datum, number, pointer, advanced}
 use Rattle.moving_heap.specs.declared.stands.Stand.{Stand}
 use Rattle.moving_heap.specs.Heaps.{of_number}
-use Rattle.moving_heap.specs.Settled.{AreSettled}
-use Rattle.moving_heap.proofs.PlaceLemmas.{different}
-use Rattle.object_meaning.specs.Comparisons.{same_pointer}
-use Rattle.object_meaning.specs.Registers.{nothing, value, operand, number_in, pointer_in}
+use Rattle.object_meaning.specs.Registers.{value, operand, number_in, pointer_in}
 use Rattle.pair_facts.specs.declared.bases.Base.{Base}
 use Rattle.pair_facts.specs.declared.bases.Base.TheVariants.{Named}
 use Rattle.pair_facts.specs.Lines.{operand_at}
-use Rattle.pair_facts.specs.Pairs.{Pairs, is_named, own_pairs, with_own, without}
+use Rattle.pair_facts.specs.Pairs.{Pairs, own_pairs, with_own, without}
 use Rattle.machine_meaning.specs.Words.{worded_operand}
-use Rattle.machine_meaning.specs.Relations.{addr, word_in, IsInHeap, IsPair}
-use Rattle.machine_meaning.proofs.AddressLaws.{addr_of, addr_none}
+use Rattle.machine_meaning.specs.Relations.{word_in, IsPair}
 use Rattle.moves_unseen.specs.Objects.{IsBase}
 use Rattle.moves_unseen.specs.Frames.{AreNumbers, AreWords}
-use Rattle.moves_unseen.proofs.AddressedLaws.{blank}
-use Rattle.moves_unseen.proofs.CellLaws.{none_or}
 use Rattle.moves_unseen.proofs.RegisterLaws.{apart_of, alike, given_value, given_word, given_words, other_value, other_word, word_of_value}
 
 -- ---- operands
@@ -90,16 +83,16 @@ module _ (stands : List Stand) (types : List Ty) (pairs : Pairs) (registers : Li
       given_words stands types pairs registers words given ty (pointer (advanced (pointer_in (value registers from)) by)) ((word_in words from + by) % 2 ^ 64) are typed
       (without given pairs from) (λ plain. absurd (true≢false (sym managed ∙ plain)))
       (λ base stood.
-        let apart = apart_of pairs given from base stood in
-        let datum = pointer (advanced (pointer_in (value registers from)) by) in
-        let word = (word_in words from + by) % 2 ^ 64 in
-        alike stands (pointer (advanced (pointer_in (value registers from)) by)) (pointer (advanced (pointer_in (value registers from)) by))
-        (value registers base) (value (set registers given (pointer (advanced (pointer_in (value registers from)) by))) base)
-        ((word_in words from + by) % 2 ^ 64) ((word_in words from + by) % 2 ^ 64)
-        (word_in words base) (word_in (set words given ((word_in words from + by) % 2 ^ 64)) base)
-        refl (sym (other_value registers given (pointer (advanced (pointer_in (value registers from)) by)) base apart.base_apart))
-        refl (sym (other_word words given ((word_in words from + by) % 2 ^ 64) base apart.base_apart))
-        (advanced_pair stands (pointer_in (value registers from)) (pointer_in (value registers base)) (word_in words from) (word_in words base) by (are.pointers from base apart.stood)))
+      let apart = apart_of pairs given from base stood in
+      let datum = pointer (advanced (pointer_in (value registers from)) by) in
+      let word = (word_in words from + by) % 2 ^ 64 in
+      alike stands (pointer (advanced (pointer_in (value registers from)) by)) (pointer (advanced (pointer_in (value registers from)) by))
+      (value registers base) (value (set registers given (pointer (advanced (pointer_in (value registers from)) by))) base)
+      ((word_in words from + by) % 2 ^ 64) ((word_in words from + by) % 2 ^ 64)
+      (word_in words base) (word_in (set words given ((word_in words from + by) % 2 ^ 64)) base)
+      refl (sym (other_value registers given (pointer (advanced (pointer_in (value registers from)) by)) base apart.base_apart))
+      refl (sym (other_word words given ((word_in words from + by) % 2 ^ 64) base apart.base_apart))
+      (advanced_pair stands (pointer_in (value registers from)) (pointer_in (value registers base)) (word_in words from) (word_in words base) by (are.pointers from base apart.stood)))
 
   -- a pointer that is its own base, as a load or a call gives it
   pub base_given : (datum : Datum) (word : ℕ) → is_pointer ty ≡ true → IsBase stands (pointer_in datum) word
@@ -107,8 +100,8 @@ module _ (stands : List Stand) (types : List Ty) (pairs : Pairs) (registers : Li
   base_given datum word managed base_is =
       given_words stands types pairs registers words given ty datum word are typed (own_pairs given) (λ plain. absurd (true≢false (sym managed ∙ plain)))
       (λ base stood.
-        let in_registers : given < length registers = subst (λ (n : ℕ). given < n) (sym are.registers_count) (slice_get_within types given ty typed) in
-        let in_words : given < length words = subst (λ (n : ℕ). given < n) (sym are.words_count) (slice_get_within types given ty typed) in
-        alike stands datum datum datum (value (set registers given datum) base) word word word (word_in (set words given word) base)
-        refl (sym (given_value registers given datum base stood in_registers)) refl (sym (given_word words given word base stood in_words))
-        (pair_of_base stands (pointer_in datum) word base_is))
+      let in_registers : given < length registers = subst (λ (n : ℕ). given < n) (sym are.registers_count) (slice_get_within types given ty typed) in
+      let in_words : given < length words = subst (λ (n : ℕ). given < n) (sym are.words_count) (slice_get_within types given ty typed) in
+      alike stands datum datum datum (value (set registers given datum) base) word word word (word_in (set words given word) base)
+      refl (sym (given_value registers given datum base stood in_registers)) refl (sym (given_word words given word base stood in_words))
+      (pair_of_base stands (pointer_in datum) word base_is))

@@ -1,5 +1,5 @@
 -- The objects of the target meaning and the heap of the machine: each cell holds what its kind says.
-use Rattle.std.specs.Prelude.{◌≡◌, ℕ, ◌<◌, List, length, Some, slice_get, slice_index, slice_index_or, ◌-◌, Ok}
+use Rattle.std.specs.Prelude.{◌≡◌, ℕ, List, length, Some, slice_get, slice_index, slice_index_or, ◌-◌, Ok}
 use Rattle.ir_ast.specs.declared.cells.Cell.{Cell}
 use Rattle.ir_ast.specs.declared.cells.Cell.TheVariants.{I64, Ptr}
 use Rattle.ir_ast.specs.Layouts.{ObjectLayout}
