@@ -19,3 +19,4 @@ pub mod AccessSteps
 pub mod StoreSteps
 pub mod SameSteps
 pub mod VerifiedLaws
+pub mod PlainCallSteps

@@ -3,7 +3,7 @@ use Rattle.std.specs.Prelude.{◌≡◌, ℕ, ℤ, ◌+◌, ◌==◌, ◌&&◌, 
 use Rattle.std.specs.List.{All, sum_by}
 use Rattle.ir_ast.specs.declared.cells.Cell.{Cell}
 use Rattle.ir_ast.specs.declared.ops.Elem.{Elem}
-use Rattle.ir_ast.specs.declared.ops.Callee.TheVariants.{Check, Same}
+use Rattle.ir_ast.specs.declared.ops.Callee.TheVariants.{Check, Print, Read, Same}
 use Rattle.ir_ast.specs.declared.ops.Op.TheVariants.{Call, Gep, Load, Store}
 use Rattle.ir_ast.specs.declared.types.Ty.{Ty}
 use Rattle.ir_ast.specs.Bundles.{HasNoBundle}
@@ -140,6 +140,20 @@ ComparisonsFollow = (content : ModuleContent) (machinery : Machinery) (setting :
     → (types : List Ty) → line.inst.op ≡ Call Same types → (given : ℕ) → line.to ≡ Some given → (ty : Ty) → slice_get (value_types related.running.func) given ≡ Some ty
     → related.running.pairs (operand_at line.inst.operands 1) (Named (operand_at line.inst.operands 0)) ≡ true
     → related.running.pairs (operand_at line.inst.operands 3) (Named (operand_at line.inst.operands 2)) ≡ true
+    → StepFollows content machinery (step setting state) (machine_step machinery (machine_of machinery state extra))
+
+-- so is the print of a number
+abbrev pub PrintsFollow : Type 0
+PrintsFollow = (content : ModuleContent) (machinery : Machinery) (setting : Setting)
+    → (state : State) (extra : Extra) (related : IsRelated content state extra) (line : Line) (rest : List Line) → state.running.rest ≡ line ∷ rest
+    → (types : List Ty) → line.inst.op ≡ Call Print types → line.to ≡ None → IsNumber (value_types related.running.func) (operand_at line.inst.operands 0)
+    → StepFollows content machinery (step setting state) (machine_step machinery (machine_of machinery state extra))
+
+-- so is a read, which traps where the input has no more numbers
+abbrev pub ReadsFollow : Type 0
+ReadsFollow = (content : ModuleContent) (machinery : Machinery) (setting : Setting)
+    → (state : State) (extra : Extra) (related : IsRelated content state extra) (line : Line) (rest : List Line) → state.running.rest ≡ line ∷ rest
+    → (types : List Ty) → line.inst.op ≡ Call Read types → (given : ℕ) → line.to ≡ Some given → (ty : Ty) → slice_get (value_types related.running.func) given ≡ Some ty
     → StepFollows content machinery (step setting state) (machine_step machinery (machine_of machinery state extra))
 
 -- the relation holds at the opening, whatever the map is

@@ -1,7 +1,7 @@
 //! Laws towards "moves are never noticed": what the address machine has of the target meaning's state. No code.
 #![tactic(auto)]
 
-ghost use Rattle.moves_unseen.specs.Statements.{AccessesAreChecked, ChecksAreAccesses, ChecksFollow, ComparisonsFollow, GepsFollow, GroupsKeepObjects, IntegersFollow, LoadsFollow, LoadsHold, NewObjectsHold, OpeningsFollow, PairsAreCompared, StoresFollow, StoresHold, UsedPairsStand};
+ghost use Rattle.moves_unseen.specs.Statements.{AccessesAreChecked, ChecksAreAccesses, ChecksFollow, ComparisonsFollow, GepsFollow, GroupsKeepObjects, IntegersFollow, LoadsFollow, LoadsHold, NewObjectsHold, OpeningsFollow, PairsAreCompared, PrintsFollow, ReadsFollow, StoresFollow, StoresHold, UsedPairsStand};
 
 /// After the moves of an event each cell holds what it held: integers are the same, and each pointer cell has the address of
 /// the same pointer.
@@ -77,4 +77,14 @@ pub fn used_pairs_stand()
 /// An access without a fault of the verifier that a path leads to has a check directly before it.
 pub fn accesses_are_checked()
     ensures { AccessesAreChecked }
+{}
+
+/// So is the print of a number: both print the same one.
+pub fn prints_follow()
+    ensures { PrintsFollow }
+{}
+
+/// So is a read, of the same number; it traps where the input has no more.
+pub fn reads_follow()
+    ensures { ReadsFollow }
 {}
