@@ -50,10 +50,16 @@ module _ (content : ModuleContent) (machinery : Machinery) (state : State) (extr
   pub gone_is : (made : ℕ) → gone_on (number made) (machine_of machinery state extra) ≡ passes (machine_of machinery state extra) (worded line) (map worded rest) made
   gone_is made =
       let machine = machine_of machinery state extra in
-      ap (λ (lines : List Line). record (machine_of machinery state extra) { state = record (machine_of machinery state extra).state {
-        running = gone_from (machine_of machinery state extra).stack (machine_of machinery state extra).state.running lines (number made) } }) (ap (map worded) is)
-      ∙ ap (λ (op : Op). record (machine_of machinery state extra) { state = record (machine_of machinery state extra).state {
-        running = gone_behind (machine_of machinery state extra).stack (machine_of machinery state extra).state.running (worded line) (map worded rest) (number made) op } }) op_is
+      ap (λ (lines : List Line). record (machine_of machinery state extra) {
+        state = record (machine_of machinery state extra).state {
+          running = gone_from (machine_of machinery state extra).stack (machine_of machinery state extra).state.running lines (number made);
+        };
+      }) (ap (map worded) is)
+      ∙ ap (λ (op : Op). record (machine_of machinery state extra) {
+        state = record (machine_of machinery state extra).state {
+          running = gone_behind (machine_of machinery state extra).stack (machine_of machinery state extra).state.running (worded line) (map worded rest) (number made) op;
+        };
+      }) op_is
 
   pub without_answer : line.to ≡ None → Follows content machinery (passed state line rest nothing) (passes (machine_of machinery state extra) (worded line) (map worded rest) 0)
   without_answer gives_none =
