@@ -1,2 +1,3 @@
 pub mod RewrittenLaws
 pub mod MakingLaws
+pub mod CallLaws

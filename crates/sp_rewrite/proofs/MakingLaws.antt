@@ -25,7 +25,8 @@ use Rattle.rewritten_definite.proofs.Instance.{based_is_before}
 use Rattle.poll_place.specs.Ready.{IsReady}
 use Rattle.poll_place.proofs.ReadyLemmas.{sources_are_ready}
 use Rattle.rewritten_shape.proofs.TargetLaws.{based_is_target, rewritten_is_target}
-use Rattle.sp_rewrite.specs.Before.{CanBeMade, CanHaveGroups, FunctionsAreReady, made_of}
+use Rattle.rewrite_passes.specs.Before.{CanBeMade, CanHaveGroups, made_of}
+use Rattle.sp_rewrite.specs.Before.{FunctionsAreReady}
 use Rattle.sp_rewrite.proofs.RewrittenLaws.{reached_source}
 
 formed_at : (reached : ModuleContent) → IsSourceModule reached → (number : ℕ) (func : Function) → slice_get reached.funcs number ≡ Some func → IsFormed (based (placed func))

@@ -1,2 +1,3 @@
 pub mod Before
+pub mod Relocates
 pub mod Statements

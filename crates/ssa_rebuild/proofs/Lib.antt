@@ -10,4 +10,15 @@ pub mod RowLaws
 pub mod TaskLaws
 pub mod InsideLaws
 pub mod SolvedLaws
+pub mod PartLaws
+pub mod LengthLaws
+pub mod CountLaws
 pub mod MarkLemmas
+pub mod WrittenLemmas
+pub mod FilledLaws
+pub mod EndLemmas
+pub mod TakeLemmas
+pub mod GroupLaws
+pub mod WrittenLaws
+pub mod ArrivalLaws
+pub mod RebuiltLaws

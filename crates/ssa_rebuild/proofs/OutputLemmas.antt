@@ -1,5 +1,5 @@
 -- The slots of a block are answered by the numbers of the versions that stand there.
-use Rattle.std.proofs.Common.{◌≡◌, ◌∙◌, ℕ, zero, suc, ◌<◌, ◌≤◌, ◌+◌, inl, inr, Bool, true, false, if◌then◌else◌, List, [], ◌∷◌, ◌++◌, length, map, drop, Option, Some, None, slice_get, refl, ap, sym, arith, subst, append_assoc, append-nil, length-append}
+use Rattle.std.proofs.Common.{◌≡◌, ◌∙◌, ℕ, suc, ◌<◌, ◌+◌, inl, inr, Bool, true, false, if◌then◌else◌, List, [], ◌∷◌, ◌++◌, length, map, drop, Option, Some, None, slice_get, refl, ap, sym, arith, subst, append-nil}
 use Rattle.std.specs.Prelude.{slice_index}
 use Rattle.std.specs.List.{flat_map, range_with_len}
 use Rattle.std.specs.Option.{option_map_or}
@@ -9,7 +9,7 @@ use Rattle.ir_ast.specs.declared.ops.Operand.{Operand}
 use Rattle.ir_ast.specs.declared.ops.Operand.TheVariants.{Value, Int, Null, Fun}
 use Rattle.ir_ast.specs.Funcs.{Function}
 use Rattle.object_meaning.specs.Lines.{Line}
-use Rattle.rewriting_forms.specs.Numbered.{among, lines_at, line_at, calls, pointers}
+use Rattle.rewriting_forms.specs.Numbered.{among, lines_at, calls, pointers}
 use Rattle.rewriting_forms.specs.Liveness.{live_list}
 use Rattle.rewriting_forms.specs.Names.{Name, own, relocated, joined, token, Names, Naming, names_at, names_at_end, naming_of}
 use Rattle.rewriting_forms.specs.Rewritten.{line_names, joined_at, names_of, place_in}
@@ -17,12 +17,12 @@ use Rattle.rewriting_laws.specs.Laws.{IsReached}
 use Rattle.rewriting_laws.proofs.NameLemmas.{line_is, at_rest, among_here, among_there}
 use Rattle.rewriting_laws.proofs.PlaceLaws.{Rising}
 use Rattle.ssa_rebuild.specs.declared.slots.Slot.{Slot}
-use Rattle.ssa_rebuild.specs.declared.slots.Slot.TheVariants.{Use, Give, Token, Number}
+use Rattle.ssa_rebuild.specs.declared.slots.Slot.TheVariants.{Token, Number}
 use Rattle.ssa_rebuild.specs.Slots.{answered, current_behind, next_behind}
 use Rattle.ssa_rebuild.specs.Rows.{use_slot, give_slot, uses_of, held_in, own_slots, own_uses, plain_slots, call_slots, line_slots, lines_slots, entries_from, block_slots, start_of, use_numbers, AreKnown, line_numbers, lines_numbers, block_numbers}
-use Rattle.ssa_rebuild.proofs.SlotLemmas.{answered_append, behind_append, next_append}
+use Rattle.ssa_rebuild.proofs.SlotLemmas.{answered_append}
 use Rattle.ssa_rebuild.proofs.NumberLemmas.{rises_front, rises_back, block_rises}
-use Rattle.ssa_rebuild.proofs.VersionLemmas.{Shows, uses_behind, uses_next, list_behind, list_next, gives_next, line_shows, lines_show, front_shows, body_rises, body_start, before}
+use Rattle.ssa_rebuild.proofs.VersionLemmas.{Shows, line_shows, lines_show, front_shows, body_rises, body_start, before}
 
 -- ---- uses and definitions
 

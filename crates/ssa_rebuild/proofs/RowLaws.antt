@@ -1,13 +1,12 @@
 -- The rows of a function's blocks.
-use Rattle.std.proofs.Common.{◌≡◌, ◌∙◌, ℕ, zero, suc, ◌<◌, ◌≤◌, ◌+◌, ◌-◌, inl, inr, Bool, true, false, cond, if◌then◌else◌, List, [], ◌∷◌, ◌++◌, length, map, take, drop, get_or, Option, Some, None, slice_get, refl, ap, sym, arith, subst}
-use Rattle.std.specs.Prelude.{slice_index_or, slice_index, count_by}
+use Rattle.std.proofs.Common.{◌≡◌, ◌∙◌, ℕ, zero, suc, ◌<◌, ◌≤◌, ◌+◌, inl, inr, Bool, cond, if◌then◌else◌, List, [], ◌∷◌, ◌++◌, length, map, take, drop, get_or, Option, Some, slice_get, refl, ap, sym, arith}
+use Rattle.std.specs.Prelude.{slice_index, count_by}
 use Rattle.std.specs.List.{flat_map, range_with_len, sum_by}
 use Rattle.std.specs.Option.{option_map_or}
 use Rattle.std.proofs.lemmas.Bool.{cases_Bool}
 use Rattle.std.proofs.lemmas.List.Sums.{sum_by-cons}
 use Rattle.std.proofs.lemmas.Option.{get_or_from_slice_get, slice_get-get_or}
 use Rattle.list_laws.proofs.Places.{drop_at}
-use Rattle.ir_ast.specs.declared.types.Ty.TheVariants.{Void}
 use Rattle.ir_ast.specs.declared.ops.Operand.{Operand}
 use Rattle.ir_ast.specs.Insts.{Instruction}
 use Rattle.ir_ast.specs.Blocks.{BasicBlock}
@@ -22,12 +21,12 @@ use Rattle.rewriting_laws.proofs.NameLemmas.{at_rest}
 use Rattle.statepoint_insert.specs.Calls.{calls_in, calls_before}
 use Rattle.statepoint_insert.proofs.CallLaws.{call_list}
 use Rattle.ssa_rebuild.specs.declared.slots.Slot.{Slot}
-use Rattle.ssa_rebuild.specs.Rows.{give_slot, plain_slots, call_slots, line_slots, lines_slots, listed_slots, count_of_call, calls_of, body_rows, phi_entries, inserted_entries, entries_into, entries_from, entries_all}
+use Rattle.ssa_rebuild.specs.Rows.{give_slot, plain_slots, call_slots, lines_slots, listed_slots, count_of_call, calls_of, body_rows, phi_entries, inserted_entries, entries_into, entries_all}
 
 count_cons : (line : Line) (lines : List Line) → count_by calls (line ∷ lines) ≡ cond (calls line) 1 0 + count_by calls lines
 count_cons line lines = sum_by-cons (λ (l : Line). cond (calls l) 1 0) line lines
 
-count_more : (lines : List Line) (k : ℕ) (line : Line) → slice_get lines k ≡ Some line → count_by calls (take (suc k) lines) ≡ count_by calls (take k lines) + count_of_call line
+pub count_more : (lines : List Line) (k : ℕ) (line : Line) → slice_get lines k ≡ Some line → count_by calls (take (suc k) lines) ≡ count_by calls (take k lines) + count_of_call line
 count_more [] k line is = absurd (cc)
 count_more (x ∷ lines) zero line is =
     let e : x ≡ line = cc in
@@ -87,7 +86,7 @@ module _ (func : Function) (table : List Operand) where
             ∙ ap (λ (ss : List Slot). plain_slots line ++ ss) rest)
       ]
 
-  calls_next : (b : ℕ) → calls_of (calls_before func b 0) (lines_at func b) ≡ calls_before func (b + 1) 0
+  pub calls_next : (b : ℕ) → calls_of (calls_before func b 0) (lines_at func b) ≡ calls_before func (b + 1) 0
   calls_next b =
       let all = calls_of_is (calls_before func b 0) (lines_at func b) in
       let z : 0 + b ≡ b = omega arith in
@@ -113,7 +112,7 @@ module _ (func : Function) (table : List Operand) where
       let s : suc b + 1 ≡ suc (b + 1) = omega arith in
       rw s (first_next (after_all next x.insts) blocks b block is)
 
-  insts_are : (b : ℕ) (block : BasicBlock) → slice_get func.blocks b ≡ Some block → insts_in func b ≡ block.insts
+  pub insts_are : (b : ℕ) (block : BasicBlock) → slice_get func.blocks b ≡ Some block → insts_in func b ≡ block.insts
   insts_are b block is = ap (λ (o : Option BasicBlock). option_map_or (λ (block : BasicBlock). block.insts) o []) is
 
   block_there : (b : ℕ) → b < length func.blocks → (block : BasicBlock) × (slice_get func.blocks b ≡ Some block)

@@ -1,7 +1,7 @@
 -- The rows of slots, a line and an entry at a time.
-use Rattle.std.proofs.Common.{◌≡◌, ◌∙◌, ℕ, zero, suc, ◌<◌, ◌≤◌, ◌+◌, ◌⊎◌, inl, inr, Bool, true, false, eqb, if◌then◌else◌, List, [], ◌∷◌, ◌++◌, length, map, take, drop, get_or, Option, Some, None, is_some, slice_get, refl, ap, sym, arith, append_assoc, append-nil, length-append, subst}
-use Rattle.std.specs.Prelude.{slice_set, slice_index_or, slice_index, ◌^◌}
-use Rattle.std.specs.List.{flat_map, range_with_len}
+use Rattle.std.proofs.Common.{◌≡◌, ◌∙◌, ℕ, zero, suc, ◌<◌, ◌≤◌, ◌+◌, ◌⊎◌, inl, inr, Bool, eqb, if◌then◌else◌, List, [], ◌∷◌, ◌++◌, length, map, take, drop, get_or, Option, Some, None, is_some, slice_get, refl, ap, sym, arith, append_assoc, append-nil}
+use Rattle.std.specs.Prelude.{slice_set, slice_index, ◌^◌}
+use Rattle.std.specs.List.{flat_map}
 use Rattle.std.specs.Global.{Vec}
 use Rattle.std.proofs.lemmas.Bool.{cases_Bool, cases_eq, eq-eqb, ne_eqb}
 use Rattle.std.proofs.lemmas.Grind.{flat_map-append}
@@ -19,7 +19,7 @@ use Rattle.object_meaning.specs.Lines.{Line, following, numbered, after_all}
 use Rattle.object_meaning.specs.TargetRuns.{plain_lines}
 use Rattle.rewriting_forms.specs.Numbered.{calls}
 use Rattle.ssa_rebuild.specs.declared.slots.Slot.{Slot}
-use Rattle.ssa_rebuild.specs.declared.slots.Slot.TheVariants.{Use, Give, Token, Number}
+use Rattle.ssa_rebuild.specs.declared.slots.Slot.TheVariants.{Use}
 use Rattle.ssa_rebuild.specs.Slots.{next_behind}
 use Rattle.ssa_rebuild.specs.Forest.{list_at}
 use Rattle.ssa_rebuild.specs.Rows.{valued, values_in, held_in, uses_of, one_slots, listed_slots, count_of_call, calls_of, entries_for, inserted_entries, Grows, give_slot, body_rows, owns, starts_of, all_owns, slots_in, entries_all, phi_entries}

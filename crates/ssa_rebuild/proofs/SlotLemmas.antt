@@ -1,7 +1,7 @@
 -- Slots that are answered one after another, and changes that are taken back.
-use Rattle.std.proofs.Common.{◌≡◌, ◌∙◌, ℕ, zero, suc, ◌<◌, ◌≤◌, ◌+◌, ◌-◌, min, List, [], ◌∷◌, ◌++◌, length, take, drop, set, Option, Some, None, slice_get, refl, ap, sym, arith, append_assoc, append-nil, length-append}
+use Rattle.std.proofs.Common.{◌≡◌, ◌∙◌, ℕ, suc, ◌<◌, ◌≤◌, ◌+◌, ◌-◌, List, [], ◌∷◌, ◌++◌, length, take, drop, set, Option, Some, None, slice_get, refl, ap, sym, arith, append_assoc, append-nil, length-append}
 use Rattle.std.specs.Option.{option_to_list}
-use Rattle.std.proofs.lemmas.List.{take_more_set, drop-set-lt, drop-append-le, take-append-le, take-append-drop, length-take-le, length-set, drop_all, take_all, set-set, set-get_or}
+use Rattle.std.proofs.lemmas.List.{take_more_set, drop-set-lt, drop-append-le, take-append-le, take-append-drop, length-take-le, drop_all}
 use Rattle.std.proofs.lemmas.Option.{slice_get_within}
 use Rattle.list_laws.proofs.Places.{drop_at}
 use Rattle.ssa_rebuild.specs.declared.slots.Slot.{Slot}

@@ -1,21 +1,19 @@
 -- What the parts give together: the numbers of all slots.
-use Rattle.std.proofs.Common.{true, ◌≡◌, ◌∙◌, ℕ, zero, suc, ◌<◌, ◌≤◌, ◌+◌, List, [], ◌∷◌, ◌++◌, length, map, filter, drop, get_or, Option, Some, None, slice_get, refl, ap, sym, arith, subst, append_assoc, length-append}
+use Rattle.std.proofs.Common.{true, ◌≡◌, ◌∙◌, ℕ, zero, suc, ◌<◌, ◌+◌, List, [], ◌∷◌, ◌++◌, length, map, filter, Option, Some, None, slice_get, refl, ap, sym, arith, subst, append_assoc, length-append}
 use Rattle.std.specs.Prelude.{slice_index}
 use Rattle.std.specs.List.{range_with_len}
-use Rattle.std.specs.Option.{option_map_or}
 use Rattle.std.specs.Global.{Vec}
 use Rattle.std.proofs.lemmas.List.{length-map}
 use Rattle.std.proofs.lemmas.List.FromFn.{length-range_with_len}
-use Rattle.std.proofs.lemmas.Option.{slice_get-get_or, get_or_from_slice_get, slice_get_within}
-use Rattle.list_laws.proofs.Places.{get_map, get_some}
+use Rattle.std.proofs.lemmas.Option.{get_or_from_slice_get, slice_get_within}
+use Rattle.list_laws.proofs.Places.{get_map}
 use Rattle.sp_ids.specs.declared.ids.ValueId.{ValueId}
 use Rattle.ir_ast.specs.declared.ops.Operand.{Operand}
 use Rattle.ir_ast.specs.Funcs.{Function}
 use Rattle.ir_ast.specs.Formed.{IsFormed}
-use Rattle.object_meaning.specs.Lines.{Line, registers_of}
 use Rattle.rewriting_forms.specs.Numbered.{among, lines_at, pointers, preds}
-use Rattle.rewriting_forms.specs.Liveness.{live_list, live_lists, is_live_after}
-use Rattle.rewriting_forms.specs.Names.{Name, own, Naming, joins_of, naming_of}
+use Rattle.rewriting_forms.specs.Liveness.{live_list, live_lists}
+use Rattle.rewriting_forms.specs.Names.{own, Naming, joins_of, naming_of}
 use Rattle.rewriting_forms.specs.Rewritten.{joined_at, names_of, place_in}
 use Rattle.rewriting_laws.specs.Laws.{IsReached}
 use Rattle.rewriting_laws.proofs.NameLemmas.{among_filter}
@@ -23,11 +21,10 @@ use Rattle.statepoint_insert.specs.Groups.{GroupContent, relocate_in, group_of, 
 use Rattle.live_sets.specs.Joins.{AreJoins}
 use Rattle.live_sets.specs.Values.{valued as value_id}
 use Rattle.ssa_rebuild.specs.declared.slots.Slot.{Slot}
-use Rattle.ssa_rebuild.specs.declared.slots.Slot.TheVariants.{Number}
 use Rattle.ssa_rebuild.specs.Slots.{answered}
 use Rattle.ssa_rebuild.specs.Forest.{list_at}
 use Rattle.ssa_rebuild.specs.Walks.{AreAnswered}
-use Rattle.ssa_rebuild.specs.Rows.{give_slot, uses_of, lines_slots, block_slots, start_of, group_list, values_in, body_rows, Grows, entries_all, entries_from, starts_of, all_owns, slots_in, only, only_preds, block_numbers, AreKnown, own_uses, held_in}
+use Rattle.ssa_rebuild.specs.Rows.{give_slot, uses_of, lines_slots, block_slots, start_of, group_list, values_in, body_rows, Grows, entries_all, entries_from, starts_of, all_owns, slots_in, only, only_preds}
 use Rattle.ssa_rebuild.specs.Solved.{AreNumbered}
 use Rattle.ssa_rebuild.proofs.VersionLemmas.{Shows, IsTask, begins_shows, reached_begins}
 use Rattle.ssa_rebuild.proofs.OutputLemmas.{block_answered}
@@ -44,11 +41,11 @@ listed_back : (table : List Operand) (list part : List ℕ) → map (λ relocate
 listed_back table list [] = refl
 listed_back table list (v ∷ part) = ap (λ (vs : List ℕ). v ∷ vs) (listed_back table list part)
 
-lists_back : (table : List Operand) (lists : List (List ℕ)) → map group_list (map (group_of table) lists) ≡ lists
+pub lists_back : (table : List Operand) (lists : List (List ℕ)) → map group_list (map (group_of table) lists) ≡ lists
 lists_back table [] = refl
 lists_back table (list ∷ lists) = ap (λ (l : List ℕ). l ∷ map group_list (map (group_of table) lists)) (listed_back table list list) ∙ ap (λ (ls : List (List ℕ)). list ∷ ls) (lists_back table lists)
 
-values_back : (vs : List ℕ) → values_in (map value_id vs) ≡ vs
+pub values_back : (vs : List ℕ) → values_in (map value_id vs) ≡ vs
 values_back [] = refl
 values_back (v ∷ vs) = ap (λ (ws : List ℕ). v ∷ ws) (values_back vs)
 
@@ -60,7 +57,7 @@ at_slots (r ∷ rows) (suc b) row is = at_slots rows b row is
 slots_at : (rows : List (Vec Slot)) (b : ℕ) (row : List Slot) → slice_get (slots_in rows) b ≡ Some row → row ≡ list_at rows b
 slots_at rows b row is = sym (at_slots rows b row is)
 
-join_at : (joins : List (Vec ValueId)) (b : ℕ) → b < length joins → slice_get (map (λ join. values_in join.items) joins) b ≡ Some (values_in (list_at joins b))
+pub join_at : (joins : List (Vec ValueId)) (b : ℕ) → b < length joins → slice_get (map (λ join. values_in join.items) joins) b ≡ Some (values_in (list_at joins b))
 join_at [] b below = absurd (omega arith)
 join_at (join ∷ joins) zero below = refl
 join_at (join ∷ joins) (suc b) below = join_at joins b (omega arith)

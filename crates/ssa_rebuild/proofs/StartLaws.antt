@@ -1,18 +1,14 @@
 -- The numbers with which blocks begin, and those of the own definitions of values.
-use Rattle.std.proofs.Common.{◌≡◌, ◌∙◌, ℕ, zero, suc, ◌<◌, ◌≤◌, ◌+◌, ◌-◌, inl, inr, Bool, true, false, if◌then◌else◌, List, [], ◌∷◌, ◌++◌, length, map, drop, get_or, Option, Some, None, is_some, slice_get, refl, ap, sym, arith, subst, append_assoc, append-nil, length-append}
-use Rattle.std.specs.Prelude.{slice_index}
+use Rattle.std.proofs.Common.{◌≡◌, ◌∙◌, ℕ, suc, ◌+◌, inl, inr, Bool, true, false, if◌then◌else◌, List, [], ◌∷◌, ◌++◌, length, map, drop, Option, Some, None, slice_get, refl, ap, sym, arith, subst, append-nil, length-append}
 use Rattle.std.specs.List.{flat_map, range_with_len}
 use Rattle.std.specs.Option.{option_map_or}
 use Rattle.std.proofs.lemmas.Bool.{cases_Bool}
 use Rattle.std.proofs.lemmas.List.{map-append, length-map}
-use Rattle.std.proofs.lemmas.Grind.{flat_map-append}
 use Rattle.ir_ast.specs.declared.ops.Operand.{Operand}
 use Rattle.ir_ast.specs.declared.ops.Operand.TheVariants.{Value, Int, Null, Fun}
-use Rattle.ir_ast.specs.Insts.{Instruction}
 use Rattle.ir_ast.specs.Funcs.{Function}
-use Rattle.object_meaning.specs.Lines.{Line, numbered, following, after_all}
-use Rattle.object_meaning.specs.TargetRuns.{plain_lines}
-use Rattle.rewriting_forms.specs.Numbered.{lines_at, line_at, calls}
+use Rattle.object_meaning.specs.Lines.{Line}
+use Rattle.rewriting_forms.specs.Numbered.{lines_at, calls}
 use Rattle.rewriting_forms.specs.Liveness.{live_list}
 use Rattle.rewriting_forms.specs.Names.{Name, own, relocated, joined, token, Naming}
 use Rattle.rewriting_forms.specs.Rewritten.{line_names, joined_at, block_names}
@@ -20,8 +16,8 @@ use Rattle.rewriting_laws.proofs.NameLemmas.{line_is, at_rest}
 use Rattle.rewriting_laws.proofs.PlaceLaws.{Rising}
 use Rattle.ssa_rebuild.specs.declared.slots.Slot.{Slot}
 use Rattle.ssa_rebuild.specs.declared.slots.Slot.TheVariants.{Use, Own, Give, Token, Number}
-use Rattle.ssa_rebuild.specs.Slots.{next_after, next_behind}
-use Rattle.ssa_rebuild.specs.Rows.{use_slot, give_slot, uses_of, held_in, own_slots, own_uses, plain_slots, call_slots, line_slots, lines_slots, entries_from, block_slots, start_of, owns, starts_of, all_owns}
+use Rattle.ssa_rebuild.specs.Slots.{next_behind}
+use Rattle.ssa_rebuild.specs.Rows.{use_slot, give_slot, uses_of, held_in, own_slots, own_uses, plain_slots, call_slots, line_slots, lines_slots, entries_from, block_slots, owns}
 use Rattle.ssa_rebuild.proofs.SlotLemmas.{next_append}
 use Rattle.ssa_rebuild.proofs.NumberLemmas.{rises_front, rises_back}
 use Rattle.ssa_rebuild.proofs.VersionLemmas.{uses_next, list_next, gives_next}
@@ -57,13 +53,13 @@ module _ (func : Function) (table : List Operand) where
   abbrev own_names : Line → List Name
   own_names line = option_map_or (λ x. own x ∷ []) line.to []
 
-  plain_names_are : (b k : ℕ) (line : Line) → slice_get (lines_at func b) k ≡ Some line → calls line ≡ false → line_names func table b k ≡ own_names line
+  pub plain_names_are : (b k : ℕ) (line : Line) → slice_get (lines_at func b) k ≡ Some line → calls line ≡ false → line_names func table b k ≡ own_names line
   plain_names_are b k line stands plain =
       ap (λ (l : Line). (if calls l then token b k ∷ [] else []) ++ (own_names l ++ (if calls l then map (relocated b k) (live_list func table b k) else []))) (line_is func b k line stands)
       ∙ ap (λ (t : Bool). (if t then token b k ∷ [] else []) ++ (own_names line ++ (if t then map (relocated b k) (live_list func table b k) else []))) plain
       ∙ append-nil (own_names line)
 
-  call_names_are : (b k : ℕ) (line : Line) → slice_get (lines_at func b) k ≡ Some line → calls line ≡ true
+  pub call_names_are : (b k : ℕ) (line : Line) → slice_get (lines_at func b) k ≡ Some line → calls line ≡ true
       → line_names func table b k ≡ token b k ∷ (own_names line ++ map (relocated b k) (live_list func table b k))
   call_names_are b k line stands call =
       ap (λ (l : Line). (if calls l then token b k ∷ [] else []) ++ (own_names l ++ (if calls l then map (relocated b k) (live_list func table b k) else []))) (line_is func b k line stands)

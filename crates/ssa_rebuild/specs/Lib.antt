@@ -5,3 +5,5 @@ pub mod Walks
 pub mod Rows
 pub mod Solved
 pub mod Marks
+pub mod Written
+pub mod Arrivals

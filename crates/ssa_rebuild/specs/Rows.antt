@@ -1,5 +1,5 @@
 -- The slots of a function's blocks: what its lines use and give, in the order of the rewritten text.
-use Rattle.std.specs.Prelude.{◌≡◌, ℕ, zero, suc, ◌<◌, ◌+◌, ◌==◌, if◌then◌else◌, List, [], ◌∷◌, ◌++◌, length, map, Option, Some, None, slice_index_or}
+use Rattle.std.specs.Prelude.{◌≡◌, ℕ, suc, ◌<◌, ◌+◌, ◌==◌, if◌then◌else◌, List, [], ◌∷◌, ◌++◌, length, map, Option, Some, None, slice_index_or}
 use Rattle.std.specs.List.{flat_map, range_with_len}
 use Rattle.std.specs.Global.{Vec}
 use Rattle.sp_ids.specs.declared.ids.BlockId.{BlockId}
@@ -15,7 +15,7 @@ use Rattle.object_meaning.specs.Lines.{Line, after_all}
 use Rattle.object_meaning.specs.TargetRuns.{plain_lines}
 use Rattle.rewriting_forms.specs.Numbered.{lines_at, calls, preds}
 use Rattle.rewriting_forms.specs.Liveness.{live_list}
-use Rattle.rewriting_forms.specs.Names.{Name, own, joined, Names, Naming, names_at, names_at_end}
+use Rattle.rewriting_forms.specs.Names.{Name, own, joined, Naming, names_at, names_at_end}
 use Rattle.rewriting_forms.specs.Rewritten.{joined_at, line_names, block_names}
 use Rattle.statepoint_insert.specs.Groups.{GroupContent}
 use Rattle.ssa_rebuild.specs.Slots.{next_behind}

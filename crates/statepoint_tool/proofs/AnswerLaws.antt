@@ -8,7 +8,7 @@ use Rattle.object_meaning.specs.SourceRuns.{source_setting}
 use Rattle.object_meaning.proofs.EndLaws.{IsFinal}
 use Rattle.object_meaning.proofs.OutcomeLaws.{gives_final}
 use Rattle.statepoint_tool.specs.Answers.{SinkSeen, Gained, SinkFailed, Came, IsBegun, IsTold, IsSaidInPart, IsAnswer}
-use Rattle.statepoint_tool.specs.Causes.{CannotRead, Ends, by_showing, by_running, Runs, RunGives, module_run, steps_asked}
+use Rattle.statepoint_tool.specs.Causes.{CannotRead, Ends, by_showing, by_rewriting, by_running, Runs, RunGives, module_run, steps_asked}
 use Rattle.statepoint_tool.specs.Notes.{refusal_line, status_of_cause}
 use Rattle.statepoint_tool.specs.Statuses.{CauseOf, Exactly, IsDue, NoteFailed, ReadFaultCounted, Says, Writes, WritesFront, Yields, status_of_step}
 use Rattle.statepoint_tool.specs.Steps.{Step, Go, Stop}
@@ -139,6 +139,8 @@ module _ (words : List (List ℕ)) (files : FilesSeen) (out notes : SinkSeen) (g
   writes_output : (output : Output) → Ends words given output → Gained out output.text → Writes output.status words files out
   writes_output _ (by_showing shows) written =
       record { given = given; may = may; holds = ((shown (content_of shows.lines), by_showing shows, refl), written) }
+  writes_output _ (by_rewriting rewrites) written =
+      record { given = given; may = may; holds = ((shown rewrites.after, by_rewriting rewrites, refl), written) }
   writes_output _ (by_running runs outcome gives) written = writes_run runs outcome gives written
 
   writes_nothing : (reason : Cause) → Gained out [] → Writes (status_of_cause reason) words files out
@@ -182,6 +184,7 @@ module _ (words : List (List ℕ)) (files : FilesSeen) (out notes : SinkSeen) (g
 
   says_output : (output : Output) → Ends words given output → Gained notes [] → Says output.status words files out notes
   says_output _ (by_showing shows) silent = silent
+  says_output _ (by_rewriting rewrites) silent = silent
   says_output _ (by_running runs outcome gives) silent =
       says_nothing outcome.end (gives_final (source_setting (module_run runs) (go runs.plan) (steps_asked runs)) runs.reads.numbers outcome gives) silent
 

@@ -3,7 +3,10 @@ use Rattle.std.proofs.Common.{◌≡◌, inl, inr, ℕ, List, Option, Some, None
 use Rattle.std.specs.Prelude.{ℤ}
 use Rattle.sp_ids.specs.declared.ends.End.{End}
 use Rattle.sp_ids.specs.declared.ends.End.TheVariants as ended
-use Rattle.ir_ast.specs.Modules.{ModuleContent}
+use Rattle.ir_ast.specs.declared.modules.Form.{Form as TextForm}
+use Rattle.ir_ast.specs.declared.modules.Form.TheVariants as text_forms
+use Rattle.ir_ast.specs.Modules.{ModuleContent, LinedModule}
+use Rattle.ir_lines.specs.Modules.{module_of}
 use Rattle.move_plan.specs.declared.plan_lines.PlanLine.{PlanLine}
 use Rattle.move_plan.specs.Plans.{go}
 use Rattle.object_meaning.specs.Outcomes.{Outcome}
@@ -11,23 +14,26 @@ use Rattle.object_meaning.specs.SourceRuns.{source_setting}
 use Rattle.object_meaning.proofs.EndLaws.{IsFinal}
 use Rattle.object_meaning.proofs.OutcomeLaws.{gives_final}
 use Rattle.tool_io.specs.Counts.{Rose}
-use Rattle.statepoint_tool.specs.Causes.{AsksToShow, AsksForRun, ReadsModule, ReadsInput, Runs, RunGives, module_run, steps_asked, Ends, by_showing, by_running, EndsWith, NoCommand, NamesModule, to_show, to_run, HasSomeModuleFault, HasSomeInputFault, HasSomePlanFault, FileGives, module_gives, input_gives, plan_gives, CannotRead, IsTooLong, StopsBy}
+use Rattle.statepoint_tool.specs.Causes.{AsksToShow, AsksToRewrite, AsksForRun, ReadsToRewrite, Rewrites, ReadsModule, ReadsInput, Runs, RunGives, module_run, steps_asked, Ends, by_showing, by_rewriting, by_running, EndsWith, NoCommand, NamesModule, to_show, to_rewrite, to_run, HasModuleFault, in_text, too_many, HasSomeModuleFault, HasSomeInputFault, HasSomePlanFault, FileGives, module_gives, input_gives, plan_gives, CannotRead, IsTooLong, StopsBy}
 use Rattle.statepoint_tool.specs.Statuses.{CauseOf, status_of_step}
 use Rattle.statepoint_tool.specs.Steps.{Step, Go, Stop, Then, goes_on, stops}
 use Rattle.statepoint_tool.specs.Taken.{Taken, Bytes, Longer, Faulty, FilesSeen, MayGive, file_phase}
 use Rattle.statepoint_tool.specs.Words.{command_of}
-use Rattle.statepoint_tool.specs.Work.{Output, Given, MayGiveAll, MayGiveNamed, content_of, shown, module_phase, ReadingInput, has_numbers, no_input, ReadingPlan, planned, no_plan, show_phase, after_input, after_module, Running, run_work, comes, output_of, command_work, work}
+use Rattle.statepoint_tool.specs.Work.{Output, Given, MayGiveAll, MayGiveNamed, content_of, shown, module_phase, Rewriting, rewritten, too_many as has_too_many, after_rewriting, rewrite_phase, ReadingInput, has_numbers, no_input, ReadingPlan, planned, no_plan, show_phase, after_input, after_module, Running, run_work, comes, output_of, command_work, work}
 use Rattle.statepoint_tool.specs.Closings.{status_of_end}
 use Rattle.statepoint_tool.specs.declared.refusal.Cause.{Cause}
 use Rattle.statepoint_tool.specs.declared.refusal.Cause.TheVariants as cause
+use Rattle.statepoint_tool.specs.declared.refusal.ModuleFault.{ModuleFault}
+use Rattle.statepoint_tool.specs.declared.refusal.ModuleFault.TheVariants.{TooManyRelocations}
 use Rattle.statepoint_tool.specs.declared.request.RunRequest.{RunRequest}
 use Rattle.statepoint_tool.specs.declared.request.Command.{Command}
-use Rattle.statepoint_tool.specs.declared.request.Command.TheVariants.{Show, Source, Run}
+use Rattle.statepoint_tool.specs.declared.request.Command.TheVariants.{Show, Rewrite, Source, Run}
 use Rattle.statepoint_tool.specs.declared.status.Status.{Status}
 use Rattle.statepoint_tool.specs.declared.status.Status.TheVariants.{ModuleRefused, WordsRefused, ReadFault, PlanRefused, InputRefused, TooLong}
+use Rattle.statepoint_tool.proofs.RewriteLaws.{Once-rewrite_phase}
 use Rattle.statepoint_tool.proofs.InputLaws.{Once-ReadingInput, Once-ReadingPlan, input-gives, input-refused, plan-gives, plan-refused}
 use Rattle.statepoint_tool.proofs.RunLaws.{Once-Running}
-use Rattle.statepoint_tool.proofs.StepLaws.{Once, stop_in, not_both, Once-comes_to, Once-Then, Once-file_phase}
+use Rattle.statepoint_tool.proofs.StepLaws.{Once, stop_in, same-value, not_both, Once-comes_to, Once-Then, Once-file_phase}
 use Rattle.statepoint_tool.proofs.TextLaws.{Accepts, accepts, StopsByText, refuses, as-accepted, as-refused, Once-module_phase}
 
 -- ---- the work comes to one step
@@ -45,16 +51,19 @@ Once-after_module input plan content steps given =
 
 Once-run_work : (request : RunRequest) (given : Given) → Once (run_work request given)
 Once-run_work request given =
-    Once-Then (file_phase request.code module_phase given.module_file)
-    (λ content. after_module request.input request.plan content request.steps (given.input, given.plan))
-    (Once-file_phase request.code module_phase Once-module_phase given.module_file)
-    (λ content. Once-after_module request.input request.plan content request.steps (given.input, given.plan))
+    Once-Then (file_phase request.code (module_phase text_forms.Source) given.module_file)
+    (λ (whole : LinedModule). after_module request.input request.plan whole.content request.steps (given.input, given.plan))
+    (Once-file_phase request.code (module_phase text_forms.Source) (Once-module_phase text_forms.Source) given.module_file)
+    (λ (whole : LinedModule). Once-after_module request.input request.plan whole.content request.steps (given.input, given.plan))
 
 Once-command : (command : Option Command) (given : Given) → Once (command_work command given)
 Once-command None given = Once-comes_to (Stop cause.Words)
 Once-command (Some (Show module_file)) given =
-    Once-Then (file_phase module_file module_phase given.module_file) show_phase
-    (Once-file_phase module_file module_phase Once-module_phase given.module_file) (λ content. Once-comes_to (Go (shown content)))
+    Once-Then (file_phase module_file (module_phase text_forms.Source) given.module_file) show_phase
+    (Once-file_phase module_file (module_phase text_forms.Source) (Once-module_phase text_forms.Source) given.module_file) (λ (whole : LinedModule). Once-comes_to (Go (shown whole.content)))
+Once-command (Some (Rewrite module_file)) given =
+    Once-Then (file_phase module_file (module_phase text_forms.Source) given.module_file) rewrite_phase
+    (Once-file_phase module_file (module_phase text_forms.Source) (Once-module_phase text_forms.Source) given.module_file) Once-rewrite_phase
 Once-command (Some (Source request)) given = Once-run_work request given
 Once-command (Some (Run request)) given = Once-run_work request given
 
@@ -77,27 +86,62 @@ module _ (words : List (List ℕ)) (given : Given) where
 
   -- showing
 
-  shows_text : (asks : AsksToShow words) (text : List ℕ) → given.module_file ≡ Bytes text → (content : ModuleContent) → Accepts text content →
-      Explains (Go (shown content)) words given
-  shows_text asks text taken content accepted =
-      subst (λ (c : ModuleContent). Ends words given (shown c)) (sym accepted.is)
+  shows_text : (asks : AsksToShow words) (text : List ℕ) → given.module_file ≡ Bytes text → (whole : LinedModule) → Accepts text_forms.Source text whole →
+      Explains (Go (shown whole.content)) words given
+  shows_text asks text taken whole accepted =
+      subst (λ (w : LinedModule). Ends words given (shown w.content)) (sym accepted.is)
       (by_showing (record { asks = asks; text = text; taken = taken; lines = accepted.lines; accepted = accepted.accepted }))
 
-  stops_text : (name text : List ℕ) (cause : Cause) → NamesModule words name → given.module_file ≡ Bytes text → StopsByText text cause →
+  stops_text : (form : TextForm) (name text : List ℕ) (cause : Cause) → NamesModule words form name → given.module_file ≡ Bytes text → StopsByText form text cause →
       Explains (Stop cause) words given
-  stops_text name text reason names taken stopped =
+  stops_text form name text reason names taken stopped =
       stop-at {A = Output} reason (cause.Module stopped.fault) (ap Stop stopped.is)
-      (record { name = name; names = names; text = text; taken = taken; has = stopped.has })
+      (in_text stopped.fault (record { form = form; name = name; names = names; text = text; taken = taken; has = stopped.has }))
 
   show_explains : (asks : AsksToShow words) (taken : Taken) → given.module_file ≡ taken → (step : Step Output) →
-      Then (file_phase asks.module_file module_phase taken) show_phase step → Explains step words given
-  show_explains asks (Bytes text) is _ (goes_on content step first rest) =
-      explains-at step (Go (shown content)) rest (shows_text asks text is content (accepts text content first))
-  show_explains asks (Bytes text) is _ (stops reason first) = stops_text asks.module_file text reason (to_show asks) is (refuses text reason first)
-  show_explains asks Longer is _ (goes_on content step first rest) = absurd (not_both content (cause.TooLong asks.module_file) first)
-  show_explains asks Longer is _ (stops reason first) = stop-at reason (cause.TooLong asks.module_file) first (module_gives asks.module_file (to_show asks) is)
-  show_explains asks Faulty is _ (goes_on content step first rest) = absurd (not_both content (cause.ReadFault asks.module_file) first)
-  show_explains asks Faulty is _ (stops reason first) = stop-at reason (cause.ReadFault asks.module_file) first (module_gives asks.module_file (to_show asks) is)
+      Then (file_phase asks.module_file (module_phase text_forms.Source) taken) show_phase step → Explains step words given
+  show_explains asks (Bytes text) is _ (goes_on whole step first rest) =
+      explains-at step (Go (shown whole.content)) rest (shows_text asks text is whole (accepts text_forms.Source text whole first))
+  show_explains asks (Bytes text) is _ (stops reason first) = stops_text text_forms.Source asks.module_file text reason (to_show asks) is (refuses text_forms.Source text reason first)
+  show_explains asks Longer is _ (goes_on whole step first rest) = absurd (not_both whole (cause.TooLong asks.module_file) first)
+  show_explains asks Longer is _ (stops reason first) = stop-at reason (cause.TooLong asks.module_file) first (module_gives text_forms.Source asks.module_file (to_show asks) is)
+  show_explains asks Faulty is _ (goes_on whole step first rest) = absurd (not_both whole (cause.ReadFault asks.module_file) first)
+  show_explains asks Faulty is _ (stops reason first) = stop-at reason (cause.ReadFault asks.module_file) first (module_gives text_forms.Source asks.module_file (to_show asks) is)
+
+  -- rewriting
+
+  rewrites_output : (reads : ReadsToRewrite words given) (step : Step ModuleContent) (after : ModuleContent) → step ≡ Go after
+      → Rewriting (content_of reads.lines) step → Ends words given (shown after)
+  rewrites_output reads _ after is (rewritten own own_is few) =
+      subst (λ (c : ModuleContent). Ends words given (shown c)) (same-value own after is)
+      (by_rewriting (record { reads = reads; after = own; is = own_is; few = few }))
+  rewrites_output reads _ after is (has_too_many many) = absurd (not_both after (cause.Module TooManyRelocations) (sym is))
+
+  rewriting_stops : (reads : ReadsToRewrite words given) (step : Step ModuleContent) (reason : Cause) → step ≡ Stop reason
+      → Rewriting (content_of reads.lines) step → Explains (Stop reason) words given
+  rewriting_stops reads _ reason is (rewritten own own_is few) = absurd (not_both own reason is)
+  rewriting_stops reads _ reason is (has_too_many many) =
+      stop-at reason (cause.Module TooManyRelocations) (sym is) (too_many reads many)
+
+  rewriting_explains : (reads : ReadsToRewrite words given) (step : Step Output) → Then (Rewriting (content_of reads.lines)) after_rewriting step → Explains step words given
+  rewriting_explains reads _ (goes_on after step first rest) =
+      explains-at step (Go (shown after)) rest (rewrites_output reads (Go after) after refl first)
+  rewriting_explains reads _ (stops reason first) = rewriting_stops reads (Stop reason) reason refl first
+
+  rewrites_text : (asks : AsksToRewrite words) (text : List ℕ) → given.module_file ≡ Bytes text → (whole : LinedModule) → Accepts text_forms.Source text whole →
+      (step : Step Output) → rewrite_phase whole step → Explains step words given
+  rewrites_text asks text taken whole accepted step rest =
+      rewriting_explains (record { asks = asks; text = text; taken = taken; lines = accepted.lines; accepted = accepted.accepted }) step
+      (subst (λ (w : LinedModule). rewrite_phase w step) accepted.is rest)
+
+  rewrite_explains : (asks : AsksToRewrite words) (taken : Taken) → given.module_file ≡ taken → (step : Step Output) →
+      Then (file_phase asks.module_file (module_phase text_forms.Source) taken) rewrite_phase step → Explains step words given
+  rewrite_explains asks (Bytes text) is _ (goes_on whole step first rest) = rewrites_text asks text is whole (accepts text_forms.Source text whole first) step rest
+  rewrite_explains asks (Bytes text) is _ (stops reason first) = stops_text text_forms.Source asks.module_file text reason (to_rewrite asks) is (refuses text_forms.Source text reason first)
+  rewrite_explains asks Longer is _ (goes_on whole step first rest) = absurd (not_both whole (cause.TooLong asks.module_file) first)
+  rewrite_explains asks Longer is _ (stops reason first) = stop-at reason (cause.TooLong asks.module_file) first (module_gives text_forms.Source asks.module_file (to_rewrite asks) is)
+  rewrite_explains asks Faulty is _ (goes_on whole step first rest) = absurd (not_both whole (cause.ReadFault asks.module_file) first)
+  rewrite_explains asks Faulty is _ (stops reason first) = stop-at reason (cause.ReadFault asks.module_file) first (module_gives text_forms.Source asks.module_file (to_rewrite asks) is)
 
   -- running
 
@@ -133,26 +177,27 @@ module _ (words : List (List ℕ)) (given : Given) where
   input_explains accepted Faulty is _ (goes_on value step first rest) = absurd (not_both value (cause.ReadFault accepted.asks.request.input) first)
   input_explains accepted Faulty is _ (stops reason first) = stop-at reason (cause.ReadFault accepted.asks.request.input) first (input_gives accepted is)
 
-  runs_text : (asks : AsksForRun words) (text : List ℕ) → given.module_file ≡ Bytes text → (content : ModuleContent) → Accepts text content → (step : Step Output) →
-      after_module asks.request.input asks.request.plan content asks.request.steps (given.input, given.plan) step → Explains step words given
-  runs_text asks text taken content accepted step rest =
+  runs_text : (asks : AsksForRun words) (text : List ℕ) → given.module_file ≡ Bytes text → (whole : LinedModule) → Accepts text_forms.Source text whole → (step : Step Output) →
+      after_module asks.request.input asks.request.plan whole.content asks.request.steps (given.input, given.plan) step → Explains step words given
+  runs_text asks text taken whole accepted step rest =
       input_explains (record { asks = asks; text = text; taken = taken; lines = accepted.lines; accepted = accepted.accepted })
       given.input refl step
-      (subst (λ (c : ModuleContent). after_module asks.request.input asks.request.plan c asks.request.steps (given.input, given.plan) step) accepted.is rest)
+      (subst (λ (w : LinedModule). after_module asks.request.input asks.request.plan w.content asks.request.steps (given.input, given.plan) step) accepted.is rest)
 
   run_explains : (asks : AsksForRun words) (taken : Taken) → given.module_file ≡ taken → (step : Step Output) →
-      Then (file_phase asks.request.code module_phase taken)
-      (λ content. after_module asks.request.input asks.request.plan content asks.request.steps (given.input, given.plan)) step → Explains step words given
-  run_explains asks (Bytes text) is _ (goes_on content step first rest) = runs_text asks text is content (accepts text content first) step rest
-  run_explains asks (Bytes text) is _ (stops reason first) = stops_text asks.request.code text reason (to_run asks) is (refuses text reason first)
-  run_explains asks Longer is _ (goes_on content step first rest) = absurd (not_both content (cause.TooLong asks.request.code) first)
-  run_explains asks Longer is _ (stops reason first) = stop-at reason (cause.TooLong asks.request.code) first (module_gives asks.request.code (to_run asks) is)
-  run_explains asks Faulty is _ (goes_on content step first rest) = absurd (not_both content (cause.ReadFault asks.request.code) first)
-  run_explains asks Faulty is _ (stops reason first) = stop-at reason (cause.ReadFault asks.request.code) first (module_gives asks.request.code (to_run asks) is)
+      Then (file_phase asks.request.code (module_phase text_forms.Source) taken)
+      (λ (whole : LinedModule). after_module asks.request.input asks.request.plan whole.content asks.request.steps (given.input, given.plan)) step → Explains step words given
+  run_explains asks (Bytes text) is _ (goes_on whole step first rest) = runs_text asks text is whole (accepts text_forms.Source text whole first) step rest
+  run_explains asks (Bytes text) is _ (stops reason first) = stops_text text_forms.Source asks.request.code text reason (to_run asks) is (refuses text_forms.Source text reason first)
+  run_explains asks Longer is _ (goes_on whole step first rest) = absurd (not_both whole (cause.TooLong asks.request.code) first)
+  run_explains asks Longer is _ (stops reason first) = stop-at reason (cause.TooLong asks.request.code) first (module_gives text_forms.Source asks.request.code (to_run asks) is)
+  run_explains asks Faulty is _ (goes_on whole step first rest) = absurd (not_both whole (cause.ReadFault asks.request.code) first)
+  run_explains asks Faulty is _ (stops reason first) = stop-at reason (cause.ReadFault asks.request.code) first (module_gives text_forms.Source asks.request.code (to_run asks) is)
 
   command_explains : (command : Option Command) → command_of words ≡ command → (step : Step Output) → command_work command given step → Explains step words given
   command_explains None is step due = explains-at step (Stop cause.Words) due is
   command_explains (Some (Show module_file)) is step due = show_explains (record { module_file = module_file; command = is }) given.module_file refl step due
+  command_explains (Some (Rewrite module_file)) is step due = rewrite_explains (record { module_file = module_file; command = is }) given.module_file refl step due
   command_explains (Some (Source request)) is step due = run_explains (record { request = request; command = inl is }) given.module_file refl step due
   command_explains (Some (Run request)) is step due = run_explains (record { request = request; command = inr is }) given.module_file refl step due
 
@@ -170,6 +215,7 @@ module _ (words : List (List ℕ)) (given : Given) where
 
   cause_of_output : (output : Output) → Ends words given output → CauseOf output.status words given
   cause_of_output _ (by_showing shows) = (shown (content_of shows.lines), by_showing shows, refl)
+  cause_of_output _ (by_rewriting rewrites) = (shown rewrites.after, by_rewriting rewrites, refl)
   cause_of_output _ (by_running runs outcome gives) =
       cause_at_end runs outcome gives outcome.end refl
       (gives_final (source_setting (module_run runs) (go runs.plan) (steps_asked runs)) runs.reads.numbers outcome gives)
@@ -199,9 +245,17 @@ module _ (words : List (List ℕ)) (given : Given) where
       after_module accepted.asks.request.input accepted.asks.request.plan (content_of accepted.lines) accepted.asks.request.steps (given.input, given.plan) step → work words given step
   with_module accepted step rest =
       commanded_run accepted.asks step
-      (goes_on (content_of accepted.lines) step
-      (subst (λ (taken : Taken). file_phase accepted.asks.request.code module_phase taken (Go (content_of accepted.lines))) (sym accepted.taken)
-      (as-accepted accepted.text accepted.lines accepted.accepted))
+      (goes_on (module_of text_forms.Source accepted.lines) step
+      (subst (λ (taken : Taken). file_phase accepted.asks.request.code (module_phase text_forms.Source) taken (Go (module_of text_forms.Source accepted.lines))) (sym accepted.taken)
+      (as-accepted text_forms.Source accepted.text accepted.lines accepted.accepted))
+      rest)
+
+  with_source : (reads : ReadsToRewrite words given) (step : Step Output) → Then (Rewriting (content_of reads.lines)) after_rewriting step → work words given step
+  with_source reads step rest =
+      commanded (Some (Rewrite reads.asks.module_file)) step reads.asks.command
+      (goes_on (module_of text_forms.Source reads.lines) step
+      (subst (λ (taken : Taken). file_phase reads.asks.module_file (module_phase text_forms.Source) taken (Go (module_of text_forms.Source reads.lines))) (sym reads.taken)
+      (as-accepted text_forms.Source reads.text reads.lines reads.accepted))
       rest)
 
   with_input : (reads : ReadsInput words given) (step : Step Output) →
@@ -217,10 +271,12 @@ module _ (words : List (List ℕ)) (given : Given) where
   pub work-ends : (output : Output) → Ends words given output → work words given (Go output)
   work-ends _ (by_showing shows) =
       commanded (Some (Show shows.asks.module_file)) (Go (shown (content_of shows.lines))) shows.asks.command
-      (goes_on (content_of shows.lines) (Go (shown (content_of shows.lines)))
-      (subst (λ (taken : Taken). file_phase shows.asks.module_file module_phase taken (Go (content_of shows.lines))) (sym shows.taken)
-      (as-accepted shows.text shows.lines shows.accepted))
+      (goes_on (module_of text_forms.Source shows.lines) (Go (shown (content_of shows.lines)))
+      (subst (λ (taken : Taken). file_phase shows.asks.module_file (module_phase text_forms.Source) taken (Go (module_of text_forms.Source shows.lines))) (sym shows.taken)
+      (as-accepted text_forms.Source shows.text shows.lines shows.accepted))
       refl)
+  work-ends _ (by_rewriting rewrites) =
+      with_source rewrites.reads (Go (shown rewrites.after)) (goes_on rewrites.after (Go (shown rewrites.after)) (rewritten rewrites.after rewrites.is rewrites.few) refl)
   work-ends _ (by_running runs outcome gives) =
       with_input runs.reads (Go (output_of (module_run runs) outcome))
       (goes_on runs.plan (Go (output_of (module_run runs) outcome))
@@ -238,19 +294,22 @@ module _ (words : List (List ℕ)) (given : Given) where
   pub comes-NoCommand : NoCommand words given → ComesWith WordsRefused
   comes-NoCommand none = (Stop cause.Words, commanded None (Stop cause.Words) none refl, refl)
 
-  module_stops : (name : List ℕ) (reason : Cause) → NamesModule words name → file_phase name module_phase given.module_file (Stop reason) →
+  module_stops : (form : TextForm) (name : List ℕ) (reason : Cause) → NamesModule words form name → file_phase name (module_phase form) given.module_file (Stop reason) →
       work words given (Stop reason)
-  module_stops _ reason (to_show asks) stopped = commanded (Some (Show asks.module_file)) (Stop reason) asks.command (stops reason stopped)
-  module_stops _ reason (to_run asks) stopped = commanded_run asks (Stop reason) (stops reason stopped)
+  module_stops _ _ reason (to_show asks) stopped = commanded (Some (Show asks.module_file)) (Stop reason) asks.command (stops reason stopped)
+  module_stops _ _ reason (to_rewrite asks) stopped = commanded (Some (Rewrite asks.module_file)) (Stop reason) asks.command (stops reason stopped)
+  module_stops _ _ reason (to_run asks) stopped = commanded_run asks (Stop reason) (stops reason stopped)
+
+  stops-HasModuleFault : (fault : ModuleFault) → HasModuleFault words given fault → work words given (Stop (cause.Module fault))
+  stops-HasModuleFault _ (in_text fault has) =
+      let reason = cause.Module fault in
+      module_stops has.form has.name reason has.names
+      (subst (λ (t : Taken). file_phase has.name (module_phase has.form) t (Stop reason)) (sym has.taken) (as-refused has.form has.text fault has.has))
+  stops-HasModuleFault _ (too_many reads many) =
+      let reason = cause.Module TooManyRelocations in with_source reads (Stop reason) (stops reason (has_too_many many))
 
   pub comes-HasSomeModuleFault : HasSomeModuleFault words given → ComesWith ModuleRefused
-  comes-HasSomeModuleFault has =
-      let reason = cause.Module has.0 in (
-        Stop reason,
-        module_stops has.1.name reason has.1.names
-            (subst (λ (t : Taken). file_phase has.1.name module_phase t (Stop reason)) (sym has.1.taken) (as-refused has.1.text has.0 has.1.has)),
-        refl,
-      )
+  comes-HasSomeModuleFault has = (Stop (cause.Module has.0), stops-HasModuleFault has.0 has.1, refl)
 
   pub comes-HasSomeInputFault : HasSomeInputFault words given → ComesWith InputRefused
   comes-HasSomeInputFault has =
@@ -276,9 +335,9 @@ module _ (words : List (List ℕ)) (given : Given) where
 
   file_stops : (what : Taken) (reason : List ℕ → Cause) → ((A : Type 0) (name : List ℕ) (read : List ℕ → Step A → Type 0) → file_phase name read what (Stop (reason name))) →
       (name : List ℕ) → FileGives words given what name → work words given (Stop (reason name))
-  file_stops what reason stopping _ (module_gives name names is) =
-      module_stops name (reason name) names
-      (subst (λ (t : Taken). file_phase name module_phase t (Stop (reason name))) (sym is) (stopping ModuleContent name module_phase))
+  file_stops what reason stopping _ (module_gives form name names is) =
+      module_stops form name (reason name) names
+      (subst (λ (t : Taken). file_phase name (module_phase form) t (Stop (reason name))) (sym is) (stopping LinedModule name (module_phase form)))
   file_stops what reason stopping _ (input_gives accepted is) =
       let name = accepted.asks.request.input in
       with_module accepted (Stop (reason name))
@@ -303,14 +362,15 @@ module _ (words : List (List ℕ)) (given : Given) (files : FilesSeen) (may : Ma
     | inr is ↦ subst (λ (command : Option Command). MayGiveNamed files command given) is may
   ]
 
-  may_of_module : (name : List ℕ) → NamesModule words name → MayGive files name given.module_file
-  may_of_module _ (to_show asks) = subst (λ (command : Option Command). MayGiveNamed files command given) asks.command may
-  may_of_module _ (to_run asks) = (may_of_run asks).0
+  may_of_module : (form : TextForm) (name : List ℕ) → NamesModule words form name → MayGive files name given.module_file
+  may_of_module _ _ (to_show asks) = subst (λ (command : Option Command). MayGiveNamed files command given) asks.command may
+  may_of_module _ _ (to_rewrite asks) = subst (λ (command : Option Command). MayGiveNamed files command given) asks.command may
+  may_of_module _ _ (to_run asks) = (may_of_run asks).0
 
   rose_at : (name : List ℕ) (taken : Taken) → taken ≡ Faulty → MayGive files name taken → Rose (files.faults_before name) (files.faults_after name)
   rose_at name taken is gave = subst (λ (t : Taken). MayGive files name t) is gave
 
   pub Rose-gives : (name : List ℕ) → FileGives words given Faulty name → Rose (files.faults_before name) (files.faults_after name)
-  Rose-gives _ (module_gives name names is) = rose_at name given.module_file is (may_of_module name names)
+  Rose-gives _ (module_gives form name names is) = rose_at name given.module_file is (may_of_module form name names)
   Rose-gives _ (input_gives accepted is) = rose_at accepted.asks.request.input given.input is (may_of_run accepted.asks).1.0
   Rose-gives _ (plan_gives reads is) = rose_at reads.accepts.asks.request.plan given.plan is (may_of_run reads.accepts.asks).1.1

@@ -6,12 +6,12 @@ use Rattle.statepoint_tool.specs.Complete.{IsTold, RunIsTold, AllTold, IsWhole, 
 use Rattle.statepoint_tool.specs.Steps.{Step, Go, Stop}
 use Rattle.statepoint_tool.specs.Taken.{Taken, Bytes, Longer, Faulty, FilesSeen, MayGive}
 use Rattle.statepoint_tool.specs.Words.{command_of}
-use Rattle.statepoint_tool.specs.Work.{Output, Given, MayGiveAll, MayGiveNamed, command_work, show_work, run_work, work}
+use Rattle.statepoint_tool.specs.Work.{Output, Given, MayGiveAll, MayGiveNamed, command_work, show_work, rewrite_work, run_work, work}
 use Rattle.statepoint_tool.specs.declared.refusal.Refusal.{Refusal}
 use Rattle.statepoint_tool.specs.declared.refusal.Refusal.TheVariants.{Defined, WriteFault, Memory}
 use Rattle.statepoint_tool.specs.declared.request.RunRequest.{RunRequest}
 use Rattle.statepoint_tool.specs.declared.request.Command.{Command}
-use Rattle.statepoint_tool.specs.declared.request.Command.TheVariants.{Show, Source, Run}
+use Rattle.statepoint_tool.specs.declared.request.Command.TheVariants.{Show, Rewrite, Source, Run}
 use Rattle.statepoint_tool.specs.declared.status.Status.{Status}
 use Rattle.statepoint_tool.proofs.StepLaws.{not_both}
 use Rattle.statepoint_tool.proofs.CauseLaws.{Once-work, work-ends}
@@ -42,6 +42,9 @@ same_work files None given told may is step due = due
 same_work files (Some (Show module_file)) given told may is step due =
     let code : given.module_file ≡ told.module_file = same_taken files module_file given.module_file told.module_file may is in
     subst (λ (taken : Taken). show_work module_file (record { module_file = taken; input = told.input; plan = told.plan }) step) (sym code) due
+same_work files (Some (Rewrite module_file)) given told may is step due =
+    let code : given.module_file ≡ told.module_file = same_taken files module_file given.module_file told.module_file may is in
+    subst (λ (taken : Taken). rewrite_work module_file (record { module_file = taken; input = told.input; plan = told.plan }) step) (sym code) due
 same_work files (Some (Source request)) given told may is step due = same_run files request given told may is step due
 same_work files (Some (Run request)) given told may is step due = same_run files request given told may is step due
 

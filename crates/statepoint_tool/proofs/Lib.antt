@@ -6,6 +6,7 @@ pub mod InputLaws
 pub mod ReadsLaws
 pub mod WorksLaws
 pub mod NamedLaws
+pub mod RewriteLaws
 pub mod CauseLaws
 pub mod AnswerLaws
 pub mod CompleteLaws

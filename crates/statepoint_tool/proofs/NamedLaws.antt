@@ -10,7 +10,7 @@ use Rattle.statepoint_tool.specs.declared.refusal.Cause.TheVariants.{Words}
 use Rattle.statepoint_tool.specs.declared.refusal.Refusal.TheVariants.{Defined, Memory}
 use Rattle.statepoint_tool.specs.declared.request.RunRequest.{RunRequest}
 use Rattle.statepoint_tool.specs.declared.request.Command.{Command}
-use Rattle.statepoint_tool.specs.declared.request.Command.TheVariants.{Show, Source, Run}
+use Rattle.statepoint_tool.specs.declared.request.Command.TheVariants.{Show, Rewrite, Source, Run}
 use Rattle.statepoint_tool.proofs.GivenLaws.{as_told, MayGive-as_told}
 
 -- what told files give
@@ -22,6 +22,8 @@ abbrev pub all_as_told : FilesSeen → Option Command → Given
 all_as_told files None = record { module_file = Bytes []; input = Bytes []; plan = Bytes [] }
 all_as_told files (Some (Show module_file)) =
     record { module_file = as_told files module_file; input = Bytes []; plan = Bytes [] }
+all_as_told files (Some (Rewrite module_file)) =
+    record { module_file = as_told files module_file; input = Bytes []; plan = Bytes [] }
 all_as_told files (Some (Source request)) = run_as_told files request
 all_as_told files (Some (Run request)) = run_as_told files request
 
@@ -32,6 +34,7 @@ MayGiveAll-as_told files request =
 pub MayGiveNamed-as_told : (files : FilesSeen) (command : Option Command) → MayGiveNamed files command (all_as_told files command)
 MayGiveNamed-as_told files None = tt
 MayGiveNamed-as_told files (Some (Show module_file)) = MayGive-as_told files module_file
+MayGiveNamed-as_told files (Some (Rewrite module_file)) = MayGive-as_told files module_file
 MayGiveNamed-as_told files (Some (Source request)) = MayGiveAll-as_told files request
 MayGiveNamed-as_told files (Some (Run request)) = MayGiveAll-as_told files request
 

@@ -11,7 +11,7 @@ use Rattle.statepoint_tool.specs.declared.refusal.Refusal.TheVariants.{Defined, 
 use Rattle.statepoint_tool.specs.declared.status.Status.{Status}
 use Rattle.statepoint_tool.proofs.GivenLaws.{MayGive-later}
 
-Came-stops : {A B : Type 0} (phase : Step A → Type 0) (rest : A → Step Output → Type 0) (view : B → A) (refusal : Refusal) (old : Option (List ℕ)) (faults : ℕ) →
+pub Came-stops : {A B : Type 0} (phase : Step A → Type 0) (rest : A → Step Output → Type 0) (view : B → A) (refusal : Refusal) (old : Option (List ℕ)) (faults : ℕ) →
     Agrees view (Err refusal) phase → Came (Err refusal) (Then phase rest) (sink_seen old old faults faults)
 Came-stops phase rest view (Defined cause) old faults agrees =
     record { defined = stops cause agrees; unwritten = sym (append_known-nil old) }
@@ -23,7 +23,7 @@ begun-goes_on : {A : Type 0} (phase : Step A → Type 0) (rest : A → Step Outp
 begun-goes_on phase rest value out first begun =
     record { output = begun.output; defined = goes_on value (Go begun.output) first begun.defined; front = begun.front }
 
-Came-goes_on : {A : Type 0} (phase : Step A → Type 0) (rest : A → Step Output → Type 0) (value : A) (result : Result Status Refusal) (out : SinkSeen) → phase (Go value) →
+pub Came-goes_on : {A : Type 0} (phase : Step A → Type 0) (rest : A → Step Output → Type 0) (value : A) (result : Result Status Refusal) (out : SinkSeen) → phase (Go value) →
     Came result (rest value) out → Came result (Then phase rest) out
 Came-goes_on phase rest value (Ok status) out first came =
     record { output = came.output; defined = goes_on value (Go came.output) first came.defined; status_is = came.status_is; written = came.written }

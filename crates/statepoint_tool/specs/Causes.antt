@@ -1,11 +1,14 @@
 -- What brings each status about, over what the files gave.
 use Rattle.std.specs.Prelude.{◌≡◌, ◌⊎◌, ℕ, ℤ, List, Some, None, Ok, Err}
-use Rattle.ir_reader.specs.Text.{Numbered, syntax_fault, limit_fault, text_readings}
+use Rattle.ir_reader.specs.Text.{Numbered, syntax_fault, limit_fault, readings_in}
 use Rattle.ir_lines.specs.declared.faults.Fault.{Fault as TypeFault}
 use Rattle.ir_lines.specs.Statements.{Line, lines_of}
 use Rattle.ir_types.specs.FaultSet.{HasNoFault, IsLeastFault}
+use Rattle.ir_ast.specs.declared.modules.Form.{Form as TextForm}
 use Rattle.ir_ast.specs.declared.modules.Form.TheVariants as text_forms
 use Rattle.ir_ast.specs.Modules.{ModuleContent}
+use Rattle.sp_rewrite.specs.Relocates.{HasFewRelocates, HasManyRelocates}
+use Rattle.sp_rewrite.specs.Statements.{IsRewritten}
 use Rattle.move_plan.specs.declared.plan_lines.PlanLine.{PlanLine}
 use Rattle.move_plan.specs.Inputs.{HasNoInputFault, IsFirstInputFault, IsInputOf}
 use Rattle.move_plan.specs.PlanFaults.{HasNoFault as HasNoPlanFault}
@@ -19,31 +22,31 @@ use Rattle.statepoint_tool.specs.Work.{Given, Output, content_of, shown, output_
 use Rattle.statepoint_tool.specs.declared.refusal.Cause.{Cause}
 use Rattle.statepoint_tool.specs.declared.refusal.Cause.TheVariants as cause
 use Rattle.statepoint_tool.specs.declared.refusal.ModuleFault.{ModuleFault}
-use Rattle.statepoint_tool.specs.declared.refusal.ModuleFault.TheVariants.{Syntax, Limit, Typed}
+use Rattle.statepoint_tool.specs.declared.refusal.ModuleFault.TheVariants.{Syntax, Limit, Typed, TooManyRelocations}
 use Rattle.statepoint_tool.specs.declared.refusal.PlanFault.{PlanFault}
 use Rattle.statepoint_tool.specs.declared.request.RunRequest.{RunRequest}
-use Rattle.statepoint_tool.specs.declared.request.Command.TheVariants.{Show, Source, Run}
+use Rattle.statepoint_tool.specs.declared.request.Command.TheVariants.{Show, Rewrite, Source, Run}
 use Rattle.statepoint_tool.specs.declared.status.Status.{Status}
 
 -- ---- texts of modules
 
 -- the lines of the text all have a reading and pass no limit
-pub record IsReadAs (text : List ℕ) (lines : List Line) : Type 0 where
+pub record IsReadAs (form : TextForm) (text : List ℕ) (lines : List Line) : Type 0 where
   pub readings : List Numbered
-  pub read : text_readings text ≡ Ok readings
+  pub read : readings_in form text ≡ Ok readings
   pub are : lines ≡ lines_of readings
 
 -- and they have no fault
-pub record IsAccepted (text : List ℕ) (lines : List Line) : Type 0 where
-  pub read : IsReadAs text lines
-  pub faultless : HasNoFault text_forms.Source lines
+pub record IsAccepted (form : TextForm) (text : List ℕ) (lines : List Line) : Type 0 where
+  pub read : IsReadAs form text lines
+  pub faultless : HasNoFault form lines
 
 -- the first line that has no reading or passes a limit; or else the least fault of the lines
-pub data HasTextFault (text : List ℕ) : ModuleFault → Type 0 where
-  unread : (line : ℕ) → text_readings text ≡ Err (syntax_fault line) → HasTextFault text (Syntax line)
-  over_limit : (line : ℕ) → text_readings text ≡ Err (limit_fault line) → HasTextFault text (Limit line)
-  faulty : (lines : List Line) (fault : TypeFault) → IsReadAs text lines → IsLeastFault text_forms.Source lines fault.line fault.code
-      → HasTextFault text (Typed fault)
+pub data HasTextFault (form : TextForm) (text : List ℕ) : ModuleFault → Type 0 where
+  unread : (line : ℕ) → readings_in form text ≡ Err (syntax_fault line) → HasTextFault form text (Syntax line)
+  over_limit : (line : ℕ) → readings_in form text ≡ Err (limit_fault line) → HasTextFault form text (Limit line)
+  faulty : (lines : List Line) (fault : TypeFault) → IsReadAs form text lines → IsLeastFault form lines fault.line fault.code
+      → HasTextFault form text (Typed fault)
 
 -- ---- how far the work goes
 
@@ -51,6 +54,11 @@ pub data HasTextFault (text : List ℕ) : ModuleFault → Type 0 where
 pub record AsksToShow (words : List (List ℕ)) : Type 0 where
   pub module_file : List ℕ
   pub command : command_of words ≡ Some (Show module_file)
+
+-- the words ask to rewrite the module of this file
+pub record AsksToRewrite (words : List (List ℕ)) : Type 0 where
+  pub module_file : List ℕ
+  pub command : command_of words ≡ Some (Rewrite module_file)
 
 -- the words ask for this run
 pub record AsksForRun (words : List (List ℕ)) : Type 0 where
@@ -63,7 +71,22 @@ pub record Shows (words : List (List ℕ)) (given : Given) : Type 0 where
   pub text : List ℕ
   pub taken : given.module_file ≡ Bytes text
   pub lines : List Line
-  pub accepted : IsAccepted text lines
+  pub accepted : IsAccepted text_forms.Source text lines
+
+-- the module to be rewritten is accepted
+pub record ReadsToRewrite (words : List (List ℕ)) (given : Given) : Type 0 where
+  pub asks : AsksToRewrite words
+  pub text : List ℕ
+  pub taken : given.module_file ≡ Bytes text
+  pub lines : List Line
+  pub accepted : IsAccepted text_forms.Source text lines
+
+-- and this is its rewritten module, which has no more relocates than may be
+pub record Rewrites (words : List (List ℕ)) (given : Given) : Type 0 where
+  pub reads : ReadsToRewrite words given
+  pub after : ModuleContent
+  pub is : IsRewritten (content_of reads.lines) after
+  pub few : HasFewRelocates (content_of reads.lines)
 
 -- the module to be run is accepted
 pub record ReadsModule (words : List (List ℕ)) (given : Given) : Type 0 where
@@ -71,7 +94,7 @@ pub record ReadsModule (words : List (List ℕ)) (given : Given) : Type 0 where
   pub text : List ℕ
   pub taken : given.module_file ≡ Bytes text
   pub lines : List Line
-  pub accepted : IsAccepted text lines
+  pub accepted : IsAccepted text_forms.Source text lines
 
 -- and the input's text has no fault, and these numbers
 pub record ReadsInput (words : List (List ℕ)) (given : Given) : Type 0 where
@@ -104,9 +127,11 @@ RunGives runs outcome = SourceGives (module_run runs) runs.reads.numbers (go run
 
 -- ---- the causes
 
--- the work comes to its end, with this output: a module is shown, or runs, and so ends by the source meaning
+-- the work comes to its end, with this output: a module is shown, or its rewritten module is, or it runs, and so ends by the
+-- source meaning
 pub data Ends (words : List (List ℕ)) (given : Given) : Output → Type 0 where
   by_showing : (shows : Shows words given) → Ends words given (shown (content_of shows.lines))
+  by_rewriting : (rewrites : Rewrites words given) → Ends words given (shown rewrites.after)
   by_running : (runs : Runs words given) (outcome : Outcome) → RunGives runs outcome → Ends words given (output_of (module_run runs) outcome)
 
 abbrev pub EndsWith : Status → List (List ℕ) → Given → Type 0
@@ -115,18 +140,25 @@ EndsWith status words given = (output : Output) × Ends words given output × (o
 abbrev pub NoCommand : List (List ℕ) → Given → Type 0
 NoCommand words given = command_of words ≡ None
 
--- the words name this file as that of a module
-pub data NamesModule (words : List (List ℕ)) : List ℕ → Type 0 where
-  to_show : (asks : AsksToShow words) → NamesModule words asks.module_file
-  to_run : (asks : AsksForRun words) → NamesModule words asks.request.code
+-- the words name this file as that of a module in this form
+pub data NamesModule (words : List (List ℕ)) : TextForm → List ℕ → Type 0 where
+  to_show : (asks : AsksToShow words) → NamesModule words text_forms.Source asks.module_file
+  to_rewrite : (asks : AsksToRewrite words) → NamesModule words text_forms.Source asks.module_file
+  to_run : (asks : AsksForRun words) → NamesModule words text_forms.Source asks.request.code
 
--- the module's text has this fault, its first
-pub record HasModuleFault (words : List (List ℕ)) (given : Given) (fault : ModuleFault) : Type 0 where
+-- the text of the module that the words name has this fault, its first
+pub record TextHasFault (words : List (List ℕ)) (given : Given) (fault : ModuleFault) : Type 0 where
+  pub form : TextForm
   pub name : List ℕ
-  pub names : NamesModule words name
+  pub names : NamesModule words form name
   pub text : List ℕ
   pub taken : given.module_file ≡ Bytes text
-  pub has : HasTextFault text fault
+  pub has : HasTextFault form text fault
+
+-- the module has this fault: its text does, or it is accepted and, rewritten, would have too many relocates
+pub data HasModuleFault (words : List (List ℕ)) (given : Given) : ModuleFault → Type 0 where
+  in_text : (fault : ModuleFault) → TextHasFault words given fault → HasModuleFault words given fault
+  too_many : (reads : ReadsToRewrite words given) → HasManyRelocates (content_of reads.lines) → HasModuleFault words given TooManyRelocations
 
 abbrev pub HasSomeModuleFault : List (List ℕ) → Given → Type 0
 HasSomeModuleFault words given = (fault : ModuleFault) × HasModuleFault words given fault
@@ -153,7 +185,7 @@ HasSomePlanFault words given = (fault : PlanFault) × HasPlanFault words given f
 
 -- the file of this name, which the words name, gave this, and nothing before it in the order of work refuses
 pub data FileGives (words : List (List ℕ)) (given : Given) (what : Taken) : List ℕ → Type 0 where
-  module_gives : (name : List ℕ) → NamesModule words name → given.module_file ≡ what → FileGives words given what name
+  module_gives : (form : TextForm) (name : List ℕ) → NamesModule words form name → given.module_file ≡ what → FileGives words given what name
   input_gives : (accepts : ReadsModule words given) → given.input ≡ what → FileGives words given what accepts.asks.request.input
   plan_gives : (reads : ReadsInput words given) → given.plan ≡ what → FileGives words given what reads.accepts.asks.request.plan
 

@@ -10,7 +10,7 @@ use Rattle.statepoint_tool.specs.Work.{Output, Given}
 use Rattle.statepoint_tool.specs.declared.refusal.Refusal.TheVariants.{Memory}
 use Rattle.statepoint_tool.specs.declared.request.RunRequest.{RunRequest}
 use Rattle.statepoint_tool.specs.declared.request.Command.{Command}
-use Rattle.statepoint_tool.specs.declared.request.Command.TheVariants.{Show, Source, Run}
+use Rattle.statepoint_tool.specs.declared.request.Command.TheVariants.{Show, Rewrite, Source, Run}
 use Rattle.statepoint_tool.specs.declared.status.Status.{Status}
 use Rattle.statepoint_tool.specs.declared.status.Status.TheVariants.{WantOfMemory, WriteFault}
 
@@ -30,6 +30,7 @@ RunIsTold files request given =
 abbrev pub AllTold : FilesSeen → Option Command → Given → Type 0
 AllTold files None given = ⊤
 AllTold files (Some (Show module_file)) given = IsTold files module_file given.module_file
+AllTold files (Some (Rewrite module_file)) given = IsTold files module_file given.module_file
 AllTold files (Some (Source request)) given = RunIsTold files request given
 AllTold files (Some (Run request)) given = RunIsTold files request given
 

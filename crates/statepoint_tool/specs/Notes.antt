@@ -6,7 +6,7 @@ use Rattle.statepoint_tool.specs.declared.refusal.Cause.{Cause}
 use Rattle.statepoint_tool.specs.declared.refusal.Cause.TheVariants.{Words, ReadFault, TooLong, Module, Input, Plan}
 use Rattle.statepoint_tool.specs.declared.refusal.ModuleFault.{ModuleFault}
 use Rattle.statepoint_tool.specs.declared.refusal.PlanFault.{PlanFault}
-use Rattle.statepoint_tool.specs.declared.refusal.ModuleFault.TheVariants.{Syntax, Limit, Typed}
+use Rattle.statepoint_tool.specs.declared.refusal.ModuleFault.TheVariants.{Syntax, Limit, Typed, TooManyRelocations}
 use Rattle.statepoint_tool.specs.declared.refusal.PlanFault.TheVariants as plan_fault
 use Rattle.statepoint_tool.specs.declared.refusal.Refusal.{Refusal}
 use Rattle.statepoint_tool.specs.declared.refusal.Refusal.TheVariants.{Defined, WriteFault, Memory}
@@ -17,6 +17,7 @@ abbrev pub module_fault_line : ModuleFault → List ℕ
 module_fault_line (Syntax line) = note_text (note.Module line 1)
 module_fault_line (Limit line) = note_text (note.Module line 2)
 module_fault_line (Typed fault) = note_text (note.Module fault.line fault.code)
+module_fault_line TooManyRelocations = note_text (note.Module 0 17)
 
 abbrev pub plan_fault_line : PlanFault → List ℕ
 plan_fault_line (plan_fault.Syntax line) = note_text (note.Plan line 1)

@@ -6,7 +6,7 @@ use Rattle.std.specs.Str.{bytes_eq}
 use Rattle.std.specs.Str.Parse.{digits_value}
 use Rattle.statepoint_tool.specs.declared.request.RunRequest.{RunRequest}
 use Rattle.statepoint_tool.specs.declared.request.Command.{Command}
-use Rattle.statepoint_tool.specs.declared.request.Command.TheVariants.{Show, Source, Run}
+use Rattle.statepoint_tool.specs.declared.request.Command.TheVariants.{Show, Rewrite, Source, Run}
 
 -- a word that may name a file: it isn't empty, and begins with `-` only where it is `-`
 abbrev pub names_file : List ℕ → Bool
@@ -40,9 +40,16 @@ run_of code input plan steps = option_map (λ request. Run request) (request_of 
 abbrev pub show_of : List ℕ → Option Command
 show_of module_file = if names_file module_file then Some (Show module_file) else None
 
+-- and so does `rewrite`
+abbrev pub rewrite_of : List ℕ → Option Command
+rewrite_of module_file = if names_file module_file then Some (Rewrite module_file) else None
+
 -- the commands that take a module, and those that take all that a run needs
 unfoldable pub of_module : (name module_file : List ℕ) → Option Command
-of_module name module_file = if bytes_eq name (codes "show") then show_of module_file else None
+of_module name module_file =
+    if bytes_eq name (codes "show") then show_of module_file
+    else if bytes_eq name (codes "rewrite") then rewrite_of module_file
+    else None
 
 unfoldable pub of_run : (name code input plan steps : List ℕ) → Option Command
 of_run name code input plan steps =

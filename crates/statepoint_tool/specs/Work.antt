@@ -1,14 +1,17 @@
--- The order of work: the words; then the module is taken, read and typed; to show it, its text is written; to run it,
--- the input is taken and read, then the plan, and it runs by the source meaning.
+-- The order of work: the words; then the module is taken, read and typed; to show it, its text is written; to rewrite
+-- it, that of its rewritten module; to run it, the input is taken and read, then the plan, and it runs by the source meaning.
 use Rattle.std.specs.Prelude.{ℕ, ℤ, ⊤, List, ◌++◌, Option, Some, None, Result, Ok, Err}
+use Rattle.ir_ast.specs.declared.modules.Form.{Form as TextForm}
 use Rattle.ir_ast.specs.declared.modules.Form.TheVariants as text_forms
-use Rattle.ir_ast.specs.Modules.{ModuleContent}
-use Rattle.ir_reader.specs.Text.{Numbered, Fault, syntax_fault, limit_fault, text_readings}
+use Rattle.ir_ast.specs.Modules.{ModuleContent, LinedModule}
+use Rattle.ir_reader.specs.Text.{Numbered, Fault, syntax_fault, limit_fault, readings_in}
 use Rattle.ir_lines.specs.declared.faults.Fault.{Fault as TypeFault}
 use Rattle.ir_lines.specs.Statements.{Line, lines_of}
 use Rattle.ir_types.specs.FaultSet.{HasNoFault, IsLeastFault}
 use Rattle.ir_lines.specs.Modules.{module_of}
 use Rattle.ir_printer.specs.Texts.{text_of}
+use Rattle.sp_rewrite.specs.Relocates.{HasFewRelocates, HasManyRelocates}
+use Rattle.sp_rewrite.specs.Statements.{IsRewritten}
 use Rattle.move_plan.specs.declared.plan_lines.PlanLine.{PlanLine}
 use Rattle.move_plan.specs.Inputs.{HasNoInputFault, IsFirstInputFault, IsInputOf}
 use Rattle.move_plan.specs.PlanFaults.{HasNoFault as HasNoPlanFault}
@@ -21,11 +24,11 @@ use Rattle.statepoint_tool.specs.Steps.{Step, Go, Stop, comes_to, Then}
 use Rattle.statepoint_tool.specs.Taken.{Taken, FilesSeen, MayGive, file_phase}
 use Rattle.statepoint_tool.specs.Words.{command_of}
 use Rattle.statepoint_tool.specs.declared.refusal.Cause.TheVariants.{Words, Module, Input, Plan}
-use Rattle.statepoint_tool.specs.declared.refusal.ModuleFault.TheVariants.{Syntax, Limit, Typed}
+use Rattle.statepoint_tool.specs.declared.refusal.ModuleFault.TheVariants.{Syntax, Limit, Typed, TooManyRelocations}
 use Rattle.statepoint_tool.specs.declared.refusal.PlanFault.{PlanFault}
 use Rattle.statepoint_tool.specs.declared.request.RunRequest.{RunRequest}
 use Rattle.statepoint_tool.specs.declared.request.Command.{Command}
-use Rattle.statepoint_tool.specs.declared.request.Command.TheVariants.{Show, Source, Run}
+use Rattle.statepoint_tool.specs.declared.request.Command.TheVariants.{Show, Rewrite, Source, Run}
 use Rattle.statepoint_tool.specs.declared.status.Status.{Status}
 use Rattle.statepoint_tool.specs.declared.status.Status.TheVariants.{Done}
 
@@ -57,19 +60,19 @@ read_step (Ok readings) = Go (lines_of readings)
 read_step (Err (syntax_fault line)) = Stop (Module (Syntax line))
 read_step (Err (limit_fault line)) = Stop (Module (Limit line))
 
-abbrev pub reading : List ℕ → Step (List Line) → Type 0
-reading text = comes_to (read_step (text_readings text))
+abbrev pub reading : TextForm → List ℕ → Step (List Line) → Type 0
+reading form text = comes_to (read_step (readings_in form text))
 
 abbrev pub content_of : List Line → ModuleContent
 content_of lines = (module_of text_forms.Source lines).content
 
 -- typing it: the module that the lines stand for where they have no fault, or else the least of their faults
-pub data Typing (lines : List Line) : Step ModuleContent → Type 0 where
-  faultless : HasNoFault text_forms.Source lines → Typing lines (Go (content_of lines))
-  faulty : (fault : TypeFault) → IsLeastFault text_forms.Source lines fault.line fault.code → Typing lines (Stop (Module (Typed fault)))
+pub data Typing (form : TextForm) (lines : List Line) : Step LinedModule → Type 0 where
+  faultless : HasNoFault form lines → Typing form lines (Go (module_of form lines))
+  faulty : (fault : TypeFault) → IsLeastFault form lines fault.line fault.code → Typing form lines (Stop (Module (Typed fault)))
 
-abbrev pub module_phase : List ℕ → Step ModuleContent → Type 0
-module_phase text = Then (reading text) Typing
+abbrev pub module_phase : TextForm → List ℕ → Step LinedModule → Type 0
+module_phase form text = Then (reading form text) (Typing form)
 
 -- reading an input: the numbers of its text, or the first line that is neither blank nor a number, or holds the first
 -- number too many
@@ -86,8 +89,20 @@ pub data ReadingPlan (text : List ℕ) : Step (List PlanLine) → Type 0 where
 abbrev pub shown : ModuleContent → Output
 shown content = record { text = text_of content; status = Done }
 
-abbrev pub show_phase : ModuleContent → Step Output → Type 0
-show_phase content = comes_to (Go (shown content))
+abbrev pub show_phase : LinedModule → Step Output → Type 0
+show_phase whole = comes_to (Go (shown whole.content))
+
+-- rewriting a module: its rewritten module, or that this would have too many relocates
+pub data Rewriting (content : ModuleContent) : Step ModuleContent → Type 0 where
+  rewritten : (after : ModuleContent) → IsRewritten content after → HasFewRelocates content → Rewriting content (Go after)
+  too_many : HasManyRelocates content → Rewriting content (Stop (Module TooManyRelocations))
+
+-- whose text is written
+abbrev pub after_rewriting : ModuleContent → Step Output → Type 0
+after_rewriting after = comes_to (Go (shown after))
+
+abbrev pub rewrite_phase : LinedModule → Step Output → Type 0
+rewrite_phase whole = Then (Rewriting whole.content) after_rewriting
 
 -- what a run writes that gives this outcome, and the status that it ends with
 abbrev pub output_of : ModuleContent → Outcome → Output
@@ -102,7 +117,11 @@ pub data Running (content : ModuleContent) (input : List ℤ) (plan : List PlanL
 
 -- the order of work of `show`
 abbrev pub show_work : List ℕ → Given → Step Output → Type 0
-show_work module_file given = Then (file_phase module_file module_phase given.module_file) show_phase
+show_work module_file given = Then (file_phase module_file (module_phase text_forms.Source) given.module_file) show_phase
+
+-- the order of work of `rewrite`
+abbrev pub rewrite_work : List ℕ → Given → Step Output → Type 0
+rewrite_work module_file given = Then (file_phase module_file (module_phase text_forms.Source) given.module_file) rewrite_phase
 
 -- the order of work of `source` and of `run`, from its last phase to its first
 abbrev pub after_input : (plan : List ℕ) → ModuleContent → List ℤ → ℕ → Taken → Step Output → Type 0
@@ -115,13 +134,14 @@ after_module input plan content steps given =
 
 abbrev pub run_work : RunRequest → Given → Step Output → Type 0
 run_work request given =
-    Then (file_phase request.code module_phase given.module_file)
-    (λ content. after_module request.input request.plan content request.steps (given.input, given.plan))
+    Then (file_phase request.code (module_phase text_forms.Source) given.module_file)
+    (λ (whole : LinedModule). after_module request.input request.plan whole.content request.steps (given.input, given.plan))
 
 -- the work that the words ask for
 abbrev pub command_work : Option Command → Given → Step Output → Type 0
 command_work None given = comes_to (Stop Words)
 command_work (Some (Show module_file)) given = show_work module_file given
+command_work (Some (Rewrite module_file)) given = rewrite_work module_file given
 command_work (Some (Source request)) given = run_work request given
 command_work (Some (Run request)) given = run_work request given
 
@@ -132,5 +152,6 @@ work words given = command_work (command_of words) given
 abbrev pub MayGiveNamed : FilesSeen → Option Command → Given → Type 0
 MayGiveNamed files None given = ⊤
 MayGiveNamed files (Some (Show module_file)) given = MayGiveShown files module_file given
+MayGiveNamed files (Some (Rewrite module_file)) given = MayGiveShown files module_file given
 MayGiveNamed files (Some (Source request)) given = MayGiveAll files request given
 MayGiveNamed files (Some (Run request)) given = MayGiveAll files request given

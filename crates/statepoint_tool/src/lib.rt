@@ -6,6 +6,7 @@ mod notes;
 mod phases;
 mod refusal;
 mod request;
+mod rewrite;
 mod run;
 mod show;
 mod status;

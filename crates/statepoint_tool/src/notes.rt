@@ -59,6 +59,7 @@ fn note_of_module(fault: &ModuleFault) -> Note<'static>
             line: fault.line,
             code: fault.code,
         },
+        ModuleFault::TooManyRelocations => Note::Module { line: 0, code: 17 },
     }
 }
 

@@ -47,7 +47,7 @@ pub(crate) fn take_module<F: Files>(
     name: FileName,
 ) -> Result<Module, Refusal>
     ensures read { Reads (files_seen (F.contents files.old) (F.faults files.old) (F.faults files.new)) name
-        module_phase (λ read. read.content) result }
+        (module_phase Source) (λ read. read) result }
     ensures formed { IfOk result (λ read. IsFormedModule read.content) }
     ensures source { IfOk result (λ read. IsSourceModule read.content) }
     ensures kept { F.contents files.new ≡ F.contents files.old }
@@ -90,7 +90,7 @@ pub(crate) fn take_plan<F: Files>(
 // The readings of a text.
 fn read_in(alloc: Global, text: &[u8]) -> Result<Raw<'_>, Refusal>
     requires { length text.now ≤ 16777216 }
-    ensures read { Agrees (λ raw. seen_lines raw.lines) result (reading text.now) }
+    ensures read { Agrees (λ raw. seen_lines raw.lines) result (reading Source text.now) }
     ensures form { IfOk result (λ raw. raw.form ≡ Source) }
 {
     match read(alloc, text) {
@@ -108,7 +108,7 @@ fn read_in(alloc: Global, text: &[u8]) -> Result<Raw<'_>, Refusal>
 // The module that readings stand for.
 fn type_in(alloc: Global, raw: Raw) -> Result<Module, Refusal>
     requires { raw.form ≡ Source }
-    ensures typed { Agrees (λ read. read.content) result (Typing (seen_lines raw.entry.lines)) }
+    ensures typed { Agrees (λ read. read) result (Typing Source (seen_lines raw.entry.lines)) }
     ensures formed { IfOk result (λ read. IsFormedModule read.content) }
     ensures source { IfOk result (λ read. IsSourceModule read.content) }
 {
@@ -123,7 +123,7 @@ fn type_in(alloc: Global, raw: Raw) -> Result<Module, Refusal>
 
 fn module_in(alloc: Global, text: &[u8]) -> Result<Module, Refusal>
     requires { length text.now ≤ 16777216 }
-    ensures read { Agrees (λ read. read.content) result (module_phase text.now) }
+    ensures read { Agrees (λ read. read) result (module_phase Source text.now) }
     ensures formed { IfOk result (λ read. IsFormedModule read.content) }
     ensures source { IfOk result (λ read. IsSourceModule read.content) }
 {

@@ -11,6 +11,8 @@ pub(crate) enum ModuleFault {
     Limit { line: u32 },
     /// The least fault of the lines.
     Typed(Fault),
+    /// Rewritten, the module would have more relocates than may be.
+    TooManyRelocations,
 }
 
 /// What is wrong with the text of a plan: its least fault.

@@ -57,6 +57,8 @@ pub(crate) struct RunRequest {
 pub(crate) enum Command {
     /// Write the text of the module.
     Show { module: FileName },
+    /// Write the text of the rewritten module.
+    Rewrite { module: FileName },
     /// Run the module by the source meaning, over the input and under the plan, for at most so many steps.
     Source(RunRequest),
     /// The same, of the rewritten module. No module is rewritten yet, so that this is the run of the source meaning.

@@ -33,9 +33,10 @@ pub(crate) fn show<F: Files, O: Sink>(
     show_module(&read, out)
 }
 
-fn show_module<O: Sink>(read: &Module, out: &mut O) -> Result<Status, Refusal>
+/// Writes the text of this module.
+pub(crate) fn show_module<O: Sink>(read: &Module, out: &mut O) -> Result<Status, Refusal>
     requires { IsFormedModule read.now.content }
-    ensures came { Came result (show_phase read.now.content)
+    ensures came { Came result (show_phase read.now)
         (sink_seen (O.written out.old) (O.written out.new) (O.faults out.old) (O.faults out.new)) }
     ensures out_counted { O.faults out.old ≤ O.faults out.new }
 {

@@ -12,6 +12,7 @@ ghost use Rattle.statepoint_tool.specs.Work.{MayGiveNamed, work as work_of};
 use crate::notes::put_note;
 use crate::refusal::{Cause, Refusal};
 use crate::request::Command;
+use crate::rewrite::rewrite;
 use crate::run::run;
 use crate::show::show;
 use crate::status::Status;
@@ -21,10 +22,10 @@ use tool_io::{Failed, Files, Sink};
 
 /// Does what the words ask for, and says how it ended. The first word is the program's name.
 ///
-/// `show` writes the text of the module. `source` and `run` write the lines of the source meaning, over the numbers of the
+/// `show` writes the text of the module, `rewrite` that of the rewritten module. `source` and `run` write the lines of the source meaning, over the numbers of the
 /// input and under the `go` lines of the plan, and then the line that closes the run.
 ///
-/// The work goes in this order: the words; the module is taken, read and typed; for `source` and `run` the input is taken
+/// The work goes in this order: the words; the module is taken, read and typed; for `rewrite` it is rewritten; for `source` and `run` the input is taken
 /// and read, then the plan, and the module runs. A run writes each line by one `put`, as it comes. A refusal puts one line on `notes`.
 ///
 /// What the files gave is what is told of them, or anything where nothing is told; a file could not be
@@ -151,6 +152,7 @@ fn work<F: Files, O: Sink>(
 {
     match command(alloc, words) {
         Ok(Command::Show { module }) => show(alloc, module, files, out),
+        Ok(Command::Rewrite { module }) => rewrite(alloc, module, files, out),
         Ok(Command::Source(request)) => run(alloc, request, files, out),
         Ok(Command::Run(request)) => run(alloc, request, files, out),
         Err(WordsFault::Words) => Err(Refusal::Defined(Cause::Words)),

@@ -1,7 +1,7 @@
 ghost use Rattle.std.specs.Prelude.{◌≡◌, Some, None, map, string_bytes, IfOk, IsErrOf};
 ghost use Rattle.std.specs.Char.{is_ascii_digit};
 ghost use Rattle.std.specs.List.{list_all};
-ghost use Rattle.statepoint_tool.specs.Words.{command_of, names_file, of_module, of_run, request_of, run_of, show_of, source_of, steps_of};
+ghost use Rattle.statepoint_tool.specs.Words.{command_of, names_file, of_module, of_run, request_of, rewrite_of, run_of, show_of, source_of, steps_of};
 
 use crate::request::{Command, FileName, RunRequest};
 use sp_ids::{Memory, limits};
@@ -53,6 +53,8 @@ fn of_module(alloc: Global, name: &str, module_name: &str) -> Result<Command, Wo
 {
     if name == "show" {
         show_command(alloc, module_name)
+    } else if name == "rewrite" {
+        rewrite_command(alloc, module_name)
     } else {
         Err(WordsFault::Words)
     }
@@ -89,6 +91,19 @@ fn show_command(alloc: Global, module_name: &str) -> Result<Command, WordsFault>
         return Err(WordsFault::Words);
     }
     Ok(Command::Show {
+        module: FileName::of(alloc, module_name)?,
+    })
+}
+
+// The command `rewrite` over this word.
+fn rewrite_command(alloc: Global, module_name: &str) -> Result<Command, WordsFault>
+    ensures gives { IfOk result (λ command. rewrite_of module_name.now ≡ Some command) }
+    ensures none { IsErrOf result WordsFault.Words → rewrite_of module_name.now ≡ None }
+{
+    if !may_name_file(module_name) {
+        return Err(WordsFault::Words);
+    }
+    Ok(Command::Rewrite {
         module: FileName::of(alloc, module_name)?,
     })
 }

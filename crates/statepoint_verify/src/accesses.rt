@@ -1,5 +1,6 @@
 ghost use Rattle.std.specs.Prelude.{◌≡◌, ◌<◌, length};
-ghost use Rattle.ir_ast.specs.Cells.{kind_of};
+ghost use Rattle.ir_ast.specs.Cells.{kind_of, type_of};
+ghost use Rattle.ir_ast.specs.declared.cells.Cell.{Cell};
 ghost use Rattle.object_meaning.specs.Accesses.{cell_of};
 ghost use Rattle.pair_facts.specs.Lines.{lines_at};
 ghost use Rattle.pair_facts.specs.Uses.{accessed_at, is_checked};
@@ -60,11 +61,13 @@ fn is_check(op: &Op) -> bool
     }
 }
 
+// The kind of the cell that has a type: of each cell, so that a cell more isn't taken for another.
 fn kind_of(ty: Ty) -> u64
-    ensures { result ≡ kind_of (cell_of ty) }
+    ensures value { result ≡ kind_of (cell_of ty) }
+    ensures each { (cell : Cell) → ty ≡ type_of cell → result ≡ kind_of cell }
 {
     match ty {
         Ty::Ptr => 1,
-        _ => 0,
+        Ty::Void | Ty::Int(_) | Ty::Token => 0,
     }
 }

@@ -1,4 +1,4 @@
-use Rattle.std.proofs.Common.{◌∙◌, ℕ, refl, ap, arith, List, map, get_or, take}
+use Rattle.std.proofs.Common.{refl, ap, List, map, get_or}
 use Rattle.std.proofs.lemmas.List.{take_more, take_all}
 use Rattle.sp_ids.specs.declared.ids.BlockId.{BlockId}
 use Rattle.ssa_rebuild.specs.Rows.{inserted_entries}

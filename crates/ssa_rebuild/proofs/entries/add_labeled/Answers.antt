@@ -1,9 +1,8 @@
-use Rattle.std.proofs.Common.{◌∙◌, ◌≡◌, ◌<◌, ◌≤◌, ◌⊎◌, inl, inr, ℕ, refl, ap, arith, List, length, get_or, take, min, []}
+use Rattle.std.proofs.Common.{◌≡◌, ◌<◌, ◌≤◌, ◌⊎◌, inl, inr, ℕ, refl, arith, List, length, take, min, []}
 use Rattle.std.proofs.lemmas.Bool.{cases_lt}
 use Rattle.std.proofs.lemmas.Option.{slice_get-get_or}
 use Rattle.sp_ids.specs.declared.ids.BlockId.{BlockId}
 use Rattle.ir_ast.specs.declared.ops.Operand.{Operand}
-use Rattle.ir_ast.specs.declared.ops.Operand.TheVariants.{Null}
 use Rattle.ssa_rebuild.specs.Rows.{entries_for}
 use Rattle.ssa_rebuild.proofs.RowLemmas.{grows_none, grows_both, grows_same, entries_more, entries_short}
 use Rattle.ssa_rebuild.proofs.entries.add_labeled.Goals as goal

@@ -1,9 +1,8 @@
-use Rattle.std.proofs.Common.{◌∙◌, ◌≡◌, ℕ, Bool, true, false, if◌then◌else◌, [], refl, ap, sym, List, arith}
+use Rattle.std.proofs.Common.{◌∙◌, Bool, if◌then◌else◌, [], ap, sym, List}
 use Rattle.sp_ids.specs.declared.ids.BlockId.{BlockId}
 use Rattle.ir_ast.specs.declared.ops.Operand.{Operand}
-use Rattle.ir_ast.specs.declared.ops.Op.{Op}
 use Rattle.ir_ast.specs.Faults.PhiEdges.{is_phi}
-use Rattle.ssa_rebuild.specs.Rows.{entries_for, phi_entries}
+use Rattle.ssa_rebuild.specs.Rows.{entries_for}
 use Rattle.ssa_rebuild.proofs.RowLemmas.{grows_none, grows_same}
 use Rattle.ssa_rebuild.proofs.entries.add_phi.Goals as goal
 

@@ -1,4 +1,4 @@
-use Rattle.std.proofs.Common.{◌∙◌, ℕ, refl, ap, arith, List, take}
+use Rattle.std.proofs.Common.{refl, ap, List, take}
 use Rattle.std.specs.List.{flat_map}
 use Rattle.std.proofs.lemmas.List.{take_all}
 use Rattle.ir_ast.specs.Insts.{Instruction}

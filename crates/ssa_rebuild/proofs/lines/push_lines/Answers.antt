@@ -1,6 +1,5 @@
-use Rattle.std.proofs.Common.{◌∙◌, ◌≡◌, ◌++◌, ap, sym, refl, List, arith, map, drop, append-nil}
+use Rattle.std.proofs.Common.{◌∙◌, ◌++◌, ap, sym, List, arith, map, append-nil}
 use Rattle.std.proofs.lemmas.List.{drop_all}
-use Rattle.std.proofs.lemmas.Option.{slice_get-get_or}
 use Rattle.list_laws.proofs.Places.{drop_item}
 use Rattle.ir_ast.specs.Insts.{Instruction}
 use Rattle.object_meaning.specs.TargetRuns.{plain_lines}

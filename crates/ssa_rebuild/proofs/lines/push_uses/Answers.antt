@@ -1,6 +1,5 @@
-use Rattle.std.proofs.Common.{arith, get_or, take}
+use Rattle.std.proofs.Common.{take}
 use Rattle.std.proofs.lemmas.List.{take_more}
-use Rattle.ir_ast.specs.declared.ops.Operand.TheVariants.{Null}
 use Rattle.ssa_rebuild.specs.Rows.{uses_of}
 use Rattle.ssa_rebuild.proofs.RowLemmas.{added_more, uses_append}
 use Rattle.ssa_rebuild.proofs.lines.push_uses.Goals as goal

@@ -1,4 +1,4 @@
-use Rattle.std.proofs.Common.{◌∙◌, ◌≡◌, ◌++◌, ◌∷◌, [], ℕ, Bool, false, ◌||◌, List, map, take, get_or, refl, ap, arith}
+use Rattle.std.proofs.Common.{◌∙◌, ◌∷◌, [], Bool, false, ◌||◌, List, map, take, get_or, ap}
 use Rattle.std.specs.List.{list_any}
 use Rattle.std.proofs.lemmas.List.{take_all, map-append}
 use Rattle.rewriting_forms.specs.Numbered.{among}

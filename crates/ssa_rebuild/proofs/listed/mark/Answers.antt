@@ -1,5 +1,4 @@
-use Rattle.std.proofs.Common.{◌∙◌, ◌≡◌, ◌<◌, ◌++◌, ◌∷◌, [], Bool, false, List, get_or, length, refl, ap, arith}
-use Rattle.std.proofs.lemmas.List.{length_push}
+use Rattle.std.proofs.Common.{◌∙◌, Bool, false, List, get_or, ap, arith}
 use Rattle.ssa_rebuild.proofs.MarkLemmas.{push_same, marks_set}
 use Rattle.ssa_rebuild.proofs.listed.mark.Goals as goal
 

@@ -1,4 +1,4 @@
-use Rattle.std.proofs.Common.{◌∙◌, ◌≡◌, ◌++◌, ◌∷◌, [], ℕ, List, map, take, get_or, eqb, ◌+◌, ◌||◌, refl, ap, subst, arith}
+use Rattle.std.proofs.Common.{◌∙◌, ◌≡◌, ◌++◌, ◌∷◌, [], ℕ, List, map, take, eqb, ◌+◌, ◌||◌, ap, subst}
 use Rattle.std.proofs.lemmas.List.{take_more, take_all, map-append}
 use Rattle.rewriting_forms.specs.Numbered.{among}
 use Rattle.statepoint_insert.specs.declared.groups.Relocate.{Relocate}

@@ -1,4 +1,5 @@
 use Rattle.std.proofs.lemmas.Result.{err_from_is_err_and}
+use Rattle.ir_ast.specs.Modules.{LinedModule}
 use Rattle.statepoint_tool.specs.Taken.{files_seen}
 use Rattle.statepoint_tool.specs.Work.{MayGiveBoth, after_module}
 use Rattle.statepoint_tool.proofs.GivenLaws.{MayGive-as_told, MayGive-earlier, as_told}
@@ -9,7 +10,7 @@ pub returns-in_err-read-clause-works : goal.returns-in_err-read-clause-works
 returns-in_err-read-clause-works g c =
     let files = files_seen (g.F.Files.contents c.args.files.now) (g.F.Files.faults c.args.files.now) (g.F.Files.faults c.take_module.new.files) in
     let exit = err_from_is_err_and c.from_residual.result c.from_residual.ensures.1 in
-    rw (exit.1, exit.2) (Works-given (Works-stops (λ content. after_module c.args.request.input c.args.request.plan content c.args.request.steps)
+    rw (exit.1, exit.2) (Works-given (Works-stops (λ (whole : LinedModule). after_module c.args.request.input c.args.request.plan whole.content c.args.request.steps)
     (MayGiveBoth files c.args.request.input c.args.request.plan)
     (as_told files c.args.request.input, as_told files c.args.request.plan)
     (MayGive-as_told files c.args.request.input, MayGive-as_told files c.args.request.plan)
@@ -21,7 +22,7 @@ returns-clause-works g c =
     let files = files_seen (g.F.Files.contents c.args.files.now) (g.F.Files.faults c.args.files.now) after in
     let kept = c.in_ok-read.ensures.kept in
     let counted = c.in_ok-read.ensures.counted in
-    Works-given (Works-goes_on (λ content. after_module c.args.request.input c.args.request.plan content c.args.request.steps)
+    Works-given (Works-goes_on (λ (whole : LinedModule). after_module c.args.request.input c.args.request.plan whole.content c.args.request.steps)
     (MayGiveBoth files c.args.request.input c.args.request.plan)
     (λ given may. (
       MayGive-earlier _ _ _ _ after c.args.request.input given.0 kept counted may.0,

@@ -1,4 +1,4 @@
-use Rattle.std.proofs.Common.{◌∙◌, ◌≡◌, ◌+◌, ap, sym, arith, length, length-append}
+use Rattle.std.proofs.Common.{◌∙◌, ap, arith, length, length-append}
 use Rattle.list_laws.proofs.Places.{drop_item}
 use Rattle.ssa_rebuild.proofs.RowLemmas.{starts_on, owns_on, room_more}
 use Rattle.ssa_rebuild.proofs.numbers.Numbers.of.Goals as goal

@@ -1,4 +1,4 @@
-use Rattle.std.proofs.Common.{◌∙◌, sym, refl, ap, length, take, drop, List, [], ◌∷◌, ◌++◌, arith, append-nil}
+use Rattle.std.proofs.Common.{◌∙◌, sym, refl, ap, length, take, List, ◌++◌, arith, append-nil}
 use Rattle.std.proofs.lemmas.List.{length-set, drop_all, take_all}
 use Rattle.std.proofs.lemmas.Option.{slice_get_read}
 use Rattle.ssa_rebuild.specs.declared.slots.Slot.{Slot}

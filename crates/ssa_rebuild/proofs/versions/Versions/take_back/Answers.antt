@@ -1,5 +1,5 @@
-use Rattle.std.proofs.Common.{◌∙◌, ◌<◌, ◌≤◌, ◌++◌, sym, refl, ap, length, take, drop, List, arith, length-append}
-use Rattle.std.proofs.lemmas.List.{drop_all, take_all, length-take}
+use Rattle.std.proofs.Common.{◌∙◌, ◌≤◌, ◌++◌, sym, refl, ap, length, List, arith}
+use Rattle.std.proofs.lemmas.List.{drop_all, take_all}
 use Rattle.std.specs.Option.{option_to_list}
 use Rattle.std.specs.Global.{Vec}
 use Rattle.ssa_rebuild.specs.declared.versions.Change.{Change}

@@ -1,5 +1,4 @@
-use Rattle.std.proofs.Common.{◌≡◌, length, take, drop}
-use Rattle.ssa_rebuild.specs.Slots.{taken_back}
+use Rattle.std.proofs.Common.{length}
 use Rattle.ssa_rebuild.proofs.SlotLemmas.{TakesOn}
 use Rattle.ssa_rebuild.proofs.versions.Versions.take_back.Given as goal
 

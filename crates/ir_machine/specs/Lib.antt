@@ -1,0 +1,3 @@
+pub mod Executors
+pub mod Events
+pub mod Answers

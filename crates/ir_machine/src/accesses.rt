@@ -1,0 +1,187 @@
+//! Lines that touch pointers.
+
+ghost use Rattle.std.specs.Prelude.{◌≡◌, ◌%◌, ◌^◌, ◌==◌, ◌&&◌, IfOk};
+ghost use Rattle.ir_ast.specs.Sizes.{begins_at, fields_in};
+ghost use Rattle.object_meaning.specs.Accesses.{cell_named};
+ghost use Rattle.object_meaning.specs.Comparisons.{bit};
+ghost use Rattle.object_meaning.specs.Computing.{element_bytes, field_bytes};
+ghost use Rattle.object_meaning.specs.Numbers.{width_of};
+ghost use Rattle.machine_meaning.specs.Machines.{Machine};
+ghost use Rattle.machine_meaning.specs.MachineSteps.{denied, stepped_word};
+ghost use Rattle.ir_machine.specs.Executors.{machinery, effect_of, DoesSo, acts_at, calls_at};
+
+use crate::executor::{Did, Executor, Program};
+use flat_code::width_of;
+use ir_ast::{Callee, Cell, Elem, Inst, Layout, Op, Operand, Ty};
+use moving_heap::Deny;
+use sp_ids::{End, Memory, Trap, sign};
+
+impl<'m, 'i> Executor<'m, 'i> {
+    // `getelementptr` adds to the word.
+    pub(crate) fn advance(
+        &mut self,
+        program: &Program<'m, '_>,
+        inst: &Inst,
+        rest: &'m [Inst],
+        elem: Elem,
+        index_width: u32,
+        place: Option<u32>,
+    ) -> Result<Did, Memory>
+        requires is { inst.now.op ≡ Op.Gep elem index_width place }
+        ensures { IfOk result (DoesSo (acts_at (machinery program.now) self.old inst.now rest.now inst.now.op) self.new) }
+    {
+        let layouts = program.code.module().layouts();
+        let from = self.word(inst, 0);
+        let index = self.word(inst, 1);
+        let word = stepped_word(layouts, elem, index_width, place, from, index);
+        self.pass(inst, rest, word)
+    }
+
+    pub(crate) fn load(
+        &mut self,
+        program: &Program<'m, '_>,
+        inst: &Inst,
+        rest: &'m [Inst],
+    ) -> Result<Did, Memory>
+        requires is { inst.now.op ≡ Op.Load }
+        ensures { IfOk result (DoesSo (acts_at (machinery program.now) self.old inst.now rest.now inst.now.op) self.new) }
+    {
+        match self.heap.load(self.word(inst, 0)) {
+            Ok(word) => self.pass(inst, rest, word),
+            Err(deny) => Ok(denied(deny)),
+        }
+    }
+
+    pub(crate) fn store(
+        &mut self,
+        program: &Program<'m, '_>,
+        inst: &Inst,
+        rest: &'m [Inst],
+    ) -> Result<Did, Memory>
+        requires is { inst.now.op ≡ Op.Store }
+        ensures { IfOk result (DoesSo (acts_at (machinery program.now) self.old inst.now rest.now inst.now.op) self.new) }
+    {
+        let word = self.word(inst, 0);
+        let place = self.word(inst, 1);
+        match self.heap.store(place, word) {
+            Ok(()) => self.pass(inst, rest, 0),
+            Err(deny) => Ok(denied(deny)),
+        }
+    }
+
+    pub(crate) fn check(
+        &mut self,
+        program: &Program<'m, '_>,
+        inst: &Inst,
+        rest: &[Inst],
+        operands: &[Operand],
+    ) -> Result<Did, Memory>
+        ensures { IfOk result (DoesSo (calls_at (machinery program.now) self.old inst.now rest.now Callee.Check operands.now) self.new) }
+    {
+        let base = self.word(inst, 0);
+        let place = self.word(inst, 1);
+        let kind = cell_named(self.word(inst, 2));
+        match self.heap.check(base, place, kind) {
+            Ok(()) => self.go_on(0),
+            Err(deny) => Ok(denied(deny)),
+        }
+    }
+
+    pub(crate) fn same(
+        &mut self,
+        program: &Program<'m, '_>,
+        inst: &Inst,
+        rest: &[Inst],
+        operands: &[Operand],
+    ) -> Result<Did, Memory>
+        ensures { IfOk result (DoesSo (calls_at (machinery program.now) self.old inst.now rest.now Callee.Same operands.now) self.new) }
+    {
+        let base = self.word(inst, 0);
+        let place = self.word(inst, 1);
+        let other_base = self.word(inst, 2);
+        let other_place = self.word(inst, 3);
+        self.go_on(same_bit(base, place, other_base, other_place))
+    }
+}
+
+fn denied(deny: Deny) -> Did
+    ensures { (machine : Machine) → effect_of result machine ≡ denied machine deny }
+{
+    match deny {
+        Deny::Null => Did::Ends(End::Trap(Trap::Null)),
+        Deny::Bounds => Did::Ends(End::Trap(Trap::Bounds)),
+        Deny::Kind => Did::Ends(End::Trap(Trap::Kind)),
+        Deny::Poison => Did::Ends(End::Poison),
+    }
+}
+
+// Whether two pointers are the same: equal bases and equal addresses.
+fn same_bit(base: u64, place: u64, other_base: u64, other_place: u64) -> u64
+    ensures { result ≡ bit ((base == other_base) && (place == other_place)) }
+{
+    u64::from(base == other_base && place == other_place)
+}
+
+fn cell_named(kind: u64) -> Cell
+    ensures { result ≡ cell_named kind }
+{
+    if kind == 1 { Cell::Ptr } else { Cell::I64 }
+}
+
+fn stepped_word(
+    layouts: &[Layout],
+    elem: Elem,
+    index_width: u32,
+    place: Option<u32>,
+    from: u64,
+    index: u64,
+) -> u64
+    ensures { result ≡ stepped_word layouts.now elem (width_of (Ty.Int index_width)) place from index }
+{
+    let times = sign(width_of(&Ty::Int(index_width)), index).cast_unsigned();
+    let step = times.wrapping_mul(element_bytes(layouts, elem));
+    let by = step.wrapping_add(field_bytes(layouts, elem, place));
+    from.wrapping_add(by)
+}
+
+fn element_bytes(layouts: &[Layout], elem: Elem) -> u64
+    ensures { result ≡ element_bytes layouts.now elem % 2 ^ 64 }
+{
+    match elem {
+        Elem::Int(width) => u64::from(width / 8),
+        Elem::Ptr => 8,
+        Elem::Layout(layout) => (fields_of(layouts, layout).len() as u64).wrapping_mul(8),
+    }
+}
+
+fn field_bytes(layouts: &[Layout], elem: Elem, place: Option<u32>) -> u64
+    ensures { result ≡ field_bytes layouts.now elem place }
+{
+    match elem {
+        Elem::Layout(layout) => match place {
+            None => 0,
+            Some(place) => begins_at(fields_of(layouts, layout), place),
+        },
+        _ => 0,
+    }
+}
+
+fn begins_at(fields: &[Cell], place: u32) -> u64
+    ensures { result ≡ begins_at fields.now place }
+{
+    if (place as usize) < fields.len() {
+        8 * u64::from(place)
+    } else {
+        0
+    }
+}
+
+/// The fields of a layout, by its place.
+pub(crate) fn fields_of(layouts: &[Layout], layout: u32) -> &[Cell]
+    ensures { result.now ≡ fields_in layouts.now layout }
+{
+    match layouts.get(layout as usize) {
+        None => &[],
+        Some(layout) => layout.fields(),
+    }
+}

@@ -1,0 +1,239 @@
+//! A step: the line at which the running frame stands.
+
+ghost use Rattle.std.specs.Prelude.{◌≡◌, ◌∷◌, ◌<◌, map, take, drop, length, true, IfOk, IfSome};
+ghost use Rattle.std.specs.List.{position};
+ghost use Rattle.ir_ast.specs.Objects.{number};
+ghost use Rattle.object_meaning.specs.Calls.{stepped};
+ghost use Rattle.object_meaning.specs.Effects.{goes_on, ends};
+ghost use Rattle.object_meaning.specs.Jumps.{jumped, label_at, branch_taken, case_taken, is_case};
+ghost use Rattle.object_meaning.specs.Lines.{following};
+ghost use Rattle.object_meaning.specs.Registers.{operand};
+ghost use Rattle.machine_meaning.specs.Machines.{lifted};
+ghost use Rattle.machine_meaning.specs.MachineSteps.{machine_step, passes};
+ghost use Rattle.machine_meaning.specs.Words.{worded_operand};
+ghost use Rattle.machine_frames.specs.Frames.{line_of, lines_left, is_plain};
+ghost use Rattle.ir_machine.specs.Executors.{machinery, seen, DoesSo, acts_at, calls_kept, skipped_at};
+
+use crate::executor::{Did, Executor, Program};
+use ir_ast::{Callee, Inst, Op, Operand};
+use machine_frames::{computed, front_of, is_plain, keep, word_at, write_over};
+use sp_ids::{BlockId, End, Memory, Trap};
+
+impl<'m, 'i> Executor<'m, 'i> {
+    /// One step of the running task.
+    pub fn step(&mut self, program: &Program<'m, '_>) -> Result<Did, Memory>
+        ensures { IfOk result (DoesSo (machine_step (machinery program.now) (seen self.old)) self.new) }
+    {
+        match front_of(self.run.frame.rest) {
+            None => Ok(Did::Ends(End::Trap(Trap::Unreachable))),
+            Some(parts) => self.act(program, parts.0, parts.1),
+        }
+    }
+
+    fn act(
+        &mut self,
+        program: &Program<'m, '_>,
+        inst: &Inst,
+        rest: &'m [Inst],
+    ) -> Result<Did, Memory>
+        requires stands { self.old.run.frame.rest.now ≡ inst.now ∷ rest.now }
+        ensures { IfOk result (DoesSo (acts_at (machinery program.now) self.old inst.now rest.now inst.now.op) self.new) }
+    {
+        if is_plain(inst.op()) {
+            return self.compute(program, inst, rest);
+        }
+        match inst.op() {
+            Op::Gep {
+                elem,
+                index_width,
+                place,
+            } => self.advance(program, inst, rest, *elem, *index_width, *place),
+            Op::Load => self.load(program, inst, rest),
+            Op::Store => self.store(program, inst, rest),
+            Op::Call { callee, .. } => self.call(program, inst, rest, *callee, inst.operands()),
+            Op::Statepoint { callee, types, .. } => {
+                self.statepoint(program, inst, rest, *callee, types.list().len())
+            }
+            Op::Ret => self.ret(program, inst, rest),
+            Op::Br => self.jump(program, label_at(inst.labels(), 0)),
+            Op::CondBr => self.branch(program, inst),
+            Op::Switch => self.switch(program, inst),
+            Op::Unreachable => Ok(self.unreachable(program)),
+            Op::Phi => self.skip(inst, rest),
+            Op::GcResult => self.skip(inst, rest),
+            Op::GcRelocate => self.skip(inst, rest),
+            _ => Err(Memory),
+        }
+    }
+
+    // The word of an operand of the line at which the running frame stands.
+    pub(crate) fn word(&self, inst: &Inst, place: usize) -> u64
+        ensures { operand (map number self.now.run.frame.registers.items) (map worded_operand inst.now.operands) place ≡ number result }
+    {
+        word_at(self.run.frame.registers.as_slice(), inst.operands(), place)
+    }
+
+    // The running frame goes on behind the line with this word.
+    pub(crate) fn pass(&mut self, inst: &Inst, rest: &'m [Inst], word: u64) -> Result<Did, Memory>
+        ensures { IfOk result (DoesSo (goes_on (passes (seen self.old) (line_of self.old.run.frame.next inst.now) (lines_left (following self.old.run.frame.next inst.now) rest.now) word)) self.new) }
+    {
+        self.run.frame.pass(inst, rest, word)?;
+        Ok(Did::GoesOn)
+    }
+
+    fn compute(
+        &mut self,
+        program: &Program<'m, '_>,
+        inst: &Inst,
+        rest: &'m [Inst],
+    ) -> Result<Did, Memory>
+        requires plain { is_plain inst.now.op ≡ true }
+        ensures { IfOk result (DoesSo (acts_at (machinery program.now) self.old inst.now rest.now inst.now.op) self.new) }
+    {
+        let first = self.word(inst, 0);
+        let second = self.word(inst, 1);
+        let third = self.word(inst, 2);
+        match computed(inst.op(), inst.ty(), first, second, third) {
+            Ok(word) => self.pass(inst, rest, word),
+            Err(trap) => Ok(Did::Ends(End::Trap(trap))),
+        }
+    }
+
+    // A phi took effect at the jump, and a group's members with their statepoint.
+    fn skip(&mut self, inst: &Inst, rest: &'m [Inst]) -> Result<Did, Memory>
+        ensures { IfOk result (DoesSo (goes_on (skipped_at self.old inst.now rest.now)) self.new) }
+    {
+        self.run.frame.skip(inst, rest)?;
+        Ok(Did::GoesOn)
+    }
+
+    // A statepoint keeps its entries in slots, and calls.
+    fn statepoint(
+        &mut self,
+        program: &Program<'m, '_>,
+        inst: &Inst,
+        rest: &'m [Inst],
+        callee: Callee,
+        arguments: usize,
+    ) -> Result<Did, Memory>
+        requires stands { self.old.run.frame.rest.now ≡ inst.now ∷ rest.now }
+        ensures { IfOk result (DoesSo (calls_kept (machinery program.now) self.old inst.now rest.now callee arguments) self.new) }
+    {
+        keep(
+            &mut self.words,
+            self.run.frame.registers.as_slice(),
+            inst,
+            arguments,
+        )?;
+        write_over(&mut self.run.stack, self.words.as_slice())?;
+        self.call(
+            program,
+            inst,
+            rest,
+            callee,
+            front(inst.operands(), arguments),
+        )
+    }
+
+    pub(crate) fn jump(&mut self, program: &Program<'m, '_>, block: u32) -> Result<Did, Memory>
+        ensures { IfOk result (DoesSo (lifted (seen self.old) (stepped (machinery program.now).setting (seen self.old).state (jumped (machinery program.now).setting block))) self.new) }
+    {
+        let bound = program.bound;
+        if self.steps >= bound {
+            return Ok(Did::Ends(End::OutOfSteps));
+        }
+        self.steps += 1;
+        self.run
+            .frame
+            .arrive(&program.code, &mut self.moves, block)?;
+        Ok(Did::GoesOn)
+    }
+
+    fn branch(&mut self, program: &Program<'m, '_>, inst: &Inst) -> Result<Did, Memory>
+        ensures { IfOk result (DoesSo (lifted (seen self.old) (stepped (machinery program.now).setting (seen self.old).state (jumped (machinery program.now).setting (label_at inst.now.labels (branch_taken (operand (map number self.old.run.frame.registers.items) (map worded_operand inst.now.operands) 0)))))) self.new) }
+    {
+        let taken = branch_taken(self.word(inst, 0));
+        self.jump(program, label_at(inst.labels(), taken))
+    }
+
+    fn switch(&mut self, program: &Program<'m, '_>, inst: &Inst) -> Result<Did, Memory>
+        ensures { IfOk result (DoesSo (lifted (seen self.old) (stepped (machinery program.now).setting (seen self.old).state (jumped (machinery program.now).setting (label_at inst.now.labels (case_taken (operand (map number self.old.run.frame.registers.items) (map worded_operand inst.now.operands) 0) (drop 1 (map worded_operand inst.now.operands))))))) self.new) }
+    {
+        let taken = case_taken(self.word(inst, 0), inst.operands());
+        self.jump(program, label_at(inst.labels(), taken))
+    }
+
+    fn unreachable(&mut self, program: &Program<'m, '_>) -> Did
+        ensures { DoesSo (lifted (seen self.old) (stepped (machinery program.now).setting (seen self.old).state (ends (End.Trap Trap.Unreachable)))) self.new result }
+    {
+        let bound = program.bound;
+        if self.steps >= bound {
+            Did::Ends(End::OutOfSteps)
+        } else {
+            self.steps += 1;
+            Did::Ends(End::Trap(Trap::Unreachable))
+        }
+    }
+}
+
+// Which label of a `br` with a condition is taken.
+fn branch_taken(word: u64) -> usize
+    ensures { result ≡ branch_taken (number word) }
+{
+    if word > 0 { 0 } else { 1 }
+}
+
+fn label_at(labels: &[BlockId], place: usize) -> u32
+    ensures { result ≡ label_at labels.now place }
+{
+    match labels.get(place) {
+        None => 0,
+        Some(label) => label.0,
+    }
+}
+
+// Which label of a `switch` is taken: the first equal case's, or the default's, which stands first.
+fn case_taken(word: u64, operands: &[Operand]) -> usize
+    ensures { result ≡ case_taken (number word) (drop 1 (map worded_operand operands.now)) }
+{
+    match place_of(word, cases_of(operands)) {
+        None => 0,
+        Some(place) => place + 1,
+    }
+}
+
+fn cases_of(operands: &[Operand]) -> &[Operand]
+    ensures { result.now ≡ drop 1 operands.now }
+{
+    match operands {
+        [] => &[],
+        [_value, cases @ ..] => cases,
+    }
+}
+
+fn place_of(number: u64, cases: &[Operand]) -> Option<usize>
+    ensures value { result ≡ position (λ one. is_case number (worded_operand one)) cases.now }
+    ensures within { IfSome result (λ place. place < length cases.now) }
+{
+    cases.iter().position(|one| is_case(number, one))
+}
+
+fn is_case(number: u64, operand: &Operand) -> bool
+    ensures { result ≡ is_case number (worded_operand operand.now) }
+{
+    match operand {
+        Operand::Int(literal) => *literal == number,
+        Operand::Null => number == 0,
+        _ => false,
+    }
+}
+
+fn front(operands: &[Operand], count: usize) -> &[Operand]
+    ensures { result.now ≡ take count operands.now }
+{
+    if count < operands.len() {
+        &operands[..count]
+    } else {
+        operands
+    }
+}

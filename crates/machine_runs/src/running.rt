@@ -1,0 +1,69 @@
+//! A run of a text's module.
+
+ghost use Rattle.std.specs.Prelude.{◌≤◌, length, vec_len, IfOk};
+ghost use Rattle.std.specs.List.{All};
+ghost use Rattle.sp_ids.specs.declared.limits.TheConstants.{FILE_BYTES};
+ghost use Rattle.ir_ast.specs.Bundles.{HasNoBundle};
+ghost use Rattle.ir_cfg.specs.TargetModules.{IsTargetModule};
+
+use anyhow::{Result, bail};
+use frame_slots::Layouts;
+use ir_ast::Module;
+use ir_machine::run_any;
+use ir_reader::read_rewritten;
+use ir_types::typed_rewritten;
+use move_plan::{Plan, read_input};
+use sp_ids::limits::FILE_BYTES;
+use stackmap_write::write;
+use tool_io::{DiskFiles, Files, OutSink, TakeFault};
+
+/// Runs the module of a file in the rewritten form over its own map, and writes what it prints and how it ended.
+pub(crate) fn show_run(
+    rt: &HostRuntime,
+    module: &str,
+    input: &str,
+    plan: &str,
+    steps: u64,
+) -> Result<()> {
+    let alloc = rt.alloc();
+    let text = taken(rt, module)?;
+    let numbers = taken(rt, input)?;
+    let lines = taken(rt, plan)?;
+    let Ok(raw) = read_rewritten(alloc, &text) else {
+        bail!("the module has a fault");
+    };
+    let whole = typed_rewritten(alloc, raw)?;
+    let Ok(input) = read_input(alloc, &numbers) else {
+        bail!("the input has a fault");
+    };
+    let Ok(plan) = Plan::read(alloc, &lines) else {
+        bail!("the plan has a fault");
+    };
+    run(rt, &whole, &input, &plan, steps)
+}
+
+fn run(rt: &HostRuntime, whole: &Module, input: &[i64], plan: &Plan, steps: u64) -> Result<()>
+    requires target { IsTargetModule whole.now.content }
+    requires no_bundle { All HasNoBundle whole.now.content.funcs }
+{
+    let alloc = rt.alloc();
+    let layouts = Layouts::of(alloc, whole)?;
+    let map = write(alloc, whole, &layouts)?;
+    let ran = run_any(
+        alloc,
+        whole,
+        &map,
+        input,
+        plan,
+        steps,
+        &mut OutSink::new(rt),
+    );
+    println!(rt; "{ran:?}")?;
+    Ok(())
+}
+
+fn taken(rt: &HostRuntime, name: &str) -> Result<Vec<u8>, TakeFault>
+    ensures { IfOk result (λ bytes. vec_len bytes ≤ FILE_BYTES) }
+{
+    DiskFiles::new(rt).take(rt.alloc(), name, FILE_BYTES)
+}

@@ -1,0 +1,57 @@
+use Rattle.std.proofs.Common.{◌≡◌, ◌<◌, ◌≤◌, map, ap, subst, ◌∙◌}
+use Rattle.std.specs.Prelude.{IfNone, IfSome, sum}
+use Rattle.ir_ast.specs.Funcs.{content_of}
+use Rattle.ir_ast.specs.Modules.{ModuleContent}
+use Rattle.ir_ast.specs.declared.modules.Form.TheVariants.{Rewritten}
+use Rattle.ir_cfg.proofs.TypedLemmas.{formed_module}
+use Rattle.poll_place.proofs.PlacedLemmas.{all_under}
+use Rattle.rewrite_passes.specs.Before.{CanBeMade, made_of, relocates_of}
+use Rattle.sp_rewrite.proofs.CallLaws.{can_have_groups, few_relocates, is_rewritten, many_relocates}
+use Rattle.sp_rewrite.proofs.MakingLaws.{functions_are_ready}
+use Rattle.sp_rewrite.proofs.RewrittenLaws as laws
+use Rattle.sp_rewrite.proofs.rewriting.rewrite.Goals as goal
+
+pub place-requires : goal.place-requires
+place-requires c = (functions_are_ready c.args.source.content c.in_ok-reached.reached.content c.requires c.in_ok-reached.ensures.drops).polls
+
+pub before_groups-requires : goal.before_groups-requires
+before_groups-requires c =
+    let placed_are = c.into_parts-layouts.ensures.funcs ∙ ap (λ (now : ModuleContent). now.funcs) c.in_ok-with_polls.ensures.placed in
+    all_under content_of CanBeMade c.into_parts-layouts.result.1.items
+    (rw placed_are (functions_are_ready c.args.source.content c.in_ok-reached.reached.content c.requires c.in_ok-reached.ensures.drops).bases)
+
+pub with_groups-requires : goal.with_groups-requires
+with_groups-requires c =
+    let funcs = map content_of c.into_parts-layouts.result.1.items in
+    let placed_are = c.into_parts-layouts.ensures.funcs ∙ ap (λ (now : ModuleContent). now.funcs) c.in_ok-with_polls.ensures.placed in
+    let made_are = subst (λ made. IfSome made (λ all. all.items ≡ map made_of funcs)) c.in-Some.is c.in_ok-before_groups.ensures.made in
+    can_have_groups c.args.source.content c.in_ok-reached.reached.content c.in_ok-reached.ensures.drops c.requires funcs c.in-Some.all.items placed_are made_are
+
+pub returns-in_ok-after-in-Some-clause-rewritten : goal.returns-in_ok-after-in-Some-clause-rewritten
+returns-in_ok-after-in-Some-clause-rewritten c =
+    let funcs = map content_of c.into_parts-layouts.result.1.items in
+    let placed_are = c.into_parts-layouts.ensures.funcs ∙ ap (λ (now : ModuleContent). now.funcs) c.in_ok-with_polls.ensures.placed in
+    let layouts_are = c.into_parts-layouts.ensures.layouts ∙ ap (λ (now : ModuleContent). now.layouts) c.in_ok-with_polls.ensures.placed in
+    let made_are = subst (λ made. IfSome made (λ all. all.items ≡ map made_of funcs)) c.in-Some.is c.in_ok-before_groups.ensures.made in
+    is_rewritten c.args.source.content c.in_ok-reached.reached.content c.in_ok-reached.ensures.drops funcs (map content_of c.in_ok-after-in-Some.after.items) c.in-Some.all.items c.into_parts-layouts.result.0.items
+    c.of.result.content placed_are made_are c.in_ok-after-in-Some.ensures.content layouts_are c.of.ensures.content
+
+pub returns-in_ok-after-in-Some-clause-target : goal.returns-in_ok-after-in-Some-clause-target
+returns-in_ok-after-in-Some-clause-target c = laws.rewriting_is_target c.args.source.content c.of.result.content c.requires (returns-in_ok-after-in-Some-clause-rewritten c)
+
+pub returns-in_ok-after-in-Some-clause-formed : goal.returns-in_ok-after-in-Some-clause-formed
+returns-in_ok-after-in-Some-clause-formed c = formed_module Rewritten c.of.result.content (returns-in_ok-after-in-Some-clause-target c).typed
+
+pub returns-in_ok-after-in-Some-clause-few : goal.returns-in_ok-after-in-Some-clause-few
+returns-in_ok-after-in-Some-clause-few c =
+    let funcs = map content_of c.into_parts-layouts.result.1.items in
+    let placed_are = c.into_parts-layouts.ensures.funcs ∙ ap (λ (now : ModuleContent). now.funcs) c.in_ok-with_polls.ensures.placed in
+    let few = subst (λ made. IfSome made (λ _. sum (map relocates_of funcs) ≤ 4194304)) c.in-Some.is c.in_ok-before_groups.ensures.few in
+    few_relocates c.args.source.content c.in_ok-reached.reached.content c.in_ok-reached.ensures.drops funcs placed_are few
+
+pub returns-in-None-clause-many : goal.returns-in-None-clause-many
+returns-in-None-clause-many c = λ _.
+    let funcs = map content_of c.into_parts-layouts.result.1.items in
+    let placed_are = c.into_parts-layouts.ensures.funcs ∙ ap (λ (now : ModuleContent). now.funcs) c.in_ok-with_polls.ensures.placed in
+    let many = subst (λ made. IfNone made (4194304 < sum (map relocates_of funcs))) c.in-None.is c.in_ok-before_groups.ensures.many in
+    many_relocates c.args.source.content c.in_ok-reached.reached.content c.in_ok-reached.ensures.drops funcs placed_are many

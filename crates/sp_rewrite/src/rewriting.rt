@@ -1,0 +1,40 @@
+ghost use Rattle.std.specs.Prelude.{◌≡◌, map, IfErr, IfOk};
+ghost use Rattle.ir_ast.specs.Formed.{IsFormedModule};
+ghost use Rattle.ir_cfg.specs.SourceModules.{IsSourceModule};
+ghost use Rattle.ir_cfg.specs.TargetModules.{IsTargetModule};
+ghost use Rattle.ir_cfg.specs.Unreached.{zeros_of};
+ghost use Rattle.sp_rewrite.specs.Relocates.{HasFewRelocates, HasManyRelocates};
+ghost use Rattle.sp_rewrite.specs.Statements.{IsRewritten};
+
+use crate::faults::RewriteFault;
+use ir_ast::{Form, Module};
+use ir_cfg::drop_unreachable;
+use poll_place::place;
+use rewrite_passes::{before_groups, with_groups};
+use std::alloc::Global;
+
+/// The rewritten module of a source module: its unreached blocks are dropped, polls are placed, bases and checks put in, and each call
+/// that isn't of a leaf becomes a statepoint with its relocates (Garbage Collection Safepoints in LLVM, "PlaceSafepoints" and
+/// "RewriteStatepointsForGC"). With more than 4,194,304 relocates in all it is [`RewriteFault::TooManyRelocations`], which is decided
+/// before any statepoint is made; [`RewriteFault::Memory`] says nothing of the module. Each line has number 0. After a refusal the module
+/// is gone.
+pub fn rewrite(alloc: Global, source: Module) -> Result<Module, RewriteFault>
+    requires { IsSourceModule source.content }
+    ensures rewritten { IfOk result (λ after. IsRewritten source.content after.content) }
+    ensures target { IfOk result (λ after. IsTargetModule after.content) }
+    ensures formed { IfOk result (λ after. IsFormedModule after.content) }
+    ensures lines { IfOk result (λ after. after.lines ≡ map zeros_of after.content.funcs) }
+    ensures few { IfOk result (λ _. HasFewRelocates source.content) }
+    ensures many { IfErr result (λ fault. fault ≡ RewriteFault.TooManyRelocations → HasManyRelocates source.content) }
+{
+    let reached = drop_unreachable(alloc, source)?;
+    let with_polls = place(alloc, reached)?;
+    let (layouts, funcs, _form) = with_polls.into_parts();
+    match before_groups(alloc, funcs)? {
+        None => Err(RewriteFault::TooManyRelocations),
+        Some(all) => {
+            let after = with_groups(alloc, all)?;
+            Ok(Module::of(layouts, after, Form::Rewritten))
+        }
+    }
+}

@@ -1,0 +1,7 @@
+use Rattle.ssa_rebuild.proofs.EndLemmas.{ends_written}
+use Rattle.ssa_rebuild.proofs.blocks.one_block.Goals as goal
+
+pub of-requires : goal.of-requires
+of-requires c =
+    rw (c.in_ok-push_lines.ensures.lines, c.in_ok-push_phis.ensures.lines, c.in_ok-lines.ensures.items)
+    (ends_written _ _ _ _ _ _ (rw c.into_parts-name.ensures.insts c.into_parts-name.ensures.ends))

@@ -1,0 +1,87 @@
+//! The blocks of the final text.
+
+ghost use Rattle.std.specs.Prelude.{◌≡◌, ◌<◌, ◌^◌, map, length, IfOk};
+ghost use Rattle.ssa_rebuild.specs.Forest.{list_at};
+ghost use Rattle.ssa_rebuild.specs.Written.{blocks_written, block_lines, block_after};
+
+use crate::slots::Slot;
+use crate::stream::Stream;
+use crate::writing::{Writing, push_lines, push_phis};
+use ir_ast::Block;
+use ir_cfg::Cfg;
+use sp_ids::{BlockId, Memory, ValueId};
+use statepoint_insert::Group;
+use std::alloc::Global;
+
+/// The blocks with their inserted phis, and with groups in place of calls, under the numbers of these rows.
+pub(crate) fn all_blocks(
+    alloc: Global,
+    cfg: &Cfg,
+    groups: &[Group],
+    joins: &[Vec<ValueId>],
+    rows: &[Vec<Slot>],
+    writing: Writing,
+    blocks: Vec<Block>,
+) -> Result<Vec<Block>, Memory>
+    requires joins { length joins.now ≡ length cfg.now }
+    requires few { length joins.now < 2 ^ 32 }
+    ensures { IfOk result (λ after. after.items ≡ blocks_written cfg.now groups.now joins.now rows.now 0 writing blocks.items) }
+{
+    let mut now = writing;
+    let mut after = Vec::with_capacity(alloc, blocks.len())?;
+    let mut number = 0;
+    for block in blocks {
+        if number as usize >= joins.len() {
+            return Err(Memory);
+        }
+        after.push(one_block(alloc, cfg, groups, joins, rows, number, block, &mut now)?)?;
+        number += 1;
+    }
+    Ok(after)
+}
+
+fn one_block(
+    alloc: Global,
+    cfg: &Cfg,
+    groups: &[Group],
+    joins: &[Vec<ValueId>],
+    rows: &[Vec<Slot>],
+    number: u32,
+    block: Block,
+    writing: &mut Writing,
+) -> Result<Block, Memory>
+    requires { number < length cfg.now }
+    ensures block { IfOk result (λ after. after ≡ record { name = block.name; insts = block_lines cfg.now groups.now joins.now rows.now number writing.old block.insts }) }
+    ensures writing { IfOk result (λ _. writing.new ≡ block_after cfg.now groups.now joins.now rows.now number writing.old block.insts) }
+{
+    let (name, insts) = block.into_parts();
+    let mut lines = Vec::with_capacity(alloc, insts.len())?;
+    writing.body = Stream::of_row(alloc, row_at(rows, number as usize))?;
+    push_phis(
+        alloc,
+        cfg.preds(BlockId(number)),
+        join_at(joins, number as usize),
+        writing,
+        &mut lines,
+    )?;
+    push_lines(alloc, groups, insts, writing, &mut lines)?;
+    Ok(Block::of(name, lines))
+}
+
+fn row_at(rows: &[Vec<Slot>], number: usize) -> &[Slot]
+    ensures { result.now ≡ list_at rows.now number }
+{
+    match rows.get(number) {
+        Some(row) => row.as_slice(),
+        None => &[],
+    }
+}
+
+fn join_at(joins: &[Vec<ValueId>], number: usize) -> &[ValueId]
+    ensures { result.now ≡ list_at joins.now number }
+{
+    match joins.get(number) {
+        Some(join) => join.as_slice(),
+        None => &[],
+    }
+}

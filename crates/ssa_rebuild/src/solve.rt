@@ -1,0 +1,50 @@
+//! The numbers of all slots of a function.
+
+ghost use Rattle.std.specs.Prelude.{◌≡◌, IfOk};
+ghost use Rattle.ir_cfg.specs.Graphs.{graph_of};
+ghost use Rattle.live_sets.specs.Joins.{AreJoins};
+ghost use Rattle.ssa_rebuild.specs.Solved.{AreNumbered};
+
+use crate::listed::listed;
+use crate::numbers::Numbers;
+use crate::rows::{add_all_entries, bodies, parents};
+use crate::slots::Slot;
+use crate::walk::answer_blocks;
+use ir_cfg::Cfg;
+use live_sets::joins;
+use sp_ids::{Memory, ValueId};
+use statepoint_insert::Marked;
+use std::alloc::Global;
+
+/// The values for which phis are inserted at the front of each block.
+pub(crate) fn joined(alloc: Global, marked: &Marked, cfg: &Cfg) -> Result<Vec<Vec<ValueId>>, Memory>
+    requires { cfg.now ≡ graph_of marked.now.before }
+    ensures { IfOk result (λ joins. AreJoins marked.now.before marked.now.table joins.items) }
+{
+    let func = marked.func();
+    let bases = marked.bases();
+    let marks = listed(alloc, marked.groups())?;
+    let joined = joins(alloc, func, cfg, bases, marks.as_slice())?;
+    Ok(joined)
+}
+
+/// For each block the numbers of the versions that its slots ask for.
+pub(crate) fn solve(
+    alloc: Global,
+    marked: &Marked,
+    cfg: &Cfg,
+    joins: &[Vec<ValueId>],
+) -> Result<Vec<Vec<Slot>>, Memory>
+    requires cfg { cfg.now ≡ graph_of marked.now.before }
+    requires joins { AreJoins marked.now.before marked.now.table joins.now }
+    ensures { IfOk result (λ answers. AreNumbered marked.now.before marked.now.table answers.items) }
+{
+    let func = marked.func();
+    let mut rows = bodies(alloc, func, marked.groups(), joins)?;
+    add_all_entries(func, cfg, joins, &mut rows)?;
+    let above = parents(alloc, func, cfg)?;
+    let args = func.args().len() as u32;
+    let Numbers { starts, own } = Numbers::of(alloc, args, rows.as_slice())?;
+    let answers = answer_blocks(alloc, above.as_slice(), starts.as_slice(), own, rows)?;
+    Ok(answers)
+}

@@ -1,0 +1,269 @@
+//! The lines of the final text.
+
+ghost use Rattle.std.specs.Prelude.{◌≡◌, true, ◌++◌, [], ◌∷◌, ◌+◌, ◌-◌, ◌<◌, ◌^◌, if◌then◌else◌, length, decimal, IfOk};
+ghost use Rattle.ir_ast.specs.declared.ops.Op.{Op};
+ghost use Rattle.rewriting_forms.specs.Numbered.{is_call};
+ghost use Rattle.ssa_rebuild.specs.Rows.{own_uses};
+ghost use Rattle.ssa_rebuild.specs.Written.{filled, left, results_in, phi_uses, entries_left, operands_written, plain_written, plain_left, call_written, call_left, group_at, counts_with, line_written, after, written, behind, phi_line, phi_after, phi_lines, phis_behind};
+
+use crate::filled::{filled, filled_bundle, values};
+use crate::lines::{is_call, is_phi};
+use crate::stream::Stream;
+use ir_ast::{Callee, Inst, Name, Op, Operand, Operands, Ty, Types};
+use itoa::Buffer;
+use sp_ids::{BlockId, Memory, ValueId};
+use statepoint_insert::{Call, Counts, Group, push_group};
+use std::alloc::Global;
+
+/// What is still to be written: the counts of names, the numbers of the block's slots, and those of all entries of phis.
+#[derive(Drop)]
+pub(crate) struct Writing {
+    pub(crate) counts: Counts,
+    pub(crate) joined: u32,
+    pub(crate) body: Stream,
+    pub(crate) entries: Stream,
+}
+
+/// Adds the phis that are inserted for these values.
+pub(crate) fn push_phis(
+    alloc: Global,
+    preds: &[BlockId],
+    values: &[ValueId],
+    writing: &mut Writing,
+    lines: &mut Vec<Inst>,
+) -> Result<(), Memory>
+    ensures lines { IfOk result (λ _. lines.new.items ≡ lines.old.items ++ phi_lines preds.now writing.old values.now) }
+    ensures writing { IfOk result (λ _. writing.new ≡ phis_behind preds.now writing.old values.now) }
+{
+    for _value in values {
+        push_phi(alloc, preds, writing, lines)?;
+    }
+    Ok(())
+}
+
+fn push_phi(
+    alloc: Global,
+    preds: &[BlockId],
+    writing: &mut Writing,
+    lines: &mut Vec<Inst>,
+) -> Result<(), Memory>
+    ensures lines { IfOk result (λ _. lines.new.items ≡ lines.old.items ++ phi_line preds.now writing.old ∷ []) }
+    ensures writing { IfOk result (λ _. writing.new ≡ phi_after preds.now writing.old) }
+{
+    if writing.joined == u32::MAX {
+        return Err(Memory);
+    }
+    let numbers = writing.entries.next_ones(alloc, preds.len())?;
+    let operands = values(alloc, numbers.as_slice())?;
+    let named = name(alloc, b"sp.m", writing.joined)?;
+    let labels = Vec::from_slice(alloc, preds)?;
+    lines.push(Inst::of(
+        Some(named),
+        Op::Phi,
+        Ty::Ptr,
+        operands,
+        labels,
+        Vec::new(alloc),
+    ))?;
+    writing.body.skip(1);
+    writing.joined += 1;
+    Ok(())
+}
+
+fn name(alloc: Global, front: &[u8], number: u32) -> Result<Name, Memory>
+    ensures { IfOk result (λ name. name ≡ front.now ++ decimal number) }
+{
+    let mut buffer = Buffer::new();
+    let mut bytes = Vec::with_capacity(alloc, 16)?;
+    bytes.extend_from_slice(front)?;
+    bytes.extend_from_slice(buffer.format(number).as_bytes())?;
+    Ok(Name::of(bytes))
+}
+
+/// Adds the lines of these instructions, with groups in place of calls.
+pub(crate) fn push_lines(
+    alloc: Global,
+    groups: &[Group],
+    insts: Vec<Inst>,
+    writing: &mut Writing,
+    lines: &mut Vec<Inst>,
+) -> Result<(), Memory>
+    ensures lines { IfOk result (λ _. lines.new.items ≡ lines.old.items ++ written groups.now writing.old insts.items) }
+    ensures writing { IfOk result (λ _. writing.new ≡ behind groups.now writing.old insts.items) }
+{
+    for inst in insts {
+        push_line(alloc, groups, inst, writing, lines)?;
+    }
+    Ok(())
+}
+
+fn push_line(
+    alloc: Global,
+    groups: &[Group],
+    inst: Inst,
+    writing: &mut Writing,
+    lines: &mut Vec<Inst>,
+) -> Result<(), Memory>
+    ensures lines { IfOk result (λ _. lines.new.items ≡ lines.old.items ++ line_written groups.now writing.old inst) }
+    ensures writing { IfOk result (λ _. writing.new ≡ after groups.now writing.old inst) }
+{
+    if is_call(inst.op()) {
+        return push_call(alloc, groups, inst, writing, lines);
+    }
+    lines.push(plain(alloc, inst, &mut writing.body, &mut writing.entries)?)?;
+    Ok(())
+}
+
+fn plain(alloc: Global, inst: Inst, body: &mut Stream, entries: &mut Stream) -> Result<Inst, Memory>
+    ensures line { IfOk result (λ line. line ≡ plain_written body.old entries.old inst) }
+    ensures body { IfOk result (λ _. body.new ≡ plain_left body.old inst) }
+    ensures entries { IfOk result (λ _. entries.new ≡ entries_left entries.old inst) }
+{
+    let operands = operands_of(alloc, &inst, body, entries)?;
+    let (named, op, ty, _old_operands, labels, old_bundle) = inst.into_parts();
+    let bundle = filled_bundle(alloc, old_bundle.as_slice(), body)?;
+    body.skip(results_in(&named));
+    Ok(Inst::of(named, op, ty, operands, labels, bundle))
+}
+
+fn operands_of(
+    alloc: Global,
+    inst: &Inst,
+    body: &mut Stream,
+    entries: &mut Stream,
+) -> Result<Operands, Memory>
+    ensures operands { IfOk result (λ after. after.items ≡ operands_written body.old entries.old inst.now) }
+    ensures body { IfOk result (λ _. body.new ≡ left body.old (own_uses inst.now)) }
+    ensures entries { IfOk result (λ _. entries.new ≡ entries_left entries.old inst.now) }
+{
+    if is_phi(inst.op()) {
+        return filled(alloc, phi_uses(inst), entries);
+    }
+    filled(alloc, inst.operands(), body)
+}
+
+// The operands of a phi that have labels.
+fn phi_uses(inst: &Inst) -> &[Operand]
+    ensures { result.now ≡ phi_uses inst.now }
+{
+    let count = inst.labels().len().min(inst.operands().len());
+    &inst.operands()[..count]
+}
+
+fn results_in(named: &Option<Name>) -> usize
+    ensures { result ≡ results_in named.now }
+{
+    match named {
+        Some(_) => 1,
+        None => 0,
+    }
+}
+
+fn push_call(
+    alloc: Global,
+    groups: &[Group],
+    inst: Inst,
+    writing: &mut Writing,
+    lines: &mut Vec<Inst>,
+) -> Result<(), Memory>
+    requires { is_call inst.op ≡ true }
+    ensures lines { IfOk result (λ _. lines.new.items ≡ lines.old.items ++ line_written groups.now writing.old inst) }
+    ensures writing { IfOk result (λ _. writing.new ≡ after groups.now writing.old inst) }
+{
+    match groups.get(writing.counts.tokens as usize) {
+        None => Err(Memory),
+        Some(group) => {
+            let counts = counts_with(writing.counts, group.relocates().len())?;
+            write_group(alloc, group, inst, writing.counts, &mut writing.body, lines)?;
+            writing.counts = counts;
+            Ok(())
+        }
+    }
+}
+
+// The counts behind a group of so many relocates. Where they don't stay below 2^32, it is want of memory.
+fn counts_with(counts: Counts, relocates: usize) -> Result<Counts, Memory>
+    ensures counts { IfOk result (λ after. after ≡ counts_with counts relocates) }
+    ensures room { IfOk result (λ _. counts.relocates + relocates < 2 ^ 32 - 1) }
+{
+    if counts.tokens == u32::MAX || relocates >= (u32::MAX - counts.relocates) as usize {
+        return Err(Memory);
+    }
+    Ok(Counts {
+        tokens: counts.tokens + 1,
+        relocates: counts.relocates + relocates as u32,
+    })
+}
+
+fn write_group(
+    alloc: Global,
+    group: &Group,
+    inst: Inst,
+    counts: Counts,
+    body: &mut Stream,
+    lines: &mut Vec<Inst>,
+) -> Result<(), Memory>
+    requires { counts.relocates + length group.now.relocates < 2 ^ 32 - 1 }
+    ensures lines { IfOk result (λ _. lines.new.items ≡ lines.old.items ++ call_written counts group.now body.old inst inst.op) }
+    ensures body { IfOk result (λ _. body.new ≡ call_left (length group.now.relocates) body.old inst) }
+{
+    let (named, op, ty, old_operands, _labels, old_bundle) = inst.into_parts();
+    let count = group.relocates().len();
+    let results = results_in(&named);
+    let operands = filled(alloc, old_operands.as_slice(), body)?;
+    let live = body.next_ones(alloc, count)?;
+    let bundle = filled_bundle(alloc, old_bundle.as_slice(), body)?;
+    let token = body.first();
+    body.skip(1);
+    body.skip(results);
+    body.skip(count);
+    let (callee, types) = parts_of(op)?;
+    let call = Call {
+        named,
+        callee,
+        types,
+        ty,
+        operands,
+        bundle,
+    };
+    push_group(alloc, call, group, live.as_slice(), token, counts, lines)
+}
+
+// The callee of a call, and the types of its arguments.
+fn parts_of(op: Op) -> Result<(Callee, Types), Memory>
+    ensures { IfOk result (λ parts. op ≡ Op.Call parts.0 parts.1) }
+{
+    match op {
+        Op::Call { callee, types } => Ok((callee, types)),
+        Op::Add
+        | Op::Sub
+        | Op::Mul
+        | Op::Udiv
+        | Op::Sdiv
+        | Op::Urem
+        | Op::Srem
+        | Op::And
+        | Op::Or
+        | Op::Xor
+        | Op::Shl
+        | Op::Lshr
+        | Op::Ashr
+        | Op::Icmp(_)
+        | Op::Trunc(_)
+        | Op::Zext(_)
+        | Op::Sext(_)
+        | Op::Select
+        | Op::Phi
+        | Op::Gep { .. }
+        | Op::Load
+        | Op::Store
+        | Op::Statepoint { .. }
+        | Op::GcResult
+        | Op::GcRelocate
+        | Op::Br
+        | Op::CondBr
+        | Op::Switch
+        | Op::Ret
+        | Op::Unreachable => Err(Memory),
+    }
+}
