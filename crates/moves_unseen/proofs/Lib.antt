@@ -20,3 +20,4 @@ pub mod StoreSteps
 pub mod SameSteps
 pub mod VerifiedLaws
 pub mod PlainCallSteps
+pub mod IcmpSteps

@@ -4,7 +4,8 @@ use Rattle.std.specs.List.{All, sum_by}
 use Rattle.ir_ast.specs.declared.cells.Cell.{Cell}
 use Rattle.ir_ast.specs.declared.ops.Elem.{Elem}
 use Rattle.ir_ast.specs.declared.ops.Callee.TheVariants.{Check, Print, Read, Same}
-use Rattle.ir_ast.specs.declared.ops.Op.TheVariants.{Call, Gep, Load, Store}
+use Rattle.ir_ast.specs.declared.ops.Op.TheVariants.{Call, Gep, Icmp, Load, Store}
+use Rattle.ir_ast.specs.declared.ops.Pred.{Pred}
 use Rattle.ir_ast.specs.declared.types.Ty.{Ty}
 use Rattle.ir_ast.specs.Bundles.{HasNoBundle}
 use Rattle.ir_ast.specs.Cells.{type_of}
@@ -49,7 +50,7 @@ use Rattle.machine_meaning.specs.Machines.{Machinery}
 use Rattle.machine_meaning.specs.Relations.{addr, check_of, IsPair}
 use Rattle.moves_unseen.specs.Objects.{AreHeld, Holds, Loads}
 use Rattle.moves_unseen.specs.States.{Extra, Follows, IsRelated, machine_of}
-use Rattle.moves_unseen.specs.Steps.{GivesNumber, GivesPointer, IsArithmetic, IsCheckedBefore, IsNumber, IsStored, StepFollows}
+use Rattle.moves_unseen.specs.Steps.{GivesNumber, GivesPointer, IsArithmetic, IsCheckedBefore, IsCompared, IsNumber, IsStored, StepFollows}
 
 -- ---- proved
 
@@ -140,6 +141,14 @@ ComparisonsFollow = (content : ModuleContent) (machinery : Machinery) (setting :
     → (types : List Ty) → line.inst.op ≡ Call Same types → (given : ℕ) → line.to ≡ Some given → (ty : Ty) → slice_get (value_types related.running.func) given ≡ Some ty
     → related.running.pairs (operand_at line.inst.operands 1) (Named (operand_at line.inst.operands 0)) ≡ true
     → related.running.pairs (operand_at line.inst.operands 3) (Named (operand_at line.inst.operands 2)) ≡ true
+    → StepFollows content machinery (step setting state) (machine_step machinery (machine_of machinery state extra))
+
+-- so is an `icmp` of numbers, or of pointers that are their own bases
+abbrev pub IcmpsFollow : Type 0
+IcmpsFollow = (content : ModuleContent) (machinery : Machinery) (setting : Setting)
+    → (state : State) (extra : Extra) (related : IsRelated content state extra) (line : Line) (rest : List Line) → state.running.rest ≡ line ∷ rest
+    → (pred : Pred) → line.inst.op ≡ Icmp pred → IsCompared (value_types related.running.func) related.running.pairs line pred
+    → (given : ℕ) → line.to ≡ Some given → (ty : Ty) → slice_get (value_types related.running.func) given ≡ Some ty
     → StepFollows content machinery (step setting state) (machine_step machinery (machine_of machinery state extra))
 
 -- so is the print of a number

@@ -5,6 +5,9 @@ use Rattle.ir_ast.specs.declared.cells.Cell.{Cell}
 use Rattle.ir_ast.specs.declared.cells.Cell.TheVariants.{I64, Ptr}
 use Rattle.ir_ast.specs.declared.ops.Callee.TheVariants.{Check}
 use Rattle.ir_ast.specs.declared.types.Ty.{Ty}
+use Rattle.ir_ast.specs.declared.types.Ty.TheVariants.{Int, Ptr as Managed}
+use Rattle.ir_ast.specs.declared.ops.Pred.{Pred}
+use Rattle.ir_ast.specs.declared.ops.Pred.TheVariants.{Eq, Ne}
 use Rattle.ir_ast.specs.declared.ops.Op.{Op}
 use Rattle.ir_ast.specs.declared.ops.Op.TheVariants as ops
 use Rattle.ir_ast.specs.declared.ops.Operand.{Operand}
@@ -94,3 +97,12 @@ pub record IsCheckedBefore (lines : List Line) (place : ℕ) (registers : List D
 abbrev pub IsStored : List Ty → Pairs → Operand → Cell → Type 0
 IsStored types pairs operand I64 = IsNumber types operand
 IsStored types pairs operand Ptr = pairs operand (Named operand) ≡ true
+
+-- what is compared: two numbers, or two pointers that are their own bases, which are only equal or not
+pub data IsCompared (types : List Ty) (pairs : Pairs) (line : Line) : Pred → Type 0 where
+  integers : (pred : Pred) (width : ℕ) → line.inst.ty ≡ Int width → IsNumber types (operand_at line.inst.operands 0)
+      → IsNumber types (operand_at line.inst.operands 1) → IsCompared types pairs line pred
+  equal : line.inst.ty ≡ Managed → pairs (operand_at line.inst.operands 0) (Named (operand_at line.inst.operands 0)) ≡ true
+      → pairs (operand_at line.inst.operands 1) (Named (operand_at line.inst.operands 1)) ≡ true → IsCompared types pairs line Eq
+  differing : line.inst.ty ≡ Managed → pairs (operand_at line.inst.operands 0) (Named (operand_at line.inst.operands 0)) ≡ true
+      → pairs (operand_at line.inst.operands 1) (Named (operand_at line.inst.operands 1)) ≡ true → IsCompared types pairs line Ne

@@ -1,7 +1,7 @@
 //! Laws towards "moves are never noticed": what the address machine has of the target meaning's state. No code.
 #![tactic(auto)]
 
-ghost use Rattle.moves_unseen.specs.Statements.{AccessesAreChecked, ChecksAreAccesses, ChecksFollow, ComparisonsFollow, GepsFollow, GroupsKeepObjects, IntegersFollow, LoadsFollow, LoadsHold, NewObjectsHold, OpeningsFollow, PairsAreCompared, PrintsFollow, ReadsFollow, StoresFollow, StoresHold, UsedPairsStand};
+ghost use Rattle.moves_unseen.specs.Statements.{AccessesAreChecked, ChecksAreAccesses, ChecksFollow, ComparisonsFollow, GepsFollow, GroupsKeepObjects, IcmpsFollow, IntegersFollow, LoadsFollow, LoadsHold, NewObjectsHold, OpeningsFollow, PairsAreCompared, PrintsFollow, ReadsFollow, StoresFollow, StoresHold, UsedPairsStand};
 
 /// After the moves of an event each cell holds what it held: integers are the same, and each pointer cell has the address of
 /// the same pointer.
@@ -87,4 +87,9 @@ pub fn prints_follow()
 /// So is a read, of the same number; it traps where the input has no more.
 pub fn reads_follow()
     ensures { ReadsFollow }
+{}
+
+/// So is an `icmp` of numbers, or of pointers that are their own bases.
+pub fn icmps_follow()
+    ensures { IcmpsFollow }
 {}
