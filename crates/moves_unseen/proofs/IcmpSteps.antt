@@ -1,5 +1,5 @@
 -- `icmp` of integers, and of pointers that are their own bases: the machine takes the same step.
-use Rattle.std.proofs.Common.{◌≡◌, ℕ, ◌==◌, not, Bool, true, false, List, [], ◌∷◌, map, refl, sym, ap, ◌∙◌, subst, Option, Some, None}
+use Rattle.std.proofs.Common.{◌≡◌, ℕ, ◌==◌, not, Bool, true, List, ◌∷◌, map, refl, sym, ap, ◌∙◌, subst, Option, Some}
 use Rattle.std.specs.Prelude.{slice_get}
 use Rattle.ir_ast.specs.declared.ops.Callee.TheVariants.{Check}
 use Rattle.ir_ast.specs.declared.ops.Op.{Op}
@@ -29,7 +29,7 @@ use Rattle.machine_meaning.specs.MachineSteps.{machine_acts, machine_at, machine
 use Rattle.machine_meaning.specs.Words.{worded, worded_operand, worded_type}
 use Rattle.machine_meaning.specs.Relations.{word_in}
 use Rattle.moves_unseen.specs.Frames.{AreWords}
-use Rattle.moves_unseen.specs.States.{Extra, Follows, IsRelated, machine_of}
+use Rattle.moves_unseen.specs.States.{Extra, IsRelated, machine_of}
 use Rattle.moves_unseen.specs.Steps.{IsCompared, IsNumber, StepFollows, both_go, differing, equal, integers}
 use Rattle.moves_unseen.proofs.ComparisonLaws.{bases_compared}
 use Rattle.moves_unseen.proofs.PassLaws.{pass_follows}

@@ -1,5 +1,5 @@
 -- `print` and `read`: the machine takes the same step.
-use Rattle.std.proofs.Common.{◌≡◌, ℕ, ℤ, Bool, true, false, List, [], ◌∷◌, map, refl, sym, ap, ◌∙◌, subst, Option, Some, None}
+use Rattle.std.proofs.Common.{◌≡◌, ℕ, ℤ, List, [], ◌∷◌, map, refl, sym, ap, ◌∙◌, subst, Option, Some, None}
 use Rattle.std.specs.Prelude.{slice_get}
 use Rattle.std.specs.Int.{w64, cast_unsigned}
 use Rattle.sp_ids.specs.declared.ends.End.TheVariants.{Trap as Trapped}
@@ -12,23 +12,23 @@ use Rattle.ir_ast.specs.declared.types.Ty.{Ty}
 use Rattle.ir_ast.specs.Faults.GroupShape.{is_statepoint}
 use Rattle.ir_ast.specs.Faults.PhiEdges.{is_phi}
 use Rattle.ir_ast.specs.Modules.{ModuleContent}
-use Rattle.ir_ast.specs.Objects.{Datum, number}
+use Rattle.ir_ast.specs.Objects.{number}
 use Rattle.ir_ast.specs.Values.{value_types}
 use Rattle.object_meaning.specs.Calls.{taking}
-use Rattle.object_meaning.specs.Effects.{Effect, goes_on, prints, ends}
+use Rattle.object_meaning.specs.Effects.{Effect, prints}
 use Rattle.object_meaning.specs.Frames.{is_member, passed}
 use Rattle.object_meaning.specs.Lines.{Line}
 use Rattle.object_meaning.specs.Registers.{nothing, operand, number_in, put}
 use Rattle.object_meaning.specs.States.{State, Setting}
 use Rattle.object_meaning.specs.Steps.{acts, step, steps_at}
 use Rattle.pair_facts.specs.Lines.{line_before, lines_at, operand_at}
-use Rattle.pair_facts.specs.Pairs.{after, given_pairs, with_given, without}
+use Rattle.pair_facts.specs.Pairs.{given_pairs, with_given, without}
 use Rattle.machine_meaning.specs.Machines.{Machine, Machinery, gone_behind, gone_from, gone_on, lifted}
 use Rattle.machine_meaning.specs.MachineSteps.{machine_acts, machine_at, machine_step, passes}
 use Rattle.machine_meaning.specs.Words.{worded, worded_operand}
 use Rattle.moves_unseen.specs.Frames.{AreWords}
 use Rattle.moves_unseen.specs.States.{Extra, Follows, IsRelated, machine_of}
-use Rattle.moves_unseen.specs.Steps.{IsLast, IsNumber, StepFollows, both_end, both_go, both_print}
+use Rattle.moves_unseen.specs.Steps.{IsNumber, StepFollows, both_end, both_go, both_print}
 use Rattle.moves_unseen.proofs.PassLaws.{pass_follows}
 use Rattle.moves_unseen.proofs.StandLaws.{IsAlone}
 use Rattle.moves_unseen.proofs.ValueLaws.{number_given, same_number, value_at, word_at}
