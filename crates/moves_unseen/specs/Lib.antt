@@ -1,0 +1,5 @@
+pub mod Objects
+pub mod Frames
+pub mod States
+pub mod Steps
+pub mod Statements
