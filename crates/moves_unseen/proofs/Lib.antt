@@ -21,3 +21,4 @@ pub mod SameSteps
 pub mod VerifiedLaws
 pub mod PlainCallSteps
 pub mod IcmpSteps
+pub mod LineTypes

@@ -2,4 +2,5 @@ pub mod Objects
 pub mod Frames
 pub mod States
 pub mod Steps
+pub mod Types
 pub mod Statements

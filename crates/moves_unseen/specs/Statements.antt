@@ -50,6 +50,7 @@ use Rattle.machine_meaning.specs.Machines.{Machinery}
 use Rattle.machine_meaning.specs.Relations.{addr, check_of, IsPair}
 use Rattle.moves_unseen.specs.Objects.{AreHeld, Holds, Loads}
 use Rattle.moves_unseen.specs.States.{Extra, Follows, IsRelated, machine_of}
+use Rattle.moves_unseen.specs.Types.{IsLineOf}
 use Rattle.moves_unseen.specs.Steps.{GivesNumber, GivesPointer, IsArithmetic, IsCheckedBefore, IsCompared, IsNumber, IsStored, StepFollows}
 
 -- ---- proved
@@ -181,6 +182,11 @@ abbrev pub AccessesAreChecked : Type 0
 AccessesAreChecked = (func : Function) (block place : ℕ) → ((code : ℕ) → ¬ FaultAt func block place code) → (pairs : Pairs) → At func block place pairs
     → (line : Line) → slice_get (lines_at func block) place ≡ Some line → (address : Operand) → accessed_at line.inst.op line.inst ≡ Some address
     → (registers : List Datum) → IsCheckedBefore (lines_at func block) place registers address (cell_of line.inst.ty)
+
+-- each line of a target module has its form, the types of its operands, and the register of its result
+abbrev pub LinesAreTyped : Type 0
+LinesAreTyped = (content : ModuleContent) → IsTargetModule content → (number : ℕ) (func : Function) → slice_get content.funcs number ≡ Some func
+    → (block place : ℕ) (line : Line) → slice_get (lines_at func block) place ≡ Some line → IsLineOf content func line
 
 -- ---- open
 

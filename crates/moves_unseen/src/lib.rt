@@ -1,7 +1,7 @@
 //! Laws towards "moves are never noticed": what the address machine has of the target meaning's state. No code.
 #![tactic(auto)]
 
-ghost use Rattle.moves_unseen.specs.Statements.{AccessesAreChecked, ChecksAreAccesses, ChecksFollow, ComparisonsFollow, GepsFollow, GroupsKeepObjects, IcmpsFollow, IntegersFollow, LoadsFollow, LoadsHold, NewObjectsHold, OpeningsFollow, PairsAreCompared, PrintsFollow, ReadsFollow, StoresFollow, StoresHold, UsedPairsStand};
+ghost use Rattle.moves_unseen.specs.Statements.{AccessesAreChecked, ChecksAreAccesses, ChecksFollow, ComparisonsFollow, GepsFollow, GroupsKeepObjects, IcmpsFollow, IntegersFollow, LinesAreTyped, LoadsFollow, LoadsHold, NewObjectsHold, OpeningsFollow, PairsAreCompared, PrintsFollow, ReadsFollow, StoresFollow, StoresHold, UsedPairsStand};
 
 /// After the moves of an event each cell holds what it held: integers are the same, and each pointer cell has the address of
 /// the same pointer.
@@ -92,4 +92,9 @@ pub fn reads_follow()
 /// So is an `icmp` of numbers, or of pointers that are their own bases.
 pub fn icmps_follow()
     ensures { IcmpsFollow }
+{}
+
+/// A target module gives each line of its functions its form, the types of its operands, and the register of its result.
+pub fn lines_are_typed()
+    ensures { LinesAreTyped }
 {}
