@@ -22,3 +22,4 @@ pub mod VerifiedLaws
 pub mod PlainCallSteps
 pub mod IcmpSteps
 pub mod LineTypes
+pub mod PlainSteps

@@ -8,6 +8,8 @@ use Rattle.std.proofs.lemmas.Option.{none-some}
 use Rattle.list_laws.proofs.Contents.{all_at}
 use Rattle.list_laws.proofs.Places.{get_map, get_past}
 use Rattle.ir_ast.specs.Blocks.{BasicBlock}
+use Rattle.ir_ast.specs.Faultless.{FunctionHasNoFault}
+use Rattle.ir_ast.specs.Faults.PointerOrder.{orders_pointers}
 use Rattle.ir_ast.specs.Faults.TypeClash.{FunctionIsTyped, IsTyped}
 use Rattle.ir_ast.specs.Funcs.{Function, instructions_of}
 use Rattle.ir_ast.specs.Insts.{Instruction}
@@ -98,10 +100,12 @@ pub lines_are_typed : (content : ModuleContent) → IsTargetModule content → (
 lines_are_typed content target number func found block place line stands =
     let one = numbered_block (length func.args) func.blocks block place line stands in
     let own = all_at (IsTypedFunction Rewritten) content.funcs number func target.typed.functions found in
+    let faultless = all_at (FunctionHasNoFault content) content.funcs number func target.typed.no_fault.functions found in
     let typed = all_at (λ each. FunctionIsTyped (scope_of content each) each) content.funcs number func target.typed.no_fault.typed found in
     record {
       form = all_at IsLine (instructions_of func.blocks) one.place line.inst own.lines one.inst;
       typed = all_at (IsTyped (scope_of content func)) (instructions_of func.blocks) one.place line.inst typed.lines one.inst;
+      unordered = all_at (λ each. orders_pointers each.op each.ty ≡ false) (instructions_of func.blocks) one.place line.inst faultless.pointers one.inst;
       gives = one.gives;
       type = type_of_result func line one;
     }

@@ -50,7 +50,7 @@ use Rattle.machine_meaning.specs.Machines.{Machinery}
 use Rattle.machine_meaning.specs.Relations.{addr, check_of, IsPair}
 use Rattle.moves_unseen.specs.Objects.{AreHeld, Holds, Loads}
 use Rattle.moves_unseen.specs.States.{Extra, Follows, IsRelated, machine_of}
-use Rattle.moves_unseen.specs.Types.{IsLineOf}
+use Rattle.moves_unseen.specs.Types.{IsLineOf, IsPlain}
 use Rattle.moves_unseen.specs.Steps.{GivesNumber, GivesPointer, IsArithmetic, IsCheckedBefore, IsCompared, IsNumber, IsStored, StepFollows}
 
 -- ---- proved
@@ -187,6 +187,14 @@ AccessesAreChecked = (func : Function) (block place : ℕ) → ((code : ℕ) →
 abbrev pub LinesAreTyped : Type 0
 LinesAreTyped = (content : ModuleContent) → IsTargetModule content → (number : ℕ) (func : Function) → slice_get content.funcs number ≡ Some func
     → (block place : ℕ) (line : Line) → slice_get (lines_at func block) place ≡ Some line → IsLineOf content func line
+
+-- a plain line of a verified module is one step of both, which see the same accesses
+abbrev pub PlainLinesFollow : Type 0
+PlainLinesFollow = (content : ModuleContent) → IsTargetModule content → IsVerified content → (machinery : Machinery) (setting : Setting)
+    → setting.layouts ≡ content.layouts → machinery.setting.layouts ≡ setting.layouts → (state : State) (extra : Extra) → IsRelated content state extra
+    → (line : Line) (rest : List Line) → state.running.rest ≡ line ∷ rest → IsPlain line.inst.op
+    → StepFollows content machinery (step setting state) (machine_step machinery (machine_of machinery state extra))
+    × (accesses_by (machine_of machinery state extra) (machine_of machinery state extra).state.running.rest ≡ accesses_at setting state state.running.rest)
 
 -- ---- open
 

@@ -1,12 +1,12 @@
 -- What a target module gives each line of its functions: its form, and the types of its operands and its result.
-use Rattle.std.specs.Prelude.{◌≡◌, ℕ, Some, is_some, slice_get}
+use Rattle.std.specs.Prelude.{◌≡◌, ℕ, false, List, Option, Some, is_some, slice_get}
 use Rattle.ir_ast.specs.declared.ops.Callee.TheVariants.{Check, Print, Read, Same}
 use Rattle.ir_ast.specs.declared.ops.Elem.{Elem}
 use Rattle.ir_ast.specs.declared.ops.Op.{Op}
 use Rattle.ir_ast.specs.declared.ops.Op.TheVariants as ops
 use Rattle.ir_ast.specs.declared.ops.Pred.{Pred}
 use Rattle.ir_ast.specs.declared.types.Ty.{Ty}
-use Rattle.std.specs.Prelude.{List, Option}
+use Rattle.ir_ast.specs.Faults.PointerOrder.{orders_pointers}
 use Rattle.ir_ast.specs.Faults.TypeClash.{IsTyped}
 use Rattle.ir_ast.specs.Funcs.{Function}
 use Rattle.ir_ast.specs.Lines.{IsLine}
@@ -20,6 +20,7 @@ use Rattle.moves_unseen.specs.Steps.{IsArithmetic}
 pub record IsLineOf (content : ModuleContent) (func : Function) (line : Line) : Type 0 where
   pub form : IsLine line.inst
   pub typed : IsTyped (scope_of content func) line.inst
+  pub unordered : orders_pointers line.inst.op line.inst.ty ≡ false
   pub gives : is_some line.to ≡ is_some line.inst.result
   pub type : (to : ℕ) → line.to ≡ Some to → slice_get (value_types func) to ≡ Some (outcome_type line.inst.op line.inst.ty)
 

@@ -1,7 +1,7 @@
 //! Laws towards "moves are never noticed": what the address machine has of the target meaning's state. No code.
 #![tactic(auto)]
 
-ghost use Rattle.moves_unseen.specs.Statements.{AccessesAreChecked, ChecksAreAccesses, ChecksFollow, ComparisonsFollow, GepsFollow, GroupsKeepObjects, IcmpsFollow, IntegersFollow, LinesAreTyped, LoadsFollow, LoadsHold, NewObjectsHold, OpeningsFollow, PairsAreCompared, PrintsFollow, ReadsFollow, StoresFollow, StoresHold, UsedPairsStand};
+ghost use Rattle.moves_unseen.specs.Statements.{AccessesAreChecked, ChecksAreAccesses, ChecksFollow, ComparisonsFollow, GepsFollow, GroupsKeepObjects, IcmpsFollow, IntegersFollow, LinesAreTyped, LoadsFollow, LoadsHold, NewObjectsHold, OpeningsFollow, PairsAreCompared, PlainLinesFollow, PrintsFollow, ReadsFollow, StoresFollow, StoresHold, UsedPairsStand};
 
 /// After the moves of an event each cell holds what it held: integers are the same, and each pointer cell has the address of
 /// the same pointer.
@@ -97,4 +97,10 @@ pub fn icmps_follow()
 /// A target module gives each line of its functions its form, the types of its operands, and the register of its result.
 pub fn lines_are_typed()
     ensures { LinesAreTyped }
+{}
+
+/// So each plain line of a verified module is one step of both, which see the same accesses: a line that computes, an access, a
+/// check, a comparison, a print or a read.
+pub fn plain_lines_follow()
+    ensures { PlainLinesFollow }
 {}
