@@ -22,4 +22,8 @@ pub mod VerifiedLaws
 pub mod PlainCallSteps
 pub mod IcmpSteps
 pub mod LineTypes
+pub mod SelectSteps
+pub mod PhiLaws
 pub mod PlainSteps
+pub mod JumpLaws
+pub mod JumpSteps

@@ -21,7 +21,7 @@ use Rattle.moves_unseen.specs.Frames.{AreWords, IsChosen, IsGuarded}
 use Rattle.moves_unseen.specs.States.{Extra, Follows, IsRelated, machine_of, worded_frame}
 use Rattle.moves_unseen.proofs.StandLaws.{IsAlone, goes_behind}
 
-put_words : (to : Option ℕ) (word : ℕ) (words : List ℕ) → put to (number word) (map number words) ≡ map number (put to word words)
+pub put_words : (to : Option ℕ) (word : ℕ) (words : List ℕ) → put to (number word) (map number words) ≡ map number (put to word words)
 put_words None word words = refl
 put_words (Some to) word words = sym (map-set number words to word)
 

@@ -47,7 +47,7 @@ use Rattle.machine_meaning.specs.MachineSteps.{machine_step}
 use Rattle.machine_meaning.specs.Words.{worded}
 use Rattle.moves_unseen.specs.States.{Extra, IsRelated, machine_of}
 use Rattle.moves_unseen.specs.Steps.{GivesNumber, GivesPointer, IsArithmetic, IsCheckedBefore, IsCompared, IsNumber, IsStored, StepFollows, integers, equal, differing, add, sub, mul, udiv, sdiv, urem, srem, conjunction, disjunction, difference, shl, lshr, ashr, trunc, zext, sext}
-use Rattle.moves_unseen.specs.Types.{IsLineOf, IsPlain, advances, checks, compares, computes, loads, orders, prints, reads, stores}
+use Rattle.moves_unseen.specs.Types.{IsLineOf, IsPlain, advances, checks, chooses, compares, computes, loads, orders, prints, reads, stores}
 use Rattle.moves_unseen.proofs.AccessSteps.{load_follows, load_seen}
 use Rattle.moves_unseen.proofs.ArithmeticLaws.{arithmetic_follows}
 use Rattle.moves_unseen.proofs.CheckSteps.{check_follows}
@@ -56,6 +56,7 @@ use Rattle.moves_unseen.proofs.LineTypes.{lines_are_typed}
 use Rattle.moves_unseen.proofs.PlainCallSteps.{print_follows, read_follows}
 use Rattle.moves_unseen.proofs.PointerLaws.{gep_follows}
 use Rattle.moves_unseen.proofs.SameSteps.{same_follows}
+use Rattle.moves_unseen.proofs.SelectSteps.{select_follows}
 use Rattle.moves_unseen.proofs.StandLaws.{line_here}
 use Rattle.moves_unseen.proofs.StoreSteps.{store_follows, store_seen}
 use Rattle.moves_unseen.proofs.VerifiedLaws.{check_before, pair_stands}
@@ -90,6 +91,13 @@ number_at types [] (want ∷ wanted) place ty fits at plain = absurd fits
 number_at types (first ∷ given) (want ∷ wanted) zero ty fits at plain =
     record { ty = ty; fits = subst (Fits types first) (same_Some want ty at) fits.0; plain = plain }
 number_at types (first ∷ given) (want ∷ wanted) (suc place) ty fits at plain = number_at types given wanted place ty fits.1 at plain
+
+pub fits_at : (types : List Ty) (given : List Operand) (wanted : List Ty) (place : ℕ) (ty : Ty) → AllZip (Fits types) given wanted → slice_get wanted place ≡ Some ty
+    → Fits types (operand_at given place) ty
+fits_at types given [] place ty fits at = absurd (none-some ty at)
+fits_at types [] (want ∷ wanted) place ty fits at = absurd fits
+fits_at types (first ∷ given) (want ∷ wanted) zero ty fits at = subst (Fits types first) (same_Some want ty at) fits.0
+fits_at types (first ∷ given) (want ∷ wanted) (suc place) ty fits at = fits_at types given wanted place ty fits.1 at
 
 -- so is each operand where one type is asked of all; past them stands the number 0
 pub number_repeated : (types : List Ty) (given : List Operand) (count : ℕ) (ty : Ty) → AllZip (Fits types) given (replicate count ty) → is_pointer ty ≡ false
@@ -323,6 +331,17 @@ module _ (content : ModuleContent) (target : IsTargetModule content) (verified :
       (result_type (ops.Icmp pred) op_is register.0 register.1),
       unseen (ops.Icmp pred) op_is refl refl)
 
+  select_both : line.inst.op ≡ ops.Select → Both
+  select_both op_is =
+      let register = register_of line.to (of_line.gives ∙ (form ops.Select op_is).result) in
+      let wanted = fits ops.Select op_is in
+      (select_follows content machinery setting state extra related line rest is op_is
+      (number_at types line.inst.operands (Int 1 ∷ line.inst.ty ∷ line.inst.ty ∷ []) 0 (Int 1) wanted refl refl)
+      (fits_at types line.inst.operands (Int 1 ∷ line.inst.ty ∷ line.inst.ty ∷ []) 1 line.inst.ty wanted refl)
+      (fits_at types line.inst.operands (Int 1 ∷ line.inst.ty ∷ line.inst.ty ∷ []) 2 line.inst.ty wanted refl)
+      register.0 register.1 (result_type ops.Select op_is register.0 register.1),
+      unseen ops.Select op_is refl refl)
+
   -- ---- accesses
 
   checked_before : (op : Op) → line.inst.op ≡ op → (address : Operand) → accessed_at op line.inst ≡ Some address → (cell : Cell) → type_of cell ≡ line.inst.ty
@@ -410,6 +429,7 @@ module _ (content : ModuleContent) (target : IsTargetModule content) (verified :
   by_operator op (computes each arithmetical) op_is = arithmetic_both (subst IsArithmetic (sym op_is) arithmetical)
   by_operator _ (advances elem index_width field) op_is = gep_both elem index_width field op_is
   by_operator _ (orders pred) op_is = icmp_both pred op_is
+  by_operator _ chooses op_is = select_both op_is
   by_operator _ loads op_is = load_both op_is
   by_operator _ stores op_is = store_both op_is
   by_operator _ (checks passed) op_is = check_both passed op_is

@@ -44,7 +44,7 @@ rest_of_rest [] (suc place) line rest is = cc
 rest_of_rest (first ∷ lines) zero line rest is = let same : lines ≡ rest = cc in sym same
 rest_of_rest (first ∷ lines) (suc place) line rest is = rest_of_rest lines place line rest is
 
-line_is : (lines : List Line) (place : ℕ) (line : Line) → slice_get lines place ≡ Some line → line_in lines place ≡ line
+pub line_is : (lines : List Line) (place : ℕ) (line : Line) → slice_get lines place ≡ Some line → line_in lines place ≡ line
 line_is [] place line is = cc
 line_is (first ∷ lines) zero line is = cc
 line_is (first ∷ lines) (suc place) line is = line_is lines place line is
@@ -70,7 +70,7 @@ no_head_by : (op : Op) (place : ℕ) (before : Option ℕ) → is_statepoint op 
 no_head_by op place before one two =
     ap (λ (b : Bool). if b then Some place else (if is_member op then before else None)) one ∙ ap (λ (b : Bool). if b then before else None) two
 
-no_head : (lines : List Line) (place : ℕ) → is_statepoint (line_in lines place).inst.op ≡ false → is_member (line_in lines place).inst.op ≡ false → head_at lines place ≡ None
+pub no_head : (lines : List Line) (place : ℕ) → is_statepoint (line_in lines place).inst.op ≡ false → is_member (line_in lines place).inst.op ≡ false → head_at lines place ≡ None
 no_head lines zero one two = no_head_by (line_in lines 0).inst.op 0 None one two
 no_head lines (suc place) one two = no_head_by (line_in lines (suc place)).inst.op (suc place) (head_at lines place) one two
 

@@ -122,7 +122,7 @@ a_check (ops.Sext width) is = cc
 a_check (ops.Gep elem index_width place) is = cc
 a_check (ops.Statepoint id callee types) is = cc
 
-same_value : (one other : Operand) → same_operand one other ≡ true → one ≡ other
+pub same_value : (one other : Operand) → same_operand one other ≡ true → one ≡ other
 same_value (operands.Value one) (operands.Value other) is = ap (λ (n : ℕ). operands.Value (record { 0 = n })) (eqb-true one.0 other.0 is)
 same_value (operands.Value one) (operands.Int other) is = cc
 same_value (operands.Value one) operands.Null is = cc

@@ -21,7 +21,7 @@ use Rattle.object_meaning.specs.Registers.{nothing, value, operand, is_set, numb
 use Rattle.object_meaning.specs.States.{Frame}
 use Rattle.pair_facts.specs.declared.bases.Base.TheVariants.{Named}
 use Rattle.pair_facts.specs.Lines.{named, lines_at, line_before, operand_at, is_relocate, group_in}
-use Rattle.pair_facts.specs.Pairs.{Pairs, base_index, derived_index}
+use Rattle.pair_facts.specs.Pairs.{Pairs, base_index, derived_index, is_named}
 use Rattle.pair_facts.specs.Paths.{At}
 use Rattle.machine_meaning.specs.Relations.{word_in, IsPair, AreSlots}
 
@@ -58,13 +58,16 @@ pub record IsGuarded (layouts : List ObjectLayout) (objects : List Object) (pair
       (pointer_in (operand registers check.inst.operands 1)) ≡ Ok place
   pub pair : pairs (operand_at check.inst.operands 1) (Named (operand_at check.inst.operands 0)) ≡ true
 
--- behind a select: its value is that of the operand which its condition chooses
+-- which operand a select's condition chooses
+abbrev pub chosen_place : List Datum → Line → ℕ
+chosen_place registers select = if is_set (operand registers select.inst.operands 0) then 1 else 2
+
+-- behind a select: its value is that of the operand chosen, where this isn't the value itself
 pub record IsChosen (registers : List Datum) (words : List ℕ) (select : Line) (to : ℕ) : Type 0 where
-  pub value : value registers (named to)
-      ≡ (if is_set (operand registers select.inst.operands 0) then operand registers select.inst.operands 1 else operand registers select.inst.operands 2)
-  pub word : word_in words (named to)
-      ≡ (if is_set (operand registers select.inst.operands 0)
-      then word_in words (operand_at select.inst.operands 1) else word_in words (operand_at select.inst.operands 2))
+  pub value : is_named to (operand_at select.inst.operands (chosen_place registers select)) ≡ false
+      → value registers (named to) ≡ value registers (operand_at select.inst.operands (chosen_place registers select))
+  pub word : is_named to (operand_at select.inst.operands (chosen_place registers select)) ≡ false
+      → word_in words (named to) ≡ word_in words (operand_at select.inst.operands (chosen_place registers select))
 
 -- the running frame, before the line at which it stands
 pub record IsRunning (content : ModuleContent) (objects : List Object) (stands : List Stand) (frame : Frame) (held : FrameWords) : Type 0 where

@@ -4,7 +4,7 @@ use Rattle.std.specs.List.{All, sum_by}
 use Rattle.ir_ast.specs.declared.cells.Cell.{Cell}
 use Rattle.ir_ast.specs.declared.ops.Elem.{Elem}
 use Rattle.ir_ast.specs.declared.ops.Callee.TheVariants.{Check, Print, Read, Same}
-use Rattle.ir_ast.specs.declared.ops.Op.TheVariants.{Call, Gep, Icmp, Load, Store}
+use Rattle.ir_ast.specs.declared.ops.Op.TheVariants.{Call, Gep, Icmp, Load, Select, Store, Unreachable}
 use Rattle.ir_ast.specs.declared.ops.Pred.{Pred}
 use Rattle.ir_ast.specs.declared.types.Ty.{Ty}
 use Rattle.ir_ast.specs.Bundles.{HasNoBundle}
@@ -40,6 +40,7 @@ use Rattle.pair_facts.specs.Pairs.{Pairs}
 use Rattle.pair_facts.specs.Paths.{At}
 use Rattle.pair_facts.specs.Uses.{Use, Uses, accessed_at}
 use Rattle.ir_ast.specs.declared.ops.Operand.{Operand}
+use Rattle.ir_ast.specs.Faults.TypeClash.{Fits}
 use Rattle.ir_ast.specs.Funcs.{Function}
 use Rattle.stackmap_write.specs.ModuleMaps.{map_of}
 use Rattle.machine_meaning.specs.Code.{machinery_of}
@@ -50,7 +51,7 @@ use Rattle.machine_meaning.specs.Machines.{Machinery}
 use Rattle.machine_meaning.specs.Relations.{addr, check_of, IsPair}
 use Rattle.moves_unseen.specs.Objects.{AreHeld, Holds, Loads}
 use Rattle.moves_unseen.specs.States.{Extra, Follows, IsRelated, machine_of}
-use Rattle.moves_unseen.specs.Types.{IsLineOf, IsPlain}
+use Rattle.moves_unseen.specs.Types.{IsJump, IsLineOf, IsPlain}
 use Rattle.moves_unseen.specs.Steps.{GivesNumber, GivesPointer, IsArithmetic, IsCheckedBefore, IsCompared, IsNumber, IsStored, StepFollows}
 
 -- ---- proved
@@ -152,6 +153,15 @@ IcmpsFollow = (content : ModuleContent) (machinery : Machinery) (setting : Setti
     → (given : ℕ) → line.to ≡ Some given → (ty : Ty) → slice_get (value_types related.running.func) given ≡ Some ty
     → StepFollows content machinery (step setting state) (machine_step machinery (machine_of machinery state extra))
 
+-- so is a select of two operands of its type, by a condition that is a number
+abbrev pub SelectsFollow : Type 0
+SelectsFollow = (content : ModuleContent) (machinery : Machinery) (setting : Setting)
+    → (state : State) (extra : Extra) (related : IsRelated content state extra) (line : Line) (rest : List Line) → state.running.rest ≡ line ∷ rest
+    → line.inst.op ≡ Select → IsNumber (value_types related.running.func) (operand_at line.inst.operands 0)
+    → Fits (value_types related.running.func) (operand_at line.inst.operands 1) line.inst.ty → Fits (value_types related.running.func) (operand_at line.inst.operands 2) line.inst.ty
+    → (given : ℕ) → line.to ≡ Some given → slice_get (value_types related.running.func) given ≡ Some line.inst.ty
+    → StepFollows content machinery (step setting state) (machine_step machinery (machine_of machinery state extra))
+
 -- so is the print of a number
 abbrev pub PrintsFollow : Type 0
 PrintsFollow = (content : ModuleContent) (machinery : Machinery) (setting : Setting)
@@ -195,6 +205,20 @@ PlainLinesFollow = (content : ModuleContent) → IsTargetModule content → IsVe
     → (line : Line) (rest : List Line) → state.running.rest ≡ line ∷ rest → IsPlain line.inst.op
     → StepFollows content machinery (step setting state) (machine_step machinery (machine_of machinery state extra))
     × (accesses_by (machine_of machinery state extra) (machine_of machinery state extra).state.running.rest ≡ accesses_at setting state state.running.rest)
+
+-- a jump of a target module is one step of both, to the same block, whose phis take the same
+abbrev pub JumpsFollow : Type 0
+JumpsFollow = (content : ModuleContent) → IsTargetModule content → (map_given : StackMap) (plan : List PlanLine) (bound : ℕ)
+    → (state : State) (extra : Extra) → IsRelated content state extra → (line : Line) (rest : List Line) → state.running.rest ≡ line ∷ rest → IsJump line.inst.op
+    → StepFollows content (machinery_of content map_given plan bound) (step (target_setting content (go plan) bound) state)
+    (machine_step (machinery_of content map_given plan bound) (machine_of (machinery_of content map_given plan bound) state extra))
+
+-- both trap where they execute `unreachable`
+abbrev pub UnreachablesFollow : Type 0
+UnreachablesFollow = (content : ModuleContent) → IsTargetModule content → (map_given : StackMap) (plan : List PlanLine) (bound : ℕ)
+    → (state : State) (extra : Extra) → IsRelated content state extra → (line : Line) (rest : List Line) → state.running.rest ≡ line ∷ rest → line.inst.op ≡ Unreachable
+    → StepFollows content (machinery_of content map_given plan bound) (step (target_setting content (go plan) bound) state)
+    (machine_step (machinery_of content map_given plan bound) (machine_of (machinery_of content map_given plan bound) state extra))
 
 -- ---- open
 

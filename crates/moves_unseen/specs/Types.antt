@@ -29,9 +29,16 @@ pub data IsPlain : Op → Type 0 where
   computes : (op : Op) → IsArithmetic op → IsPlain op
   advances : (elem : Elem) (index_width : ℕ) (field : Option ℕ) → IsPlain (ops.Gep elem index_width field)
   orders : (pred : Pred) → IsPlain (ops.Icmp pred)
+  chooses : IsPlain ops.Select
   loads : IsPlain ops.Load
   stores : IsPlain ops.Store
   checks : (types : List Ty) → IsPlain (ops.Call Check types)
   compares : (types : List Ty) → IsPlain (ops.Call Same types)
   prints : (types : List Ty) → IsPlain (ops.Call Print types)
   reads : (types : List Ty) → IsPlain (ops.Call Read types)
+
+-- operators of lines that go to another block
+pub data IsJump : Op → Type 0 where
+  jumps : IsJump ops.Br
+  branches : IsJump ops.CondBr
+  switches : IsJump ops.Switch

@@ -1,7 +1,7 @@
 //! Laws towards "moves are never noticed": what the address machine has of the target meaning's state. No code.
 #![tactic(auto)]
 
-ghost use Rattle.moves_unseen.specs.Statements.{AccessesAreChecked, ChecksAreAccesses, ChecksFollow, ComparisonsFollow, GepsFollow, GroupsKeepObjects, IcmpsFollow, IntegersFollow, LinesAreTyped, LoadsFollow, LoadsHold, NewObjectsHold, OpeningsFollow, PairsAreCompared, PlainLinesFollow, PrintsFollow, ReadsFollow, StoresFollow, StoresHold, UsedPairsStand};
+ghost use Rattle.moves_unseen.specs.Statements.{AccessesAreChecked, ChecksAreAccesses, ChecksFollow, ComparisonsFollow, GepsFollow, GroupsKeepObjects, IcmpsFollow, IntegersFollow, JumpsFollow, LinesAreTyped, LoadsFollow, LoadsHold, NewObjectsHold, OpeningsFollow, PairsAreCompared, PlainLinesFollow, PrintsFollow, ReadsFollow, SelectsFollow, StoresFollow, StoresHold, UnreachablesFollow, UsedPairsStand};
 
 /// After the moves of an event each cell holds what it held: integers are the same, and each pointer cell has the address of
 /// the same pointer.
@@ -103,4 +103,19 @@ pub fn lines_are_typed()
 /// check, a comparison, a print or a read.
 pub fn plain_lines_follow()
     ensures { PlainLinesFollow }
+{}
+
+/// So is a select, whose value is that of the operand which its condition chooses.
+pub fn selects_follow()
+    ensures { SelectsFollow }
+{}
+
+/// A jump of a target module is one step of both, to the same block, whose phis take the same.
+pub fn jumps_follow()
+    ensures { JumpsFollow }
+{}
+
+/// Both trap where they execute `unreachable`.
+pub fn unreachables_follow()
+    ensures { UnreachablesFollow }
 {}
