@@ -27,3 +27,4 @@ pub mod PhiLaws
 pub mod PlainSteps
 pub mod JumpLaws
 pub mod JumpSteps
+pub mod EntryLaws

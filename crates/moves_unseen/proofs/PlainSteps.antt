@@ -273,26 +273,28 @@ module _ (content : ModuleContent) (target : IsTargetModule content) (verified :
       let has = arithmetic_form line.inst.op line.inst arithmetical of_line.form in
       let register = register_of line.to (of_line.gives ∙ has.0) in
       let plain = integer_plain line.inst.ty has.1 in
-      let all = subst (λ (wanted : List Ty). AllZip (Fits types) line.inst.operands wanted) (arithmetic_asked line.inst.op line.inst.ty (length line.inst.operands) arithmetical) of_line.typed.operands in
-      (arithmetic_follows content machinery setting state extra related line rest is arithmetical (record {
-        first = number_repeated types line.inst.operands (length line.inst.operands) line.inst.ty all plain 0;
-        second = number_repeated types line.inst.operands (length line.inst.operands) line.inst.ty all plain 1;
-        given = register.0;
-        to = register.1;
-        ty = outcome_type line.inst.op line.inst.ty;
-        typed = of_line.type register.0 register.1;
-        plain = arithmetic_type line.inst.op line.inst.ty arithmetical has.1;
-      }),
-      unseen line.inst.op refl (no_access setting state line line.inst.op arithmetical) (no_machine_access machine (worded line) line.inst.op arithmetical))
+      let all = subst (λ (wanted : List Ty). AllZip (Fits types) line.inst.operands wanted) (arithmetic_asked line.inst.op line.inst.ty (length line.inst.operands) arithmetical) of_line.typed.operands in (
+        arithmetic_follows content machinery setting state extra related line rest is arithmetical (record {
+          first = number_repeated types line.inst.operands (length line.inst.operands) line.inst.ty all plain 0;
+          second = number_repeated types line.inst.operands (length line.inst.operands) line.inst.ty all plain 1;
+          given = register.0;
+          to = register.1;
+          ty = outcome_type line.inst.op line.inst.ty;
+          typed = of_line.type register.0 register.1;
+          plain = arithmetic_type line.inst.op line.inst.ty arithmetical has.1;
+        }),
+        unseen line.inst.op refl (no_access setting state line line.inst.op arithmetical) (no_machine_access machine (worded line) line.inst.op arithmetical),
+      )
 
   gep_both : (elem : Elem) (index_width : ℕ) (field : Option ℕ) → line.inst.op ≡ ops.Gep elem index_width field → Both
   gep_both elem index_width field op_is =
       let has = (form (ops.Gep elem index_width field) op_is).0 in
-      let register = register_of line.to (of_line.gives ∙ has.result) in
-      (gep_follows content machinery setting same_layouts state extra related line rest is elem index_width field op_is
-      (number_at types line.inst.operands (Ptr ∷ Int index_width ∷ []) 1 (Int index_width) (fits (ops.Gep elem index_width field) op_is) refl refl)
-      (record { given = register.0; to = register.1; ty = line.inst.ty; typed = result_type (ops.Gep elem index_width field) op_is register.0 register.1; managed = has.type }),
-      unseen (ops.Gep elem index_width field) op_is refl refl)
+      let register = register_of line.to (of_line.gives ∙ has.result) in (
+        gep_follows content machinery setting same_layouts state extra related line rest is elem index_width field op_is
+            (number_at types line.inst.operands (Ptr ∷ Int index_width ∷ []) 1 (Int index_width) (fits (ops.Gep elem index_width field) op_is) refl refl)
+            (record { given = register.0; to = register.1; ty = line.inst.ty; typed = result_type (ops.Gep elem index_width field) op_is register.0 register.1; managed = has.type }),
+        unseen (ops.Gep elem index_width field) op_is refl refl,
+      )
 
   compared_as : (pred : Pred) → line.inst.op ≡ ops.Icmp pred → (ty : Ty) → line.inst.ty ≡ ty → IsCompared types related.running.pairs line pred
   compared_as pred op_is Void ty_is = absurd (true≢false (sym ((form (ops.Icmp pred) op_is).type) ∙ ap is_first_class ty_is))
@@ -326,21 +328,23 @@ module _ (content : ModuleContent) (target : IsTargetModule content) (verified :
 
   icmp_both : (pred : Pred) → line.inst.op ≡ ops.Icmp pred → Both
   icmp_both pred op_is =
-      let register = register_of line.to (of_line.gives ∙ (form (ops.Icmp pred) op_is).result) in
-      (icmp_follows content machinery setting state extra related line rest is pred op_is (compared_as pred op_is line.inst.ty refl) register.0 register.1 (Int 1)
-      (result_type (ops.Icmp pred) op_is register.0 register.1),
-      unseen (ops.Icmp pred) op_is refl refl)
+      let register = register_of line.to (of_line.gives ∙ (form (ops.Icmp pred) op_is).result) in (
+        icmp_follows content machinery setting state extra related line rest is pred op_is (compared_as pred op_is line.inst.ty refl) register.0 register.1 (Int 1)
+            (result_type (ops.Icmp pred) op_is register.0 register.1),
+        unseen (ops.Icmp pred) op_is refl refl,
+      )
 
   select_both : line.inst.op ≡ ops.Select → Both
   select_both op_is =
       let register = register_of line.to (of_line.gives ∙ (form ops.Select op_is).result) in
-      let wanted = fits ops.Select op_is in
-      (select_follows content machinery setting state extra related line rest is op_is
-      (number_at types line.inst.operands (Int 1 ∷ line.inst.ty ∷ line.inst.ty ∷ []) 0 (Int 1) wanted refl refl)
-      (fits_at types line.inst.operands (Int 1 ∷ line.inst.ty ∷ line.inst.ty ∷ []) 1 line.inst.ty wanted refl)
-      (fits_at types line.inst.operands (Int 1 ∷ line.inst.ty ∷ line.inst.ty ∷ []) 2 line.inst.ty wanted refl)
-      register.0 register.1 (result_type ops.Select op_is register.0 register.1),
-      unseen ops.Select op_is refl refl)
+      let wanted = fits ops.Select op_is in (
+        select_follows content machinery setting state extra related line rest is op_is
+            (number_at types line.inst.operands (Int 1 ∷ line.inst.ty ∷ line.inst.ty ∷ []) 0 (Int 1) wanted refl refl)
+            (fits_at types line.inst.operands (Int 1 ∷ line.inst.ty ∷ line.inst.ty ∷ []) 1 line.inst.ty wanted refl)
+            (fits_at types line.inst.operands (Int 1 ∷ line.inst.ty ∷ line.inst.ty ∷ []) 2 line.inst.ty wanted refl)
+            register.0 register.1 (result_type ops.Select op_is register.0 register.1),
+        unseen ops.Select op_is refl refl,
+      )
 
   -- ---- accesses
 
@@ -355,9 +359,10 @@ module _ (content : ModuleContent) (target : IsTargetModule content) (verified :
       let register = register_of line.to (of_line.gives ∙ (form ops.Load op_is).result) in
       let cell = rule ops.Load op_is in
       let before = checked_before ops.Load op_is (operand_at line.inst.operands 0) refl cell.0 cell.1 in
-      let typed = result_type ops.Load op_is register.0 register.1 in
-      (load_follows content machinery setting layouts_are state extra related line rest is op_is cell.0 cell.1 before register.0 register.1 typed,
-      load_seen content machinery setting layouts_are state extra related line rest is op_is cell.0 cell.1 before register.0 register.1 typed)
+      let typed = result_type ops.Load op_is register.0 register.1 in (
+        load_follows content machinery setting layouts_are state extra related line rest is op_is cell.0 cell.1 before register.0 register.1 typed,
+        load_seen content machinery setting layouts_are state extra related line rest is op_is cell.0 cell.1 before register.0 register.1 typed,
+      )
 
   stored_as : line.inst.op ≡ ops.Store → (cell : Cell) → type_of cell ≡ line.inst.ty → IsStored types related.running.pairs (operand_at line.inst.operands 0) cell
   stored_as op_is cells.I64 type_is = number_at types line.inst.operands (line.inst.ty ∷ Ptr ∷ []) 0 line.inst.ty (fits ops.Store op_is) refl (ap is_pointer (sym type_is))
@@ -370,9 +375,10 @@ module _ (content : ModuleContent) (target : IsTargetModule content) (verified :
       let none = no_register line.to (of_line.gives ∙ (form ops.Store op_is).result) in
       let cell = rule ops.Store op_is in
       let before = checked_before ops.Store op_is (operand_at line.inst.operands 1) refl cell.0 cell.1 in
-      let held = stored_as op_is cell.0 cell.1 in
-      (store_follows content machinery setting layouts_are state extra related line rest is op_is cell.0 cell.1 before none held,
-      store_seen content machinery setting layouts_are state extra related line rest is op_is cell.0 cell.1 before none held)
+      let held = stored_as op_is cell.0 cell.1 in (
+        store_follows content machinery setting layouts_are state extra related line rest is op_is cell.0 cell.1 before none held,
+        store_seen content machinery setting layouts_are state extra related line rest is op_is cell.0 cell.1 before none held,
+      )
 
   -- ---- calls of leaves
 
@@ -394,36 +400,40 @@ module _ (content : ModuleContent) (target : IsTargetModule content) (verified :
       (ap (λ (each : Signature). slice_get each.params at) (sym (signature_is callee passed op_is signature found)) ∙ param) plain
 
   check_both : (passed : List Ty) → line.inst.op ≡ ops.Call Check passed → Both
-  check_both passed op_is =
-      (check_follows content machinery setting layouts_are state extra related line rest is passed op_is
-      (no_register line.to (gives_as Check passed op_is (record { answer = Void; params = Ptr ∷ Ptr ∷ Int 64 ∷ [] }) refl))
-      (passes_number Check passed op_is (record { answer = Void; params = Ptr ∷ Ptr ∷ Int 64 ∷ [] }) refl 2 (Int 64) refl refl)
-      (used 3 (use_at line.inst.operands 0) (uses_check line (use_at line.inst.operands 0) here
-      (subst (λ (each : Op). Contains (checked each line.inst) (use_at line.inst.operands 0)) (sym op_is) (first_contained (use_at line.inst.operands 0) [])))),
-      unseen (ops.Call Check passed) op_is refl refl)
+  check_both passed op_is = (
+    check_follows content machinery setting layouts_are state extra related line rest is passed op_is
+        (no_register line.to (gives_as Check passed op_is (record { answer = Void; params = Ptr ∷ Ptr ∷ Int 64 ∷ [] }) refl))
+        (passes_number Check passed op_is (record { answer = Void; params = Ptr ∷ Ptr ∷ Int 64 ∷ [] }) refl 2 (Int 64) refl refl)
+        (used 3 (use_at line.inst.operands 0) (uses_check line (use_at line.inst.operands 0) here
+        (subst (λ (each : Op). Contains (checked each line.inst) (use_at line.inst.operands 0)) (sym op_is) (first_contained (use_at line.inst.operands 0) [])))),
+    unseen (ops.Call Check passed) op_is refl refl,
+  )
 
   same_both : (passed : List Ty) → line.inst.op ≡ ops.Call Same passed → Both
   same_both passed op_is =
-      let register = register_of line.to (gives_as Same passed op_is (record { answer = Int 1; params = Ptr ∷ Ptr ∷ Ptr ∷ Ptr ∷ [] }) refl) in
-      (same_follows content machinery setting state extra related line rest is passed op_is register.0 register.1 line.inst.ty (result_type (ops.Call Same passed) op_is register.0 register.1)
-      (used 4 (use_at line.inst.operands 0) (uses_same line (use_at line.inst.operands 0) here
-      (subst (λ (each : Op). Contains (compared each line.inst) (use_at line.inst.operands 0)) (sym op_is) (first_contained (use_at line.inst.operands 0) (use_at line.inst.operands 2 ∷ [])))))
-      (used 4 (use_at line.inst.operands 2) (uses_same line (use_at line.inst.operands 2) here
-      (subst (λ (each : Op). Contains (compared each line.inst) (use_at line.inst.operands 2)) (sym op_is) (second_contained (use_at line.inst.operands 0) (use_at line.inst.operands 2) [])))),
-      unseen (ops.Call Same passed) op_is refl refl)
+      let register = register_of line.to (gives_as Same passed op_is (record { answer = Int 1; params = Ptr ∷ Ptr ∷ Ptr ∷ Ptr ∷ [] }) refl) in (
+        same_follows content machinery setting state extra related line rest is passed op_is register.0 register.1 line.inst.ty (result_type (ops.Call Same passed) op_is register.0 register.1)
+            (used 4 (use_at line.inst.operands 0) (uses_same line (use_at line.inst.operands 0) here
+            (subst (λ (each : Op). Contains (compared each line.inst) (use_at line.inst.operands 0)) (sym op_is) (first_contained (use_at line.inst.operands 0) (use_at line.inst.operands 2 ∷ [])))))
+            (used 4 (use_at line.inst.operands 2) (uses_same line (use_at line.inst.operands 2) here
+            (subst (λ (each : Op). Contains (compared each line.inst) (use_at line.inst.operands 2)) (sym op_is) (second_contained (use_at line.inst.operands 0) (use_at line.inst.operands 2) [])))),
+        unseen (ops.Call Same passed) op_is refl refl,
+      )
 
   print_both : (passed : List Ty) → line.inst.op ≡ ops.Call Print passed → Both
-  print_both passed op_is =
-      (print_follows content machinery setting state extra related line rest is passed op_is
-      (no_register line.to (gives_as Print passed op_is (record { answer = Void; params = Int 64 ∷ [] }) refl))
-      (passes_number Print passed op_is (record { answer = Void; params = Int 64 ∷ [] }) refl 0 (Int 64) refl refl),
-      unseen (ops.Call Print passed) op_is refl refl)
+  print_both passed op_is = (
+    print_follows content machinery setting state extra related line rest is passed op_is
+        (no_register line.to (gives_as Print passed op_is (record { answer = Void; params = Int 64 ∷ [] }) refl))
+        (passes_number Print passed op_is (record { answer = Void; params = Int 64 ∷ [] }) refl 0 (Int 64) refl refl),
+    unseen (ops.Call Print passed) op_is refl refl,
+  )
 
   read_both : (passed : List Ty) → line.inst.op ≡ ops.Call Read passed → Both
   read_both passed op_is =
-      let register = register_of line.to (gives_as Read passed op_is (record { answer = Int 64; params = [] }) refl) in
-      (read_follows content machinery setting state extra related line rest is passed op_is register.0 register.1 line.inst.ty (result_type (ops.Call Read passed) op_is register.0 register.1),
-      unseen (ops.Call Read passed) op_is refl refl)
+      let register = register_of line.to (gives_as Read passed op_is (record { answer = Int 64; params = [] }) refl) in (
+        read_follows content machinery setting state extra related line rest is passed op_is register.0 register.1 line.inst.ty (result_type (ops.Call Read passed) op_is register.0 register.1),
+        unseen (ops.Call Read passed) op_is refl refl,
+      )
 
   by_operator : (op : Op) → IsPlain op → line.inst.op ≡ op → Both
   by_operator op (computes each arithmetical) op_is = arithmetic_both (subst IsArithmetic (sym op_is) arithmetical)

@@ -3,4 +3,5 @@ pub mod Frames
 pub mod States
 pub mod Steps
 pub mod Types
+pub mod Entries
 pub mod Statements

@@ -11,7 +11,7 @@ use Rattle.ir_ast.specs.Bundles.{HasNoBundle}
 use Rattle.ir_ast.specs.Cells.{type_of}
 use Rattle.ir_ast.specs.Layouts.{ObjectLayout}
 use Rattle.ir_ast.specs.Modules.{ModuleContent}
-use Rattle.ir_ast.specs.Objects.{Datum, Object, Pointer}
+use Rattle.ir_ast.specs.Objects.{Datum, Object, Pointer, number}
 use Rattle.ir_ast.specs.Sizes.{fields_in}
 use Rattle.ir_ast.specs.Values.{value_types}
 use Rattle.ir_cfg.specs.TargetModules.{IsTargetModule}
@@ -27,6 +27,7 @@ use Rattle.moving_heap.specs.declared.stands.Stand.{Stand}
 use Rattle.object_meaning.specs.Accesses.{Place, accessed, cell_of, stored}
 use Rattle.object_meaning.specs.Calls.{made}
 use Rattle.object_meaning.specs.Comparisons.{same_pointer}
+use Rattle.object_meaning.specs.Frames.{entered}
 use Rattle.object_meaning.specs.Lines.{Line}
 use Rattle.object_meaning.specs.Outcomes.{Outcome, opening}
 use Rattle.object_meaning.specs.States.{Setting, State}
@@ -48,9 +49,12 @@ use Rattle.machine_meaning.specs.Happenings.{accesses_by}
 use Rattle.machine_meaning.specs.MachineRuns.{MachineOutcome, MachineGives, machine_opening}
 use Rattle.machine_meaning.specs.MachineSteps.{machine_step}
 use Rattle.machine_meaning.specs.Machines.{Machinery}
+use Rattle.machine_meaning.specs.Words.{worded_setting}
 use Rattle.machine_meaning.specs.Relations.{addr, check_of, IsPair}
+use Rattle.moves_unseen.specs.Entries.{AreArguments, entered_words}
+use Rattle.moves_unseen.specs.Frames.{IsRunning}
 use Rattle.moves_unseen.specs.Objects.{AreHeld, Holds, Loads}
-use Rattle.moves_unseen.specs.States.{Extra, Follows, IsRelated, machine_of}
+use Rattle.moves_unseen.specs.States.{Extra, Follows, IsRelated, machine_of, worded_frame}
 use Rattle.moves_unseen.specs.Types.{IsJump, IsLineOf, IsPlain}
 use Rattle.moves_unseen.specs.Steps.{GivesNumber, GivesPointer, IsArithmetic, IsCheckedBefore, IsCompared, IsNumber, IsStored, StepFollows}
 
@@ -219,6 +223,14 @@ UnreachablesFollow = (content : ModuleContent) → IsTargetModule content → (m
     → (state : State) (extra : Extra) → IsRelated content state extra → (line : Line) (rest : List Line) → state.running.rest ≡ line ∷ rest → line.inst.op ≡ Unreachable
     → StepFollows content (machinery_of content map_given plan bound) (step (target_setting content (go plan) bound) state)
     (machine_step (machinery_of content map_given plan bound) (machine_of (machinery_of content map_given plan bound) state extra))
+
+-- the frame of a function that is called with such arguments stands at its front, and the machine makes it of their words
+abbrev pub FramesAreEntered : Type 0
+FramesAreEntered = (content : ModuleContent) (place : ℕ) (func : Function) → slice_get content.funcs place ≡ Some func → (go_line : ℕ → Option ℕ) (bound : ℕ)
+    → (objects : List Object) (stands : List Stand) (given : List Datum) (words : List ℕ) → AreArguments stands (map (λ arg. arg.ty) func.args) given words
+    → IsRunning content objects stands (entered (target_setting content go_line bound) place given) (entered_words content place words)
+    × (worded_frame (entered (target_setting content go_line bound) place given) (entered_words content place words).words
+    ≡ entered (worded_setting (target_setting content go_line bound)) place (map number words))
 
 -- ---- open
 

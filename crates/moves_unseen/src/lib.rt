@@ -1,7 +1,7 @@
 //! Laws towards "moves are never noticed": what the address machine has of the target meaning's state. No code.
 #![tactic(auto)]
 
-ghost use Rattle.moves_unseen.specs.Statements.{AccessesAreChecked, ChecksAreAccesses, ChecksFollow, ComparisonsFollow, GepsFollow, GroupsKeepObjects, IcmpsFollow, IntegersFollow, JumpsFollow, LinesAreTyped, LoadsFollow, LoadsHold, NewObjectsHold, OpeningsFollow, PairsAreCompared, PlainLinesFollow, PrintsFollow, ReadsFollow, SelectsFollow, StoresFollow, StoresHold, UnreachablesFollow, UsedPairsStand};
+ghost use Rattle.moves_unseen.specs.Statements.{AccessesAreChecked, ChecksAreAccesses, ChecksFollow, ComparisonsFollow, FramesAreEntered, GepsFollow, GroupsKeepObjects, IcmpsFollow, IntegersFollow, JumpsFollow, LinesAreTyped, LoadsFollow, LoadsHold, NewObjectsHold, OpeningsFollow, PairsAreCompared, PlainLinesFollow, PrintsFollow, ReadsFollow, SelectsFollow, StoresFollow, StoresHold, UnreachablesFollow, UsedPairsStand};
 
 /// After the moves of an event each cell holds what it held: integers are the same, and each pointer cell has the address of
 /// the same pointer.
@@ -118,4 +118,10 @@ pub fn jumps_follow()
 /// Both trap where they execute `unreachable`.
 pub fn unreachables_follow()
     ensures { UnreachablesFollow }
+{}
+
+/// The frame of a function that is called with numbers, and pointers that are their own bases, stands at its front; the machine
+/// makes it of their words.
+pub fn frames_are_entered()
+    ensures { FramesAreEntered }
 {}
