@@ -61,8 +61,10 @@ types_split (arg ∷ args) more = ap (λ (rest : List Ty). arg.ty ∷ rest) (typ
 counted : (stands : List Stand) (types : List Ty) (given : List Datum) (words : List ℕ) → AreArguments stands types given words → (length given ≡ length types) × (length words ≡ length types)
 counted stands [] [] [] are = (refl, refl)
 counted stands [] [] (word ∷ words) are = absurd are
-counted stands [] (datum ∷ given) words are = absurd are
-counted stands (ty ∷ types) [] words are = absurd are
+counted stands [] (datum ∷ given) [] are = absurd are
+counted stands [] (datum ∷ given) (word ∷ words) are = absurd are
+counted stands (ty ∷ types) [] [] are = absurd are
+counted stands (ty ∷ types) [] (word ∷ words) are = absurd are
 counted stands (ty ∷ types) (datum ∷ given) [] are = absurd are
 counted stands (ty ∷ types) (datum ∷ given) (word ∷ words) are = let rest = counted stands types given words are.1 in (ap suc rest.0, ap suc rest.1)
 
@@ -70,8 +72,10 @@ entry_number : (stands : List Stand) (types more : List Ty) (given : List Datum)
     → slice_get (types ++ more) at ≡ Some ty → is_pointer ty ≡ false → get_or (words ++ replicate count 0) at 0 ≡ number_in (get_or (given ++ replicate count nothing) at nothing)
 entry_number stands [] more [] [] count are at ty is plain = zero_there count at
 entry_number stands [] more [] (word ∷ words) count are at ty is plain = absurd are
-entry_number stands [] more (datum ∷ given) words count are at ty is plain = absurd are
-entry_number stands (first ∷ types) more [] words count are at ty is plain = absurd are
+entry_number stands [] more (datum ∷ given) [] count are at ty is plain = absurd are
+entry_number stands [] more (datum ∷ given) (word ∷ words) count are at ty is plain = absurd are
+entry_number stands (first ∷ types) more [] [] count are at ty is plain = absurd are
+entry_number stands (first ∷ types) more [] (word ∷ words) count are at ty is plain = absurd are
 entry_number stands (first ∷ types) more (datum ∷ given) [] count are at ty is plain = absurd are
 entry_number stands (first ∷ types) more (datum ∷ given) (word ∷ words) count are zero ty is plain =
     (are.0).number (ap is_pointer (same_Some first ty is) ∙ plain)
@@ -80,7 +84,8 @@ entry_number stands (first ∷ types) more (datum ∷ given) (word ∷ words) co
 entry_base : (stands : List Stand) (types : List Ty) (given : List Datum) (words : List ℕ) (count : ℕ) → AreArguments stands types given words → (at : ℕ) (ty : Ty)
     → slice_get types at ≡ Some ty → is_pointer ty ≡ true → IsBase stands (pointer_in (get_or (given ++ replicate count nothing) at nothing)) (get_or (words ++ replicate count 0) at 0)
 entry_base stands [] given words count are at ty is managed = absurd (none-some ty is)
-entry_base stands (first ∷ types) [] words count are at ty is managed = absurd are
+entry_base stands (first ∷ types) [] [] count are at ty is managed = absurd are
+entry_base stands (first ∷ types) [] (word ∷ words) count are at ty is managed = absurd are
 entry_base stands (first ∷ types) (datum ∷ given) [] count are at ty is managed = absurd are
 entry_base stands (first ∷ types) (datum ∷ given) (word ∷ words) count are zero ty is managed =
     (are.0).base (ap is_pointer (same_Some first ty is) ∙ managed)

@@ -79,31 +79,33 @@ picked_is made next (inst ∷ insts) zero held at none old within same = same
 picked_is {A} made next (inst ∷ insts) (suc count) held at none old within same =
     by (is_some inst.result) within (λ further more inside kept. picked_is made further insts count more at none old inside kept)
   where
+    own : (t : Bool) → (next == at) ≡ t → next < length held
+        → ((at ≡ next → ⊥) → get_or (put_each made (take count (plain_lines (next + 1) insts)) (set held next (made (line_as true next inst)))) at none
+        ≡ picked made (take count (plain_lines (next + 1) insts)) at old)
+        → get_or (put_each made (take count (plain_lines (next + 1) insts)) (set held next (made (line_as true next inst)))) at none
+        ≡ (if next == at then made (line_as true next inst) else picked made (take count (plain_lines (next + 1) insts)) at old)
+    own true is lower rest =
+        let here = eqb-true next at is in
+        below_kept made (next + 1) insts count (set held next (made (line_as true next inst))) at none (omega arith)
+        ∙ (ap (λ (k : ℕ). get_or (set held next (made (line_as true next inst))) k none) (sym here)
+        ∙ (get_or-set_same held next (made (line_as true next inst)) none lower
+        ∙ sym (ap (λ (t : Bool). if t then made (line_as true next inst) else picked made (take count (plain_lines (next + 1) insts)) at old) is)))
+    own false is lower rest =
+        rest (λ there. grind (arith, nat_tests))
+        ∙ sym (ap (λ (t : Bool). if t then made (line_as true next inst) else picked made (take count (plain_lines (next + 1) insts)) at old) is)
+
     by : (b : Bool) → AreWithin (line_as b next inst ∷ take count (plain_lines (if b then next + 1 else next) insts)) (length held)
         → ((further : ℕ) (more : List A) → AreWithin (take count (plain_lines further insts)) (length more) → get_or more at none ≡ old
         → get_or (put_each made (take count (plain_lines further insts)) more) at none ≡ picked made (take count (plain_lines further insts)) at old)
         → get_or (put_each made (take count (plain_lines (if b then next + 1 else next) insts)) (put (if b then Some next else None) (made (line_as b next inst)) held)) at none
         ≡ (if gives (line_as b next inst) at then made (line_as b next inst) else picked made (take count (plain_lines (if b then next + 1 else next) insts)) at old)
     by false inside rest = rest next held (λ place phi to stands gives_to. inside (suc place) phi to stands gives_to) same
-    by true inside rest = own (next == at) refl
-      where
-        first : Line
-        first = line_as true next inst
-
-        own : (t : Bool) → (next == at) ≡ t
-            → get_or (put_each made (take count (plain_lines (next + 1) insts)) (set held next (made (line_as true next inst)))) at none
-            ≡ (if next == at then made (line_as true next inst) else picked made (take count (plain_lines (next + 1) insts)) at old)
-        own true is =
-            let here = eqb-true next at is in
-            below_kept made (next + 1) insts count (set held next (made (line_as true next inst))) at none (omega arith)
-            ∙ (ap (λ (k : ℕ). get_or (set held next (made (line_as true next inst))) k none) (sym here)
-            ∙ (get_or-set_same held next (made (line_as true next inst)) none (inside 0 (line_as true next inst) next refl refl)
-            ∙ sym (ap (λ (t : Bool). if t then made (line_as true next inst) else picked made (take count (plain_lines (next + 1) insts)) at old) is)))
-        own false is =
-            rest (next + 1) (set held next (made (line_as true next inst)))
-            (λ place phi to stands gives_to. subst (λ (n : ℕ). to < n) (sym (length-set held next (made (line_as true next inst)))) (inside (suc place) phi to stands gives_to))
-            (get_or-set_other held next at (made (line_as true next inst)) none (λ there. grind (arith, nat_tests)) ∙ same)
-            ∙ sym (ap (λ (t : Bool). if t then made (line_as true next inst) else picked made (take count (plain_lines (next + 1) insts)) at old) is)
+    by true inside rest =
+        own (next == at) refl (inside 0 (line_as true next inst) next refl refl)
+        (λ apart.
+        rest (next + 1) (set held next (made (line_as true next inst)))
+        (λ place phi to stands gives_to. subst (λ (n : ℕ). to < n) (sym (length-set held next (made (line_as true next inst)))) (inside (suc place) phi to stands gives_to))
+        (get_or-set_other held next at (made (line_as true next inst)) none apart ∙ same))
 
 -- ---- what phis make
 

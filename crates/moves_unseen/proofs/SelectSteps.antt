@@ -54,7 +54,7 @@ the_line one other is = cc
 result_is : (next : ℕ) (inst : Instruction) (to : ℕ) → (numbered next inst).to ≡ Some to → (to ≡ next) × (following next inst ≡ next + 1)
 result_is next inst to is = by (is_some inst.result) is
   where
-    by : (b : Bool) → (if b then Some next else None) ≡ Some to → (to ≡ next) × ((if b then next + 1 else next) ≡ next + 1)
+    by : (b : Bool) → ◌≡◌ {A = Option ℕ} (if b then Some next else None) (Some to) → (to ≡ next) × (◌≡◌ {A = ℕ} (if b then next + 1 else next) (next + 1))
     by true is = (cc, refl)
     by false is = absurd (none-some to is)
 
@@ -66,10 +66,9 @@ higher_result next (inst ∷ []) zero one two is_one is_two first second gives_o
 higher_result next (inst ∷ other ∷ insts) zero one two is_one is_two first second gives_one gives_two =
     let here = result_is next inst first (ap (λ (l : Line). l.to) (the_line (numbered next inst) one is_one) ∙ gives_one) in
     let there = result_is (following next inst) other second (ap (λ (l : Line). l.to) (the_line (numbered (following next inst) other) two is_two) ∙ gives_two) in
-    let from = here.0 in
-    let then = here.1 in
-    let to = there.0 in
-    omega arith
+    let one_is : first ≡ next = here.0 in
+    let next_is : following next inst ≡ next + 1 = here.1 in
+    let two_is : second ≡ following next inst = there.0 in omega arith
 higher_result next (inst ∷ insts) (suc place) one two is_one is_two first second gives_one gives_two =
     higher_result (following next inst) insts place one two is_one is_two first second gives_one gives_two
 
@@ -92,7 +91,7 @@ worded_at words [] place = refl
 worded_at words (first ∷ from) zero = worded_value words first
 worded_at words (first ∷ from) (suc place) = worded_at words from place
 
-one_of : (b : Bool) → ((if b then 1 else 2) ≡ 1) × (b ≡ true) ⊎ ((if b then 1 else 2) ≡ 2) × (b ≡ false)
+one_of : (b : Bool) → ((◌≡◌ {A = ℕ} (if b then 1 else 2) 1) × (b ≡ true)) ⊎ ((◌≡◌ {A = ℕ} (if b then 1 else 2) 2) × (b ≡ false))
 one_of true = inl (refl, refl)
 one_of false = inr (refl, refl)
 
