@@ -28,3 +28,4 @@ pub mod PlainSteps
 pub mod JumpLaws
 pub mod JumpSteps
 pub mod EntryLaws
+pub mod LiteralLaws

@@ -34,6 +34,7 @@ use Rattle.object_meaning.specs.States.{Setting, State}
 use Rattle.object_meaning.specs.Steps.{step}
 use Rattle.object_meaning.specs.Traces.{accesses_at}
 use Rattle.object_meaning.specs.TargetRuns.{TargetGives, target_setting}
+use Rattle.pair_facts.specs.declared.bases.Base.{Base}
 use Rattle.pair_facts.specs.declared.bases.Base.TheVariants.{Named}
 use Rattle.pair_facts.specs.Faults.{FaultAt, IsVerified}
 use Rattle.pair_facts.specs.Lines.{lines_at, operand_at}
@@ -41,6 +42,7 @@ use Rattle.pair_facts.specs.Pairs.{Pairs}
 use Rattle.pair_facts.specs.Paths.{At}
 use Rattle.pair_facts.specs.Uses.{Use, Uses, accessed_at}
 use Rattle.ir_ast.specs.declared.ops.Operand.{Operand}
+use Rattle.ir_ast.specs.declared.ops.Operand.TheVariants.{Int}
 use Rattle.ir_ast.specs.Faults.TypeClash.{Fits}
 use Rattle.ir_ast.specs.Funcs.{Function}
 use Rattle.stackmap_write.specs.ModuleMaps.{map_of}
@@ -231,6 +233,11 @@ FramesAreEntered = (content : ModuleContent) (place : ℕ) (func : Function) →
     → IsRunning content objects stands (entered (target_setting content go_line bound) place given) (entered_words content place words)
     × (worded_frame (entered (target_setting content go_line bound) place given) (entered_words content place words).words
     ≡ entered (worded_setting (target_setting content go_line bound)) place (map number words))
+
+-- literals have no pairs, so the entries of a pair that stands are values or `null`
+abbrev pub LiteralsHaveNoPairs : Type 0
+LiteralsHaveNoPairs = (func : Function) (block place : ℕ) (pairs : Pairs) → At func block place pairs → (literal : ℕ)
+    → ((base : Base) → pairs (Int literal) base ≡ false) × ((operand : Operand) → pairs operand (Named (Int literal)) ≡ false)
 
 -- ---- open
 

@@ -1,7 +1,7 @@
 //! Laws towards "moves are never noticed": what the address machine has of the target meaning's state. No code.
 #![tactic(auto)]
 
-ghost use Rattle.moves_unseen.specs.Statements.{AccessesAreChecked, ChecksAreAccesses, ChecksFollow, ComparisonsFollow, FramesAreEntered, GepsFollow, GroupsKeepObjects, IcmpsFollow, IntegersFollow, JumpsFollow, LinesAreTyped, LoadsFollow, LoadsHold, NewObjectsHold, OpeningsFollow, PairsAreCompared, PlainLinesFollow, PrintsFollow, ReadsFollow, SelectsFollow, StoresFollow, StoresHold, UnreachablesFollow, UsedPairsStand};
+ghost use Rattle.moves_unseen.specs.Statements.{AccessesAreChecked, ChecksAreAccesses, ChecksFollow, ComparisonsFollow, FramesAreEntered, GepsFollow, GroupsKeepObjects, IcmpsFollow, IntegersFollow, JumpsFollow, LinesAreTyped, LiteralsHaveNoPairs, LoadsFollow, LoadsHold, NewObjectsHold, OpeningsFollow, PairsAreCompared, PlainLinesFollow, PrintsFollow, ReadsFollow, SelectsFollow, StoresFollow, StoresHold, UnreachablesFollow, UsedPairsStand};
 
 /// After the moves of an event each cell holds what it held: integers are the same, and each pointer cell has the address of
 /// the same pointer.
@@ -124,4 +124,9 @@ pub fn unreachables_follow()
 /// makes it of their words.
 pub fn frames_are_entered()
     ensures { FramesAreEntered }
+{}
+
+/// Literals have no pairs, so the entries of a pair that stands are values or `null`.
+pub fn literals_have_no_pairs()
+    ensures { LiteralsHaveNoPairs }
 {}
