@@ -27,5 +27,6 @@ pub mod PhiLaws
 pub mod PlainSteps
 pub mod JumpLaws
 pub mod JumpSteps
+pub mod BranchSteps
 pub mod EntryLaws
 pub mod LiteralLaws

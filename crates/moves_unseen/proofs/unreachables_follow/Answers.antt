@@ -1,4 +1,4 @@
-use Rattle.moves_unseen.proofs.JumpSteps as laws
+use Rattle.moves_unseen.proofs.BranchSteps as laws
 use Rattle.moves_unseen.proofs.unreachables_follow.Goals as goal
 
 pub returns : goal.returns
