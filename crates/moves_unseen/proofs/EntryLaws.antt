@@ -1,9 +1,9 @@
 -- The frame of a function that is called: its arguments are numbers or pointers that are their own bases.
-use Rattle.std.proofs.Common.{◌≡◌, ℕ, zero, suc, ◌+◌, ◌-◌, ◌≤◌, ◌&&◌, Bool, true, false, List, [], ◌∷◌, ◌++◌, length, get_or, map, replicate, refl, sym, ap, ◌∙◌, subst, arith, Option, Some, None}
+use Rattle.std.proofs.Common.{◌≡◌, ℕ, zero, suc, ◌+◌, ◌-◌, true, false, List, [], ◌∷◌, ◌++◌, length, get_or, map, replicate, refl, sym, ap, ◌∙◌, subst, arith, Option, Some, None}
 use Rattle.std.specs.Prelude.{slice_get, slice_index, is_some}
 use Rattle.std.specs.List.{filter}
 use Rattle.std.specs.Option.{option_map_or}
-use Rattle.std.proofs.lemmas.Bool.{and_parts, true≢false}
+use Rattle.std.proofs.lemmas.Bool.{and_parts}
 use Rattle.std.proofs.lemmas.List.{length-append, length-map, length-replicate}
 use Rattle.std.proofs.lemmas.Option.{none-some, same_Some}
 use Rattle.list_laws.proofs.Places.{get_map}
@@ -20,18 +20,17 @@ use Rattle.ir_ast.specs.Values.{Definition, argument, definition_type, outcome, 
 use Rattle.frame_forms.specs.FrameSizes.{frame_words}
 use Rattle.moving_heap.specs.declared.stands.Stand.{Stand}
 use Rattle.object_meaning.specs.Frames.{entered}
-use Rattle.object_meaning.specs.Lines.{Line, insts_in, register_count, registers_of}
+use Rattle.object_meaning.specs.Lines.{insts_in, register_count, registers_of}
 use Rattle.object_meaning.specs.Registers.{nothing, value, number_in, pointer_in}
 use Rattle.object_meaning.specs.States.{Frame, Setting}
 use Rattle.object_meaning.specs.TargetRuns.{plain_lines, target_setting}
 use Rattle.pair_facts.specs.declared.bases.Base.TheVariants.{Named}
-use Rattle.pair_facts.specs.Lines.{named}
-use Rattle.pair_facts.specs.Pairs.{at_entry, is_named, is_pointer_argument, own_pairs}
+use Rattle.pair_facts.specs.Pairs.{at_entry, is_pointer_argument, own_pairs}
 use Rattle.pair_facts.specs.Paths.{start}
 use Rattle.machine_meaning.specs.Code.{words_in}
 use Rattle.machine_meaning.specs.Relations.{word_in, IsPair}
-use Rattle.machine_meaning.specs.Words.{worded, worded_setting}
-use Rattle.moves_unseen.specs.Entries.{AreArguments, IsArgument, entered_words}
+use Rattle.machine_meaning.specs.Words.{worded_setting}
+use Rattle.moves_unseen.specs.Entries.{AreArguments, entered_words}
 use Rattle.moves_unseen.specs.Frames.{AreWords, IsRunning}
 use Rattle.moves_unseen.specs.Objects.{IsBase}
 use Rattle.moves_unseen.specs.States.{worded_frame}

@@ -1,7 +1,7 @@
 -- The end of a block, and the phis at the front of another.
-use Rattle.std.proofs.Common.{◌≡◌, ℕ, zero, suc, ◌+◌, ◌<◌, ◌≤◌, Bool, true, false, not, List, [], ◌∷◌, ◌++◌, length, map, take, refl, sym, ap, ◌∙◌, subst, arith, cond, ltb, Option, Some, None}
+use Rattle.std.proofs.Common.{◌≡◌, ℕ, zero, suc, ◌+◌, ◌<◌, ◌≤◌, Bool, true, false, not, List, [], ◌∷◌, ◌++◌, length, take, refl, sym, ap, ◌∙◌, arith, cond, ltb, Option, Some, None}
 use Rattle.std.specs.Prelude.{slice_get, slice_index, if◌then◌else◌}
-use Rattle.std.specs.List.{All, list_all, prefix_len}
+use Rattle.std.specs.List.{list_all}
 use Rattle.std.specs.Option.{option_map_or}
 use Rattle.std.proofs.lemmas.Bool.{lt-ltb, true≢false}
 use Rattle.std.proofs.lemmas.List.{length-append}
@@ -27,9 +27,9 @@ use Rattle.object_meaning.specs.Frames.{is_member}
 use Rattle.object_meaning.specs.Jumps.{phi_count}
 use Rattle.object_meaning.specs.Lines.{Line, following, insts_in, numbered, registers_of}
 use Rattle.object_meaning.specs.TargetRuns.{plain_lines}
-use Rattle.pair_facts.specs.Lines.{group_in, head_at, line_before, line_in, lines_at}
+use Rattle.pair_facts.specs.Lines.{group_in, line_before, line_in, lines_at}
 use Rattle.pair_facts.specs.Pairs.{Pairs, after, after_group}
-use Rattle.pair_facts.specs.Paths.{behind, pairs_at}
+use Rattle.pair_facts.specs.Paths.{pairs_at}
 use Rattle.moves_unseen.proofs.StandLaws.{line_is, no_head}
 
 -- ---- the end of a block

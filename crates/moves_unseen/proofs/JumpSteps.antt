@@ -1,17 +1,14 @@
 -- A jump: both go to the same block, whose phis take the same, and stand behind them with the relation.
-use Rattle.std.proofs.Common.{◌≡◌, ℕ, zero, suc, ◌+◌, ◌<◌, ◌==◌, Bool, true, false, not, List, [], ◌∷◌, length, drop, get_or, map, take, refl, sym, ap, ◌∙◌, subst, arith, ltb, Option, Some, None}
+use Rattle.std.proofs.Common.{◌≡◌, ℕ, ◌+◌, ◌<◌, ◌==◌, Bool, true, false, List, [], ◌∷◌, length, drop, get_or, map, take, refl, sym, ap, ◌∙◌, subst, arith, ltb, Option, Some, None}
 use Rattle.std.specs.Prelude.{slice_get, slice_index, if◌then◌else◌, is_some}
-use Rattle.std.specs.List.{AllZip, drop-map, list_all, position, prefix_len}
+use Rattle.std.specs.List.{AllZip, drop-map, position}
 use Rattle.std.specs.Option.{option_map_or}
 use Rattle.std.proofs.lemmas.Bool.{eqb-true, true≢false}
-use Rattle.std.proofs.lemmas.Bool.Decides.{nat_tests}
 use Rattle.std.proofs.lemmas.List.{take-map}
-use Rattle.std.proofs.lemmas.Option.{get_or_from_slice_get, none-some, slice_get_within}
-use Rattle.list_laws.proofs.Places.{get_map, get_some}
+use Rattle.std.proofs.lemmas.Option.{get_or_from_slice_get, slice_get_within}
+use Rattle.list_laws.proofs.Places.{get_map}
 use Rattle.sp_ids.specs.declared.ids.BlockId.{BlockId}
-use Rattle.sp_ids.specs.declared.ends.End.TheVariants.{OutOfSteps, Trap as Trapped}
-use Rattle.sp_ids.specs.declared.ends.Trap.TheVariants.{Unreachable as Executed}
-use Rattle.ir_ast.specs.declared.ops.Callee.TheVariants.{Check}
+use Rattle.sp_ids.specs.declared.ends.End.TheVariants.{OutOfSteps}
 use Rattle.ir_ast.specs.declared.ops.Op.{Op}
 use Rattle.ir_ast.specs.declared.ops.Op.TheVariants as ops
 use Rattle.ir_ast.specs.declared.ops.Operand.{Operand}
@@ -28,46 +25,43 @@ use Rattle.ir_ast.specs.Lines.{LineOf}
 use Rattle.ir_ast.specs.Modules.{ModuleContent}
 use Rattle.ir_ast.specs.Objects.{Datum, Pointer, number}
 use Rattle.ir_ast.specs.Ops.{is_terminator}
-use Rattle.ir_ast.specs.Operands.{is_literal}
-use Rattle.ir_ast.specs.Types.{is_condition, is_pointer}
+use Rattle.ir_ast.specs.Types.{is_pointer}
 use Rattle.ir_ast.specs.Values.{outcome_type, value_types}
-use Rattle.ir_cfg.specs.Graphs.{Edge, graph_of, succs_of}
+use Rattle.ir_cfg.specs.Graphs.{Edge, graph_of}
 use Rattle.ir_cfg.specs.TargetModules.{IsTargetModule}
 use Rattle.map_bytes.specs.Maps.{StackMap}
 use Rattle.move_plan.specs.declared.plan_lines.PlanLine.{PlanLine}
 use Rattle.move_plan.specs.Plans.{go}
 use Rattle.moving_heap.specs.declared.stands.Stand.{Stand}
 use Rattle.object_meaning.specs.Calls.{stepped}
-use Rattle.object_meaning.specs.Effects.{Effect, goes_on, ends}
+use Rattle.object_meaning.specs.Effects.{goes_on, ends}
 use Rattle.object_meaning.specs.Frames.{is_member}
-use Rattle.object_meaning.specs.Jumps.{arrived, branch_taken, case_taken, incoming, is_case, jumped, label_at, phi_count, phi_write}
+use Rattle.object_meaning.specs.Jumps.{arrived, incoming, jumped, phi_count, phi_write}
 use Rattle.object_meaning.specs.Lines.{Line, insts_in, registers_of}
-use Rattle.object_meaning.specs.Registers.{nothing, operand, value, is_set, number_in, pointer_in, put_all}
+use Rattle.object_meaning.specs.Registers.{nothing, operand, value, number_in, pointer_in, put_all}
 use Rattle.object_meaning.specs.States.{Frame, State, Setting}
-use Rattle.object_meaning.specs.Steps.{acts, step, steps_at}
 use Rattle.object_meaning.specs.TargetRuns.{plain_lines, target_setting}
 use Rattle.pair_facts.specs.declared.bases.Base.TheVariants as bases
-use Rattle.pair_facts.specs.Lines.{gives, line_before, lines_at, operand_at, phis_in}
-use Rattle.pair_facts.specs.Pairs.{Pairs, after, along, given_pairs, on_edge, with_given, without}
+use Rattle.pair_facts.specs.Lines.{gives, line_before, lines_at, operand_at}
+use Rattle.pair_facts.specs.Pairs.{Pairs, along, given_pairs, on_edge, with_given, without}
 use Rattle.pair_facts.specs.Pairs.{incoming as taken}
 use Rattle.pair_facts.specs.Paths.{behind, pairs_at, pairs_at_end, went}
 use Rattle.machine_meaning.specs.Code.{machinery_of}
 use Rattle.machine_meaning.specs.Machines.{Machine, Machinery, lifted}
-use Rattle.machine_meaning.specs.MachineSteps.{machine_acts, machine_at, machine_step}
-use Rattle.machine_meaning.specs.Words.{worded, worded_operand}
+use Rattle.machine_meaning.specs.Words.{worded}
 use Rattle.machine_meaning.specs.Relations.{word_in, IsPair}
-use Rattle.moves_unseen.specs.Frames.{AreNumbers, AreWords, FrameWords, IsChosen, IsGuarded, IsRunning}
-use Rattle.moves_unseen.specs.States.{Extra, Follows, IsRelated, machine_of, worded_frame}
-use Rattle.moves_unseen.specs.Steps.{IsNumber, StepFollows, both_end, both_go}
+use Rattle.moves_unseen.specs.Frames.{AreNumbers, IsRunning}
+use Rattle.moves_unseen.specs.States.{Extra, IsRelated, machine_of, worded_frame}
+use Rattle.moves_unseen.specs.Steps.{StepFollows, both_end, both_go}
 use Rattle.moves_unseen.specs.Types.{IsJump, IsLineOf, branches, jumps, switches}
 use Rattle.moves_unseen.proofs.JumpLaws.{IsEnd, before_phis, end_of, front_stays, phi_lower, taken_lower}
 use Rattle.moves_unseen.proofs.LineTypes.{lines_are_typed}
 use Rattle.moves_unseen.proofs.PassLaws.{with_words}
 use Rattle.moves_unseen.proofs.PhiLaws.{length_each, number_along, phis_worded, picked, picked_is, pointer_along, put_all_each, put_each, put_words_each, word_along}
-use Rattle.moves_unseen.proofs.PlainSteps.{integer_plain, no_register, number_repeated}
+use Rattle.moves_unseen.proofs.PlainSteps.{no_register, number_repeated}
 use Rattle.moves_unseen.proofs.RegisterLaws.{word_of_value}
 use Rattle.moves_unseen.proofs.StandLaws.{IsAlone, behind_alone, line_here}
-use Rattle.moves_unseen.proofs.ValueLaws.{same_number, value_at, word_at}
+use Rattle.moves_unseen.proofs.ValueLaws.{same_number, value_at}
 
 jump_alone : (line : Line) (op : Op) → line.inst.op ≡ op → IsJump op → IsAlone line
 jump_alone line _ is jumps = record { statepoint = ap is_statepoint is; member = ap is_member is; phi = ap is_phi is }

@@ -1,7 +1,7 @@
 -- Each line of a function has the register of its result, of the type of it.
-use Rattle.std.proofs.Common.{◌≡◌, ℕ, zero, suc, ◌+◌, Bool, true, false, List, [], ◌∷◌, ◌++◌, length, map, refl, sym, ap, ◌∙◌, subst, arith, Option, Some, None}
+use Rattle.std.proofs.Common.{◌≡◌, ℕ, zero, suc, ◌+◌, Bool, true, false, List, [], ◌∷◌, ◌++◌, length, map, refl, ap, ◌∙◌, subst, arith, Option, Some, None}
 use Rattle.std.specs.Prelude.{slice_get, slice_index, is_some, if◌then◌else◌}
-use Rattle.std.specs.List.{All, filter}
+use Rattle.std.specs.List.{filter}
 use Rattle.std.specs.Option.{option_map_or}
 use Rattle.std.proofs.lemmas.List.{length-map}
 use Rattle.std.proofs.lemmas.Option.{none-some}
@@ -20,7 +20,7 @@ use Rattle.ir_ast.specs.Values.{Definition, argument, definition_type, definitio
 use Rattle.ir_ast.specs.declared.modules.Form.TheVariants.{Rewritten}
 use Rattle.ir_cfg.specs.TargetModules.{IsTargetModule}
 use Rattle.ir_cfg.specs.TypedModules.{IsTypedFunction}
-use Rattle.object_meaning.specs.Lines.{Line, after_all, first_registers, following, insts_in, numbered, registers_of}
+use Rattle.object_meaning.specs.Lines.{Line, after_all, first_registers, following, numbered}
 use Rattle.object_meaning.specs.TargetRuns.{plain_lines}
 use Rattle.pair_facts.specs.Lines.{lines_at}
 use Rattle.moves_unseen.specs.Types.{IsLineOf}

@@ -1,5 +1,5 @@
 -- Literals have no pairs, so the entries of a pair that stands are values or `null`.
-use Rattle.std.proofs.Common.{◌≡◌, ℕ, zero, suc, ◌&&◌, Bool, true, false, List, [], ◌∷◌, length, refl, sym, ap, ◌∙◌, subst, ltb, Option, Some, None}
+use Rattle.std.proofs.Common.{◌≡◌, ℕ, zero, suc, ◌&&◌, Bool, true, false, List, [], ◌∷◌, length, refl, sym, ap, ◌∙◌, subst, arith, ltb, Option, Some, None}
 use Rattle.std.specs.Prelude.{if◌then◌else◌}
 use Rattle.std.specs.List.{list_any}
 use Rattle.std.specs.Option.{option_map_or}
@@ -16,8 +16,8 @@ use Rattle.object_meaning.specs.Lines.{Line}
 use Rattle.pair_facts.specs.declared.bases.Base.{Base}
 use Rattle.pair_facts.specs.declared.bases.Base.TheVariants.{Named}
 use Rattle.pair_facts.specs.Lines.{gives, group_in, head_at, line_before, line_in, lines_at, operand_at, phis_in}
-use Rattle.pair_facts.specs.Pairs.{Pairs, after, after_group, at_entry, base_along, along, given_pairs, is_base_named, is_named, is_pointer_argument, member_pairs, on_edge, with_given, with_own, without}
-use Rattle.pair_facts.specs.Paths.{Arrives, At, behind, pairs_at, pairs_at_end, start, went}
+use Rattle.pair_facts.specs.Pairs.{Pairs, after, after_group, at_entry, base_along, along, given_pairs, is_base_named, is_named, is_pointer_argument, member_pairs, with_given, with_own, without}
+use Rattle.pair_facts.specs.Paths.{Arrives, At, behind, pairs_at, start, went}
 
 record AreBare (pairs : Pairs) : Type 0 where
   pub derived : (literal : ℕ) (base : Base) → pairs (operands.Int literal) base ≡ false

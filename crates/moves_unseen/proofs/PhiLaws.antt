@@ -1,24 +1,21 @@
 -- Registers and words behind the phis of a block, which take effect together.
 use Rattle.std.proofs.Common.{◌≡◌, ℕ, zero, suc, ◌+◌, ◌<◌, ◌==◌, Bool, true, false, List, [], ◌∷◌, length, get_or, set, map, take, refl, sym, ap, ◌∙◌, subst, arith, Option, Some, None}
 use Rattle.std.specs.Prelude.{slice_get, is_some, if◌then◌else◌}
-use Rattle.std.specs.List.{position, prefix_len}
+use Rattle.std.specs.List.{position}
 use Rattle.std.specs.Option.{option_map_or}
 use Rattle.std.proofs.lemmas.Bool.{eqb-true}
 use Rattle.std.proofs.lemmas.Bool.Decides.{nat_tests}
 use Rattle.std.proofs.lemmas.List.{get_or-set_other, get_or-set_same, length-set}
-use Rattle.std.proofs.lemmas.Option.{none-some}
-use Rattle.sp_ids.specs.declared.ids.BlockId.{BlockId}
-use Rattle.ir_ast.specs.declared.ops.Operand.{Operand}
 use Rattle.ir_ast.specs.declared.ops.Operand.TheVariants as operands
 use Rattle.ir_ast.specs.Faults.PhiEdges.{is_phi}
 use Rattle.ir_ast.specs.Insts.{Instruction}
 use Rattle.ir_ast.specs.Objects.{Datum, number}
 use Rattle.object_meaning.specs.Jumps.{incoming, phi_count, phi_write}
-use Rattle.object_meaning.specs.Lines.{Line, following, numbered}
+use Rattle.object_meaning.specs.Lines.{Line}
 use Rattle.object_meaning.specs.Registers.{nothing, operand, value, number_in, pointer_in, put, put_all}
 use Rattle.object_meaning.specs.TargetRuns.{plain_lines}
 use Rattle.pair_facts.specs.Lines.{gives, operand_at}
-use Rattle.pair_facts.specs.Pairs.{along, value_along}
+use Rattle.pair_facts.specs.Pairs.{value_along}
 use Rattle.pair_facts.specs.Pairs.{incoming as taken}
 use Rattle.machine_meaning.specs.Words.{worded, worded_operand}
 use Rattle.machine_meaning.specs.Relations.{word_in}

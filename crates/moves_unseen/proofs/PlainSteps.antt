@@ -1,13 +1,11 @@
 -- A plain line of a verified module: what its law asks for is there, so it is one step of both.
-use Rattle.std.proofs.Common.{◌≡◌, ℕ, zero, suc, ◌<◌, ◌^◌, Bool, true, false, not, List, [], ◌∷◌, length, map, replicate, refl, sym, ap, ◌∙◌, subst, arith, Option, Some, None}
+use Rattle.std.proofs.Common.{◌≡◌, ℕ, zero, suc, true, false, not, List, [], ◌∷◌, length, map, replicate, refl, sym, ap, ◌∙◌, subst, arith, Option, Some, None}
 use Rattle.std.specs.Prelude.{slice_get, is_some}
 use Rattle.std.specs.List.{AllZip, Contains}
 use Rattle.std.proofs.lemmas.Bool.{true≢false}
 use Rattle.std.proofs.lemmas.Option.{none-some, same_Some}
-use Rattle.list_laws.proofs.Contents.{all_at}
 use Rattle.ir_ast.specs.declared.cells.Cell.{Cell}
 use Rattle.ir_ast.specs.declared.cells.Cell.TheVariants as cells
-use Rattle.ir_ast.specs.declared.modules.Form.TheVariants.{Rewritten}
 use Rattle.ir_ast.specs.declared.ops.Callee.{Callee}
 use Rattle.ir_ast.specs.declared.ops.Callee.TheVariants.{Check, Print, Read, Same}
 use Rattle.ir_ast.specs.declared.ops.Elem.{Elem}
@@ -20,12 +18,10 @@ use Rattle.ir_ast.specs.declared.ops.Pred.TheVariants as preds
 use Rattle.ir_ast.specs.declared.types.Ty.{Ty}
 use Rattle.ir_ast.specs.declared.types.Ty.TheVariants.{Void, Int, Ptr, Token}
 use Rattle.ir_ast.specs.Cells.{type_of}
-use Rattle.ir_ast.specs.Faultless.{FunctionHasNoFault}
 use Rattle.ir_ast.specs.Faults.PointerOrder.{is_order, orders_pointers}
-use Rattle.ir_ast.specs.Faults.TypeClash.{Fits, IsCallOf, RuleOf, asked}
-use Rattle.ir_ast.specs.Funcs.{Function, instructions_of}
+use Rattle.ir_ast.specs.Faults.TypeClash.{Fits, RuleOf, asked}
+use Rattle.ir_ast.specs.Funcs.{Function}
 use Rattle.ir_ast.specs.Insts.{Instruction}
-use Rattle.ir_ast.specs.Layouts.{ObjectLayout}
 use Rattle.ir_ast.specs.Lines.{LineOf}
 use Rattle.ir_ast.specs.Modules.{ModuleContent}
 use Rattle.ir_ast.specs.Scope.{Signature, scope_of}
@@ -36,7 +32,7 @@ use Rattle.object_meaning.specs.Accesses.{cell_of}
 use Rattle.object_meaning.specs.Lines.{Line}
 use Rattle.object_meaning.specs.States.{State, Setting}
 use Rattle.object_meaning.specs.Steps.{step}
-use Rattle.object_meaning.specs.Traces.{Access, access_of, accesses_at}
+use Rattle.object_meaning.specs.Traces.{access_of, accesses_at}
 use Rattle.pair_facts.specs.declared.bases.Base.TheVariants.{Named}
 use Rattle.pair_facts.specs.Faults.{FaultAt, IsVerified}
 use Rattle.pair_facts.specs.Lines.{lines_at, operand_at}
@@ -46,7 +42,7 @@ use Rattle.machine_meaning.specs.Machines.{Machine, Machinery}
 use Rattle.machine_meaning.specs.MachineSteps.{machine_step}
 use Rattle.machine_meaning.specs.Words.{worded}
 use Rattle.moves_unseen.specs.States.{Extra, IsRelated, machine_of}
-use Rattle.moves_unseen.specs.Steps.{GivesNumber, GivesPointer, IsArithmetic, IsCheckedBefore, IsCompared, IsNumber, IsStored, StepFollows, integers, equal, differing, add, sub, mul, udiv, sdiv, urem, srem, conjunction, disjunction, difference, shl, lshr, ashr, trunc, zext, sext}
+use Rattle.moves_unseen.specs.Steps.{IsArithmetic, IsCheckedBefore, IsCompared, IsNumber, IsStored, StepFollows, integers, equal, differing, add, sub, mul, udiv, sdiv, urem, srem, conjunction, disjunction, difference, shl, lshr, ashr, trunc, zext, sext}
 use Rattle.moves_unseen.specs.Types.{IsLineOf, IsPlain, advances, checks, chooses, compares, computes, loads, orders, prints, reads, stores}
 use Rattle.moves_unseen.proofs.AccessSteps.{load_follows, load_seen}
 use Rattle.moves_unseen.proofs.ArithmeticLaws.{arithmetic_follows}

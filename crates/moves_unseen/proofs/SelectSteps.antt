@@ -1,7 +1,6 @@
 -- A select: the machine takes the same step, and its value is that of the operand which the condition chooses.
-use Rattle.std.proofs.Common.{◌≡◌, ℕ, zero, suc, ◌+◌, ◌<◌, ◌&&◌, ◌||◌, ◌⊎◌, Bool, true, false, List, [], ◌∷◌, set, get_or, map, refl, sym, ap, ◌∙◌, subst, arith, Option, Some, None, inl, inr}
+use Rattle.std.proofs.Common.{◌≡◌, ℕ, zero, suc, ◌+◌, ◌<◌, ◌&&◌, ◌||◌, ◌⊎◌, Bool, true, false, List, [], ◌∷◌, length, set, map, refl, sym, ap, ◌∙◌, subst, arith, Option, Some, None, inl, inr}
 use Rattle.std.specs.Prelude.{slice_get, slice_index, if◌then◌else◌, is_some}
-use Rattle.std.specs.Option.{option_map_or}
 use Rattle.std.proofs.lemmas.Bool.{and_parts, eqb-true, true≢false}
 use Rattle.std.proofs.lemmas.Bool.Decides.{nat_tests}
 use Rattle.std.proofs.lemmas.Option.{none-some, slice_get_within}
@@ -23,13 +22,13 @@ use Rattle.ir_ast.specs.Values.{value_types}
 use Rattle.object_meaning.specs.Effects.{Effect, goes_on}
 use Rattle.object_meaning.specs.Frames.{is_member, passed}
 use Rattle.object_meaning.specs.Lines.{Line, following, insts_in, numbered, registers_of}
-use Rattle.object_meaning.specs.Registers.{nothing, operand, value, is_set, number_in, pointer_in, put}
+use Rattle.object_meaning.specs.Registers.{operand, value, is_set, number_in, pointer_in, put}
 use Rattle.object_meaning.specs.States.{State, Setting}
 use Rattle.object_meaning.specs.Steps.{acts, step, steps_at}
 use Rattle.object_meaning.specs.TargetRuns.{plain_lines}
 use Rattle.pair_facts.specs.declared.bases.Base.TheVariants as bases
 use Rattle.pair_facts.specs.Lines.{gives, is_given, is_select, line_before, lines_at, named, operand_at, same_operand}
-use Rattle.pair_facts.specs.Pairs.{Pairs, after, are_own, follows, follows_named, given_pairs, is_named, selected, with_given, with_own, without}
+use Rattle.pair_facts.specs.Pairs.{Pairs, after, are_own, follows, follows_named, given_pairs, is_named, selected, with_given, without}
 use Rattle.machine_meaning.specs.Machines.{Machine, Machinery}
 use Rattle.machine_meaning.specs.MachineSteps.{machine_acts, machine_at, machine_step, passes}
 use Rattle.machine_meaning.specs.Words.{worded, worded_operand}
@@ -38,7 +37,7 @@ use Rattle.moves_unseen.specs.Frames.{AreWords, IsChosen, chosen_place}
 use Rattle.moves_unseen.specs.States.{Extra, IsRelated, machine_of}
 use Rattle.moves_unseen.specs.Steps.{IsNumber, StepFollows, both_go}
 use Rattle.moves_unseen.proofs.PassLaws.{pass_follows}
-use Rattle.moves_unseen.proofs.RegisterLaws.{IsApart, alike, apart_of, given_value, given_word, given_words, other_value, other_word}
+use Rattle.moves_unseen.proofs.RegisterLaws.{alike, apart_of, given_value, given_word, given_words, other_value, other_word}
 use Rattle.moves_unseen.proofs.StandLaws.{IsAlone, line_here}
 use Rattle.moves_unseen.proofs.ValueLaws.{same_number, value_at, word_at}
 use Rattle.moves_unseen.proofs.VerifiedLaws.{same_value}
@@ -120,7 +119,7 @@ gives_so (Some other) to is = ap (λ (n : ℕ). Some n) (eqb-true other to is)
 the_type : (one other : Ty) (found : Option Ty) → found ≡ Some one → found ≡ Some other → one ≡ other
 the_type one other found first second = cc
 
-is_value_named : (to : ℕ) (operand : Operand) → is_named to operand ≡ true → operand ≡ named to
+pub is_value_named : (to : ℕ) (operand : Operand) → is_named to operand ≡ true → operand ≡ named to
 is_value_named to (operands.Value at) is = ap (λ (n : ℕ). operands.Value (record { 0 = n })) (sym (eqb-true to at.0 is))
 is_value_named to (operands.Int literal) is = absurd cc
 is_value_named to operands.Null is = absurd cc
@@ -207,15 +206,15 @@ module _ (content : ModuleContent) (machinery : Machinery) (setting : Setting) (
 
   fits_chosen : Fits types from line.inst.ty
   fits_chosen = elim (one_of (is_set (operand registers line.inst.operands 0))) [
-    | inl yes ↦ subst (λ (at : ℕ). Fits types (operand_at line.inst.operands at) line.inst.ty) (sym yes.0) first
-    | inr no ↦ subst (λ (at : ℕ). Fits types (operand_at line.inst.operands at) line.inst.ty) (sym no.0) second
+    | inl holds ↦ subst (λ (at : ℕ). Fits types (operand_at line.inst.operands at) line.inst.ty) (sym holds.0) first
+    | inr fails ↦ subst (λ (at : ℕ). Fits types (operand_at line.inst.operands at) line.inst.ty) (sym fails.0) second
   ]
 
   -- what holds of both operands holds of the chosen one
   of_chosen : (P : ℕ → Type 0) → P 1 → P 2 → P place
   of_chosen P one two = elim (one_of (is_set (operand registers line.inst.operands 0))) [
-    | inl yes ↦ subst P (sym yes.0) one
-    | inr no ↦ subst P (sym no.0) two
+    | inl holds ↦ subst P (sym holds.0) one
+    | inr fails ↦ subst P (sym fails.0) two
   ]
 
   plain_word : is_pointer line.inst.ty ≡ false → word ≡ number_in datum
