@@ -154,7 +154,7 @@ module _ (content : ModuleContent) (place : ℕ) (func : Function) (found : slic
   words_are : AreWords stands types (at_entry func) registers all_words
   words_are = record {
     registers_count = length-append given (replicate left nothing) ∙ (let one = length-replicate left nothing in let two = same_count in let all = whole in omega arith);
-    words_count = length-append words (replicate left 0) ∙ (let one = length-replicate left 0 in let all = whole in omega arith);
+    words_count = length-append words (replicate left 0) ∙ (let one : length (replicate {A = ℕ} left 0) ≡ left = length-replicate {A = ℕ} left 0 in let all = whole in omega arith);
     numbers = λ at ty is plain.
         entry_number stands (map (λ arg. arg.ty) func.args) (map definition_type results) given words left are at ty
         (sym (ap (λ (all : List Ty). slice_get all at) (types_split func.args results)) ∙ is) plain;
