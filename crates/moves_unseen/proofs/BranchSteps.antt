@@ -33,7 +33,6 @@ use Rattle.object_meaning.specs.Registers.{operand, is_set, number_in}
 use Rattle.object_meaning.specs.States.{State, Setting}
 use Rattle.object_meaning.specs.Steps.{acts, step, steps_at}
 use Rattle.object_meaning.specs.TargetRuns.{target_setting}
-use Rattle.pair_facts.specs.declared.bases.Base.TheVariants as bases
 use Rattle.pair_facts.specs.Lines.{operand_at}
 use Rattle.machine_meaning.specs.Code.{machinery_of}
 use Rattle.machine_meaning.specs.Machines.{Machine, Machinery, lifted}
