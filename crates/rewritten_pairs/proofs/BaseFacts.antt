@@ -1,42 +1,40 @@
 -- The base of a pointer is `null` or a pointer that is its own base, in a typed function whose bases aren't derived; and what
 -- the types of lines say besides.
-use Rattle.std.proofs.Common.{◌≡◌, ℕ, zero, suc, ◌+◌, ◌<◌, ◌≤◌, Bool, true, false, not, eqb, if◌then◌else◌, List, [], ◌∷◌, length, map, refl, sym, ap, subst, ◌∙◌, ◌⊎◌, inl, inr, arith}
+use Rattle.std.proofs.Common.{◌≡◌, ℕ, zero, suc, ◌+◌, ◌<◌, ◌≤◌, Bool, true, false, not, if◌then◌else◌, List, [], ◌∷◌, length, refl, sym, ap, subst, ◌∙◌, inl, inr, arith}
 use Rattle.std.specs.Prelude.{Option, Some, None, is_some, slice_get}
 use Rattle.std.specs.List.{All, AllZip, Contains, range_with_len}
 use Rattle.std.specs.Option.{option_map_or}
-use Rattle.std.proofs.lemmas.Bool.{cases_eq, eq-eqb, false≢true, true≢false}
+use Rattle.std.proofs.lemmas.Bool.{cases_eq, false≢true}
 use Rattle.std.proofs.lemmas.Option.{none-some, slice_get_within}
 use Rattle.list_laws.proofs.Contents.{all_at, get_contained}
 use Rattle.sp_ids.specs.declared.ids.ValueId.{ValueId}
 use Rattle.ir_ast.specs.declared.types.Ty.{Ty}
 use Rattle.ir_ast.specs.declared.types.Ty.TheVariants as types
-use Rattle.ir_ast.specs.declared.ops.Callee.{Callee}
 use Rattle.ir_ast.specs.declared.ops.Callee.TheVariants as callees
 use Rattle.ir_ast.specs.declared.ops.Op.{Op}
 use Rattle.ir_ast.specs.declared.ops.Op.TheVariants as ops
 use Rattle.ir_ast.specs.declared.ops.Operand.{Operand}
 use Rattle.ir_ast.specs.declared.ops.Operand.TheVariants as operands
 use Rattle.ir_ast.specs.Bases.{Base, HasBases, IsBaseTable, of_itself, of_merge, of_null, of_step}
-use Rattle.ir_ast.specs.Callees.{is_leaf}
 use Rattle.ir_ast.specs.Derived.{Derived, is_merge, is_step}
 use Rattle.ir_ast.specs.Insts.{Instruction}
 use Rattle.ir_ast.specs.Funcs.{Function, instructions_of}
-use Rattle.ir_ast.specs.Lines.{IsCall, IsLine, LineOf}
+use Rattle.ir_ast.specs.Lines.{IsLine, LineOf}
 use Rattle.ir_ast.specs.Modules.{ModuleContent}
-use Rattle.ir_ast.specs.Scope.{Signature, called_in, scope_of}
+use Rattle.ir_ast.specs.Scope.{Signature, scope_of}
 use Rattle.ir_ast.specs.Types.{is_pointer, is_void}
 use Rattle.ir_ast.specs.Values.{Gives, outcome, outcome_type, value_types}
 use Rattle.ir_ast.specs.Faults.GroupShape.{number_at}
-use Rattle.ir_ast.specs.Faults.TypeClash.{Fits, FunctionIsTyped, IsCallOf, IsTyped, RuleOf, asked}
+use Rattle.ir_ast.specs.Faults.TypeClash.{Fits, IsTyped, RuleOf, asked}
 use Rattle.ir_ast.proofs.BaseLemmas.{one_base}
 use Rattle.ir_cfg.specs.DefiniteUses.{text_place}
 use Rattle.definite_assign.proofs.TextLemmas.{stands_in_text}
 use Rattle.object_meaning.specs.Lines.{Line}
-use Rattle.rewriting_forms.specs.Numbered.{among, base_at, gives, lines_at, named, pointers}
+use Rattle.rewriting_forms.specs.Numbered.{among, base_at, lines_at, named, pointers}
 use Rattle.rewriting_laws.proofs.NameLemmas.{among_filter, among_here, among_there, filter_among}
 use Rattle.base_laws.proofs.TypeLaws.{type_of_given}
 use Rattle.base_relations.proofs.GroupLaws.{given_at}
-use Rattle.rewritten_definite.proofs.LineLaws.{given_from, line_from}
+use Rattle.rewritten_definite.proofs.LineLaws.{line_from}
 use Rattle.rewritten_pairs.specs.Takes.{IsOwn, IsPointer, base_of}
 use Rattle.rewritten_pairs.proofs.StayFacts.{numbered, table_there}
 

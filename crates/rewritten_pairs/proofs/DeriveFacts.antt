@@ -1,9 +1,9 @@
 -- Where the base of a line's result comes from, by its operator.
-use Rattle.std.proofs.Common.{◌≡◌, ℕ, zero, suc, Bool, true, false, List, [], ◌∷◌, length, refl, sym, ap, subst, ◌∙◌, ◌⊎◌, inl, inr, arith}
-use Rattle.std.specs.Prelude.{Option, Some, None, is_some, slice_get}
-use Rattle.std.specs.List.{All, AllZip, Contains}
+use Rattle.std.proofs.Common.{◌≡◌, ℕ, true, false, List, [], ◌∷◌, length, refl, sym, ap, subst, ◌∙◌, ◌⊎◌, inl, inr, arith}
+use Rattle.std.specs.Prelude.{Option, Some, is_some, slice_get}
+use Rattle.std.specs.List.{All, AllZip}
 use Rattle.std.specs.Option.{option_map_or}
-use Rattle.std.proofs.lemmas.Bool.{eq-eqb, false≢true, true≢false}
+use Rattle.std.proofs.lemmas.Bool.{eq-eqb, true≢false}
 use Rattle.std.proofs.lemmas.Option.{get_or_from_slice_get, same_Some}
 use Rattle.list_laws.proofs.Contents.{all_at}
 use Rattle.sp_ids.specs.declared.ids.ValueId.{ValueId}
@@ -45,7 +45,7 @@ use Rattle.pair_facts.specs.Lines.{operand_at, same_operand}
 use Rattle.rewritten_pairs.specs.Takes.{Derives, IsOwn, IsPointer, Merges, base_of}
 use Rattle.rewritten_pairs.proofs.BaseFacts.{fits_pointer, pointer_is, step_pointer, underived_own}
 use Rattle.rewritten_pairs.proofs.EdgeFacts.{operand_there}
-use Rattle.rewritten_pairs.proofs.PhiFacts.{MergedLine, Shape, base_same, entry_of, gives_here, is_merged, is_own, is_stepped, merged_line, shape}
+use Rattle.rewritten_pairs.proofs.PhiFacts.{Shape, base_same, entry_of, gives_here, is_merged, is_own, is_stepped, merged_line, shape}
 use Rattle.rewritten_pairs.proofs.StayFacts.{numbered, others}
 
 -- the operands of a select

@@ -1,16 +1,16 @@
 -- What the phis of a rewritten block put for the name of a live value is the name of what the phis of the block before put for the value.
-use Rattle.std.proofs.Common.{◌≡◌, ℕ, zero, suc, ◌+◌, ◌<◌, ◌≤◌, Bool, true, false, eqb, ◌||◌, if◌then◌else◌, List, [], ◌∷◌, ◌++◌, length, map, get_or, take, drop, refl, sym, ap, subst, ◌∙◌, inl, inr, arith}
-use Rattle.std.specs.Prelude.{Option, Some, None, slice_get, slice_index_or}
+use Rattle.std.proofs.Common.{◌≡◌, ℕ, zero, suc, ◌+◌, ◌≤◌, Bool, true, false, eqb, ◌||◌, if◌then◌else◌, List, [], ◌∷◌, ◌++◌, length, map, get_or, take, drop, refl, sym, ap, subst, ◌∙◌, inl, inr, arith}
+use Rattle.std.specs.Prelude.{Option, Some, None, slice_get}
 use Rattle.std.specs.List.{list_any, position, prefix_len}
 use Rattle.std.specs.Option.{option_map, option_map_or}
 use Rattle.std.proofs.lemmas.Bool.{cases_Bool, cases_eq, eqb-true, eq-eqb, ne_eqb, false≢true, true≢false, or_parts}
-use Rattle.std.proofs.lemmas.List.{map-append, take-append-drop, length-map, length-append}
+use Rattle.std.proofs.lemmas.List.{map-append, take-append-drop}
 use Rattle.std.proofs.lemmas.List.Quantifiers.{position-Some}
 use Rattle.std.proofs.lemmas.Option.{slice_get-get_or, slice_get_within}
 use Rattle.list_laws.proofs.Places.{get_front, get_map, get_taken}
 use Rattle.sp_ids.specs.declared.ids.BlockId.{BlockId}
 use Rattle.ir_ast.specs.declared.ops.Operand.{Operand}
-use Rattle.ir_ast.specs.declared.ops.Operand.TheVariants.{Value, Int, Null, Fun}
+use Rattle.ir_ast.specs.declared.ops.Operand.TheVariants.{Null}
 use Rattle.ir_ast.specs.declared.ops.Op.{Op}
 use Rattle.ir_ast.specs.declared.ops.Op.TheVariants.{Phi}
 use Rattle.ir_ast.specs.Insts.{Instruction}
@@ -19,25 +19,23 @@ use Rattle.ir_ast.specs.Funcs.{Function}
 use Rattle.ir_ast.specs.Operands.{value_in}
 use Rattle.ir_ast.specs.Faults.PhiEdges.{is_phi}
 use Rattle.ir_cfg.specs.Graphs.{graph_of, preds_of}
-use Rattle.ir_cfg.specs.DefiniteUses.{Defines}
 use Rattle.definite_assign.proofs.TextLemmas.{one_definition}
 use Rattle.object_meaning.specs.Jumps.{phi_count}
 use Rattle.object_meaning.specs.Lines.{Line}
-use Rattle.rewriting_forms.specs.Numbered.{among, gives, is_call, line_at, lines_at, named, pointers, preds}
+use Rattle.rewriting_forms.specs.Numbered.{among, gives, is_call, lines_at, named, pointers, preds}
 use Rattle.rewriting_forms.specs.Liveness.{live_table}
 use Rattle.rewriting_forms.specs.Liveness as liveness
 use Rattle.rewriting_forms.specs.Names.{Name, Naming, joined, names_at, names_at_end, own}
 use Rattle.rewriting_forms.specs.Rewritten.{Piece, expanded, inserted_phi, joined_at, phi_operands, plain, renamed, renamed_inst}
 use Rattle.rewriting_laws.specs.Laws.{Edge, Fits, IsNumbering, IsPlain}
-use Rattle.rewriting_laws.specs.Related.{piece_line}
 use Rattle.rewriting_laws.proofs.JumpLemmas.{lines_split, one_piece, phi_lines, phi_pieces, phis_count}
-use Rattle.rewriting_laws.proofs.LiveLaws.{any_at, table_closed}
+use Rattle.rewriting_laws.proofs.LiveLaws.{table_closed}
 use Rattle.rewriting_laws.proofs.NameLemmas.{among_cons, among_filter, among_here, among_there, at_rest, filter_among, found, given_is, names_given, names_kept, names_owner, number_apart}
-use Rattle.rewritten_definite.proofs.NowLaws.{defines_piece, now, number, pieces, text}
+use Rattle.rewritten_definite.proofs.NowLaws.{defines_piece, now, number, pieces}
 use Rattle.rewritten_definite.proofs.PieceLaws.{among_at, piece_at}
 use Rattle.pair_facts.specs.Lines.{operand_at, phis_in}
 use Rattle.pair_facts.specs.Pairs.{along, incoming, value_along}
-use Rattle.rewritten_pairs.proofs.NowPlaces.{lines, phis_now, plain_now, start_of, to, whole_rewriting, written}
+use Rattle.rewritten_pairs.proofs.NowPlaces.{lines, start_of, whole_rewriting, written}
 
 -- ---- lists
 

@@ -1,15 +1,14 @@
 -- No line of the rewritten function has a fault: the pairs that it uses stand, groups keep their bases and the values of bundles, accesses are checked.
-use Rattle.std.proofs.Common.{◌≡◌, ℕ, zero, suc, ◌+◌, ◌<◌, ◌≤◌, Bool, true, false, not, eqb, nat_lt, ◌&&◌, ◌||◌, if◌then◌else◌, List, [], ◌∷◌, ◌++◌, length, map, refl, sym, ap, subst, ◌∙◌, inl, inr, arith}
+use Rattle.std.proofs.Common.{◌≡◌, ℕ, zero, suc, ◌≤◌, Bool, true, false, not, eqb, nat_lt, ◌&&◌, if◌then◌else◌, List, [], ◌∷◌, length, map, refl, sym, ap, subst, ◌∙◌, inl, inr, arith}
 use Rattle.std.specs.Prelude.{Option, Some, None, slice_get}
 use Rattle.std.specs.List.{Contains, list_any, position, position_or_len}
-use Rattle.std.specs.Option.{option_map, option_map_or}
-use Rattle.std.proofs.lemmas.Bool.{and_from, cases_Bool, cases_eq, cases_lt, eq-eqb, ne_eqb, false≢true, true≢false, or_cases, or_left, or_right}
+use Rattle.std.specs.Option.{option_map_or}
+use Rattle.std.proofs.lemmas.Bool.{cases_Bool, cases_eq, cases_lt, eq-eqb, ne_eqb, false≢true, true≢false, or_cases, or_left, or_right}
 use Rattle.std.proofs.lemmas.List.{length-map}
 use Rattle.std.proofs.lemmas.List.Sums.{prefix_len_passes}
 use Rattle.std.proofs.lemmas.Option.{same_Some, slice_get_within}
 use Rattle.list_laws.proofs.Contents.{contains_image, contains_none, get_contained}
 use Rattle.ir_ast.specs.declared.ops.Callee.{Callee}
-use Rattle.ir_ast.specs.declared.ops.Callee.TheVariants as callees
 use Rattle.ir_ast.specs.declared.ops.Op.{Op}
 use Rattle.ir_ast.specs.declared.ops.Op.TheVariants as ops
 use Rattle.ir_ast.specs.declared.ops.Operand.{Operand}
@@ -26,28 +25,25 @@ use Rattle.ir_ast.specs.Faults.PhiEdges.{is_phi}
 use Rattle.object_meaning.specs.Frames.{is_member}
 use Rattle.object_meaning.specs.Jumps.{phi_count}
 use Rattle.object_meaning.specs.Lines.{Line}
-use Rattle.rewriting_forms.specs.Numbered.{among, base_at, gives, is_call, line_at, lines_at, named, no_line, pointers}
+use Rattle.rewriting_forms.specs.Numbered.{among, base_at, is_call, line_at, lines_at, named, no_line, pointers}
 use Rattle.rewriting_forms.specs.Liveness.{any_held, is_live, is_live_after, is_use, live_list, live_table}
-use Rattle.rewriting_forms.specs.Names.{Name, Names, Naming, names_at, own}
+use Rattle.rewriting_forms.specs.Names.{Name, Names, Naming, names_at}
 use Rattle.rewriting_forms.specs.Rewritten.{Piece, entries, group, index_of, inserted_phi, plain, relocate_of, renamed, statepoint}
 use Rattle.rewriting_forms.specs.Rewritten as forms
 use Rattle.rewriting_laws.specs.Laws.{Fits, IsNumbering, IsPlain}
 use Rattle.rewriting_laws.proofs.LiveLaws.{any_at, table_closed}
 use Rattle.rewriting_laws.proofs.NameLemmas.{line_is, names_owner}
 use Rattle.rewritten_definite.proofs.NowLaws.{number}
-use Rattle.rewritten_definite.proofs.PieceLaws.{result_piece}
-use Rattle.pair_facts.specs.declared.bases.Base.{Base}
-use Rattle.pair_facts.specs.declared.bases.Base.TheVariants.{Any, Named}
 use Rattle.pair_facts.specs.Faults.{IsLostValue, IsOpenGroup, IsPlainCall, IsUnchecked}
-use Rattle.pair_facts.specs.Lines.{group_in, head_at, is_null, is_relocate, line_before, line_in, operand_at, same_operand}
+use Rattle.pair_facts.specs.Lines.{group_in, head_at, is_null, is_relocate, line_before, operand_at, same_operand}
 use Rattle.pair_facts.specs.Pairs.{Pairs, base_index, derived_index, has_base}
 use Rattle.pair_facts.specs.Paths.{pairs_at}
-use Rattle.pair_facts.specs.Uses.{Relocates, Use, Uses, accessed_at, checked, checks, checks_access, compared, compares, entries_at, entries_used, escapes, escaping, is_checked, is_kept, own_use, relocates}
-use Rattle.rewritten_pairs.specs.Takes.{HasPairs, IsBased, IsOwn, IsPointer, base_of}
-use Rattle.rewritten_pairs.proofs.GroupFacts.{entries_now, entries_stand, entry_of, index_place, listed, relocate_line, relocate_there, relocated_has}
+use Rattle.pair_facts.specs.Uses.{Relocates, Use, Uses, accessed_at, checked, checks, checks_access, compared, compares, entries_at, escapes, escaping, is_checked, is_kept, relocates}
+use Rattle.rewritten_pairs.specs.Takes.{HasPairs, IsBased, IsOwn}
+use Rattle.rewritten_pairs.proofs.GroupFacts.{entries_now, entries_stand, entry_of, index_place, listed, relocate_there, relocated_has}
 use Rattle.rewritten_pairs.proofs.HoldFacts.{Holds, IsAlive, Stands, alive_from, based_stands, operand_map, same_again}
 use Rattle.rewritten_pairs.proofs.LineFacts.{kept_operand}
-use Rattle.rewritten_pairs.proofs.NowPlaces.{ComesFrom, MemberOf, comes_from, from_call, from_inserted, from_member, from_plain, group_now, head_now, in_place, is_relocate as member_relocate, is_result, lines, member_head, member_of, plain_next, plain_now, start_of, written}
+use Rattle.rewritten_pairs.proofs.NowPlaces.{MemberOf, comes_from, from_call, from_inserted, from_member, from_plain, group_now, head_now, in_place, is_relocate as member_relocate, is_result, lines, member_head, member_of, plain_next, plain_now, start_of, written}
 use Rattle.rewritten_pairs.proofs.PathFacts.{holds_there}
 use Rattle.rewritten_pairs.proofs.UseFacts.{StandsIn, accessed_back, checked_back, checks_forth, checks_from, compared_back, escaped_back, escaped_call, no_checks, no_compares}
 

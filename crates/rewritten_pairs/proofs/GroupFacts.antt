@@ -1,9 +1,9 @@
 -- A statepoint group gives each live pointer its pair anew, and its relocates take pairs that stand before it.
-use Rattle.std.proofs.Common.{◌≡◌, ℕ, zero, suc, ◌+◌, Bool, true, false, not, eqb, ◌&&◌, ◌||◌, if◌then◌else◌, List, [], ◌∷◌, ◌++◌, length, map, drop, refl, sym, ap, subst, ◌∙◌, inl, inr, arith}
-use Rattle.std.specs.Prelude.{Option, Some, None, slice_get}
+use Rattle.std.proofs.Common.{◌≡◌, ℕ, suc, Bool, true, false, not, eqb, ◌&&◌, ◌||◌, if◌then◌else◌, List, [], ◌∷◌, ◌++◌, length, map, drop, refl, sym, ap, subst, ◌∙◌, inl, inr, arith}
+use Rattle.std.specs.Prelude.{Option, Some, slice_get}
 use Rattle.std.specs.List.{list_any, position}
-use Rattle.std.specs.Option.{option_map, option_map_or}
-use Rattle.std.proofs.lemmas.Bool.{and_from, and_parts, cases_Bool, eq-eqb, eqb-true, false≢true, true≢false, or_left, or_right, not_from_false}
+use Rattle.std.specs.Option.{option_map_or}
+use Rattle.std.proofs.lemmas.Bool.{and_from, and_parts, cases_Bool, eq-eqb, eqb-true, false≢true, or_left, or_right, not_from_false}
 use Rattle.std.proofs.lemmas.List.{length-map}
 use Rattle.std.proofs.lemmas.Option.{get_or_from_slice_get}
 use Rattle.list_laws.proofs.Places.{get_map, get_past}
@@ -21,11 +21,10 @@ use Rattle.ir_ast.specs.Faults.PhiEdges.{is_phi}
 use Rattle.object_meaning.specs.Lines.{Line}
 use Rattle.rewriting_forms.specs.Numbered.{among, base_at, calls, gives, is_call, is_given, line_at, lines_at, named, pointers}
 use Rattle.rewriting_forms.specs.Liveness.{is_live_after, live_list, live_table}
-use Rattle.rewriting_forms.specs.Names.{Name, Names, Naming, names_at, own, relocated}
+use Rattle.rewriting_forms.specs.Names.{Name, Naming, names_at, own, relocated}
 use Rattle.rewriting_forms.specs.Rewritten.{Piece, entries, group, index_of, relocate_of, renamed, result_of, statepoint}
 use Rattle.rewriting_forms.specs.Rewritten as forms
-use Rattle.rewriting_laws.specs.Laws.{Fits, IsNumbering, IsPlain}
-use Rattle.rewriting_laws.proofs.LiveExact.{any_found}
+use Rattle.rewriting_laws.specs.Laws.{Fits, IsPlain}
 use Rattle.rewriting_laws.proofs.LiveLaws.{any_at, table_closed}
 use Rattle.rewriting_laws.proofs.NameLemmas.{among_filter, filter_among, found, given_is, line_is, names_given, names_listed}
 use Rattle.rewritten_definite.proofs.NowLaws.{number}
@@ -34,8 +33,8 @@ use Rattle.pair_facts.specs.declared.bases.Base.{Base}
 use Rattle.pair_facts.specs.declared.bases.Base.TheVariants.{Any, Named}
 use Rattle.pair_facts.specs.Lines.{is_null, operand_at}
 use Rattle.pair_facts.specs.Pairs.{Pairs, after_group, has_base, member_pairs, own_pairs, relocated_pairs, relocates_base}
-use Rattle.rewritten_pairs.specs.Takes.{Derives, HasPairs, IsOwn, IsPointer, base_of}
-use Rattle.rewritten_pairs.proofs.HoldFacts.{Holds, IsAlive, Stands, based_stands, operand_map}
+use Rattle.rewritten_pairs.specs.Takes.{Derives, HasPairs, IsPointer, base_of}
+use Rattle.rewritten_pairs.proofs.HoldFacts.{Holds, Stands, based_stands, operand_map}
 use Rattle.rewritten_pairs.proofs.NowPlaces.{written}
 
 not_true : (t : Bool) → not t ≡ true → t ≡ false

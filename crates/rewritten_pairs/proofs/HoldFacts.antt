@@ -1,31 +1,30 @@
 -- The pairs of live pointers at a place, by the names that the pointers have there, and what they give for operands.
-use Rattle.std.proofs.Common.{◌≡◌, ℕ, zero, suc, ◌<◌, Bool, true, false, eqb, ◌&&◌, List, [], ◌∷◌, ◌++◌, length, map, refl, sym, ap, subst, ◌∙◌, inl, inr, arith}
-use Rattle.std.specs.Prelude.{Option, Some, None, slice_get}
+use Rattle.std.proofs.Common.{◌≡◌, ℕ, zero, suc, ◌<◌, Bool, true, false, List, [], ◌∷◌, ◌++◌, length, map, refl, sym, ap, subst, ◌∙◌}
+use Rattle.std.specs.Prelude.{Option, Some, slice_get}
 use Rattle.std.specs.List.{range_with_len}
-use Rattle.std.specs.Option.{option_map, option_map_or}
-use Rattle.std.proofs.lemmas.Bool.{eq-eqb, eqb-true, false≢true, ne_eqb}
+use Rattle.std.specs.Option.{option_map_or}
+use Rattle.std.proofs.lemmas.Bool.{eq-eqb, eqb-true, ne_eqb}
 use Rattle.std.proofs.lemmas.Option.{none-some}
-use Rattle.list_laws.proofs.Places.{get_front, get_map, get_some}
+use Rattle.list_laws.proofs.Places.{get_some}
 use Rattle.ir_ast.specs.declared.funcs.Arg.{Arg}
 use Rattle.ir_ast.specs.declared.ops.Operand.{Operand}
 use Rattle.ir_ast.specs.declared.ops.Operand.TheVariants.{Value, Int, Null, Fun}
 use Rattle.ir_ast.specs.declared.types.Ty.{Ty}
-use Rattle.ir_ast.specs.Funcs.{Function, instructions_of}
+use Rattle.ir_ast.specs.Funcs.{Function}
 use Rattle.ir_ast.specs.Insts.{Instruction}
 use Rattle.ir_ast.specs.Types.{is_pointer}
-use Rattle.ir_ast.specs.Values.{Definition, argument, definition_type, definitions_of, outcome, value_types}
+use Rattle.ir_ast.specs.Values.{argument, definition_type, outcome, value_types}
 use Rattle.rewriting_forms.specs.Numbered.{among, base_at, named, pointers}
 use Rattle.rewriting_forms.specs.Liveness.{live_table}
 use Rattle.rewriting_forms.specs.Names.{Name, Names, Naming, names_at, own}
 use Rattle.rewriting_forms.specs.Rewritten.{renamed}
 use Rattle.rewriting_laws.specs.Laws.{Fits, IsNumbering}
 use Rattle.rewriting_laws.proofs.NameLemmas.{among_filter, names_owner}
-use Rattle.pair_facts.specs.declared.bases.Base.{Base}
 use Rattle.pair_facts.specs.declared.bases.Base.TheVariants.{Any, Named}
 use Rattle.pair_facts.specs.Lines.{operand_at, same_operand}
 use Rattle.pair_facts.specs.Pairs.{Pairs, is_named, is_pointer_argument}
 use Rattle.rewritten_definite.proofs.NowLaws.{number}
-use Rattle.rewritten_pairs.specs.Takes.{HasPairs, IsBased, IsOwn, IsPointer, base_of}
+use Rattle.rewritten_pairs.specs.Takes.{HasPairs, IsOwn, IsPointer, base_of}
 use Rattle.rewritten_pairs.proofs.EdgeFacts.{operand_there}
 
 -- a pointer with its base, which is its own

@@ -12,5 +12,8 @@ pub mod BaseFacts
 pub mod PhiFacts
 pub mod UnderivedFacts
 pub mod DeriveFacts
+pub mod EscapeFacts
+pub mod MadeFacts
 pub mod PairsFacts
 pub mod SourceFacts
+pub mod TakesFacts

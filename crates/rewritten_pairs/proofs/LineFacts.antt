@@ -1,26 +1,23 @@
 -- A line that is no phi and no call keeps the pairs of live pointers.
-use Rattle.std.proofs.Common.{◌≡◌, ◌≢◌, ℕ, zero, suc, ◌<◌, ◌≤◌, Bool, true, false, not, eqb, ◌&&◌, ◌||◌, List, [], ◌∷◌, length, map, refl, sym, ap, subst, ◌∙◌, ◌⊎◌, inl, inr, arith}
+use Rattle.std.proofs.Common.{◌≡◌, ◌≢◌, ℕ, suc, Bool, true, false, not, eqb, ◌&&◌, List, map, refl, sym, ap, subst, ◌∙◌, inl, inr}
 use Rattle.std.specs.Prelude.{Option, Some, None, slice_get}
-use Rattle.std.specs.Option.{option_map, option_map_or}
-use Rattle.std.proofs.lemmas.Bool.{and_from, cases_Bool, eq-eqb, ne_eqb, eqb-true, false≢true, true≢false, or_left, or_right}
-use Rattle.ir_ast.specs.declared.ops.Callee.{Callee}
+use Rattle.std.specs.Option.{option_map}
+use Rattle.std.proofs.lemmas.Bool.{and_from, cases_Bool, eq-eqb, ne_eqb, true≢false, or_left, or_right}
 use Rattle.ir_ast.specs.declared.ops.Op.{Op}
 use Rattle.ir_ast.specs.declared.ops.Op.TheVariants.{Call, Gep, Load, Select}
 use Rattle.ir_ast.specs.declared.ops.Operand.{Operand}
 use Rattle.ir_ast.specs.declared.ops.Operand.TheVariants.{Value, Int, Null, Fun}
-use Rattle.ir_ast.specs.declared.types.Ty.{Ty}
-use Rattle.ir_ast.specs.Callees.{is_leaf}
 use Rattle.ir_ast.specs.Insts.{Instruction}
 use Rattle.ir_ast.specs.Funcs.{Function}
 use Rattle.ir_ast.specs.Operands.{value_in}
 use Rattle.ir_ast.specs.Types.{is_pointer}
 use Rattle.ir_ast.specs.Faults.PhiEdges.{is_phi}
 use Rattle.object_meaning.specs.Lines.{Line}
-use Rattle.rewriting_forms.specs.Numbered.{among, base_at, gives, is_call, is_given, line_at, lines_at, named, pointers}
+use Rattle.rewriting_forms.specs.Numbered.{among, base_at, gives, is_call, is_given, lines_at, named, pointers}
 use Rattle.rewriting_forms.specs.Liveness.{live_table}
-use Rattle.rewriting_forms.specs.Names.{Name, Names, Naming, names_at, own}
-use Rattle.rewriting_forms.specs.Rewritten.{plain, renamed, renamed_inst}
-use Rattle.rewriting_laws.specs.Laws.{Fits, IsNumbering, IsPlain}
+use Rattle.rewriting_forms.specs.Names.{Name, Naming, names_at, own}
+use Rattle.rewriting_forms.specs.Rewritten.{plain, renamed}
+use Rattle.rewriting_laws.specs.Laws.{Fits, IsNumbering}
 use Rattle.rewriting_laws.proofs.LiveLaws.{table_closed}
 use Rattle.rewriting_laws.proofs.NameLemmas.{given_is, names_given, names_kept}
 use Rattle.rewritten_definite.proofs.NowLaws.{number}

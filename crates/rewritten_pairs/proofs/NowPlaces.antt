@@ -1,15 +1,14 @@
 -- The lines of a rewritten block by place: which line of the block before each stands for, and the groups among them.
-use Rattle.std.proofs.Common.{◌≡◌, ℕ, zero, suc, ◌+◌, ◌-◌, ◌<◌, ◌≤◌, Bool, true, false, eqb, List, [], ◌∷◌, ◌++◌, length, map, take, drop, refl, sym, ap, subst, ◌∙◌, inl, inr, arith, append_assoc}
+use Rattle.std.proofs.Common.{◌≡◌, ℕ, zero, suc, ◌+◌, ◌-◌, ◌≤◌, Bool, true, false, eqb, List, [], ◌∷◌, ◌++◌, length, map, take, drop, refl, sym, ap, subst, ◌∙◌, inl, inr, arith}
 use Rattle.std.specs.Prelude.{Option, Some, None, slice_get}
 use Rattle.std.specs.List.{prefix_len}
 use Rattle.std.proofs.lemmas.List.{length-append, length-map}
 use Rattle.std.proofs.lemmas.List.Sums.{prefix_len-le-length}
 use Rattle.std.proofs.lemmas.Option.{get_or_from_slice_get, slice_get_within}
-use Rattle.std.proofs.lemmas.Bool.{cases_lt, eq-eqb}
-use Rattle.list_laws.proofs.Places.{get_map, get_past, get_some, map_back}
+use Rattle.std.proofs.lemmas.Bool.{eq-eqb}
+use Rattle.list_laws.proofs.Places.{get_map, get_some, map_back}
 use Rattle.ir_ast.specs.declared.types.Ty.{Ty}
 use Rattle.ir_ast.specs.declared.ops.Callee.{Callee}
-use Rattle.ir_ast.specs.declared.ops.Op.{Op}
 use Rattle.ir_ast.specs.declared.ops.Op.TheVariants.{Call}
 use Rattle.ir_ast.specs.declared.ops.Operand.{Operand}
 use Rattle.ir_ast.specs.Callees.{is_leaf}
@@ -22,15 +21,15 @@ use Rattle.object_meaning.specs.Lines.{Line}
 use Rattle.rewriting_forms.specs.Numbered.{among, is_call, line_at, lines_at, pointers}
 use Rattle.rewriting_forms.specs.Liveness.{live_list, live_table}
 use Rattle.rewriting_forms.specs.Names.{Name, Naming}
-use Rattle.rewriting_forms.specs.Rewritten.{Piece, expanded, group, inserted_phi, joined_at, pieces_of, plain, relocate_of, result_of, statepoint}
+use Rattle.rewriting_forms.specs.Rewritten.{Piece, expanded, group, inserted_phi, joined_at, plain, relocate_of, result_of, statepoint}
 use Rattle.rewriting_laws.specs.Laws.{IsPlain}
-use Rattle.rewriting_laws.specs.Related.{Rewriting, lines_now, piece_line, rest_now}
+use Rattle.rewriting_laws.specs.Related.{Rewriting, piece_line}
 use Rattle.rewriting_laws.proofs.JumpLemmas.{lines_split, one_piece, phi_lines, phis_count}
 use Rattle.rewriting_laws.proofs.LiveLaws.{any_at, drop_from}
 use Rattle.rewriting_laws.proofs.NameLemmas.{among_filter, at_rest, call_or_not, is_none, is_one}
 use Rattle.rewritten_definite.proofs.NowLaws.{number, pieces, text}
 use Rattle.rewritten_definite.proofs.PieceLaws.{PieceFrom, call_pieces, cut, for_line, from_join, from_line, offset, piece_at, piece_from, pieces_for, result_piece, split_place}
-use Rattle.pair_facts.specs.Lines.{group_in, head_at, line_before, line_in, no_line}
+use Rattle.pair_facts.specs.Lines.{group_in, head_at, line_in, no_line}
 use Rattle.pair_facts.proofs.GroupLaws.{members_head}
 
 -- ---- lists

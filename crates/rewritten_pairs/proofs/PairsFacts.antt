@@ -1,12 +1,5 @@
 -- A typed function with definite bases has its pairs.
-use Rattle.std.proofs.Common.{◌≡◌, ℕ, List}
-use Rattle.sp_ids.specs.declared.ids.ValueId.{ValueId}
-use Rattle.ir_ast.specs.declared.ops.Operand.{Operand}
-use Rattle.ir_ast.specs.Funcs.{Function}
-use Rattle.ir_ast.specs.Modules.{ModuleContent}
-use Rattle.rewriting_forms.specs.Liveness.{live_table}
-use Rattle.rewritten_pairs.specs.Statements.{BasesHavePairs, HasTypedBases}
-use Rattle.rewritten_pairs.specs.Takes.{HasPairs}
+use Rattle.rewritten_pairs.specs.Statements.{BasesHavePairs}
 use Rattle.rewritten_pairs.proofs.BaseFacts as base_facts
 use Rattle.rewritten_pairs.proofs.DeriveFacts.{derives}
 use Rattle.rewritten_pairs.proofs.PhiFacts.{on_edges}

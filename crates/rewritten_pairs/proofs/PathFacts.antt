@@ -1,9 +1,8 @@
 -- On every path to a place of the rewritten function each live pointer has its pair there.
-use Rattle.std.proofs.Common.{◌≡◌, ℕ, zero, suc, ◌+◌, ◌-◌, ◌<◌, ◌≤◌, cond, Bool, true, false, eqb, nat_lt, ◌&&◌, List, [], ◌∷◌, ◌++◌, length, map, take, refl, sym, ap, subst, ◌∙◌, inl, inr, arith}
+use Rattle.std.proofs.Common.{◌≡◌, ℕ, zero, suc, ◌+◌, ◌-◌, ◌<◌, ◌≤◌, cond, Bool, true, false, nat_lt, ◌&&◌, List, length, refl, sym, ap, subst, ◌∙◌, inl, inr, arith}
 use Rattle.std.specs.Prelude.{Option, Some, None, slice_get}
-use Rattle.std.specs.List.{prefix_len}
 use Rattle.std.specs.Option.{option_map_or}
-use Rattle.std.proofs.lemmas.Bool.{and_from, cases_Bool, cases_lt, eq-eqb, false≢true, le-ltb, lt-ltb, true≢false}
+use Rattle.std.proofs.lemmas.Bool.{and_from, cases_Bool, cases_lt, eq-eqb, false≢true, le-ltb, lt-ltb}
 use Rattle.std.proofs.lemmas.List.{length-map}
 use Rattle.std.proofs.lemmas.List.Sums.{prefix_len-le-length, prefix_len_passes}
 use Rattle.list_laws.proofs.Places.{get_some}
@@ -23,9 +22,9 @@ use Rattle.ir_cfg.specs.Graphs as graphs
 use Rattle.object_meaning.specs.Frames.{is_member}
 use Rattle.object_meaning.specs.Jumps.{phi_count}
 use Rattle.object_meaning.specs.Lines.{Line}
-use Rattle.rewriting_forms.specs.Numbered.{among, base_at, is_call, line_at, lines_at, named, pointers}
+use Rattle.rewriting_forms.specs.Numbered.{among, base_at, is_call, lines_at, named, pointers}
 use Rattle.rewriting_forms.specs.Liveness.{live_table}
-use Rattle.rewriting_forms.specs.Names.{Name, Names, Naming, names_at, names_at_end, own}
+use Rattle.rewriting_forms.specs.Names.{Name, Naming, names_at, names_at_end}
 use Rattle.rewriting_forms.specs.Rewritten.{group, plain, renamed, statepoint}
 use Rattle.rewriting_laws.specs.Laws.{Edge, Fits, IsNumbering, IsPlain}
 use Rattle.rewriting_laws.proofs.NameLemmas.{call_or_not, is_none, is_one}
@@ -39,7 +38,7 @@ use Rattle.pair_facts.specs.Lines.{group_in, head_at, line_before, line_in, no_l
 use Rattle.pair_facts.specs.Lines as facts
 use Rattle.pair_facts.specs.Pairs.{Pairs, after, after_group, along, at_entry, is_pointer_argument, on_edge, own_pairs}
 use Rattle.pair_facts.specs.Paths.{Arrives, behind, pairs_at, pairs_at_end, start, went}
-use Rattle.rewritten_pairs.specs.Takes.{HasPairs, IsPointer, base_of}
+use Rattle.rewritten_pairs.specs.Takes.{HasPairs, base_of}
 use Rattle.rewritten_pairs.proofs.EdgeFacts.{alive_along, edge_law}
 use Rattle.rewritten_pairs.proofs.GroupFacts.{group_holds}
 use Rattle.rewritten_pairs.proofs.HoldFacts.{Holds, IsAlive, alive_from, base_alive, operand_fresh, operand_pair, pointer_argument}

@@ -1,13 +1,13 @@
 -- The base of what a phi takes is what the phi of the bases takes, over each edge.
-use Rattle.std.proofs.Common.{◌≡◌, ℕ, zero, suc, ◌+◌, ◌<◌, ◌≤◌, Bool, true, false, not, eqb, ◌||◌, if◌then◌else◌, List, [], ◌∷◌, ◌++◌, length, map, drop, replicate, refl, sym, ap, subst, ◌∙◌, ◌⊎◌, inl, inr, arith}
+use Rattle.std.proofs.Common.{◌≡◌, ℕ, zero, suc, ◌+◌, ◌<◌, Bool, true, false, eqb, ◌||◌, if◌then◌else◌, List, [], ◌∷◌, ◌++◌, length, drop, replicate, refl, sym, ap, subst, ◌∙◌, inl, inr, arith}
 use Rattle.std.specs.Prelude.{Option, Some, None, is_some, slice_get}
-use Rattle.std.specs.List.{All, AllZip, Contains, position}
+use Rattle.std.specs.List.{All, AllZip, position}
 use Rattle.std.specs.Option.{option_map_or}
 use Rattle.std.proofs.lemmas.Bool.{cases_Bool, eq-eqb, false≢true, true≢false, or_parts}
 use Rattle.std.proofs.lemmas.List.{length-append, take-append-drop}
 use Rattle.std.proofs.lemmas.Option.{get_or_from_slice_get, none-some, same_Some, slice_get_within}
-use Rattle.list_laws.proofs.Contents.{all_at, contains_get}
-use Rattle.list_laws.proofs.Places.{filter_map_forth, get_front, get_middle, get_past, get_some, get_taken}
+use Rattle.list_laws.proofs.Contents.{all_at}
+use Rattle.list_laws.proofs.Places.{get_middle, get_past, get_some, get_taken}
 use Rattle.sp_ids.specs.declared.ids.BlockId.{BlockId}
 use Rattle.sp_ids.specs.declared.ids.ValueId.{ValueId}
 use Rattle.ir_ast.specs.declared.types.Ty.{Ty}
@@ -16,23 +16,23 @@ use Rattle.ir_ast.specs.declared.ops.Op.{Op}
 use Rattle.ir_ast.specs.declared.ops.Op.TheVariants as ops
 use Rattle.ir_ast.specs.declared.ops.Operand.{Operand}
 use Rattle.ir_ast.specs.declared.ops.Operand.TheVariants as operands
-use Rattle.ir_ast.specs.Bases.{Base, HasBases, IsBaseTable, MergesAsIn, MergesBases, of_itself, of_merge, of_null, of_step}
+use Rattle.ir_ast.specs.Bases.{Base, IsBaseTable, MergesBases, of_itself, of_merge, of_null, of_step}
 use Rattle.ir_ast.specs.Blocks.{BasicBlock, EndsAtTerminator}
-use Rattle.ir_ast.specs.Derived.{Derived, by_merge, by_step, is_merge, is_step}
+use Rattle.ir_ast.specs.Derived.{Derived, by_merge, is_merge, is_step}
 use Rattle.ir_ast.specs.Edges.{count_of, targets}
 use Rattle.ir_ast.specs.Insts.{Instruction}
 use Rattle.ir_ast.specs.Funcs.{Function, instructions_of}
 use Rattle.ir_ast.specs.Lines.{IsLine, LineOf}
 use Rattle.ir_ast.specs.Modules.{ModuleContent}
-use Rattle.ir_ast.specs.Operands.{operands_of, value_in, values_used}
+use Rattle.ir_ast.specs.Operands.{value_in}
 use Rattle.ir_ast.specs.Ops.{is_terminator}
 use Rattle.ir_ast.specs.Scope.{scope_of}
 use Rattle.ir_ast.specs.Values.{Gives, outcome, outcome_type, value_types}
 use Rattle.ir_ast.specs.Faults.GroupShape.{number_at}
-use Rattle.ir_ast.specs.Faults.PhiEdges.{PhiIsRight, PhisAreRight, is_phi}
+use Rattle.ir_ast.specs.Faults.PhiEdges.{PhisAreRight, is_phi}
 use Rattle.ir_ast.specs.Faults.TypeClash.{Fits, IsTyped, asked}
 use Rattle.ir_ast.proofs.BaseLemmas.{one_base, same_instruction}
-use Rattle.ir_cfg.specs.DefiniteUses.{Defines, Stands, text_place}
+use Rattle.ir_cfg.specs.DefiniteUses.{Stands, text_place}
 use Rattle.ir_cfg.proofs.KeepsCounts.{count_found, count_some}
 use Rattle.ir_cfg.proofs.KeepsPaths.{succs_at}
 use Rattle.definite_assign.proofs.TextLemmas.{one_definition, stands_in_text, text_next}
@@ -52,11 +52,11 @@ use Rattle.rewritten_definite.proofs.EdgeLaws.{edge_from}
 use Rattle.rewritten_definite.proofs.LineLaws.{given_defines, line_forth, line_from}
 use Rattle.rewritten_definite.proofs.UsedLaws.{edge_block, phi_right, uses_operand}
 use Rattle.pair_facts.specs.Lines.{operand_at, phis_in}
-use Rattle.pair_facts.specs.Pairs.{along, incoming, value_along}
-use Rattle.rewritten_pairs.specs.Takes.{IsOwn, IsPointer, base_of}
+use Rattle.pair_facts.specs.Pairs.{along, incoming}
+use Rattle.rewritten_pairs.specs.Takes.{IsPointer, base_of}
 use Rattle.rewritten_pairs.proofs.BaseFacts.{entry_base, fits_pointer, pointer_is, underived_own}
 use Rattle.rewritten_pairs.proofs.EdgeFacts.{gives_any, no_phi, phi_found, prefix_all, prefix_within}
-use Rattle.rewritten_pairs.proofs.StayFacts.{numbered, steady}
+use Rattle.rewritten_pairs.proofs.StayFacts.{steady}
 
 -- ---- the line before a merge
 

@@ -1,5 +1,5 @@
 -- The rewritten module of a source module whose functions take pointers with their bases is verified.
-use Rattle.std.proofs.Common.{◌≡◌, ℕ, true, List, length, refl, sym, ap, subst, ◌∙◌}
+use Rattle.std.proofs.Common.{◌≡◌, ℕ, true, List, refl, sym, ap, subst, ◌∙◌}
 use Rattle.std.specs.Prelude.{Option, Some, None, slice_get}
 use Rattle.std.specs.List.{All}
 use Rattle.std.specs.Option.{option_map}
@@ -12,14 +12,12 @@ use Rattle.ir_ast.specs.declared.ops.Op.TheVariants as ops
 use Rattle.ir_ast.specs.declared.ops.Operand.{Operand}
 use Rattle.ir_ast.specs.Bases.{HasBases, IsBaseTable}
 use Rattle.ir_ast.specs.Faultless.{FunctionHasNoFault}
-use Rattle.ir_ast.specs.Faults.PhiEdges.{is_phi}
-use Rattle.ir_ast.specs.Faults.TypeClash.{FunctionIsTyped}
+use Rattle.ir_ast.specs.Faults.PhiEdges.{PhisAreRight, is_phi}
+use Rattle.ir_ast.specs.Faults.TypeClash.{FunctionIsTyped, IsTyped}
 use Rattle.ir_ast.specs.Funcs.{Function, instructions_of}
-use Rattle.ir_ast.specs.Insts.{Instruction}
 use Rattle.ir_ast.specs.Lines.{IsLine, LineOf}
 use Rattle.ir_ast.specs.Modules.{ModuleContent}
 use Rattle.ir_ast.specs.Scope.{scope_of}
-use Rattle.ir_cfg.specs.DefiniteUses.{Stands}
 use Rattle.ir_cfg.specs.TargetModules.{IsTargetModule}
 use Rattle.ir_cfg.specs.TypedModules.{IsTypedFunction}
 use Rattle.definite_assign.proofs.TextLemmas.{stands_in_text}
@@ -42,8 +40,8 @@ use Rattle.rewritten_definite.specs.LeadsOut.{PhisAreBare}
 use Rattle.rewritten_definite.specs.Statements.{IsReachedSource, base_tables, rewritten_source}
 use Rattle.rewritten_definite.proofs.Instance.{based_is_before, is_ready}
 use Rattle.rewritten_shape.proofs.TargetLaws.{based_is_target}
-use Rattle.pair_facts.specs.Faults.{FaultAt}
-use Rattle.rewritten_pairs.specs.Statements.{HasFittingPairs, HasTypedBases, SourceIsVerified, TakesBases}
+use Rattle.pair_facts.specs.Faults.{FaultAt, IsVerified}
+use Rattle.rewritten_pairs.specs.Statements.{HasTypedBases, TakesBases}
 use Rattle.rewritten_pairs.specs.Takes.{HasPairs}
 use Rattle.rewritten_pairs.proofs.PairsFacts.{bases_have_pairs}
 use Rattle.rewritten_pairs.proofs.Verdict.{fitting_is_verified}
@@ -60,7 +58,7 @@ module _ (content : ModuleContent) (is : IsReachedSource content) (number : ℕ)
   each : IsRewriting (rewritings (based_module content) (base_tables content)) (rewritings (based_module content) (base_tables content) number)
   each = (modules (based_module content) (base_tables content) (based_is_before content is (base_tables content))).each number
 
-  module _ (func : Function) (found : slice_get content.funcs number ≡ Some func) (takes : TakesBases func) where
+  module _ (func : Function) (found : slice_get content.funcs number ≡ Some func) where
     abbrev made : Function
     made = based (placed func)
 
@@ -88,30 +86,52 @@ module _ (content : ModuleContent) (is : IsReachedSource content) (number : ℕ)
     reached : IsReached func
     reached = all_at IsReached content.funcs number func is.reached found
 
-    typed_bases : HasTypedBases (based_module content) made before (base_table (placed func)) (register_count (based_module content) number)
-    typed_bases = record {
+    pub reached_there : IsReached made
+    reached_there = (is_ready content is number func found).reached
+
+    pub bases_there : HasDefiniteBases made before
+    bases_there = all_at (λ (f : Function). IsReached f → HasDefiniteBases (based (placed f)) before) content.funcs number func (based_has_definite_bases content is.source) found reached
+
+    pub table_there : IsBaseTable made before (base_table (placed func))
+    table_there =
+        (all_at (λ (f : Function). IsReached f → HasBases (based (placed f)) before × IsBaseTable (based (placed f)) before (base_table (placed f))) content.funcs number func
+        (table_has_bases content is.source) found reached).1
+
+    pub phis_there : PhisAreRight made
+    phis_there = no_fault.phis
+
+    pub bare_there : PhisAreBare made
+    bare_there = bare_phis made form.lines
+
+    pub lines_there : All IsLine (instructions_of made.blocks)
+    lines_there = form.lines
+
+    pub typed_there : All (IsTyped (scope_of (based_module content) made)) (instructions_of made.blocks)
+    typed_there = types.lines
+
+    typed_bases : TakesBases func → HasTypedBases (based_module content) made before (base_table (placed func)) (register_count (based_module content) number)
+    typed_bases takes = record {
       plain = subst (λ (f : Function). IsPlain f (register_count (based_module content) number)) func_is ((based_is_before content is (base_tables content)).plain number);
-      reached = (is_ready content is number func found).reached;
-      bases = all_at (λ (f : Function). IsReached f → HasDefiniteBases (based (placed f)) before) content.funcs number func (based_has_definite_bases content is.source) found reached;
-      table_bases = (all_at (λ (f : Function). IsReached f → HasBases (based (placed f)) before × IsBaseTable (based (placed f)) before (base_table (placed f))) content.funcs number func
-          (table_has_bases content is.source) found reached).1;
-      phis = no_fault.phis;
-      bare = bare_phis made form.lines;
-      lines = form.lines;
-      typed = types.lines;
+      reached = reached_there;
+      bases = bases_there;
+      table_bases = table_there;
+      phis = phis_there;
+      bare = bare_there;
+      lines = lines_there;
+      typed = typed_there;
       takes = takes;
     }
 
-    pairs_there : HasPairs (func_of (based_module content) number) (base_tables content number) (live_table (func_of (based_module content) number) (base_tables content number))
-    pairs_there =
+    pairs_there : TakesBases func → HasPairs (func_of (based_module content) number) (base_tables content number) (live_table (func_of (based_module content) number) (base_tables content number))
+    pairs_there takes =
         subst (λ (f : Function). HasPairs f (base_tables content number) (live_table f (base_tables content number))) (sym func_is)
         (subst (λ (table : List Operand). HasPairs made table (live_table made table)) (sym table_is)
-        (bases_have_pairs (based_module content) made before (base_table (placed func)) (register_count (based_module content) number) typed_bases))
+        (bases_have_pairs (based_module content) made before (base_table (placed func)) (register_count (based_module content) number) (typed_bases takes)))
 
-    pub none_there : (block place code : ℕ) → FaultAt (rewritten (func_of (based_module content) number) (base_tables content number)) block place code → ⊥
-    none_there =
+    pub none_there : TakesBases func → (block place code : ℕ) → FaultAt (rewritten (func_of (based_module content) number) (base_tables content number)) block place code → ⊥
+    none_there takes =
         fitting_is_verified (func_of (based_module content) number) (base_tables content number) (naming_of (func_of (based_module content) number) (base_tables content number)) (register_count (based_module content) number)
-        (record { plain = each.plain; fits = each.fits; numbers = each.numbers; pairs = pairs_there })
+        (record { plain = each.plain; fits = each.fits; numbers = each.numbers; pairs = pairs_there takes })
 
   get_now : (here : Option Function) → slice_get content.funcs number ≡ here
       → slice_get (rewritten_source content).funcs number ≡ option_map (λ (f : Function). rewritten f (base_tables content number)) (option_map (λ (f : Function). based (placed f)) here)
@@ -125,10 +145,10 @@ module _ (content : ModuleContent) (is : IsReachedSource content) (number : ℕ)
   verified_at takes now (Some func) found at block place code fault =
       let takes_here = all_at TakesBases content.funcs number func takes found in
       let same : rewritten (based (placed func)) (base_tables content number) ≡ now = same_Some (rewritten (based (placed func)) (base_tables content number)) now (sym (get_now (Some func) found) ∙ at) in
-      let func_same = func_is func found takes_here in
+      let func_same = func_is func found in
       none_there func found takes_here block place code
       (subst (λ (f : Function). FaultAt f block place code) (sym (ap (λ (f : Function). rewritten f (base_tables content number)) func_same ∙ same)) fault)
 
-pub source_is_verified : SourceIsVerified
-source_is_verified content is takes number block place code func at fault =
+pub taking_is_verified : (content : ModuleContent) → IsReachedSource content → All TakesBases content.funcs → IsVerified (rewritten_source content)
+taking_is_verified content is takes number block place code func at fault =
     verified_at content is number takes func (slice_get content.funcs number) refl at block place code fault

@@ -1,5 +1,5 @@
 -- In a function whose bases are definite the base of a live pointer is live, and no line defines it again.
-use Rattle.std.proofs.Common.{◌≡◌, ℕ, zero, suc, ◌<◌, ◌≤◌, Bool, true, false, not, eqb, ◌&&◌, ◌||◌, List, [], ◌∷◌, ◌++◌, length, map, refl, sym, ap, subst, ◌∙◌, ◌⊎◌, inl, inr, arith}
+use Rattle.std.proofs.Common.{◌≡◌, ℕ, zero, suc, ◌<◌, ◌≤◌, Bool, true, false, not, eqb, ◌||◌, List, length, map, refl, sym, ap, subst, ◌∙◌, inl, inr, arith}
 use Rattle.std.specs.Prelude.{Option, Some, None, slice_get}
 use Rattle.std.specs.List.{Contains, range_with_len}
 use Rattle.std.specs.Option.{option_map_or}
@@ -21,7 +21,7 @@ use Rattle.ir_ast.specs.Values.{definition_type, definitions_of, value_types}
 use Rattle.ir_ast.specs.Faults.PhiEdges.{PhisAreRight, is_phi}
 use Rattle.ir_cfg.specs.Graphs.{graph_of}
 use Rattle.ir_cfg.specs.Paths.{Path, along, at_entry}
-use Rattle.ir_cfg.specs.DefiniteUses.{Defines, text_place}
+use Rattle.ir_cfg.specs.DefiniteUses.{text_place}
 use Rattle.object_meaning.specs.Lines.{Line}
 use Rattle.rewriting_forms.specs.Numbered.{among, base_at, gives, line_at, lines_at, named, pointers}
 use Rattle.rewriting_forms.specs.Liveness.{IsUse, Live, any_held, crosses, entry, held, is_live, is_live_after, is_use, later, live_table, used}
@@ -38,7 +38,6 @@ use Rattle.rewritten_definite.specs.LeadsOut.{PhisAreBare}
 use Rattle.rewritten_definite.proofs.LineLaws.{given_defines, gives_defines, line_from}
 use Rattle.rewritten_definite.proofs.UsedLaws.{edge_block, held_used, in_table, live_defined, operand_used, phis_agree, use_undefined}
 use Rattle.rewritten_pairs.specs.Takes.{IsOwn, IsPointer, base_of}
-use Rattle.rewritten_pairs.proofs.LineFacts.{named_same}
 
 abbrev pub numbered : ℕ → ValueId
 numbered v = record { 0 = v }

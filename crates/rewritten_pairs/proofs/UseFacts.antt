@@ -1,16 +1,16 @@
 -- What a renamed line uses is what the line uses, renamed.
-use Rattle.std.proofs.Common.{◌≡◌, ℕ, zero, suc, ◌≤◌, Bool, true, false, ◌&&◌, List, [], ◌∷◌, ◌++◌, length, map, refl, sym, ap, subst, ◌∙◌, ◌⊎◌, inl, inr, arith}
-use Rattle.std.specs.Prelude.{Option, Some, None, slice_get}
+use Rattle.std.proofs.Common.{◌≡◌, ℕ, suc, ◌≤◌, true, false, List, [], ◌∷◌, ◌++◌, length, map, refl, sym, ap, subst, ◌∙◌, inl, inr, arith}
+use Rattle.std.specs.Prelude.{Option, Some, slice_get}
 use Rattle.std.specs.List.{Contains}
 use Rattle.std.proofs.lemmas.Bool.{and_parts, false≢true, true≢false}
-use Rattle.list_laws.proofs.Contents.{contains_cons, contains_first, contains_get, contains_image, contains_later, contains_none, contains_one, get_contained}
+use Rattle.list_laws.proofs.Contents.{contains_cons, contains_first, contains_image, contains_later, contains_none, contains_one, get_contained}
 use Rattle.sp_ids.specs.declared.ids.BlockId.{BlockId}
 use Rattle.ir_ast.specs.declared.ops.Callee.{Callee}
 use Rattle.ir_ast.specs.declared.ops.Callee.TheVariants as callees
 use Rattle.ir_ast.specs.declared.ops.Op.{Op}
 use Rattle.ir_ast.specs.declared.ops.Op.TheVariants as ops
 use Rattle.ir_ast.specs.declared.ops.Operand.{Operand}
-use Rattle.ir_ast.specs.declared.ops.Operand.TheVariants.{Value, Int, Null, Fun}
+use Rattle.ir_ast.specs.declared.ops.Operand.TheVariants.{Int}
 use Rattle.ir_ast.specs.declared.types.Ty.{Ty}
 use Rattle.ir_ast.specs.declared.types.Ty.TheVariants as types
 use Rattle.ir_ast.specs.Callees.{is_leaf}

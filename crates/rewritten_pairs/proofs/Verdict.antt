@@ -1,5 +1,5 @@
 -- The rewritten function has no fault.
-use Rattle.std.proofs.Common.{◌≡◌, ℕ, true, false, List, length, refl, sym, ap, subst, ◌∙◌, ◌⊎◌, inl, inr}
+use Rattle.std.proofs.Common.{◌≡◌, ℕ, true, List, sym, subst, ◌∙◌, ◌⊎◌, inl, inr}
 use Rattle.std.specs.Prelude.{Some, slice_get}
 use Rattle.std.proofs.lemmas.Bool.{true≢false}
 use Rattle.ir_ast.specs.declared.ops.Operand.{Operand}
@@ -13,9 +13,8 @@ use Rattle.rewritten_definite.proofs.LineLaws.{line_from}
 use Rattle.rewritten_definite.proofs.NowLaws.{block_now, lines_now_are, now, number}
 use Rattle.pair_facts.specs.declared.bases.Base.{Base}
 use Rattle.pair_facts.specs.declared.bases.Base.TheVariants.{Any, Named}
-use Rattle.pair_facts.specs.Faults.{FaultAt, IsLoose, IsLostValue, IsOpenGroup, IsPlainCall, IsStale, IsUnchecked, loose, lost_value, open_group, plain_call, stale, unchecked}
+use Rattle.pair_facts.specs.Faults.{FaultAt, IsLostValue, IsOpenGroup, IsPlainCall, IsStale, IsUnchecked, loose, lost_value, open_group, plain_call, stale, unchecked}
 use Rattle.pair_facts.specs.Lines.{lines_at}
-use Rattle.pair_facts.specs.Pairs.{Pairs}
 use Rattle.pair_facts.specs.Paths.{Misses, pairs_at}
 use Rattle.pair_facts.specs.Uses.{Use, Uses, checks, compares, escapes, relocates}
 use Rattle.rewritten_pairs.specs.Statements.{FittingIsVerified}

@@ -58,6 +58,10 @@ BasesHavePairs = (content : ModuleContent) (func : Function) (merged : ℕ → V
 abbrev pub TakesBases : Function → Type 0
 TakesBases func = (b k : ℕ) (line : Line) → slice_get (lines_at (based (placed func)) b) k ≡ Some line → Takes (based (placed func)) (base_table (placed func)) b k line
 
--- so the rewritten module of a source module without unreached blocks is verified, where its functions do
+-- in a source module without unreached blocks each function does
+abbrev pub SourceTakesBases : Type 0
+SourceTakesBases = (content : ModuleContent) → IsReachedSource content → All TakesBases content.funcs
+
+-- so its rewritten module is verified
 abbrev pub SourceIsVerified : Type 0
-SourceIsVerified = (content : ModuleContent) → IsReachedSource content → All TakesBases content.funcs → IsVerified (rewritten_source content)
+SourceIsVerified = (content : ModuleContent) → IsReachedSource content → IsVerified (rewritten_source content)

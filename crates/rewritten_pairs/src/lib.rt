@@ -1,7 +1,7 @@
 //! The laws that the rewritten function has no fault of the verifier. No code.
 #![tactic(auto)]
 
-ghost use Rattle.rewritten_pairs.specs.Statements.{BasesHavePairs, FittingIsVerified, SourceIsVerified};
+ghost use Rattle.rewritten_pairs.specs.Statements.{BasesHavePairs, FittingIsVerified, SourceIsVerified, SourceTakesBases};
 
 /// The rewritten function has no fault that the verifier tells, whichever phis are inserted, as long as the names of its relocated
 /// pointers fit at every edge (Garbage Collection Safepoints in LLVM, "Safepoint Semantics & Verification").
@@ -15,9 +15,13 @@ pub fn bases_have_pairs()
     ensures { BasesHavePairs }
 {}
 
-/// The rewritten module of a source module without unreached blocks is verified, where each function with polls and bases takes
-/// pointers with their bases: what it stores, passes, returns or compares is its own base, checks and `gc_same` take the bases of
-/// their operands, and each access has its check directly before it.
+/// The lines of a source module with polls and bases take pointers with their bases: what a line stores, passes, returns or compares is
+/// its own base, checks and `gc_same` take the bases of their operands, and each access has its check directly before it.
+pub fn source_takes_bases()
+    ensures { SourceTakesBases }
+{}
+
+/// The rewritten module of a source module without unreached blocks is verified.
 pub fn source_is_verified()
     ensures { SourceIsVerified }
 {}

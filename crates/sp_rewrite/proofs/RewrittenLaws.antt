@@ -15,14 +15,16 @@ use Rattle.ir_cfg.proofs.KeepsSource.{source_after}
 use Rattle.object_meaning.specs.TargetRuns.{TargetGives}
 use Rattle.base_forms.specs.Polls.{placed}
 use Rattle.base_forms.specs.Based.{base_table, based}
+use Rattle.pair_facts.specs.Faults.{IsVerified}
 use Rattle.rewriting_forms.specs.Rewritten.{rewritten, rewritten_funcs}
 use Rattle.rewriting_laws.specs.Statements.{no_function}
 use Rattle.rewritten_definite.specs.Statements.{IsReachedSource, base_tables, rewritten_source}
 use Rattle.rewritten_definite.proofs.Instance.{rewritten_keeps_meaning}
+use Rattle.rewritten_pairs.proofs.TakesFacts.{source_is_verified}
 use Rattle.rewritten_shape.proofs.TargetLaws.{rewritten_is_target}
 use Rattle.unreached_laws.proofs.MeaningLaws.{unreached_are_no_matter}
 use Rattle.unreached_laws.proofs.ReachedLaws.{unreached_are_gone}
-use Rattle.sp_rewrite.specs.Statements.{RewritingIsByFunction, RewritingIsOne, RewritingIsTarget, RewritingKeepsMeaning}
+use Rattle.sp_rewrite.specs.Statements.{RewritingIsByFunction, RewritingIsOne, RewritingIsTarget, RewritingIsVerified, RewritingKeepsMeaning}
 
 -- ---- there is one module without unreached blocks
 
@@ -101,3 +103,7 @@ rewriting_keeps_meaning content after source is input go bound outcome =
 pub rewriting_is_target : RewritingIsTarget
 rewriting_is_target content after source is =
     subst IsTargetModule (sym is.rest) (rewritten_is_target is.reached (reached_source content is.reached source is.drops))
+
+pub rewriting_is_verified : RewritingIsVerified
+rewriting_is_verified content after source is =
+    subst IsVerified (sym is.rest) (source_is_verified is.reached (reached_source content is.reached source is.drops))

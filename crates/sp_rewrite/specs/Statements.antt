@@ -9,6 +9,7 @@ use Rattle.object_meaning.specs.SourceRuns.{SourceGives}
 use Rattle.object_meaning.specs.TargetRuns.{TargetGives}
 use Rattle.base_forms.specs.Polls.{placed}
 use Rattle.base_forms.specs.Based.{base_table, based}
+use Rattle.pair_facts.specs.Faults.{IsVerified}
 use Rattle.rewriting_forms.specs.Rewritten.{rewritten}
 use Rattle.rewritten_definite.specs.Statements.{rewritten_source}
 
@@ -37,3 +38,7 @@ RewritingKeepsMeaning = (content after : ModuleContent) → IsSourceModule conte
 -- it is a target module
 abbrev pub RewritingIsTarget : Type 0
 RewritingIsTarget = (content after : ModuleContent) → IsSourceModule content → IsRewritten content after → IsTargetModule after
+
+-- it has no fault of the verifier
+abbrev pub RewritingIsVerified : Type 0
+RewritingIsVerified = (content after : ModuleContent) → IsSourceModule content → IsRewritten content after → IsVerified after

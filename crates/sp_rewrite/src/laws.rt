@@ -1,5 +1,5 @@
 ghost use Rattle.sp_rewrite.specs.Before.{FunctionsAreReady};
-ghost use Rattle.sp_rewrite.specs.Statements.{RewritingIsByFunction, RewritingIsOne, RewritingIsTarget, RewritingKeepsMeaning};
+ghost use Rattle.sp_rewrite.specs.Statements.{RewritingIsByFunction, RewritingIsOne, RewritingIsTarget, RewritingIsVerified, RewritingKeepsMeaning};
 
 /// A source module has no more than one rewritten module.
 pub fn rewriting_is_one()
@@ -20,6 +20,12 @@ pub fn rewriting_keeps_meaning()
 /// path to a use meets the definition before it.
 pub fn rewriting_is_target()
     ensures { RewritingIsTarget }
+{}
+
+/// The rewritten module is verified: each pair that a line uses stands on every path, groups keep the bases and the values of bundles,
+/// each access has its check directly before it, and no call outside a statepoint waits.
+pub fn rewriting_is_verified()
+    ensures { RewritingIsVerified }
 {}
 
 /// Each function of a module without its unreached blocks can have its polls, then its bases and checks, and then its groups.

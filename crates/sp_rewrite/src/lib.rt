@@ -8,6 +8,6 @@ mod rewriting;
 pub use faults::RewriteFault;
 pub use laws::{
     functions_are_ready, rewriting_is_by_function, rewriting_is_one, rewriting_is_target,
-    rewriting_keeps_meaning,
+    rewriting_is_verified, rewriting_keeps_meaning,
 };
 pub use rewriting::rewrite;

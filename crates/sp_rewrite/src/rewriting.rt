@@ -5,6 +5,7 @@ ghost use Rattle.ir_ast.specs.Formed.{IsFormedModule};
 ghost use Rattle.ir_cfg.specs.SourceModules.{IsSourceModule};
 ghost use Rattle.ir_cfg.specs.TargetModules.{IsTargetModule};
 ghost use Rattle.ir_cfg.specs.Unreached.{zeros_of};
+ghost use Rattle.pair_facts.specs.Faults.{IsVerified};
 ghost use Rattle.sp_rewrite.specs.Relocates.{HasFewRelocates, HasManyRelocates};
 ghost use Rattle.sp_rewrite.specs.Statements.{IsRewritten};
 
@@ -24,6 +25,7 @@ pub fn rewrite(alloc: Global, source: Module) -> Result<Module, RewriteFault>
     requires { IsSourceModule source.content }
     ensures rewritten { IfOk result (λ after. IsRewritten source.content after.content) }
     ensures target { IfOk result (λ after. IsTargetModule after.content) }
+    ensures verified { IfOk result (λ after. IsVerified after.content) }
     ensures formed { IfOk result (λ after. IsFormedModule after.content) }
     ensures lines { IfOk result (λ after. after.lines ≡ map zeros_of after.content.funcs) }
     ensures no_bundle { IfOk result (λ after. All HasNoBundle source.content.funcs → All HasNoBundle after.content.funcs) }

@@ -2,19 +2,15 @@
 use Rattle.std.proofs.Common.{◌≡◌, ◌≢◌, ℕ, ◌⊎◌, inl, inr, List, [], Result, Ok, Err, refl, sym, ap, subst, ◌∙◌}
 use Rattle.sp_ids.specs.declared.ends.End.{End}
 use Rattle.sp_ids.specs.declared.ends.End.TheVariants as ended_by
-use Rattle.move_plan.specs.Plans.{go}
-use Rattle.object_meaning.specs.Outcomes.{Outcome}
-use Rattle.object_meaning.specs.SourceRuns.{source_setting}
-use Rattle.object_meaning.proofs.EndLaws.{IsFinal}
-use Rattle.object_meaning.proofs.OutcomeLaws.{gives_final}
+use Rattle.ir_ast.specs.declared.modules.Form.TheVariants as text_forms
 use Rattle.statepoint_tool.specs.Answers.{SinkSeen, Gained, SinkFailed, Came, IsBegun, IsTold, IsSaidInPart, IsAnswer}
-use Rattle.statepoint_tool.specs.Causes.{CannotRead, Ends, by_showing, by_rewriting, by_running, Runs, RunGives, module_run, steps_asked}
+use Rattle.statepoint_tool.specs.Causes.{CannotRead, Ends, by_showing, by_rewriting, by_running, by_executing, module_run}
 use Rattle.statepoint_tool.specs.Notes.{refusal_line, status_of_cause}
 use Rattle.statepoint_tool.specs.Statuses.{CauseOf, Exactly, IsDue, NoteFailed, ReadFaultCounted, Says, Writes, WritesFront, Yields, status_of_step}
 use Rattle.statepoint_tool.specs.Steps.{Step, Go, Stop}
 use Rattle.statepoint_tool.specs.Taken.{FilesSeen}
 use Rattle.statepoint_tool.specs.Words.{command_of}
-use Rattle.statepoint_tool.specs.Work.{Output, Given, MayGiveNamed, content_of, shown, written_of, output_of, work}
+use Rattle.statepoint_tool.specs.Work.{Output, Given, MayGiveNamed, content_of, shown, written_of, output_of, executed, work}
 use Rattle.statepoint_tool.specs.Closings.{status_of_end}
 use Rattle.statepoint_tool.specs.declared.refusal.Cause.{Cause}
 use Rattle.statepoint_tool.specs.declared.refusal.Cause.TheVariants as cause
@@ -120,28 +116,22 @@ module _ (words : List (List ℕ)) (files : FilesSeen) (out notes : SinkSeen) (g
   ends_of : (output : Output) → work words given (Go output) → Ends words given output
   ends_of output due = Explains-work words given (Go output) due
 
-  writes_at : (runs : Runs words given) (outcome : Outcome) → RunGives runs outcome
-      → (end : End) → outcome.end ≡ end → IsFinal end → Gained out (output_of (module_run runs) outcome).text → Writes (status_of_end end) words files out
-  writes_at runs outcome gives (ended_by.Return number) is final written =
-      record { given = given; may = may; holds = ((output_of (module_run runs) outcome, by_running runs outcome gives, ap status_of_end is), written) }
-  writes_at runs outcome gives (ended_by.Trap trap) is final written =
-      record { given = given; may = may; holds = ((output_of (module_run runs) outcome, by_running runs outcome gives, ap status_of_end is), written) }
-  writes_at runs outcome gives ended_by.OutOfSteps is final written =
-      record { given = given; may = may; holds = ((output_of (module_run runs) outcome, by_running runs outcome gives, ap status_of_end is), written) }
-  writes_at runs outcome gives ended_by.Poison is final written = absurd final
-  writes_at runs outcome gives ended_by.LostFrame is final written = absurd final
-
-  writes_run : (runs : Runs words given) (outcome : Outcome) → RunGives runs outcome
-      → Gained out (output_of (module_run runs) outcome).text → Writes (status_of_end outcome.end) words files out
-  writes_run runs outcome gives written =
-      writes_at runs outcome gives outcome.end refl (gives_final (source_setting (module_run runs) (go runs.plan) (steps_asked runs)) runs.reads.numbers outcome gives) written
+  writes_at : (output : Output) (end : End) → output.status ≡ status_of_end end → Ends words given output → Gained out output.text → Writes (status_of_end end) words files out
+  writes_at output (ended_by.Return number) is ends written = record { given = given; may = may; holds = ((output, ends, is), written) }
+  writes_at output (ended_by.Trap trap) is ends written = record { given = given; may = may; holds = ((output, ends, is), written) }
+  writes_at output ended_by.OutOfSteps is ends written = record { given = given; may = may; holds = ((output, ends, is), written) }
+  writes_at output ended_by.Poison is ends written = record { given = given; may = may; holds = ((output, ends, is), written) }
+  writes_at output ended_by.LostFrame is ends written = record { given = given; may = may; holds = ((output, ends, is), written) }
 
   writes_output : (output : Output) → Ends words given output → Gained out output.text → Writes output.status words files out
   writes_output _ (by_showing shows) written =
-      record { given = given; may = may; holds = ((shown (content_of shows.lines), by_showing shows, refl), written) }
+      record { given = given; may = may; holds = ((shown (content_of text_forms.Source shows.lines), by_showing shows, refl), written) }
   writes_output _ (by_rewriting rewrites) written =
       record { given = given; may = may; holds = ((written_of rewrites.reads.asks.part rewrites.after, by_rewriting rewrites, refl), written) }
-  writes_output _ (by_running runs outcome gives) written = writes_run runs outcome gives written
+  writes_output _ (by_running runs outcome gives) written =
+      writes_at (output_of (module_run runs.reads) outcome) outcome.end refl (by_running runs outcome gives) written
+  writes_output _ (by_executing runs outcome gives) written =
+      writes_at (executed (module_run runs.reads) outcome gives.last.lines) outcome.end refl (by_executing runs outcome gives) written
 
   writes_nothing : (reason : Cause) → Gained out [] → Writes (status_of_cause reason) words files out
   writes_nothing cause.Words unwritten = unwritten
@@ -150,6 +140,7 @@ module _ (words : List (List ℕ)) (files : FilesSeen) (out notes : SinkSeen) (g
   writes_nothing (cause.Module fault) unwritten = unwritten
   writes_nothing (cause.Input line) unwritten = unwritten
   writes_nothing (cause.Plan fault) unwritten = unwritten
+  writes_nothing (cause.Map fault) unwritten = unwritten
 
   writes_begun : IsBegun (λ output. work words given (Go output)) out → WritesFront words files out
   writes_begun begun =
@@ -175,18 +166,18 @@ module _ (words : List (List ℕ)) (files : FilesSeen) (out notes : SinkSeen) (g
   writes_of (Err Memory) status came (inl said) = subst (λ (s : Status). Writes s words files out) (sym said.status_is) (writes_front came)
   writes_of (Err Memory) status came (inr part) = subst (λ (s : Status). Writes s words files out) (sym part.status_is) (writes_front came)
 
-  says_nothing : (end : End) → IsFinal end → Gained notes [] → Says (status_of_end end) words files out notes
-  says_nothing (ended_by.Return number) final silent = silent
-  says_nothing (ended_by.Trap trap) final silent = silent
-  says_nothing ended_by.OutOfSteps final silent = silent
-  says_nothing ended_by.Poison final silent = absurd final
-  says_nothing ended_by.LostFrame final silent = absurd final
+  says_nothing : (end : End) → Gained notes [] → Says (status_of_end end) words files out notes
+  says_nothing (ended_by.Return number) silent = silent
+  says_nothing (ended_by.Trap trap) silent = silent
+  says_nothing ended_by.OutOfSteps silent = silent
+  says_nothing ended_by.Poison silent = silent
+  says_nothing ended_by.LostFrame silent = silent
 
   says_output : (output : Output) → Ends words given output → Gained notes [] → Says output.status words files out notes
   says_output _ (by_showing shows) silent = silent
   says_output _ (by_rewriting rewrites) silent = silent
-  says_output _ (by_running runs outcome gives) silent =
-      says_nothing outcome.end (gives_final (source_setting (module_run runs) (go runs.plan) (steps_asked runs)) runs.reads.numbers outcome gives) silent
+  says_output _ (by_running runs outcome gives) silent = says_nothing outcome.end silent
+  says_output _ (by_executing runs outcome gives) silent = says_nothing outcome.end silent
 
   says_line : (reason : Cause) → Explains (Stop reason) words given → Gained notes (refusal_line (Defined reason)) → Says (status_of_cause reason) words files out notes
   says_line cause.Words explains line = line
@@ -195,6 +186,7 @@ module _ (words : List (List ℕ)) (files : FilesSeen) (out notes : SinkSeen) (g
   says_line (cause.Module fault) explains line = record { given = given; may = may; holds = ((fault, explains), line) }
   says_line (cause.Input number) explains line = record { given = given; may = may; holds = ((number, explains), line) }
   says_line (cause.Plan fault) explains line = record { given = given; may = may; holds = ((fault, explains), line) }
+  says_line (cause.Map fault) explains line = record { given = given; may = may; holds = ((fault, explains), line) }
 
   says_cut_off : (refusal : Refusal) (status : Status) → IsDue refusal words given out → IsSaidInPart refusal status notes → Says status words files out notes
   says_cut_off refusal status due part =

@@ -1,5 +1,5 @@
 -- Each status of the work comes exactly by its cause.
-use Rattle.std.proofs.Common.{◌≡◌, inl, inr, ℕ, List, Option, Some, None, refl, sym, ap, subst}
+use Rattle.std.proofs.Common.{◌≡◌, ℕ, List, Option, Some, None, refl, sym, ap, subst}
 use Rattle.std.specs.Prelude.{ℤ}
 use Rattle.sp_ids.specs.declared.ends.End.{End}
 use Rattle.sp_ids.specs.declared.ends.End.TheVariants as ended
@@ -8,53 +8,65 @@ use Rattle.ir_ast.specs.declared.modules.Form.TheVariants as text_forms
 use Rattle.ir_ast.specs.Modules.{ModuleContent, LinedModule}
 use Rattle.ir_lines.specs.Modules.{module_of}
 use Rattle.move_plan.specs.declared.plan_lines.PlanLine.{PlanLine}
-use Rattle.move_plan.specs.Plans.{go}
-use Rattle.object_meaning.specs.Outcomes.{Outcome}
-use Rattle.object_meaning.specs.SourceRuns.{source_setting}
-use Rattle.object_meaning.proofs.EndLaws.{IsFinal}
-use Rattle.object_meaning.proofs.OutcomeLaws.{gives_final}
+use Rattle.map_bytes.specs.Maps.{StackMap}
+use Rattle.stackmap_write.specs.ModuleMaps.{map_of}
 use Rattle.tool_io.specs.Counts.{Rose}
-use Rattle.statepoint_tool.specs.Causes.{AsksToShow, AsksToRewrite, AsksForRun, ReadsToRewrite, ReadsModule, ReadsInput, Runs, RunGives, module_run, steps_asked, Ends, by_showing, by_rewriting, by_running, EndsWith, NoCommand, NamesModule, to_show, to_rewrite, to_run, HasModuleFault, in_text, too_many, HasSomeModuleFault, HasSomeInputFault, HasSomePlanFault, FileGives, module_gives, input_gives, plan_gives, CannotRead, IsTooLong, StopsBy}
+use Rattle.statepoint_tool.specs.Causes.{AsksToShow, AsksToRewrite, IsAskedFor, by_source, by_run, by_exec, AsksForRun, ReadsToRewrite, ReadsModule, ReadsInput, ReadsPlan, Runs, Executes, ReadsForMap, engine_asked, module_run, steps_asked, Ends, by_showing, by_rewriting, by_running, by_executing, EndsWith, NoCommand, NamesModule, to_show, to_rewrite, to_run, HasModuleFault, in_text, too_many, HasSomeModuleFault, HasSomeInputFault, HasSomePlanFault, HasSomeMapFault, FileGives, module_gives, input_gives, plan_gives, map_gives, CannotRead, IsTooLong, StopsBy}
 use Rattle.statepoint_tool.specs.Statuses.{CauseOf, status_of_step}
 use Rattle.statepoint_tool.specs.Steps.{Step, Go, Stop, Then, goes_on, stops}
 use Rattle.statepoint_tool.specs.Taken.{Taken, Bytes, Longer, Faulty, FilesSeen, MayGive, file_phase}
 use Rattle.statepoint_tool.specs.Words.{command_of}
-use Rattle.statepoint_tool.specs.Work.{Output, Given, MayGiveAll, MayGiveNamed, content_of, shown, written_of, module_phase, Rewriting, rewritten, too_many as has_too_many, after_rewriting, rewrite_phase, ReadingInput, has_numbers, no_input, ReadingPlan, planned, no_plan, show_phase, after_input, after_module, Running, run_work, comes, output_of, command_work, work}
+use Rattle.statepoint_tool.specs.Work.{Output, Given, MayGiveMap, MayGiveAll, MayGiveNamed, form_of, map_phase, ReadingMap, no_map, Executing, executes, executed, run_phase, content_of, shown, written_of, module_phase, Rewriting, rewritten, too_many as has_too_many, after_rewriting, rewrite_phase, ReadingInput, has_numbers, no_input, ReadingPlan, planned, no_plan, show_phase, after_input, after_module, Running, run_work, comes, output_of, command_work, work}
 use Rattle.statepoint_tool.specs.Closings.{status_of_end}
 use Rattle.statepoint_tool.specs.declared.refusal.Cause.{Cause}
 use Rattle.statepoint_tool.specs.declared.refusal.Cause.TheVariants as cause
 use Rattle.statepoint_tool.specs.declared.refusal.ModuleFault.{ModuleFault}
 use Rattle.statepoint_tool.specs.declared.refusal.ModuleFault.TheVariants.{TooManyRelocations}
+use Rattle.statepoint_tool.specs.declared.request.Engine.{Engine}
+use Rattle.statepoint_tool.specs.declared.request.Engine.TheVariants.{Meaning, Machine}
 use Rattle.statepoint_tool.specs.declared.request.RunRequest.{RunRequest}
 use Rattle.statepoint_tool.specs.declared.request.Command.{Command}
-use Rattle.statepoint_tool.specs.declared.request.Command.TheVariants.{Show, Rewrite, Source, Run}
+use Rattle.statepoint_tool.specs.declared.request.Command.TheVariants.{Show, Rewrite, Source, Run, Exec}
 use Rattle.statepoint_tool.specs.declared.status.Status.{Status}
-use Rattle.statepoint_tool.specs.declared.status.Status.TheVariants.{ModuleRefused, WordsRefused, ReadFault, PlanRefused, InputRefused, TooLong}
+use Rattle.statepoint_tool.specs.declared.status.Status.TheVariants.{ModuleRefused, WordsRefused, ReadFault, PlanRefused, InputRefused, MapRefused, TooLong}
 use Rattle.statepoint_tool.proofs.RewriteLaws.{Once-rewrite_phase}
 use Rattle.statepoint_tool.proofs.InputLaws.{Once-ReadingInput, Once-ReadingPlan, input-gives, input-refused, plan-gives, plan-refused}
 use Rattle.statepoint_tool.proofs.RunLaws.{Once-Running}
+use Rattle.statepoint_tool.proofs.MachineLaws.{Once-Executing, Once-ReadingMap, map-refused}
 use Rattle.statepoint_tool.proofs.StepLaws.{Once, stop_in, same-value, not_both, Once-comes_to, Once-Then, Once-file_phase}
 use Rattle.statepoint_tool.proofs.TextLaws.{Accepts, accepts, StopsByText, refuses, as-accepted, as-refused, Once-module_phase}
 
 -- ---- the work comes to one step
 
-Once-after_input : (plan : List ℕ) (content : ModuleContent) (numbers : List ℤ) (steps : ℕ) (taken : Taken) →
-    Once (after_input plan content numbers steps taken)
-Once-after_input plan content numbers steps taken =
-    Once-Then (file_phase plan ReadingPlan taken) (λ lines. Running content numbers lines steps)
-    (Once-file_phase plan ReadingPlan Once-ReadingPlan taken) (λ lines. Once-Running content numbers lines steps)
+Once-map_phase : (content : ModuleContent) (map_file : Option (List ℕ)) (taken : Taken) → Once (map_phase content map_file taken)
+Once-map_phase content None taken = Once-comes_to (Go (map_of content))
+Once-map_phase content (Some name) taken = Once-file_phase name ReadingMap Once-ReadingMap taken
 
-Once-after_module : (input plan : List ℕ) (content : ModuleContent) (steps : ℕ) (given : Taken × Taken) → Once (after_module input plan content steps given)
-Once-after_module input plan content steps given =
-    Once-Then (file_phase input ReadingInput given.0) (λ numbers. after_input plan content numbers steps given.1)
-    (Once-file_phase input ReadingInput Once-ReadingInput given.0) (λ numbers. Once-after_input plan content numbers steps given.1)
+Once-run_phase : (engine : Engine) (content : ModuleContent) (numbers : List ℤ) (lines : List PlanLine) (steps : ℕ) (taken : Taken) →
+    Once (run_phase engine content numbers lines steps taken)
+Once-run_phase Meaning content numbers lines steps taken = Once-Running content numbers lines steps
+Once-run_phase (Machine map_file) content numbers lines steps taken =
+    Once-Then (map_phase content map_file taken) (Executing content numbers lines steps) (Once-map_phase content map_file taken)
+    (Once-Executing content numbers lines steps)
 
-Once-run_work : (request : RunRequest) (given : Given) → Once (run_work request given)
-Once-run_work request given =
-    Once-Then (file_phase request.code (module_phase text_forms.Source) given.module_file)
-    (λ (whole : LinedModule). after_module request.input request.plan whole.content request.steps (given.input, given.plan))
-    (Once-file_phase request.code (module_phase text_forms.Source) (Once-module_phase text_forms.Source) given.module_file)
-    (λ (whole : LinedModule). Once-after_module request.input request.plan whole.content request.steps (given.input, given.plan))
+Once-after_input : (plan : List ℕ) (engine : Engine) (content : ModuleContent) (numbers : List ℤ) (steps : ℕ) (given : Taken × Taken) →
+    Once (after_input plan engine content numbers steps given)
+Once-after_input plan engine content numbers steps given =
+    Once-Then (file_phase plan ReadingPlan given.0) (λ lines. run_phase engine content numbers lines steps given.1)
+    (Once-file_phase plan ReadingPlan Once-ReadingPlan given.0) (λ lines. Once-run_phase engine content numbers lines steps given.1)
+
+Once-after_module : (input plan : List ℕ) (engine : Engine) (content : ModuleContent) (steps : ℕ) (given : Taken × (Taken × Taken)) →
+    Once (after_module input plan engine content steps given)
+Once-after_module input plan engine content steps given =
+    Once-Then (file_phase input ReadingInput given.0) (λ numbers. after_input plan engine content numbers steps given.1)
+    (Once-file_phase input ReadingInput Once-ReadingInput given.0) (λ numbers. Once-after_input plan engine content numbers steps given.1)
+
+Once-run_work : (engine : Engine) (request : RunRequest) (given : Given) → Once (run_work engine request given)
+Once-run_work engine request given =
+    Once-Then (file_phase request.code (module_phase (form_of engine)) given.module_file)
+    (λ (whole : LinedModule). after_module request.input request.plan engine whole.content request.steps (given.input, (given.plan, given.map_file)))
+    (Once-file_phase request.code (module_phase (form_of engine)) (Once-module_phase (form_of engine)) given.module_file)
+    (λ (whole : LinedModule). Once-after_module request.input request.plan engine whole.content request.steps (given.input, (given.plan, given.map_file)))
 
 Once-command : (command : Option Command) (given : Given) → Once (command_work command given)
 Once-command None given = Once-comes_to (Stop cause.Words)
@@ -64,8 +76,9 @@ Once-command (Some (Show module_file)) given =
 Once-command (Some (Rewrite module_file part)) given =
     Once-Then (file_phase module_file (module_phase text_forms.Source) given.module_file) (rewrite_phase part)
     (Once-file_phase module_file (module_phase text_forms.Source) (Once-module_phase text_forms.Source) given.module_file) (Once-rewrite_phase part)
-Once-command (Some (Source request)) given = Once-run_work request given
-Once-command (Some (Run request)) given = Once-run_work request given
+Once-command (Some (Source request)) given = Once-run_work Meaning request given
+Once-command (Some (Run request)) given = Once-run_work Meaning request given
+Once-command (Some (Exec request map_file)) given = Once-run_work (Machine map_file) request given
 
 pub Once-work : (words : List (List ℕ)) (given : Given) → Once (work words given)
 Once-work words given = Once-command (command_of words) given
@@ -111,19 +124,19 @@ module _ (words : List (List ℕ)) (given : Given) where
   -- rewriting
 
   rewrites_output : (reads : ReadsToRewrite words given) (step : Step ModuleContent) (after : ModuleContent) → step ≡ Go after
-      → Rewriting (content_of reads.lines) step → Ends words given (written_of reads.asks.part after)
+      → Rewriting (content_of text_forms.Source reads.lines) step → Ends words given (written_of reads.asks.part after)
   rewrites_output reads _ after is (rewritten own own_is few) =
       subst (λ (c : ModuleContent). Ends words given (written_of reads.asks.part c)) (same-value own after is)
       (by_rewriting (record { reads = reads; after = own; is = own_is; few = few }))
   rewrites_output reads _ after is (has_too_many many) = absurd (not_both after (cause.Module TooManyRelocations) (sym is))
 
   rewriting_stops : (reads : ReadsToRewrite words given) (step : Step ModuleContent) (reason : Cause) → step ≡ Stop reason
-      → Rewriting (content_of reads.lines) step → Explains (Stop reason) words given
+      → Rewriting (content_of text_forms.Source reads.lines) step → Explains (Stop reason) words given
   rewriting_stops reads _ reason is (rewritten own own_is few) = absurd (not_both own reason is)
   rewriting_stops reads _ reason is (has_too_many many) =
       stop-at reason (cause.Module TooManyRelocations) (sym is) (too_many reads many)
 
-  rewriting_explains : (reads : ReadsToRewrite words given) (step : Step Output) → Then (Rewriting (content_of reads.lines)) (after_rewriting reads.asks.part) step → Explains step words given
+  rewriting_explains : (reads : ReadsToRewrite words given) (step : Step Output) → Then (Rewriting (content_of text_forms.Source reads.lines)) (after_rewriting reads.asks.part) step → Explains step words given
   rewriting_explains reads _ (goes_on after step first rest) =
       explains-at step (Go (written_of reads.asks.part after)) rest (rewrites_output reads (Go after) after refl first)
   rewriting_explains reads _ (stops reason first) = rewriting_stops reads (Stop reason) reason refl first
@@ -146,14 +159,41 @@ module _ (words : List (List ℕ)) (given : Given) where
   -- running
 
   running_explains : (runs : Runs words given) (step : Step Output) →
-      Running (module_run runs) runs.reads.numbers runs.plan (steps_asked runs) step → Explains step words given
+      Running (module_run runs.reads) runs.reads.reads.numbers runs.reads.plan (steps_asked runs.reads) step → Explains step words given
   running_explains runs _ (comes outcome gives) = by_running runs outcome gives
 
+  executing_explains : (runs : Executes words given) (step : Step Output) →
+      Executing (module_run runs.reads) runs.reads.reads.numbers runs.reads.plan (steps_asked runs.reads) runs.map step → Explains step words given
+  executing_explains runs _ (executes outcome gives) = by_executing runs outcome gives
+
+  map_stops : (reads : ReadsForMap words given) (taken : Taken) → given.map_file ≡ taken → (reason : Cause) → file_phase reads.map_file ReadingMap taken (Stop reason) →
+      Explains (Stop reason) words given
+  map_stops reads (Bytes bytes) is reason first =
+      let refused = map-refused bytes reason first in
+      stop-at {A = Output} reason (cause.Map refused.fault) (ap Stop refused.is)
+      (record { reads = reads; bytes = bytes; taken = is; first = refused.first })
+  map_stops reads Longer is reason first = stop-at reason (cause.TooLong reads.map_file) first (map_gives reads is)
+  map_stops reads Faulty is reason first = stop-at reason (cause.ReadFault reads.map_file) first (map_gives reads is)
+
+  no_map_stops : (reads : ReadsPlan words given) (map_file : Option (List ℕ)) → engine_asked reads ≡ Machine map_file → (reason : Cause) →
+      map_phase (module_run reads) map_file given.map_file (Stop reason) → Explains (Stop reason) words given
+  no_map_stops reads None engine reason first = absurd (not_both (map_of (module_run reads)) reason (sym first))
+  no_map_stops reads (Some name) engine reason first =
+      map_stops (record { reads = reads; map_file = name; engine = engine }) given.map_file refl reason first
+
+  phase_explains : (reads : ReadsPlan words given) (engine : Engine) → engine_asked reads ≡ engine → (step : Step Output) →
+      run_phase engine (module_run reads) reads.reads.numbers reads.plan (steps_asked reads) given.map_file step → Explains step words given
+  phase_explains reads Meaning is step due = running_explains (record { reads = reads; engine = is }) step due
+  phase_explains reads (Machine map_file) is _ (goes_on map step first rest) =
+      executing_explains (record { reads = reads; map_file = map_file; engine = is; map = map; takes = first }) step rest
+  phase_explains reads (Machine map_file) is _ (stops reason first) = no_map_stops reads map_file is reason first
+
   plan_explains : (reads : ReadsInput words given) (plan : Taken) → given.plan ≡ plan → (step : Step Output) →
-      after_input reads.accepts.asks.request.plan (content_of reads.accepts.lines) reads.numbers reads.accepts.asks.request.steps plan step → Explains step words given
+      after_input reads.accepts.asks.request.plan reads.accepts.asks.engine (content_of (form_of reads.accepts.asks.engine) reads.accepts.lines) reads.numbers reads.accepts.asks.request.steps
+      (plan, given.map_file) step → Explains step words given
   plan_explains reads (Bytes text) is _ (goes_on lines step first rest) =
       let gives = plan-gives text lines first in
-      running_explains (record { reads = reads; text = text; taken = is; plan = lines; is = gives.is; faultless = gives.faultless }) step rest
+      phase_explains (record { reads = reads; text = text; taken = is; plan = lines; is = gives.is; faultless = gives.faultless }) reads.accepts.asks.engine refl step rest
   plan_explains reads (Bytes text) is _ (stops reason first) =
       let refused = plan-refused text reason first in
       stop-at {A = Output} reason (cause.Plan refused.fault) (ap Stop refused.is)
@@ -164,7 +204,8 @@ module _ (words : List (List ℕ)) (given : Given) where
   plan_explains reads Faulty is _ (stops reason first) = stop-at reason (cause.ReadFault reads.accepts.asks.request.plan) first (plan_gives reads is)
 
   input_explains : (accepted : ReadsModule words given) (input : Taken) → given.input ≡ input → (step : Step Output) →
-      after_module accepted.asks.request.input accepted.asks.request.plan (content_of accepted.lines) accepted.asks.request.steps (input, given.plan) step → Explains step words given
+      after_module accepted.asks.request.input accepted.asks.request.plan accepted.asks.engine (content_of (form_of accepted.asks.engine) accepted.lines) accepted.asks.request.steps
+      (input, (given.plan, given.map_file)) step → Explains step words given
   input_explains accepted (Bytes text) is _ (goes_on numbers step first rest) =
       let gives = input-gives text numbers first in
       plan_explains (record { accepts = accepted; text = text; taken = is; numbers = numbers; are = gives.are; faultless = gives.faultless }) given.plan refl step rest
@@ -177,48 +218,50 @@ module _ (words : List (List ℕ)) (given : Given) where
   input_explains accepted Faulty is _ (goes_on value step first rest) = absurd (not_both value (cause.ReadFault accepted.asks.request.input) first)
   input_explains accepted Faulty is _ (stops reason first) = stop-at reason (cause.ReadFault accepted.asks.request.input) first (input_gives accepted is)
 
-  runs_text : (asks : AsksForRun words) (text : List ℕ) → given.module_file ≡ Bytes text → (whole : LinedModule) → Accepts text_forms.Source text whole → (step : Step Output) →
-      after_module asks.request.input asks.request.plan whole.content asks.request.steps (given.input, given.plan) step → Explains step words given
+  runs_text : (asks : AsksForRun words) (text : List ℕ) → given.module_file ≡ Bytes text → (whole : LinedModule) → Accepts (form_of asks.engine) text whole → (step : Step Output) →
+      after_module asks.request.input asks.request.plan asks.engine whole.content asks.request.steps (given.input, (given.plan, given.map_file)) step → Explains step words given
   runs_text asks text taken whole accepted step rest =
       input_explains (record { asks = asks; text = text; taken = taken; lines = accepted.lines; accepted = accepted.accepted })
       given.input refl step
-      (subst (λ (w : LinedModule). after_module asks.request.input asks.request.plan w.content asks.request.steps (given.input, given.plan) step) accepted.is rest)
+      (subst (λ (w : LinedModule). after_module asks.request.input asks.request.plan asks.engine w.content asks.request.steps (given.input, (given.plan, given.map_file)) step) accepted.is rest)
 
   run_explains : (asks : AsksForRun words) (taken : Taken) → given.module_file ≡ taken → (step : Step Output) →
-      Then (file_phase asks.request.code (module_phase text_forms.Source) taken)
-      (λ (whole : LinedModule). after_module asks.request.input asks.request.plan whole.content asks.request.steps (given.input, given.plan)) step → Explains step words given
-  run_explains asks (Bytes text) is _ (goes_on whole step first rest) = runs_text asks text is whole (accepts text_forms.Source text whole first) step rest
-  run_explains asks (Bytes text) is _ (stops reason first) = stops_text text_forms.Source asks.request.code text reason (to_run asks) is (refuses text_forms.Source text reason first)
+      Then (file_phase asks.request.code (module_phase (form_of asks.engine)) taken)
+      (λ (whole : LinedModule). after_module asks.request.input asks.request.plan asks.engine whole.content asks.request.steps (given.input, (given.plan, given.map_file))) step → Explains step words given
+  run_explains asks (Bytes text) is _ (goes_on whole step first rest) = runs_text asks text is whole (accepts (form_of asks.engine) text whole first) step rest
+  run_explains asks (Bytes text) is _ (stops reason first) = stops_text (form_of asks.engine) asks.request.code text reason (to_run asks) is (refuses (form_of asks.engine) text reason first)
   run_explains asks Longer is _ (goes_on whole step first rest) = absurd (not_both whole (cause.TooLong asks.request.code) first)
-  run_explains asks Longer is _ (stops reason first) = stop-at reason (cause.TooLong asks.request.code) first (module_gives text_forms.Source asks.request.code (to_run asks) is)
+  run_explains asks Longer is _ (stops reason first) = stop-at reason (cause.TooLong asks.request.code) first (module_gives (form_of asks.engine) asks.request.code (to_run asks) is)
   run_explains asks Faulty is _ (goes_on whole step first rest) = absurd (not_both whole (cause.ReadFault asks.request.code) first)
-  run_explains asks Faulty is _ (stops reason first) = stop-at reason (cause.ReadFault asks.request.code) first (module_gives text_forms.Source asks.request.code (to_run asks) is)
+  run_explains asks Faulty is _ (stops reason first) = stop-at reason (cause.ReadFault asks.request.code) first (module_gives (form_of asks.engine) asks.request.code (to_run asks) is)
 
   command_explains : (command : Option Command) → command_of words ≡ command → (step : Step Output) → command_work command given step → Explains step words given
   command_explains None is step due = explains-at step (Stop cause.Words) due is
   command_explains (Some (Show module_file)) is step due = show_explains (record { module_file = module_file; command = is }) given.module_file refl step due
   command_explains (Some (Rewrite module_file part)) is step due = rewrite_explains (record { module_file = module_file; part = part; command = is }) given.module_file refl step due
-  command_explains (Some (Source request)) is step due = run_explains (record { request = request; command = inl is }) given.module_file refl step due
-  command_explains (Some (Run request)) is step due = run_explains (record { request = request; command = inr is }) given.module_file refl step due
+  command_explains (Some (Source request)) is step due = run_explains (record { engine = Meaning; request = request; asked = by_source request is }) given.module_file refl step due
+  command_explains (Some (Run request)) is step due = run_explains (record { engine = Meaning; request = request; asked = by_run request is }) given.module_file refl step due
+  command_explains (Some (Exec request map_file)) is step due =
+      run_explains (record { engine = Machine map_file; request = request; asked = by_exec request map_file is }) given.module_file refl step due
 
   -- each step of the work has its cause
   pub Explains-work : (step : Step Output) → work words given step → Explains step words given
   Explains-work step due = command_explains (command_of words) refl step due
 
-  cause_at_end : (runs : Runs words given) (outcome : Outcome) → RunGives runs outcome → (end : End) → outcome.end ≡ end → IsFinal end
-      → CauseOf (status_of_end end) words given
-  cause_at_end runs outcome gives (ended.Return number) is final = (output_of (module_run runs) outcome, by_running runs outcome gives, ap status_of_end is)
-  cause_at_end runs outcome gives (ended.Trap trap) is final = (output_of (module_run runs) outcome, by_running runs outcome gives, ap status_of_end is)
-  cause_at_end runs outcome gives ended.OutOfSteps is final = (output_of (module_run runs) outcome, by_running runs outcome gives, ap status_of_end is)
-  cause_at_end runs outcome gives ended.Poison is final = absurd final
-  cause_at_end runs outcome gives ended.LostFrame is final = absurd final
+  cause_at_end : (output : Output) (end : End) → output.status ≡ status_of_end end → Ends words given output → CauseOf (status_of_end end) words given
+  cause_at_end output (ended.Return number) is ends = (output, ends, is)
+  cause_at_end output (ended.Trap trap) is ends = (output, ends, is)
+  cause_at_end output ended.OutOfSteps is ends = (output, ends, is)
+  cause_at_end output ended.Poison is ends = (output, ends, is)
+  cause_at_end output ended.LostFrame is ends = (output, ends, is)
 
   cause_of_output : (output : Output) → Ends words given output → CauseOf output.status words given
-  cause_of_output _ (by_showing shows) = (shown (content_of shows.lines), by_showing shows, refl)
+  cause_of_output _ (by_showing shows) = (shown (content_of text_forms.Source shows.lines), by_showing shows, refl)
   cause_of_output _ (by_rewriting rewrites) = (written_of rewrites.reads.asks.part rewrites.after, by_rewriting rewrites, refl)
   cause_of_output _ (by_running runs outcome gives) =
-      cause_at_end runs outcome gives outcome.end refl
-      (gives_final (source_setting (module_run runs) (go runs.plan) (steps_asked runs)) runs.reads.numbers outcome gives)
+      cause_at_end (output_of (module_run runs.reads) outcome) outcome.end refl (by_running runs outcome gives)
+  cause_of_output _ (by_executing runs outcome gives) =
+      cause_at_end (executed (module_run runs.reads) outcome gives.last.lines) outcome.end refl (by_executing runs outcome gives)
 
   -- and so has its status
   pub CauseOf-explained : (step : Step Output) → Explains step words given → CauseOf (status_of_step step) words given
@@ -229,28 +272,33 @@ module _ (words : List (List ℕ)) (given : Given) where
   CauseOf-explained (Stop (cause.Module fault)) explained = (fault, explained)
   CauseOf-explained (Stop (cause.Input line)) explained = (line, explained)
   CauseOf-explained (Stop (cause.Plan fault)) explained = (fault, explained)
+  CauseOf-explained (Stop (cause.Map fault)) explained = (fault, explained)
 
   -- ---- and each cause its step
 
   commanded : (command : Option Command) (step : Step Output) → command_of words ≡ command → command_work command given step → work words given step
   commanded command step is due = subst (λ (c : Option Command). command_work c given step) (sym is) due
 
-  commanded_run : (asks : AsksForRun words) (step : Step Output) → run_work asks.request given step → work words given step
-  commanded_run asks step due = elim asks.command [
-    | inl is ↦ commanded (Some (Source asks.request)) step is due
-    | inr is ↦ commanded (Some (Run asks.request)) step is due
-  ]
+  commanded_as : (engine : Engine) (request : RunRequest) (step : Step Output) → IsAskedFor words engine request → run_work engine request given step → work words given step
+  commanded_as _ _ step (by_source request is) due = commanded (Some (Source request)) step is due
+  commanded_as _ _ step (by_run request is) due = commanded (Some (Run request)) step is due
+  commanded_as _ _ step (by_exec request map_file is) due = commanded (Some (Exec request map_file)) step is due
+
+  commanded_run : (asks : AsksForRun words) (step : Step Output) → run_work asks.engine asks.request given step → work words given step
+  commanded_run asks step due = commanded_as asks.engine asks.request step asks.asked due
 
   with_module : (accepted : ReadsModule words given) (step : Step Output) →
-      after_module accepted.asks.request.input accepted.asks.request.plan (content_of accepted.lines) accepted.asks.request.steps (given.input, given.plan) step → work words given step
+      after_module accepted.asks.request.input accepted.asks.request.plan accepted.asks.engine (content_of (form_of accepted.asks.engine) accepted.lines) accepted.asks.request.steps
+      (given.input, (given.plan, given.map_file)) step → work words given step
   with_module accepted step rest =
+      let form = form_of accepted.asks.engine in
       commanded_run accepted.asks step
-      (goes_on (module_of text_forms.Source accepted.lines) step
-      (subst (λ (taken : Taken). file_phase accepted.asks.request.code (module_phase text_forms.Source) taken (Go (module_of text_forms.Source accepted.lines))) (sym accepted.taken)
-      (as-accepted text_forms.Source accepted.text accepted.lines accepted.accepted))
+      (goes_on (module_of form accepted.lines) step
+      (subst (λ (taken : Taken). file_phase accepted.asks.request.code (module_phase form) taken (Go (module_of form accepted.lines))) (sym accepted.taken)
+      (as-accepted form accepted.text accepted.lines accepted.accepted))
       rest)
 
-  with_source : (reads : ReadsToRewrite words given) (step : Step Output) → Then (Rewriting (content_of reads.lines)) (after_rewriting reads.asks.part) step → work words given step
+  with_source : (reads : ReadsToRewrite words given) (step : Step Output) → Then (Rewriting (content_of text_forms.Source reads.lines)) (after_rewriting reads.asks.part) step → work words given step
   with_source reads step rest =
       commanded (Some (Rewrite reads.asks.module_file reads.asks.part)) step reads.asks.command
       (goes_on (module_of text_forms.Source reads.lines) step
@@ -259,7 +307,8 @@ module _ (words : List (List ℕ)) (given : Given) where
       rest)
 
   with_input : (reads : ReadsInput words given) (step : Step Output) →
-      after_input reads.accepts.asks.request.plan (content_of reads.accepts.lines) reads.numbers reads.accepts.asks.request.steps given.plan step → work words given step
+      after_input reads.accepts.asks.request.plan reads.accepts.asks.engine (content_of (form_of reads.accepts.asks.engine) reads.accepts.lines) reads.numbers reads.accepts.asks.request.steps
+      (given.plan, given.map_file) step → work words given step
   with_input reads step rest =
       with_module reads.accepts step
       (goes_on reads.numbers step
@@ -267,11 +316,26 @@ module _ (words : List (List ℕ)) (given : Given) where
       (has_numbers reads.numbers reads.are reads.faultless))
       rest)
 
-  -- the work of a run is the source meaning
+  with_plan : (reads : ReadsPlan words given) (step : Step Output) →
+      run_phase (engine_asked reads) (module_run reads) reads.reads.numbers reads.plan (steps_asked reads) given.map_file step → work words given step
+  with_plan reads step rest =
+      with_input reads.reads step
+      (goes_on reads.plan step
+      (subst (λ (taken : Taken). file_phase reads.reads.accepts.asks.request.plan ReadingPlan taken (Go reads.plan)) (sym reads.taken)
+      (planned reads.plan reads.is reads.faultless))
+      rest)
+
+  phase_by : (reads : ReadsPlan words given) (engine : Engine) (step : Step Output) → engine_asked reads ≡ engine →
+      run_phase engine (module_run reads) reads.reads.numbers reads.plan (steps_asked reads) given.map_file step → work words given step
+  phase_by reads engine step is due =
+      with_plan reads step
+      (subst (λ (e : Engine). run_phase e (module_run reads) reads.reads.numbers reads.plan (steps_asked reads) given.map_file step) (sym is) due)
+
+  -- the work of a run is the source meaning, or the machine's run
   pub work-ends : (output : Output) → Ends words given output → work words given (Go output)
   work-ends _ (by_showing shows) =
-      commanded (Some (Show shows.asks.module_file)) (Go (shown (content_of shows.lines))) shows.asks.command
-      (goes_on (module_of text_forms.Source shows.lines) (Go (shown (content_of shows.lines)))
+      commanded (Some (Show shows.asks.module_file)) (Go (shown (content_of text_forms.Source shows.lines))) shows.asks.command
+      (goes_on (module_of text_forms.Source shows.lines) (Go (shown (content_of text_forms.Source shows.lines)))
       (subst (λ (taken : Taken). file_phase shows.asks.module_file (module_phase text_forms.Source) taken (Go (module_of text_forms.Source shows.lines))) (sym shows.taken)
       (as-accepted text_forms.Source shows.text shows.lines shows.accepted))
       refl)
@@ -279,11 +343,10 @@ module _ (words : List (List ℕ)) (given : Given) where
       let output = written_of rewrites.reads.asks.part rewrites.after in
       with_source rewrites.reads (Go output) (goes_on rewrites.after (Go output) (rewritten rewrites.after rewrites.is rewrites.few) refl)
   work-ends _ (by_running runs outcome gives) =
-      with_input runs.reads (Go (output_of (module_run runs) outcome))
-      (goes_on runs.plan (Go (output_of (module_run runs) outcome))
-      (subst (λ (taken : Taken). file_phase runs.reads.accepts.asks.request.plan ReadingPlan taken (Go runs.plan)) (sym runs.taken)
-      (planned runs.plan runs.is runs.faultless))
-      (comes outcome gives))
+      phase_by runs.reads Meaning (Go (output_of (module_run runs.reads) outcome)) runs.engine (comes outcome gives)
+  work-ends _ (by_executing runs outcome gives) =
+      let output = executed (module_run runs.reads) outcome gives.last.lines in
+      phase_by runs.reads (Machine runs.map_file) (Go output) runs.engine (goes_on runs.map (Go output) runs.takes (executes outcome gives))
 
   -- the work comes to a step of this status
   abbrev pub ComesWith : Status → Type 0
@@ -334,6 +397,20 @@ module _ (words : List (List ℕ)) (given : Given) where
         refl,
       )
 
+  -- where the stack map stops the work
+  map_phase_stops : (reads : ReadsForMap words given) (reason : Cause) → file_phase reads.map_file ReadingMap given.map_file (Stop reason) → work words given (Stop reason)
+  map_phase_stops reads reason stopped = phase_by reads.reads (Machine (Some reads.map_file)) (Stop reason) reads.engine (stops reason stopped)
+
+  pub comes-HasSomeMapFault : HasSomeMapFault words given → ComesWith MapRefused
+  comes-HasSomeMapFault has =
+      let reason = cause.Map has.0 in
+      let fault = has.1 in (
+        Stop reason,
+        map_phase_stops fault.reads reason
+            (subst (λ (t : Taken). file_phase fault.reads.map_file ReadingMap t (Stop reason)) (sym fault.taken) (no_map has.0 fault.first)),
+        refl,
+      )
+
   file_stops : (what : Taken) (reason : List ℕ → Cause) → ((A : Type 0) (name : List ℕ) (read : List ℕ → Step A → Type 0) → file_phase name read what (Stop (reason name))) →
       (name : List ℕ) → FileGives words given what name → work words given (Stop (reason name))
   file_stops what reason stopping _ (module_gives form name names is) =
@@ -347,6 +424,9 @@ module _ (words : List (List ℕ)) (given : Given) where
       let name = reads.accepts.asks.request.plan in
       with_input reads (Stop (reason name))
       (stops (reason name) (subst (λ (t : Taken). file_phase name ReadingPlan t (Stop (reason name))) (sym is) (stopping (List PlanLine) name ReadingPlan)))
+  file_stops what reason stopping _ (map_gives reads is) =
+      let name = reads.map_file in
+      map_phase_stops reads (reason name) (subst (λ (t : Taken). file_phase name ReadingMap t (Stop (reason name))) (sym is) (stopping StackMap name ReadingMap))
 
   pub comes-CannotRead : CannotRead words given → ComesWith ReadFault
   comes-CannotRead cannot =
@@ -357,11 +437,13 @@ module _ (words : List (List ℕ)) (given : Given) where
 
 -- a file that could not be read had its fault counted
 module _ (words : List (List ℕ)) (given : Given) (files : FilesSeen) (may : MayGiveNamed files (command_of words) given) where
-  may_of_run : (asks : AsksForRun words) → MayGiveAll files asks.request given
-  may_of_run asks = elim asks.command [
-    | inl is ↦ subst (λ (command : Option Command). MayGiveNamed files command given) is may
-    | inr is ↦ subst (λ (command : Option Command). MayGiveNamed files command given) is may
-  ]
+  may_as : (engine : Engine) (request : RunRequest) → IsAskedFor words engine request → MayGiveAll files engine request given
+  may_as _ _ (by_source request is) = subst (λ (command : Option Command). MayGiveNamed files command given) is may
+  may_as _ _ (by_run request is) = subst (λ (command : Option Command). MayGiveNamed files command given) is may
+  may_as _ _ (by_exec request map_file is) = subst (λ (command : Option Command). MayGiveNamed files command given) is may
+
+  may_of_run : (asks : AsksForRun words) → MayGiveAll files asks.engine asks.request given
+  may_of_run asks = may_as asks.engine asks.request asks.asked
 
   may_of_module : (form : TextForm) (name : List ℕ) → NamesModule words form name → MayGive files name given.module_file
   may_of_module _ _ (to_show asks) = subst (λ (command : Option Command). MayGiveNamed files command given) asks.command may
@@ -374,4 +456,7 @@ module _ (words : List (List ℕ)) (given : Given) (files : FilesSeen) (may : Ma
   pub Rose-gives : (name : List ℕ) → FileGives words given Faulty name → Rose (files.faults_before name) (files.faults_after name)
   Rose-gives _ (module_gives form name names is) = rose_at name given.module_file is (may_of_module form name names)
   Rose-gives _ (input_gives accepted is) = rose_at accepted.asks.request.input given.input is (may_of_run accepted.asks).1.0
-  Rose-gives _ (plan_gives reads is) = rose_at reads.accepts.asks.request.plan given.plan is (may_of_run reads.accepts.asks).1.1
+  Rose-gives _ (plan_gives reads is) = rose_at reads.accepts.asks.request.plan given.plan is (may_of_run reads.accepts.asks).1.1.0
+  Rose-gives _ (map_gives reads is) =
+      rose_at reads.map_file given.map_file is
+      (subst (λ (engine : Engine). MayGiveMap files engine given.map_file) reads.engine (may_of_run reads.reads.reads.accepts.asks).1.1.1)

@@ -1,17 +1,22 @@
 -- Completeness from the whole answer of a call.
 use Rattle.std.proofs.Common.{◌≡◌, ℕ, ◌<◌, ◌≤◌, length, ◌⊎◌, inl, inr, List, [], Option, Some, None, Result, Ok, Err, refl, sym, ap, subst, ◌∙◌, arith}
+use Rattle.std.specs.Prelude.{ℤ}
+use Rattle.ir_ast.specs.Modules.{ModuleContent}
+use Rattle.move_plan.specs.declared.plan_lines.PlanLine.{PlanLine}
 use Rattle.statepoint_tool.specs.Answers.{SinkSeen, Gained, GainedFront, SinkFailed, Came, IsBegun, IsTold as IsToldOf, IsAnswer}
 use Rattle.tool_io.proofs.AppendLaws.{AppendsFront-all, AppendsFront-front}
-use Rattle.statepoint_tool.specs.Complete.{IsTold, RunIsTold, AllTold, IsWhole, IsShort, WantsMemory, IsComplete}
-use Rattle.statepoint_tool.specs.Steps.{Step, Go, Stop}
+use Rattle.statepoint_tool.specs.Complete.{IsTold, MapIsTold, RunIsTold, AllTold, IsWhole, IsShort, WantsMemory, IsComplete}
+use Rattle.statepoint_tool.specs.Steps.{Step, Go, Stop, Then, goes_on, stops}
 use Rattle.statepoint_tool.specs.Taken.{Taken, Bytes, Longer, Faulty, FilesSeen, MayGive}
 use Rattle.statepoint_tool.specs.Words.{command_of}
-use Rattle.statepoint_tool.specs.Work.{Output, Given, MayGiveAll, MayGiveNamed, command_work, show_work, rewrite_work, run_work, work}
+use Rattle.statepoint_tool.specs.Work.{Output, Given, MayGiveMap, MayGiveAll, MayGiveNamed, command_work, show_work, rewrite_work, run_phase, run_work, work}
 use Rattle.statepoint_tool.specs.declared.refusal.Refusal.{Refusal}
 use Rattle.statepoint_tool.specs.declared.refusal.Refusal.TheVariants.{Defined, WriteFault, Memory}
+use Rattle.statepoint_tool.specs.declared.request.Engine.{Engine}
+use Rattle.statepoint_tool.specs.declared.request.Engine.TheVariants.{Meaning, Machine}
 use Rattle.statepoint_tool.specs.declared.request.RunRequest.{RunRequest}
 use Rattle.statepoint_tool.specs.declared.request.Command.{Command}
-use Rattle.statepoint_tool.specs.declared.request.Command.TheVariants.{Show, Rewrite, Source, Run}
+use Rattle.statepoint_tool.specs.declared.request.Command.TheVariants.{Show, Rewrite, Source, Run, Exec}
 use Rattle.statepoint_tool.specs.declared.status.Status.{Status}
 use Rattle.statepoint_tool.proofs.StepLaws.{not_both}
 use Rattle.statepoint_tool.proofs.CauseLaws.{Once-work, work-ends}
@@ -24,16 +29,36 @@ same_taken files name Longer told may is =
     let longer : 16777216 < length is.bytes = rw is.told at may in let within : length is.bytes ≤ 16777216 = is.within in absurd (omega arith)
 same_taken files name Faulty told may is = absurd (is.sure may)
 
+-- a told stack map is the one that the run takes
+same_map : (files : FilesSeen) (engine : Engine) (content : ModuleContent) (numbers : List ℤ) (lines : List PlanLine) (steps : ℕ) (given told : Taken)
+    → MayGiveMap files engine given → MapIsTold files engine told → (step : Step Output) → run_phase engine content numbers lines steps told step
+    → run_phase engine content numbers lines steps given step
+same_map files Meaning content numbers lines steps given told may is step due = due
+same_map files (Machine None) content numbers lines steps given told may is step due = due
+same_map files (Machine (Some name)) content numbers lines steps given told may is step due =
+    subst (λ (taken : Taken). run_phase (Machine (Some name)) content numbers lines steps taken step) (sym (same_taken files name given told may is)) due
+
+-- what follows the module, the input and the plan
+then_same : {A : Type 0} (first : Step A → Type 0) (next other : A → Step Output → Type 0) (step : Step Output)
+    → ((value : A) (each : Step Output) → next value each → other value each) → Then first next step → Then first other step
+then_same first next other _ like (goes_on value step due rest) = goes_on value step due (like value step rest)
+then_same first next other _ like (stops cause due) = stops cause due
+
 -- told files leave one run
-same_run : (files : FilesSeen) (request : RunRequest) (given told : Given) → MayGiveAll files request given → RunIsTold files request told →
-    (step : Step Output) → run_work request told step → run_work request given step
-same_run files request given told may is step due =
+same_run : (files : FilesSeen) (engine : Engine) (request : RunRequest) (given told : Given) → MayGiveAll files engine request given → RunIsTold files engine request told →
+    (step : Step Output) → run_work engine request told step → run_work engine request given step
+same_run files engine request given told may is step due =
     let code : given.module_file ≡ told.module_file = same_taken files request.code given.module_file told.module_file may.0 is.0 in
     let numbers : given.input ≡ told.input = same_taken files request.input given.input told.input may.1.0 is.1 in
-    let moves : given.plan ≡ told.plan = same_taken files request.plan given.plan told.plan may.1.1 is.2 in
-    subst (λ (taken : Taken). run_work request (record { module_file = taken; input = given.input; plan = given.plan }) step) (sym code)
-    (subst (λ (taken : Taken). run_work request (record { module_file = told.module_file; input = taken; plan = given.plan }) step) (sym numbers)
-    (subst (λ (taken : Taken). run_work request (record { module_file = told.module_file; input = told.input; plan = taken }) step) (sym moves) due))
+    let moves : given.plan ≡ told.plan = same_taken files request.plan given.plan told.plan may.1.1.0 is.2 in
+    let over : Given = record { module_file = told.module_file; input = told.input; plan = told.plan; map_file = given.map_file } in
+    let due_over : run_work engine request over step = then_same _ _ _ step
+    (λ whole each rest. then_same _ _ _ each
+    (λ (read : List ℤ) (later : Step Output) rest_later. then_same _ _ _ later
+    (λ (lines : List PlanLine) (last : Step Output) rest_last. same_map files engine whole.content read lines request.steps given.map_file told.map_file may.1.1.1 is.3 last rest_last) rest_later) rest) due in
+    subst (λ (taken : Taken). run_work engine request (record { module_file = taken; input = given.input; plan = given.plan; map_file = given.map_file }) step) (sym code)
+    (subst (λ (taken : Taken). run_work engine request (record { module_file = told.module_file; input = taken; plan = given.plan; map_file = given.map_file }) step) (sym numbers)
+    (subst (λ (taken : Taken). run_work engine request (record { module_file = told.module_file; input = told.input; plan = taken; map_file = given.map_file }) step) (sym moves) due_over))
 
 -- told files leave one work
 same_work : (files : FilesSeen) (command : Option Command) (given told : Given) → MayGiveNamed files command given → AllTold files command told →
@@ -41,12 +66,13 @@ same_work : (files : FilesSeen) (command : Option Command) (given told : Given) 
 same_work files None given told may is step due = due
 same_work files (Some (Show module_file)) given told may is step due =
     let code : given.module_file ≡ told.module_file = same_taken files module_file given.module_file told.module_file may is in
-    subst (λ (taken : Taken). show_work module_file (record { module_file = taken; input = told.input; plan = told.plan }) step) (sym code) due
+    subst (λ (taken : Taken). show_work module_file (record { module_file = taken; input = told.input; plan = told.plan; map_file = told.map_file }) step) (sym code) due
 same_work files (Some (Rewrite module_file part)) given told may is step due =
     let code : given.module_file ≡ told.module_file = same_taken files module_file given.module_file told.module_file may is in
-    subst (λ (taken : Taken). rewrite_work part module_file (record { module_file = taken; input = told.input; plan = told.plan }) step) (sym code) due
-same_work files (Some (Source request)) given told may is step due = same_run files request given told may is step due
-same_work files (Some (Run request)) given told may is step due = same_run files request given told may is step due
+    subst (λ (taken : Taken). rewrite_work part module_file (record { module_file = taken; input = told.input; plan = told.plan; map_file = told.map_file }) step) (sym code) due
+same_work files (Some (Source request)) given told may is step due = same_run files Meaning request given told may is step due
+same_work files (Some (Run request)) given told may is step due = same_run files Meaning request given told may is step due
+same_work files (Some (Exec request map_file)) given told may is step due = same_run files (Machine map_file) request given told may is step due
 
 same_output : (one other : Output) → Go one ≡ Go other → one ≡ other
 same_output one other same = cc

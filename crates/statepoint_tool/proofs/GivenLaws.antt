@@ -4,6 +4,9 @@ use Rattle.std.specs.Prelude.{nat_le}
 use Rattle.std.proofs.lemmas.Bool.Decides.{nat_tests}
 use Rattle.tool_io.specs.Counts.{NoneFell}
 use Rattle.tool_io.proofs.CountLaws.{Rose-then-none_fell, Rose-after-none_fell}
+use Rattle.statepoint_tool.specs.Work.{MayGiveMap, MayGiveFromPlan, MayGiveFromInput}
+use Rattle.statepoint_tool.specs.declared.request.Engine.{Engine}
+use Rattle.statepoint_tool.specs.declared.request.Engine.TheVariants.{Meaning, Machine}
 use Rattle.statepoint_tool.specs.Taken.{Taken, Bytes, Longer, Faulty, FilesSeen, files_seen, MayGive}
 
 -- what told contents give
@@ -45,3 +48,44 @@ pub MayGive-earlier : (contents others : List ℕ → Option (List ℕ)) (before
 MayGive-earlier contents others before mid after name (Bytes bytes) kept stayed may = rw kept at may
 MayGive-earlier contents others before mid after name Longer kept stayed may = rw kept at may
 MayGive-earlier contents others before mid after name Faulty kept stayed may = Rose-after-none_fell (after name) name stayed may
+
+-- ---- the files of a run
+
+-- what the stack map gives that a run takes
+abbrev pub map_as_told : FilesSeen → Engine → Taken
+map_as_told files Meaning = Bytes []
+map_as_told files (Machine None) = Bytes []
+map_as_told files (Machine (Some name)) = as_told files name
+
+pub MayGiveMap-as_told : (files : FilesSeen) (engine : Engine) → MayGiveMap files engine (map_as_told files engine)
+MayGiveMap-as_told files Meaning = tt
+MayGiveMap-as_told files (Machine None) = tt
+MayGiveMap-as_told files (Machine (Some name)) = MayGive-as_told files name
+
+abbrev pub from_plan_as_told : FilesSeen → List ℕ → Engine → Taken × Taken
+from_plan_as_told files plan engine = (as_told files plan, map_as_told files engine)
+
+pub MayGiveFromPlan-as_told : (files : FilesSeen) (plan : List ℕ) (engine : Engine) → MayGiveFromPlan files plan engine (from_plan_as_told files plan engine)
+MayGiveFromPlan-as_told files plan engine = (MayGive-as_told files plan, MayGiveMap-as_told files engine)
+
+abbrev pub from_input_as_told : FilesSeen → List ℕ → List ℕ → Engine → Taken × (Taken × Taken)
+from_input_as_told files input plan engine = (as_told files input, from_plan_as_told files plan engine)
+
+pub MayGiveFromInput-as_told : (files : FilesSeen) (input plan : List ℕ) (engine : Engine) → MayGiveFromInput files input plan engine (from_input_as_told files input plan engine)
+MayGiveFromInput-as_told files input plan engine = (MayGive-as_told files input, MayGiveFromPlan-as_told files plan engine)
+
+module _ (contents others : List ℕ → Option (List ℕ)) (before mid after : List ℕ → ℕ) (kept : others ≡ contents) (stayed : NoneFell before mid) where
+  pub MayGiveMap-earlier : (engine : Engine) (given : Taken) → MayGiveMap (files_seen others mid after) engine given → MayGiveMap (files_seen contents before after) engine given
+  MayGiveMap-earlier Meaning given may = tt
+  MayGiveMap-earlier (Machine None) given may = tt
+  MayGiveMap-earlier (Machine (Some name)) given may = MayGive-earlier contents others before mid after name given kept stayed may
+
+  pub MayGiveFromPlan-earlier : (plan : List ℕ) (engine : Engine) (given : Taken × Taken) → MayGiveFromPlan (files_seen others mid after) plan engine given
+      → MayGiveFromPlan (files_seen contents before after) plan engine given
+  MayGiveFromPlan-earlier plan engine given may =
+      (MayGive-earlier contents others before mid after plan given.0 kept stayed may.0, MayGiveMap-earlier engine given.1 may.1)
+
+  pub MayGiveFromInput-earlier : (input plan : List ℕ) (engine : Engine) (given : Taken × (Taken × Taken)) → MayGiveFromInput (files_seen others mid after) input plan engine given
+      → MayGiveFromInput (files_seen contents before after) input plan engine given
+  MayGiveFromInput-earlier input plan engine given may =
+      (MayGive-earlier contents others before mid after input given.0 kept stayed may.0, MayGiveFromPlan-earlier plan engine given.1 may.1)

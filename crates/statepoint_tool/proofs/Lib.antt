@@ -7,7 +7,8 @@ pub mod ReadsLaws
 pub mod WorksLaws
 pub mod NamedLaws
 pub mod RewriteLaws
+pub mod MachineLaws
+pub mod RunLaws
 pub mod CauseLaws
 pub mod AnswerLaws
 pub mod CompleteLaws
-pub mod RunLaws

@@ -8,35 +8,43 @@ use Rattle.statepoint_tool.specs.Words.{command_of}
 use Rattle.statepoint_tool.specs.Work.{Output, Given, MayGiveAll, MayGiveNamed, command_work, work}
 use Rattle.statepoint_tool.specs.declared.refusal.Cause.TheVariants.{Words}
 use Rattle.statepoint_tool.specs.declared.refusal.Refusal.TheVariants.{Defined, Memory}
+use Rattle.statepoint_tool.specs.declared.request.Engine.{Engine}
+use Rattle.statepoint_tool.specs.declared.request.Engine.TheVariants.{Meaning, Machine}
 use Rattle.statepoint_tool.specs.declared.request.RunRequest.{RunRequest}
 use Rattle.statepoint_tool.specs.declared.request.Command.{Command}
-use Rattle.statepoint_tool.specs.declared.request.Command.TheVariants.{Show, Rewrite, Source, Run}
-use Rattle.statepoint_tool.proofs.GivenLaws.{as_told, MayGive-as_told}
+use Rattle.statepoint_tool.specs.declared.request.Command.TheVariants.{Show, Rewrite, Source, Run, Exec}
+use Rattle.statepoint_tool.proofs.GivenLaws.{as_told, MayGive-as_told, map_as_told, MayGiveFromInput-as_told}
 
 -- what told files give
-abbrev pub run_as_told : FilesSeen → RunRequest → Given
-run_as_told files request =
-    record { module_file = as_told files request.code; input = as_told files request.input; plan = as_told files request.plan }
+abbrev pub run_as_told : FilesSeen → Engine → RunRequest → Given
+run_as_told files engine request = record {
+  module_file = as_told files request.code;
+  input = as_told files request.input;
+  plan = as_told files request.plan;
+  map_file = map_as_told files engine;
+}
 
 abbrev pub all_as_told : FilesSeen → Option Command → Given
-all_as_told files None = record { module_file = Bytes []; input = Bytes []; plan = Bytes [] }
+all_as_told files None = record { module_file = Bytes []; input = Bytes []; plan = Bytes []; map_file = Bytes [] }
 all_as_told files (Some (Show module_file)) =
-    record { module_file = as_told files module_file; input = Bytes []; plan = Bytes [] }
+    record { module_file = as_told files module_file; input = Bytes []; plan = Bytes []; map_file = Bytes [] }
 all_as_told files (Some (Rewrite module_file part)) =
-    record { module_file = as_told files module_file; input = Bytes []; plan = Bytes [] }
-all_as_told files (Some (Source request)) = run_as_told files request
-all_as_told files (Some (Run request)) = run_as_told files request
+    record { module_file = as_told files module_file; input = Bytes []; plan = Bytes []; map_file = Bytes [] }
+all_as_told files (Some (Source request)) = run_as_told files Meaning request
+all_as_told files (Some (Run request)) = run_as_told files Meaning request
+all_as_told files (Some (Exec request map_file)) = run_as_told files (Machine map_file) request
 
-MayGiveAll-as_told : (files : FilesSeen) (request : RunRequest) → MayGiveAll files request (run_as_told files request)
-MayGiveAll-as_told files request =
-    (MayGive-as_told files request.code, (MayGive-as_told files request.input, MayGive-as_told files request.plan))
+MayGiveAll-as_told : (files : FilesSeen) (engine : Engine) (request : RunRequest) → MayGiveAll files engine request (run_as_told files engine request)
+MayGiveAll-as_told files engine request =
+    (MayGive-as_told files request.code, MayGiveFromInput-as_told files request.input request.plan engine)
 
 pub MayGiveNamed-as_told : (files : FilesSeen) (command : Option Command) → MayGiveNamed files command (all_as_told files command)
 MayGiveNamed-as_told files None = tt
 MayGiveNamed-as_told files (Some (Show module_file)) = MayGive-as_told files module_file
 MayGiveNamed-as_told files (Some (Rewrite module_file part)) = MayGive-as_told files module_file
-MayGiveNamed-as_told files (Some (Source request)) = MayGiveAll-as_told files request
-MayGiveNamed-as_told files (Some (Run request)) = MayGiveAll-as_told files request
+MayGiveNamed-as_told files (Some (Source request)) = MayGiveAll-as_told files Meaning request
+MayGiveNamed-as_told files (Some (Run request)) = MayGiveAll-as_told files Meaning request
+MayGiveNamed-as_told files (Some (Exec request map_file)) = MayGiveAll-as_told files (Machine map_file) request
 
 -- want of memory before anything was written
 pub Works-memory : (files : FilesSeen) (command : Option Command) (phases : Given → Step Output → Type 0) (old : Option (List ℕ)) (faults : ℕ) →

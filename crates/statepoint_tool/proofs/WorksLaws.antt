@@ -1,15 +1,18 @@
 -- How a phase that reads a file and what follows it make a work.
-use Rattle.std.proofs.Common.{ℕ, List, Option, Result, Ok, Err, inl, inr, sym}
+use Rattle.std.proofs.Common.{◌≡◌, ℕ, List, Option, Result, Ok, Err, inl, inr, sym, ap, subst, Vec, Global}
 use Rattle.tool_io.specs.Counts.{NoneFell}
 use Rattle.tool_io.proofs.AppendLaws.{append_known-nil}
 use Rattle.statepoint_tool.specs.Answers.{Agrees, Came, IsBegun, Reads, SinkSeen, sink_seen, Works}
-use Rattle.statepoint_tool.specs.Steps.{Step, Go, Stop, Then, goes_on, stops}
-use Rattle.statepoint_tool.specs.Taken.{Taken, FilesSeen, files_seen, MayGive, file_phase}
+use Rattle.statepoint_tool.specs.Steps.{Step, Go, Stop, comes_to, Then, goes_on, stops}
+use Rattle.statepoint_tool.specs.Taken.{Taken, Bytes, Longer, Faulty, FilesSeen, files_seen, MayGive, file_phase}
 use Rattle.statepoint_tool.specs.Work.{Output, Given}
+use Rattle.statepoint_tool.specs.declared.refusal.Cause.{Cause}
+use Rattle.statepoint_tool.specs.declared.refusal.Cause.TheVariants.{ReadFault, TooLong}
 use Rattle.statepoint_tool.specs.declared.refusal.Refusal.{Refusal}
 use Rattle.statepoint_tool.specs.declared.refusal.Refusal.TheVariants.{Defined, WriteFault, Memory}
 use Rattle.statepoint_tool.specs.declared.status.Status.{Status}
 use Rattle.statepoint_tool.proofs.GivenLaws.{MayGive-later}
+use Rattle.statepoint_tool.proofs.StepLaws.{stop_in, same-value, not_both}
 
 pub Came-stops : {A B : Type 0} (phase : Step A → Type 0) (rest : A → Step Output → Type 0) (view : B → A) (refusal : Refusal) (old : Option (List ℕ)) (faults : ℕ) →
     Agrees view (Err refusal) phase → Came (Err refusal) (Then phase rest) (sink_seen old old faults faults)
@@ -32,6 +35,18 @@ Came-goes_on phase rest value (Err (Defined cause)) out first came =
 Came-goes_on phase rest value (Err WriteFault) out first came = (came.0, begun-goes_on phase rest value out first came.1)
 Came-goes_on phase rest value (Err Memory) out first (inl unwritten) = inl unwritten
 Came-goes_on phase rest value (Err Memory) out first (inr begun) = inr (begun-goes_on phase rest value out first begun)
+
+-- phases of which each step is one of others
+pub Came-like : (phase other : Step Output → Type 0) (result : Result Status Refusal) (out : SinkSeen) → ((step : Step Output) → phase step → other step) →
+    Came result phase out → Came result other out
+Came-like phase other (Ok status) out like came =
+    record { output = came.output; defined = like (Go came.output) came.defined; status_is = came.status_is; written = came.written }
+Came-like phase other (Err (Defined cause)) out like came = record { defined = like (Stop cause) came.defined; unwritten = came.unwritten }
+Came-like phase other (Err WriteFault) out like came =
+    (came.0, record { output = came.1.output; defined = like (Go came.1.output) came.1.defined; front = came.1.front })
+Came-like phase other (Err Memory) out like (inl unwritten) = inl unwritten
+Came-like phase other (Err Memory) out like (inr begun) =
+    inr (record { output = begun.output; defined = like (Go begun.output) begun.defined; front = begun.front })
 
 -- where a phase refuses, so does the phase that it begins
 pub Agrees-stops : {A B C D : Type 0} (phase : Step A → Type 0) (view : B → A) (refusal : Refusal) (rest : A → Step C → Type 0) (last : D → C) →
@@ -70,6 +85,46 @@ Works-goes_on_at {A} {B} {files} {name} {read} {view} {value} {result} {out} res
       came = Came-goes_on (file_phase name read reads.given) rest (view value) result out reads.agrees came;
     }
 
+-- where the bytes of the one file are taken, the work is what reads them
+module _ {A : Type 0} (name : List ℕ) (read : List ℕ → Step A → Type 0) (rest : A → Step Output → Type 0) where
+  came_taken : (bytes : List ℕ) (given : Taken) (result : Result Status Refusal) (out : SinkSeen) → file_phase name (λ text. comes_to (Go text)) given (Go bytes) →
+      Came result (Then (read bytes) rest) out → Came result (Then (file_phase name read given) rest) out
+  came_taken bytes (Bytes text) result out same came =
+      subst (λ (b : List ℕ). Came result (Then (read b) rest) out) (same-value bytes text same) came
+  came_taken bytes Longer result out same came = absurd (not_both bytes (TooLong name) same)
+  came_taken bytes Faulty result out same came = absurd (not_both bytes (ReadFault name) same)
+
+  stops_untaken : (given : Taken) (cause : Cause) → file_phase name (λ text. comes_to (Go text)) given (Stop cause) → file_phase name read given (Stop cause)
+  stops_untaken (Bytes text) cause same = absurd (not_both text cause (sym same))
+  stops_untaken Longer cause same = let is : stop_in (List ℕ) cause ≡ Stop (TooLong name) = same in let causes : cause ≡ TooLong name = cc in ap Stop causes
+  stops_untaken Faulty cause same = let is : stop_in (List ℕ) cause ≡ Stop (ReadFault name) = same in let causes : cause ≡ ReadFault name = cc in ap Stop causes
+
+-- the same of what was taken
+pub Works-taken : {A : Type 0} {files : FilesSeen} {name : List ℕ} {value : Vec ℕ Global} {result : Result Status Refusal} {out : SinkSeen}
+    (read : List ℕ → Step A → Type 0) (rest : A → Step Output → Type 0) →
+    Reads files name (λ text. comes_to (Go text)) (λ taken. taken.items) (Ok value) → Came result (Then (read value.items) rest) out →
+    Works (MayGive files name) (λ given. Then (file_phase name read given) rest) result out
+Works-taken {A} {files} {name} {value} {result} {out} read rest reads came =
+    record { given = reads.given; may = reads.may_give; came = came_taken name read rest value.items reads.given result out reads.agrees came }
+
+pub Works-untaken : {A : Type 0} {files : FilesSeen} {name : List ℕ} {refusal : Refusal}
+    (read : List ℕ → Step A → Type 0) (rest : A → Step Output → Type 0) (old : Option (List ℕ)) (faults : ℕ) →
+    Reads files name (λ text. comes_to (Go text)) (λ (taken : Vec ℕ Global). taken.items) (Err refusal) →
+    Works (MayGive files name) (λ given. Then (file_phase name read given) rest) (Err refusal) (sink_seen old old faults faults)
+Works-untaken {A} {files} {name} {refusal} read rest old faults reads =
+    record {
+      given = reads.given;
+      may = reads.may_give;
+      came = came_untaken refusal reads.agrees;
+    }
+  where
+    came_untaken : (why : Refusal) → Agrees (λ (taken : Vec ℕ Global). taken.items) (Err why) (file_phase name (λ text. comes_to (Go text)) reads.given) →
+        Came (Err why) (Then (file_phase name read reads.given) rest) (sink_seen old old faults faults)
+    came_untaken (Defined cause) agrees =
+        record { defined = stops cause (stops_untaken name read rest reads.given cause agrees); unwritten = sym (append_known-nil old) }
+    came_untaken WriteFault agrees = absurd agrees
+    came_untaken Memory agrees = inl (sym (append_known-nil old))
+
 -- where a file's phase refuses, so does the work, whatever the later files may give
 pub Works-stops : {A B G : Type 0} {files : FilesSeen} {name : List ℕ} {read : List ℕ → Step A → Type 0} {view : B → A} {refusal : Refusal} →
     (rest : A → G → Step Output → Type 0) (may : G → Type 0) (others : G) → may others → (old : Option (List ℕ)) (faults : ℕ) →
@@ -99,12 +154,13 @@ Works-goes_on {A} {B} {G} {contents} {before} {mid} {name} {read} {view} {value}
     }
 
 -- the same, where what the files gave has its names
-pub Works-given : {may : Taken × (Taken × Taken) → Type 0} {phases : Taken × (Taken × Taken) → Step Output → Type 0} {result : Result Status Refusal} {out : SinkSeen} →
+pub Works-given : {may : Taken × (Taken × (Taken × Taken)) → Type 0} {phases : Taken × (Taken × (Taken × Taken)) → Step Output → Type 0} {result : Result Status Refusal} {out : SinkSeen} →
     Works may phases result out →
-    Works {G = Given} (λ given. may (given.module_file, (given.input, given.plan))) (λ given. phases (given.module_file, (given.input, given.plan))) result out
+    Works {G = Given} (λ given. may (given.module_file, (given.input, (given.plan, given.map_file))))
+    (λ given. phases (given.module_file, (given.input, (given.plan, given.map_file)))) result out
 Works-given works =
     record {
-      given = record { module_file = works.given.0; input = works.given.1.0; plan = works.given.1.1 };
+      given = record { module_file = works.given.0; input = works.given.1.0; plan = works.given.1.1.0; map_file = works.given.1.1.1 };
       may = works.may;
       came = works.came;
     }
@@ -115,7 +171,7 @@ pub Works-shown : {may : Taken → Type 0} {phases : Taken → Step Output → T
     Works {G = Given} (λ given. may given.module_file) (λ given. phases given.module_file) result out
 Works-shown works =
     record {
-      given = record { module_file = works.given; input = works.given; plan = works.given };
+      given = record { module_file = works.given; input = works.given; plan = works.given; map_file = works.given };
       may = works.may;
       came = works.came;
     }

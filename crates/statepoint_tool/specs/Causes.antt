@@ -1,5 +1,5 @@
 -- What brings each status about, over what the files gave.
-use Rattle.std.specs.Prelude.{◌≡◌, ◌⊎◌, ℕ, ℤ, List, Some, None, Ok, Err}
+use Rattle.std.specs.Prelude.{◌≡◌, ℕ, ℤ, List, Option, Some, None, Ok, Err}
 use Rattle.ir_reader.specs.Text.{Numbered, syntax_fault, limit_fault, readings_in}
 use Rattle.ir_lines.specs.declared.faults.Fault.{Fault as TypeFault}
 use Rattle.ir_lines.specs.Statements.{Line, lines_of}
@@ -13,20 +13,27 @@ use Rattle.move_plan.specs.declared.plan_lines.PlanLine.{PlanLine}
 use Rattle.move_plan.specs.Inputs.{HasNoInputFault, IsFirstInputFault, IsInputOf}
 use Rattle.move_plan.specs.PlanFaults.{HasNoFault as HasNoPlanFault}
 use Rattle.move_plan.specs.Plans.{IsPlanOf, go}
+use Rattle.map_bytes.specs.Maps.{StackMap}
+use Rattle.map_bytes.specs.Faults.{IsFirstFault}
+use Rattle.map_bytes.specs.declared.rules.MapFault.{MapFault}
+use Rattle.machine_meaning.specs.MachineRuns.{MachineOutcome, MachineGives}
 use Rattle.object_meaning.specs.Outcomes.{Outcome}
 use Rattle.object_meaning.specs.SourceRuns.{SourceGives}
 use Rattle.statepoint_tool.specs.PlanFaults.{IsLeastPlanFault}
+use Rattle.statepoint_tool.specs.Steps.{Go}
 use Rattle.statepoint_tool.specs.Taken.{Taken, Bytes, Longer, Faulty}
 use Rattle.statepoint_tool.specs.Words.{command_of}
-use Rattle.statepoint_tool.specs.Work.{Given, Output, content_of, shown, written_of, output_of}
+use Rattle.statepoint_tool.specs.Work.{Given, Output, content_of, shown, written_of, output_of, form_of, map_phase, executed}
 use Rattle.statepoint_tool.specs.declared.refusal.Cause.{Cause}
 use Rattle.statepoint_tool.specs.declared.refusal.Cause.TheVariants as cause
 use Rattle.statepoint_tool.specs.declared.refusal.ModuleFault.{ModuleFault}
 use Rattle.statepoint_tool.specs.declared.refusal.ModuleFault.TheVariants.{Syntax, Limit, Typed, TooManyRelocations}
 use Rattle.statepoint_tool.specs.declared.refusal.PlanFault.{PlanFault}
 use Rattle.statepoint_tool.specs.declared.request.Part.{Part}
+use Rattle.statepoint_tool.specs.declared.request.Engine.{Engine}
+use Rattle.statepoint_tool.specs.declared.request.Engine.TheVariants.{Meaning, Machine}
 use Rattle.statepoint_tool.specs.declared.request.RunRequest.{RunRequest}
-use Rattle.statepoint_tool.specs.declared.request.Command.TheVariants.{Show, Rewrite, Source, Run}
+use Rattle.statepoint_tool.specs.declared.request.Command.TheVariants.{Show, Rewrite, Source, Run, Exec}
 use Rattle.statepoint_tool.specs.declared.status.Status.{Status}
 
 -- ---- texts of modules
@@ -62,10 +69,17 @@ pub record AsksToRewrite (words : List (List ℕ)) : Type 0 where
   pub part : Part
   pub command : command_of words ≡ Some (Rewrite module_file part)
 
--- the words ask for this run
+-- the words ask for this run: of a source module, by its meaning, or of a rewritten one, on the machine
+pub data IsAskedFor (words : List (List ℕ)) : Engine → RunRequest → Type 0 where
+  by_source : (request : RunRequest) → command_of words ≡ Some (Source request) → IsAskedFor words Meaning request
+  by_run : (request : RunRequest) → command_of words ≡ Some (Run request) → IsAskedFor words Meaning request
+  by_exec : (request : RunRequest) (map_file : Option (List ℕ)) → command_of words ≡ Some (Exec request map_file)
+      → IsAskedFor words (Machine map_file) request
+
 pub record AsksForRun (words : List (List ℕ)) : Type 0 where
+  pub engine : Engine
   pub request : RunRequest
-  pub command : (command_of words ≡ Some (Source request)) ⊎ (command_of words ≡ Some (Run request))
+  pub asked : IsAskedFor words engine request
 
 -- the module to be shown is accepted
 pub record Shows (words : List (List ℕ)) (given : Given) : Type 0 where
@@ -87,8 +101,8 @@ pub record ReadsToRewrite (words : List (List ℕ)) (given : Given) : Type 0 whe
 pub record Rewrites (words : List (List ℕ)) (given : Given) : Type 0 where
   pub reads : ReadsToRewrite words given
   pub after : ModuleContent
-  pub is : IsRewritten (content_of reads.lines) after
-  pub few : HasFewRelocates (content_of reads.lines)
+  pub is : IsRewritten (content_of text_forms.Source reads.lines) after
+  pub few : HasFewRelocates (content_of text_forms.Source reads.lines)
 
 -- the module to be run is accepted
 pub record ReadsModule (words : List (List ℕ)) (given : Given) : Type 0 where
@@ -96,7 +110,7 @@ pub record ReadsModule (words : List (List ℕ)) (given : Given) : Type 0 where
   pub text : List ℕ
   pub taken : given.module_file ≡ Bytes text
   pub lines : List Line
-  pub accepted : IsAccepted text_forms.Source text lines
+  pub accepted : IsAccepted (form_of asks.engine) text lines
 
 -- and the input's text has no fault, and these numbers
 pub record ReadsInput (words : List (List ℕ)) (given : Given) : Type 0 where
@@ -107,8 +121,8 @@ pub record ReadsInput (words : List (List ℕ)) (given : Given) : Type 0 where
   pub are : IsInputOf text numbers
   pub faultless : HasNoInputFault text
 
--- and the plan's text has no fault, and stands for this plan: the module runs
-pub record Runs (words : List (List ℕ)) (given : Given) : Type 0 where
+-- and the plan's text has no fault, and stands for this plan
+pub record ReadsPlan (words : List (List ℕ)) (given : Given) : Type 0 where
   pub reads : ReadsInput words given
   pub text : List ℕ
   pub taken : given.plan ≡ Bytes text
@@ -116,25 +130,49 @@ pub record Runs (words : List (List ℕ)) (given : Given) : Type 0 where
   pub is : IsPlanOf text plan
   pub faultless : HasNoPlanFault text
 
--- the module that runs, and the steps that it may take
-abbrev pub module_run : {words : List (List ℕ)} {given : Given} → Runs words given → ModuleContent
-module_run runs = content_of runs.reads.accepts.lines
+-- the module that runs, on what, and the steps that it may take
+abbrev pub module_run : {words : List (List ℕ)} {given : Given} → ReadsPlan words given → ModuleContent
+module_run reads = content_of (form_of reads.reads.accepts.asks.engine) reads.reads.accepts.lines
 
-abbrev pub steps_asked : {words : List (List ℕ)} {given : Given} → Runs words given → ℕ
-steps_asked runs = runs.reads.accepts.asks.request.steps
+abbrev pub engine_asked : {words : List (List ℕ)} {given : Given} → ReadsPlan words given → Engine
+engine_asked reads = reads.reads.accepts.asks.engine
+
+abbrev pub steps_asked : {words : List (List ℕ)} {given : Given} → ReadsPlan words given → ℕ
+steps_asked reads = reads.reads.accepts.asks.request.steps
+
+-- the module runs by its meaning
+pub record Runs (words : List (List ℕ)) (given : Given) : Type 0 where
+  pub reads : ReadsPlan words given
+  pub engine : engine_asked reads ≡ Meaning
 
 -- its run over that input and under that plan gives this
 abbrev pub RunGives : {words : List (List ℕ)} {given : Given} → Runs words given → Outcome → Type 0
-RunGives runs outcome = SourceGives (module_run runs) runs.reads.numbers (go runs.plan) (steps_asked runs) outcome
+RunGives runs outcome =
+    SourceGives (module_run runs.reads) runs.reads.reads.numbers (go runs.reads.plan) (steps_asked runs.reads) outcome
+
+-- the module runs on the machine, over this stack map: its own, or that which the named file is
+pub record Executes (words : List (List ℕ)) (given : Given) : Type 0 where
+  pub reads : ReadsPlan words given
+  pub map_file : Option (List ℕ)
+  pub engine : engine_asked reads ≡ Machine map_file
+  pub map : StackMap
+  pub takes : map_phase (module_run reads) map_file given.map_file (Go map)
+
+-- its run over that map and that input and under that plan gives this
+abbrev pub MachineRunGives : {words : List (List ℕ)} {given : Given} → Executes words given → MachineOutcome → Type 0
+MachineRunGives runs outcome =
+    MachineGives (module_run runs.reads) runs.map runs.reads.reads.numbers runs.reads.plan (steps_asked runs.reads) outcome
 
 -- ---- the causes
 
--- the work comes to its end, with this output: a module is shown, or its rewritten module or the stack map of that is, or it runs, and so ends by the
--- source meaning
+-- the work comes to its end, with this output: a module is shown, or its rewritten module or the stack map of that is, or
+-- it runs, and so ends by the source meaning or as the machine does
 pub data Ends (words : List (List ℕ)) (given : Given) : Output → Type 0 where
-  by_showing : (shows : Shows words given) → Ends words given (shown (content_of shows.lines))
+  by_showing : (shows : Shows words given) → Ends words given (shown (content_of text_forms.Source shows.lines))
   by_rewriting : (rewrites : Rewrites words given) → Ends words given (written_of rewrites.reads.asks.part rewrites.after)
-  by_running : (runs : Runs words given) (outcome : Outcome) → RunGives runs outcome → Ends words given (output_of (module_run runs) outcome)
+  by_running : (runs : Runs words given) (outcome : Outcome) → RunGives runs outcome → Ends words given (output_of (module_run runs.reads) outcome)
+  by_executing : (runs : Executes words given) (outcome : MachineOutcome) (gives : MachineRunGives runs outcome)
+      → Ends words given (executed (module_run runs.reads) outcome gives.last.lines)
 
 abbrev pub EndsWith : Status → List (List ℕ) → Given → Type 0
 EndsWith status words given = (output : Output) × Ends words given output × (output.status ≡ status)
@@ -146,7 +184,7 @@ NoCommand words given = command_of words ≡ None
 pub data NamesModule (words : List (List ℕ)) : TextForm → List ℕ → Type 0 where
   to_show : (asks : AsksToShow words) → NamesModule words text_forms.Source asks.module_file
   to_rewrite : (asks : AsksToRewrite words) → NamesModule words text_forms.Source asks.module_file
-  to_run : (asks : AsksForRun words) → NamesModule words text_forms.Source asks.request.code
+  to_run : (asks : AsksForRun words) → NamesModule words (form_of asks.engine) asks.request.code
 
 -- the text of the module that the words name has this fault, its first
 pub record TextHasFault (words : List (List ℕ)) (given : Given) (fault : ModuleFault) : Type 0 where
@@ -160,7 +198,7 @@ pub record TextHasFault (words : List (List ℕ)) (given : Given) (fault : Modul
 -- the module has this fault: its text does, or it is accepted and, rewritten, would have too many relocates
 pub data HasModuleFault (words : List (List ℕ)) (given : Given) : ModuleFault → Type 0 where
   in_text : (fault : ModuleFault) → TextHasFault words given fault → HasModuleFault words given fault
-  too_many : (reads : ReadsToRewrite words given) → HasManyRelocates (content_of reads.lines) → HasModuleFault words given TooManyRelocations
+  too_many : (reads : ReadsToRewrite words given) → HasManyRelocates (content_of text_forms.Source reads.lines) → HasModuleFault words given TooManyRelocations
 
 abbrev pub HasSomeModuleFault : List (List ℕ) → Given → Type 0
 HasSomeModuleFault words given = (fault : ModuleFault) × HasModuleFault words given fault
@@ -185,11 +223,28 @@ pub record HasPlanFault (words : List (List ℕ)) (given : Given) (fault : PlanF
 abbrev pub HasSomePlanFault : List (List ℕ) → Given → Type 0
 HasSomePlanFault words given = (fault : PlanFault) × HasPlanFault words given fault
 
+-- the words name a stack map
+pub record ReadsForMap (words : List (List ℕ)) (given : Given) : Type 0 where
+  pub reads : ReadsPlan words given
+  pub map_file : List ℕ
+  pub engine : engine_asked reads ≡ Machine (Some map_file)
+
+-- the plan is read too, and this is the first fault of the stack map's bytes
+pub record HasMapFault (words : List (List ℕ)) (given : Given) (fault : MapFault) : Type 0 where
+  pub reads : ReadsForMap words given
+  pub bytes : List ℕ
+  pub taken : given.map_file ≡ Bytes bytes
+  pub first : IsFirstFault bytes fault
+
+abbrev pub HasSomeMapFault : List (List ℕ) → Given → Type 0
+HasSomeMapFault words given = (fault : MapFault) × HasMapFault words given fault
+
 -- the file of this name, which the words name, gave this, and nothing before it in the order of work refuses
 pub data FileGives (words : List (List ℕ)) (given : Given) (what : Taken) : List ℕ → Type 0 where
   module_gives : (form : TextForm) (name : List ℕ) → NamesModule words form name → given.module_file ≡ what → FileGives words given what name
   input_gives : (accepts : ReadsModule words given) → given.input ≡ what → FileGives words given what accepts.asks.request.input
   plan_gives : (reads : ReadsInput words given) → given.plan ≡ what → FileGives words given what reads.accepts.asks.request.plan
+  map_gives : (reads : ReadsForMap words given) → given.map_file ≡ what → FileGives words given what reads.map_file
 
 abbrev pub CannotRead : List (List ℕ) → Given → Type 0
 CannotRead words given = (name : List ℕ) × FileGives words given Faulty name
@@ -205,3 +260,4 @@ StopsBy (cause.TooLong name) words given = FileGives words given Longer name
 StopsBy (cause.Module fault) words given = HasModuleFault words given fault
 StopsBy (cause.Input line) words given = HasInputFault words given line
 StopsBy (cause.Plan fault) words given = HasPlanFault words given fault
+StopsBy (cause.Map fault) words given = HasMapFault words given fault

@@ -8,9 +8,11 @@ use Rattle.statepoint_tool.specs.Taken.{Taken, Bytes, FilesSeen}
 use Rattle.statepoint_tool.specs.Words.{command_of}
 use Rattle.statepoint_tool.specs.Work.{Output, Given}
 use Rattle.statepoint_tool.specs.declared.refusal.Refusal.TheVariants.{Memory}
+use Rattle.statepoint_tool.specs.declared.request.Engine.{Engine}
+use Rattle.statepoint_tool.specs.declared.request.Engine.TheVariants.{Meaning, Machine}
 use Rattle.statepoint_tool.specs.declared.request.RunRequest.{RunRequest}
 use Rattle.statepoint_tool.specs.declared.request.Command.{Command}
-use Rattle.statepoint_tool.specs.declared.request.Command.TheVariants.{Show, Rewrite, Source, Run}
+use Rattle.statepoint_tool.specs.declared.request.Command.TheVariants.{Show, Rewrite, Source, Run, Exec}
 use Rattle.statepoint_tool.specs.declared.status.Status.{Status}
 use Rattle.statepoint_tool.specs.declared.status.Status.TheVariants.{WantOfMemory, WriteFault}
 
@@ -23,16 +25,23 @@ pub record IsTold (files : FilesSeen) (name : List ℕ) (given : Taken) : Type 0
   pub sure : ¬ (Rose (files.faults_before name) (files.faults_after name))
 
 -- each file that the command names is told
-abbrev pub RunIsTold : FilesSeen → RunRequest → Given → Type 0
-RunIsTold files request given =
+abbrev pub MapIsTold : FilesSeen → Engine → Taken → Type 0
+MapIsTold files Meaning given = ⊤
+MapIsTold files (Machine None) given = ⊤
+MapIsTold files (Machine (Some name)) given = IsTold files name given
+
+abbrev pub RunIsTold : FilesSeen → Engine → RunRequest → Given → Type 0
+RunIsTold files engine request given =
     IsTold files request.code given.module_file × IsTold files request.input given.input × IsTold files request.plan given.plan
+    × MapIsTold files engine given.map_file
 
 abbrev pub AllTold : FilesSeen → Option Command → Given → Type 0
 AllTold files None given = ⊤
 AllTold files (Some (Show module_file)) given = IsTold files module_file given.module_file
 AllTold files (Some (Rewrite module_file part)) given = IsTold files module_file given.module_file
-AllTold files (Some (Source request)) given = RunIsTold files request given
-AllTold files (Some (Run request)) given = RunIsTold files request given
+AllTold files (Some (Source request)) given = RunIsTold files Meaning request given
+AllTold files (Some (Run request)) given = RunIsTold files Meaning request given
+AllTold files (Some (Exec request map_file)) given = RunIsTold files (Machine map_file) request given
 
 -- the defined output with the defined status, and nothing said
 pub record IsWhole (output : Output) (status : Status) (out notes : SinkSeen) : Type 0 where

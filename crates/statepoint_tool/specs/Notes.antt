@@ -1,9 +1,10 @@
 -- The line that each refusal puts on standard error, and its status.
 use Rattle.std.specs.Prelude.{ℕ, List}
+use Rattle.map_bytes.specs.Codes.{rule_code}
 use Rattle.tool_report.specs.declared.notes.Note.TheVariants as note
 use Rattle.tool_report.specs.Notes.{note_text, read_fault_line, too_long_line}
 use Rattle.statepoint_tool.specs.declared.refusal.Cause.{Cause}
-use Rattle.statepoint_tool.specs.declared.refusal.Cause.TheVariants.{Words, ReadFault, TooLong, Module, Input, Plan}
+use Rattle.statepoint_tool.specs.declared.refusal.Cause.TheVariants.{Words, ReadFault, TooLong, Module, Input, Plan, Map}
 use Rattle.statepoint_tool.specs.declared.refusal.ModuleFault.{ModuleFault}
 use Rattle.statepoint_tool.specs.declared.refusal.PlanFault.{PlanFault}
 use Rattle.statepoint_tool.specs.declared.refusal.ModuleFault.TheVariants.{Syntax, Limit, Typed, TooManyRelocations}
@@ -32,6 +33,7 @@ cause_line (TooLong name) = too_long_line name
 cause_line (Module fault) = module_fault_line fault
 cause_line (Input line) = note_text (note.Input line)
 cause_line (Plan fault) = plan_fault_line fault
+cause_line (Map fault) = note_text (note.Map fault.at (rule_code fault.rule))
 
 abbrev pub refusal_line : Refusal → List ℕ
 refusal_line (Defined cause) = cause_line cause
@@ -45,6 +47,7 @@ status_of_cause (TooLong _) = status.TooLong
 status_of_cause (Module _) = status.ModuleRefused
 status_of_cause (Input _) = status.InputRefused
 status_of_cause (Plan _) = status.PlanRefused
+status_of_cause (Map _) = status.MapRefused
 
 abbrev pub status_of_refusal : Refusal → Status
 status_of_refusal (Defined cause) = status_of_cause cause

@@ -2,7 +2,7 @@
 use Rattle.std.specs.Prelude.{◌≡◌, ℕ, ⊤, ◌⊎◌, List, []}
 use Rattle.tool_io.specs.Counts.{Rose}
 use Rattle.statepoint_tool.specs.Answers.{SinkSeen, Gained, GainedFront, SinkFailed, IsBegun}
-use Rattle.statepoint_tool.specs.Causes.{Ends, EndsWith, NoCommand, HasSomeModuleFault, HasSomeInputFault, HasSomePlanFault, CannotRead, IsTooLong, StopsBy}
+use Rattle.statepoint_tool.specs.Causes.{Ends, EndsWith, NoCommand, HasSomeModuleFault, HasSomeInputFault, HasSomePlanFault, HasSomeMapFault, CannotRead, IsTooLong, StopsBy}
 use Rattle.statepoint_tool.specs.Notes.{refusal_line, status_of_cause}
 use Rattle.statepoint_tool.specs.Steps.{Step, Go, Stop}
 use Rattle.statepoint_tool.specs.Taken.{FilesSeen}
@@ -12,7 +12,7 @@ use Rattle.statepoint_tool.specs.declared.refusal.Cause.TheVariants as cause
 use Rattle.statepoint_tool.specs.declared.refusal.Refusal.{Refusal}
 use Rattle.statepoint_tool.specs.declared.refusal.Refusal.TheVariants as refused
 use Rattle.statepoint_tool.specs.declared.status.Status.{Status}
-use Rattle.statepoint_tool.specs.declared.status.Status.TheVariants.{Done, ModuleRefused, WordsRefused, ReadFault, WriteFault, WantOfMemory, Trapped, OutOfSteps, PlanRefused, InputRefused, TooLong}
+use Rattle.statepoint_tool.specs.declared.status.Status.TheVariants.{Done, ModuleRefused, WordsRefused, ReadFault, WriteFault, WantOfMemory, Trapped, OutOfSteps, PlanRefused, InputRefused, MapRefused, TooLong, Stray}
 
 -- the status that a step of the work defines
 abbrev pub status_of_step : Step Output → Status
@@ -66,11 +66,13 @@ abbrev pub CauseOf : Status → List (List ℕ) → Given → Type 0
 CauseOf Done = EndsWith Done
 CauseOf Trapped = EndsWith Trapped
 CauseOf OutOfSteps = EndsWith OutOfSteps
+CauseOf Stray = EndsWith Stray
 CauseOf ModuleRefused = HasSomeModuleFault
 CauseOf WordsRefused = NoCommand
 CauseOf ReadFault = CannotRead
 CauseOf InputRefused = HasSomeInputFault
 CauseOf PlanRefused = HasSomePlanFault
+CauseOf MapRefused = HasSomeMapFault
 CauseOf TooLong = IsTooLong
 CauseOf _ = λ words given. ⊥
 
@@ -84,6 +86,7 @@ abbrev pub Writes : Status → List (List ℕ) → FilesSeen → SinkSeen → Ty
 Writes Done words files out = OverSome words files (λ given. (ends : EndsWith Done words given) × Gained out ends.0.text)
 Writes Trapped words files out = OverSome words files (λ given. (ends : EndsWith Trapped words given) × Gained out ends.0.text)
 Writes OutOfSteps words files out = OverSome words files (λ given. (ends : EndsWith OutOfSteps words given) × Gained out ends.0.text)
+Writes Stray words files out = OverSome words files (λ given. (ends : EndsWith Stray words given) × Gained out ends.0.text)
 Writes WriteFault words files out = WritesFront words files out
 Writes WantOfMemory words files out = WritesFront words files out
 Writes _ words files out = Gained out []
@@ -95,6 +98,7 @@ abbrev pub Says : Status → List (List ℕ) → FilesSeen → (out notes : Sink
 Says Done words files out notes = Gained notes []
 Says Trapped words files out notes = Gained notes []
 Says OutOfSteps words files out notes = Gained notes []
+Says Stray words files out notes = Gained notes []
 Says WordsRefused words files out notes = Gained notes (refusal_line (refused.Defined cause.Words))
 Says WantOfMemory words files out notes = Gained notes (refusal_line refused.Memory)
 Says ModuleRefused words files out notes =
@@ -103,6 +107,8 @@ Says InputRefused words files out notes =
     OverSome words files (λ given. (has : HasSomeInputFault words given) × Gained notes (refusal_line (refused.Defined (cause.Input has.0))))
 Says PlanRefused words files out notes =
     OverSome words files (λ given. (has : HasSomePlanFault words given) × Gained notes (refusal_line (refused.Defined (cause.Plan has.0))))
+Says MapRefused words files out notes =
+    OverSome words files (λ given. (has : HasSomeMapFault words given) × Gained notes (refusal_line (refused.Defined (cause.Map has.0))))
 Says ReadFault words files out notes =
     OverSome words files (λ given. (cannot : CannotRead words given) × Gained notes (refusal_line (refused.Defined (cause.ReadFault cannot.0))))
 Says TooLong words files out notes =

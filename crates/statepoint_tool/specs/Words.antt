@@ -8,7 +8,7 @@ use Rattle.statepoint_tool.specs.declared.request.Part.{Part}
 use Rattle.statepoint_tool.specs.declared.request.Part.TheVariants.{Text, MapText, MapBytes}
 use Rattle.statepoint_tool.specs.declared.request.RunRequest.{RunRequest}
 use Rattle.statepoint_tool.specs.declared.request.Command.{Command}
-use Rattle.statepoint_tool.specs.declared.request.Command.TheVariants.{Show, Rewrite, Source, Run}
+use Rattle.statepoint_tool.specs.declared.request.Command.TheVariants.{Show, Rewrite, Source, Run, Exec}
 
 -- a word that may name a file: it isn't empty, and begins with `-` only where it is `-`
 abbrev pub names_file : List ℕ → Bool
@@ -38,6 +38,15 @@ source_of code input plan steps = option_map (λ request. Source request) (reque
 abbrev pub run_of : (code input plan steps : List ℕ) → Option Command
 run_of code input plan steps = option_map (λ request. Run request) (request_of code input plan steps)
 
+-- the command `exec` asks for the run of a rewritten module, over its own stack map
+abbrev pub exec_of : (code input plan steps : List ℕ) → Option Command
+exec_of code input plan steps = option_map (λ request. Exec request None) (request_of code input plan steps)
+
+-- or over that in a file
+abbrev pub exec_over : (code input plan steps map_file : List ℕ) → Option Command
+exec_over code input plan steps map_file =
+    if names_file map_file then option_map (λ request. Exec request (Some map_file)) (request_of code input plan steps) else None
+
 -- the command `show` names one
 abbrev pub show_of : List ℕ → Option Command
 show_of module_file = if names_file module_file then Some (Show module_file) else None
@@ -65,9 +74,22 @@ of_run name code input plan steps =
     else if bytes_eq name (codes "run") then run_of code input plan steps
     else None
 
+-- the module is run as it is, without being checked first
+unfoldable pub of_exec : (name code input plan steps trust : List ℕ) → Option Command
+of_exec name code input plan steps trust =
+    if bytes_eq name (codes "exec") then (if bytes_eq trust (codes "--trust") then exec_of code input plan steps else None) else None
+
+unfoldable pub of_exec_over : (name code input plan steps trust option map_file : List ℕ) → Option Command
+of_exec_over name code input plan steps trust option map_file =
+    if bytes_eq name (codes "exec")
+    then (if bytes_eq trust (codes "--trust")
+    then (if bytes_eq option (codes "--map") then exec_over code input plan steps map_file else None) else None) else None
+
 -- the program's name, the command's name, and what the command takes; nothing else is a command
 abbrev pub command_of : List (List ℕ) → Option Command
 command_of (program ∷ name ∷ module_file ∷ []) = of_module name module_file
 command_of (program ∷ name ∷ module_file ∷ option ∷ []) = of_raw name module_file option
 command_of (program ∷ name ∷ code ∷ input ∷ plan ∷ steps ∷ []) = of_run name code input plan steps
+command_of (program ∷ name ∷ code ∷ input ∷ plan ∷ steps ∷ trust ∷ []) = of_exec name code input plan steps trust
+command_of (program ∷ name ∷ code ∷ input ∷ plan ∷ steps ∷ trust ∷ option ∷ map_file ∷ []) = of_exec_over name code input plan steps trust option map_file
 command_of _ = None

@@ -1,5 +1,6 @@
 -- The order of work: the words; then the module is taken, read and typed; to show it, its text is written; to rewrite
--- it, that of its rewritten module, or that one's stack map; to run it, the input is taken and read, then the plan, and it runs by the source meaning.
+-- it, that of its rewritten module, or that one's stack map; to run it, the input is taken and read, then the plan, and it
+-- runs by the source meaning, or, a rewritten module, on the address machine over a stack map, its own or one that is taken.
 use Rattle.std.specs.Prelude.{ℕ, ℤ, ⊤, List, ◌++◌, Option, Some, None, Result, Ok, Err}
 use Rattle.ir_ast.specs.declared.modules.Form.{Form as TextForm}
 use Rattle.ir_ast.specs.declared.modules.Form.TheVariants as text_forms
@@ -10,7 +11,9 @@ use Rattle.ir_lines.specs.Statements.{Line, lines_of}
 use Rattle.ir_types.specs.FaultSet.{HasNoFault, IsLeastFault}
 use Rattle.ir_lines.specs.Modules.{module_of}
 use Rattle.ir_printer.specs.Texts.{text_of}
-use Rattle.map_bytes.specs.Maps.{map_bytes}
+use Rattle.map_bytes.specs.Maps.{StackMap, map_bytes, IsMapOf}
+use Rattle.map_bytes.specs.Faults.{IsFirstFault}
+use Rattle.map_bytes.specs.declared.rules.MapFault.{MapFault}
 use Rattle.stackmap_write.specs.ModuleMaps.{map_of}
 use Rattle.tool_report.specs.MapTexts.{text_of_map}
 use Rattle.sp_rewrite.specs.Relocates.{HasFewRelocates, HasManyRelocates}
@@ -19,6 +22,8 @@ use Rattle.move_plan.specs.declared.plan_lines.PlanLine.{PlanLine}
 use Rattle.move_plan.specs.Inputs.{HasNoInputFault, IsFirstInputFault, IsInputOf}
 use Rattle.move_plan.specs.PlanFaults.{HasNoFault as HasNoPlanFault}
 use Rattle.move_plan.specs.Plans.{IsPlanOf, go}
+use Rattle.machine_meaning.specs.MachineRuns.{MachineOutcome, MachineGives}
+use Rattle.object_meaning.specs.Effects.{text_of as text_of_lines}
 use Rattle.object_meaning.specs.Outcomes.{Outcome, whole_text}
 use Rattle.object_meaning.specs.SourceRuns.{SourceGives}
 use Rattle.statepoint_tool.specs.Closings.{closing_line, status_of_end}
@@ -26,14 +31,16 @@ use Rattle.statepoint_tool.specs.PlanFaults.{IsLeastPlanFault}
 use Rattle.statepoint_tool.specs.Steps.{Step, Go, Stop, comes_to, Then}
 use Rattle.statepoint_tool.specs.Taken.{Taken, FilesSeen, MayGive, file_phase}
 use Rattle.statepoint_tool.specs.Words.{command_of}
-use Rattle.statepoint_tool.specs.declared.refusal.Cause.TheVariants.{Words, Module, Input, Plan}
+use Rattle.statepoint_tool.specs.declared.refusal.Cause.TheVariants.{Words, Module, Input, Plan, Map}
 use Rattle.statepoint_tool.specs.declared.refusal.ModuleFault.TheVariants.{Syntax, Limit, Typed, TooManyRelocations}
 use Rattle.statepoint_tool.specs.declared.refusal.PlanFault.{PlanFault}
 use Rattle.statepoint_tool.specs.declared.request.Part.{Part}
 use Rattle.statepoint_tool.specs.declared.request.Part.TheVariants.{Text, MapText, MapBytes}
+use Rattle.statepoint_tool.specs.declared.request.Engine.{Engine}
+use Rattle.statepoint_tool.specs.declared.request.Engine.TheVariants.{Meaning, Machine}
 use Rattle.statepoint_tool.specs.declared.request.RunRequest.{RunRequest}
 use Rattle.statepoint_tool.specs.declared.request.Command.{Command}
-use Rattle.statepoint_tool.specs.declared.request.Command.TheVariants.{Show, Rewrite, Source, Run}
+use Rattle.statepoint_tool.specs.declared.request.Command.TheVariants.{Show, Rewrite, Source, Run, Exec}
 use Rattle.statepoint_tool.specs.declared.status.Status.{Status}
 use Rattle.statepoint_tool.specs.declared.status.Status.TheVariants.{Done}
 
@@ -47,17 +54,29 @@ pub record Given : Type 0 where
   pub module_file : Taken
   pub input : Taken
   pub plan : Taken
+  pub map_file : Taken
 
 -- the file of this name may have given this, and so the files of these names
 abbrev pub MayGiveShown : FilesSeen → List ℕ → Given → Type 0
 MayGiveShown files module_file given = MayGive files module_file given.module_file
 
-abbrev pub MayGiveBoth : FilesSeen → (input plan : List ℕ) → Taken × Taken → Type 0
-MayGiveBoth files input plan given = MayGive files input given.0 × MayGive files plan given.1
+-- a stack map is taken for a run on the machine that names one
+abbrev pub MayGiveMap : FilesSeen → Engine → Taken → Type 0
+MayGiveMap files Meaning given = ⊤
+MayGiveMap files (Machine None) given = ⊤
+MayGiveMap files (Machine (Some name)) given = MayGive files name given
 
-abbrev pub MayGiveAll : FilesSeen → RunRequest → Given → Type 0
-MayGiveAll files request given =
-    MayGive files request.code given.module_file × MayGiveBoth files request.input request.plan (given.input, given.plan)
+-- what a run takes behind its input, and behind its module
+abbrev pub MayGiveFromPlan : FilesSeen → (plan : List ℕ) → Engine → Taken × Taken → Type 0
+MayGiveFromPlan files plan engine given = MayGive files plan given.0 × MayGiveMap files engine given.1
+
+abbrev pub MayGiveFromInput : FilesSeen → (input plan : List ℕ) → Engine → Taken × (Taken × Taken) → Type 0
+MayGiveFromInput files input plan engine given = MayGive files input given.0 × MayGiveFromPlan files plan engine given.1
+
+abbrev pub MayGiveAll : FilesSeen → Engine → RunRequest → Given → Type 0
+MayGiveAll files engine request given =
+    MayGive files request.code given.module_file
+    × MayGiveFromInput files request.input request.plan engine (given.input, (given.plan, given.map_file))
 
 -- reading a module: the lines of its text, or the first that has no reading or passes a limit
 abbrev pub read_step : Result (List Numbered) Fault → Step (List Line)
@@ -68,8 +87,8 @@ read_step (Err (limit_fault line)) = Stop (Module (Limit line))
 abbrev pub reading : TextForm → List ℕ → Step (List Line) → Type 0
 reading form text = comes_to (read_step (readings_in form text))
 
-abbrev pub content_of : List Line → ModuleContent
-content_of lines = (module_of text_forms.Source lines).content
+abbrev pub content_of : TextForm → List Line → ModuleContent
+content_of form lines = (module_of form lines).content
 
 -- typing it: the module that the lines stand for where they have no fault, or else the least of their faults
 pub data Typing (form : TextForm) (lines : List Line) : Step LinedModule → Type 0 where
@@ -128,6 +147,39 @@ output_of content outcome = record {
 pub data Running (content : ModuleContent) (input : List ℤ) (plan : List PlanLine) (steps : ℕ) : Step Output → Type 0 where
   comes : (outcome : Outcome) → SourceGives content input (go plan) steps outcome → Running content input plan steps (Go (output_of content outcome))
 
+-- taking a stack map: the one that the bytes of a file are, or their first fault
+pub data ReadingMap (bytes : List ℕ) : Step StackMap → Type 0 where
+  has_map : (map : StackMap) → IsMapOf bytes map → ReadingMap bytes (Go map)
+  no_map : (fault : MapFault) → IsFirstFault bytes fault → ReadingMap bytes (Stop (Map fault))
+
+-- or that of the module itself, where no file is named
+abbrev pub map_phase : ModuleContent → Option (List ℕ) → Taken → Step StackMap → Type 0
+map_phase content None given = comes_to (Go (map_of content))
+map_phase content (Some name) given = file_phase name ReadingMap given
+
+-- what a run on the machine writes that gives this outcome and whose steps printed these lines, newest first, and the
+-- status that it ends with
+abbrev pub executed : ModuleContent → MachineOutcome → List (List ℕ) → Output
+executed content outcome printed = record {
+  text = text_of_lines printed ++ closing_line content outcome.end outcome.func outcome.steps outcome.events;
+  status = status_of_end outcome.end;
+}
+
+-- such a run writes what the machine prints and ends as it does, over the stack map, over the input and under the plan
+pub data Executing (content : ModuleContent) (input : List ℤ) (plan : List PlanLine) (steps : ℕ) (map : StackMap) : Step Output → Type 0 where
+  executes : (outcome : MachineOutcome) (gives : MachineGives content map input plan steps outcome)
+      → Executing content input plan steps map (Go (executed content outcome gives.last.lines))
+
+-- a source module runs by its meaning, a rewritten one on the machine
+abbrev pub form_of : Engine → TextForm
+form_of Meaning = text_forms.Source
+form_of (Machine map_file) = text_forms.Rewritten
+
+abbrev pub run_phase : Engine → ModuleContent → List ℤ → List PlanLine → ℕ → Taken → Step Output → Type 0
+run_phase Meaning content numbers lines steps given = Running content numbers lines steps
+run_phase (Machine map_file) content numbers lines steps given =
+    Then (map_phase content map_file given) (Executing content numbers lines steps)
+
 -- the order of work of `show`
 abbrev pub show_work : List ℕ → Given → Step Output → Type 0
 show_work module_file given = Then (file_phase module_file (module_phase text_forms.Source) given.module_file) show_phase
@@ -136,27 +188,29 @@ show_work module_file given = Then (file_phase module_file (module_phase text_fo
 abbrev pub rewrite_work : Part → List ℕ → Given → Step Output → Type 0
 rewrite_work part module_file given = Then (file_phase module_file (module_phase text_forms.Source) given.module_file) (rewrite_phase part)
 
--- the order of work of `source` and of `run`, from its last phase to its first
-abbrev pub after_input : (plan : List ℕ) → ModuleContent → List ℤ → ℕ → Taken → Step Output → Type 0
-after_input plan content numbers steps given =
-    Then (file_phase plan ReadingPlan given) (λ lines. Running content numbers lines steps)
+-- the order of work of `source`, of `run` and of `exec`, from its last phase to its first
+abbrev pub after_input : (plan : List ℕ) → Engine → ModuleContent → List ℤ → ℕ → Taken × Taken → Step Output → Type 0
+after_input plan engine content numbers steps given =
+    Then (file_phase plan ReadingPlan given.0) (λ lines. run_phase engine content numbers lines steps given.1)
 
-abbrev pub after_module : (input plan : List ℕ) → ModuleContent → ℕ → Taken × Taken → Step Output → Type 0
-after_module input plan content steps given =
-    Then (file_phase input ReadingInput given.0) (λ numbers. after_input plan content numbers steps given.1)
+abbrev pub after_module : (input plan : List ℕ) → Engine → ModuleContent → ℕ → Taken × (Taken × Taken) → Step Output → Type 0
+after_module input plan engine content steps given =
+    Then (file_phase input ReadingInput given.0) (λ numbers. after_input plan engine content numbers steps given.1)
 
-abbrev pub run_work : RunRequest → Given → Step Output → Type 0
-run_work request given =
-    Then (file_phase request.code (module_phase text_forms.Source) given.module_file)
-    (λ (whole : LinedModule). after_module request.input request.plan whole.content request.steps (given.input, given.plan))
+abbrev pub run_work : Engine → RunRequest → Given → Step Output → Type 0
+run_work engine request given =
+    Then (file_phase request.code (module_phase (form_of engine)) given.module_file)
+    (λ (whole : LinedModule).
+    after_module request.input request.plan engine whole.content request.steps (given.input, (given.plan, given.map_file)))
 
 -- the work that the words ask for
 abbrev pub command_work : Option Command → Given → Step Output → Type 0
 command_work None given = comes_to (Stop Words)
 command_work (Some (Show module_file)) given = show_work module_file given
 command_work (Some (Rewrite module_file part)) given = rewrite_work part module_file given
-command_work (Some (Source request)) given = run_work request given
-command_work (Some (Run request)) given = run_work request given
+command_work (Some (Source request)) given = run_work Meaning request given
+command_work (Some (Run request)) given = run_work Meaning request given
+command_work (Some (Exec request map_file)) given = run_work (Machine map_file) request given
 
 abbrev pub work : List (List ℕ) → Given → Step Output → Type 0
 work words given = command_work (command_of words) given
@@ -166,5 +220,6 @@ abbrev pub MayGiveNamed : FilesSeen → Option Command → Given → Type 0
 MayGiveNamed files None given = ⊤
 MayGiveNamed files (Some (Show module_file)) given = MayGiveShown files module_file given
 MayGiveNamed files (Some (Rewrite module_file part)) given = MayGiveShown files module_file given
-MayGiveNamed files (Some (Source request)) given = MayGiveAll files request given
-MayGiveNamed files (Some (Run request)) given = MayGiveAll files request given
+MayGiveNamed files (Some (Source request)) given = MayGiveAll files Meaning request given
+MayGiveNamed files (Some (Run request)) given = MayGiveAll files Meaning request given
+MayGiveNamed files (Some (Exec request map_file)) given = MayGiveAll files (Machine map_file) request given

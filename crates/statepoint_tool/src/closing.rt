@@ -7,27 +7,28 @@ ghost use Rattle.statepoint_tool.specs.Closings.{closing_line, status_of_end};
 
 use crate::status::Status;
 use ir_ast::Module;
-use ir_meaning::Ran;
 use sp_ids::{End, FuncId};
 use tool_io::{Failed, Sink};
 use tool_report::closing;
 
-/// Puts the line that closes this run of the module, and gives the status of its end.
-pub(crate) fn close<O: Sink>(code: &Module, ran: Ran, out: &mut O) -> Result<Status, Failed>
-    ensures ok { IfOk result (λ status. status ≡ status_of_end ran.end) }
-    ensures written { OnOk result (O.written out.new ≡ append_known (O.written out.old) (closing_line code.now.content ran.end ran.func.0 ran.steps ran.events)) }
-    ensures front { OnErr result (AppendsFront (O.written out.old) (O.written out.new) (closing_line code.now.content ran.end ran.func.0 ran.steps ran.events)) }
+/// Puts the line that closes a run of the module that ended so, in this function and after so many steps and events, and
+/// gives the status of its end.
+pub(crate) fn close<O: Sink>(
+    code: &Module,
+    end: End,
+    func: FuncId,
+    steps: u64,
+    events: u64,
+    out: &mut O,
+) -> Result<Status, Failed>
+    ensures ok { IfOk result (λ status. status ≡ status_of_end end) }
+    ensures written { OnOk result (O.written out.new ≡ append_known (O.written out.old) (closing_line code.now.content end func.0 steps events)) }
+    ensures front { OnErr result (AppendsFront (O.written out.old) (O.written out.new) (closing_line code.now.content end func.0 steps events)) }
     ensures failed { OnErr result (Rose (O.faults out.old) (O.faults out.new)) }
     ensures count { O.faults out.old ≤ O.faults out.new }
 {
-    closing(
-        ran.end,
-        function_name(code, ran.func),
-        ran.steps,
-        ran.events,
-        out,
-    )?;
-    Ok(status_of(ran.end))
+    closing(end, function_name(code, func), steps, events, out)?;
+    Ok(status_of(end))
 }
 
 fn function_name(code: &Module, func: FuncId) -> &[u8]

@@ -2,6 +2,7 @@
 #![tactic(auto)]
 
 mod closing;
+mod machine;
 mod maps;
 mod notes;
 mod phases;

@@ -62,8 +62,8 @@ pub(crate) fn write_map_bytes<O: Sink>(
     }
 }
 
-// The bytes of the stack map of this rewritten module.
-fn map_of_module(alloc: Global, after: &Module) -> Result<Vec<u8>, Memory>
+/// The bytes of the stack map of this rewritten module.
+pub(crate) fn map_of_module(alloc: Global, after: &Module) -> Result<Vec<u8>, Memory>
     requires target { IsTargetModule after.now.content }
     requires no_bundle { All HasNoBundle after.now.content.funcs }
     ensures value { IfOk result (λ bytes. bytes.items ≡ map_bytes (map_of after.now.content)) }

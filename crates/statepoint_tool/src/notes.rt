@@ -40,6 +40,10 @@ fn note_of_cause(cause: &Cause) -> Note<'_>
         Cause::Module(fault) => note_of_module(fault),
         Cause::Input { line } => Note::Input { line: *line },
         Cause::Plan(fault) => note_of_plan(fault),
+        Cause::Map(fault) => Note::Map {
+            at: fault.at,
+            code: fault.rule.code(),
+        },
     }
 }
 
@@ -110,6 +114,7 @@ impl Cause {
             Cause::Module(_) => Status::ModuleRefused,
             Cause::Input { .. } => Status::InputRefused,
             Cause::Plan(_) => Status::PlanRefused,
+            Cause::Map(_) => Status::MapRefused,
         }
     }
 }

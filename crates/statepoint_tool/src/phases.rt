@@ -1,12 +1,15 @@
 //! The phases that take a file and read it.
-ghost use Rattle.std.specs.Prelude.{◌≡◌, ◌≤◌, ℕ, List, length, vec_len, IfOk};
+ghost use Rattle.std.specs.Prelude.{◌≡◌, ◌≤◌, ℕ, List, length, map, vec_len, IfOk};
 ghost use Rattle.tool_io.specs.Counts.{NoneFell};
 ghost use Rattle.std.specs.List.{All};
 ghost use Rattle.ir_ast.specs.Bundles.{HasNoBundle};
 ghost use Rattle.ir_ast.specs.Formed.{IsFormedModule};
-ghost use Rattle.ir_ast.specs.declared.modules.Form.TheVariants.{Source};
-ghost use Rattle.ir_cfg.specs.SourceModules.{IsSourceModule};
+ghost use Rattle.ir_cfg.specs.TypedModules.{IsModuleOf};
 ghost use Rattle.ir_lines.specs.Views.{seen_lines};
+ghost use Rattle.ir_reader.specs.Raws.{seen_numbered};
+ghost use Rattle.ir_reader.specs.Reads.{TextGives};
+ghost use Rattle.ir_reader.specs.Text.{readings_in};
+ghost use Rattle.ir_types.specs.Answers.{Answers};
 ghost use Rattle.statepoint_tool.specs.Answers.{Agrees, Reads};
 ghost use Rattle.statepoint_tool.specs.Steps.{Step, Go, comes_to};
 ghost use Rattle.statepoint_tool.specs.Taken.{files_seen};
@@ -14,9 +17,9 @@ ghost use Rattle.statepoint_tool.specs.Work.{reading, module_phase, ReadingInput
 
 use crate::refusal::{Cause, ModuleFault, PlanFault, Refusal};
 use crate::request::FileName;
-use ir_ast::Module;
-use ir_reader::{Raw, ReadFault, read};
-use ir_types::{TypeFault, typed};
+use ir_ast::{Form, Module};
+use ir_reader::{Raw, ReadFault, read, read_rewritten};
+use ir_types::{TypeFault, typed, typed_rewritten};
 use move_plan::{InputFault, Plan, PlanFault as TextFault, read_input};
 use sp_ids::limits;
 use std::alloc::Global;
@@ -42,22 +45,23 @@ pub(crate) fn take<F: Files>(
     }
 }
 
-/// The module in the file of this name.
+/// The module of this form in the file of this name.
 pub(crate) fn take_module<F: Files>(
     alloc: Global,
+    form: Form,
     files: &mut F,
     name: FileName,
 ) -> Result<Module, Refusal>
     ensures read { Reads (files_seen (F.contents files.old) (F.faults files.old) (F.faults files.new)) name
-        (module_phase Source) (λ read. read) result }
+        (module_phase form) (λ read. read) result }
     ensures formed { IfOk result (λ read. IsFormedModule read.content) }
-    ensures source { IfOk result (λ read. IsSourceModule read.content) }
+    ensures of_form { IfOk result (λ read. IsModuleOf form read.content) }
     ensures no_bundle { IfOk result (λ read. All HasNoBundle read.content.funcs) }
     ensures kept { F.contents files.new ≡ F.contents files.old }
     ensures counted { NoneFell (F.faults files.old) (F.faults files.new) }
 {
     let text = take(alloc, files, name)?;
-    module_in(alloc, &text)
+    module_in(alloc, form, &text)
 }
 
 /// The numbers of the input in the file of this name.
@@ -90,13 +94,13 @@ pub(crate) fn take_plan<F: Files>(
     plan_in(alloc, &text)
 }
 
-// The readings of a text.
-fn read_in(alloc: Global, text: &[u8]) -> Result<Raw<'_>, Refusal>
+// The readings of a text in this form.
+fn read_in(alloc: Global, form: Form, text: &[u8]) -> Result<Raw<'_>, Refusal>
     requires { length text.now ≤ 16777216 }
-    ensures read { Agrees (λ raw. seen_lines raw.lines) result (reading Source text.now) }
-    ensures form { IfOk result (λ raw. raw.form ≡ Source) }
+    ensures read { Agrees (λ raw. seen_lines raw.lines) result (reading form text.now) }
+    ensures form { IfOk result (λ raw. raw.form ≡ form) }
 {
-    match read(alloc, text) {
+    match read_as(alloc, form, text) {
         Ok(raw) => Ok(raw),
         Err(ReadFault::Syntax { line }) => {
             Err(Refusal::Defined(Cause::Module(ModuleFault::Syntax { line })))
@@ -108,15 +112,26 @@ fn read_in(alloc: Global, text: &[u8]) -> Result<Raw<'_>, Refusal>
     }
 }
 
-// The module that readings stand for.
-fn type_in(alloc: Global, raw: Raw) -> Result<Module, Refusal>
-    requires { raw.form ≡ Source }
-    ensures typed { Agrees (λ read. read) result (Typing Source (seen_lines raw.entry.lines)) }
+fn read_as(alloc: Global, form: Form, text: &[u8]) -> Result<Raw<'_>, ReadFault>
+    requires { length text.now ≤ 16777216 }
+    ensures exact { TextGives (λ raw. map seen_numbered raw.lines) result (readings_in form text.now) }
+    ensures form { IfOk result (λ raw. raw.form ≡ form) }
+{
+    match form {
+        Form::Source => read(alloc, text),
+        Form::Rewritten => read_rewritten(alloc, text),
+    }
+}
+
+// The module of this form that readings stand for.
+fn type_in(alloc: Global, form: Form, raw: Raw) -> Result<Module, Refusal>
+    requires { raw.form ≡ form }
+    ensures typed { Agrees (λ read. read) result (Typing form (seen_lines raw.entry.lines)) }
     ensures formed { IfOk result (λ read. IsFormedModule read.content) }
-    ensures source { IfOk result (λ read. IsSourceModule read.content) }
+    ensures of_form { IfOk result (λ read. IsModuleOf form read.content) }
     ensures no_bundle { IfOk result (λ read. All HasNoBundle read.content.funcs) }
 {
-    match typed(alloc, raw) {
+    match type_as(alloc, form, raw) {
         Ok(read) => Ok(read),
         Err(TypeFault::Fault(fault)) => {
             Err(Refusal::Defined(Cause::Module(ModuleFault::Typed(fault))))
@@ -125,15 +140,28 @@ fn type_in(alloc: Global, raw: Raw) -> Result<Module, Refusal>
     }
 }
 
-fn module_in(alloc: Global, text: &[u8]) -> Result<Module, Refusal>
+fn type_as(alloc: Global, form: Form, raw: Raw) -> Result<Module, TypeFault>
+    requires { raw.form ≡ form }
+    ensures answers { Answers form (seen_lines raw.entry.lines) result }
+    ensures formed { IfOk result (λ whole. IsFormedModule whole.content) }
+    ensures of_form { IfOk result (λ whole. IsModuleOf form whole.content) }
+    ensures no_bundle { IfOk result (λ whole. All HasNoBundle whole.content.funcs) }
+{
+    match form {
+        Form::Source => typed(alloc, raw),
+        Form::Rewritten => typed_rewritten(alloc, raw),
+    }
+}
+
+fn module_in(alloc: Global, form: Form, text: &[u8]) -> Result<Module, Refusal>
     requires { length text.now ≤ 16777216 }
-    ensures read { Agrees (λ read. read) result (module_phase Source text.now) }
+    ensures read { Agrees (λ read. read) result (module_phase form text.now) }
     ensures formed { IfOk result (λ read. IsFormedModule read.content) }
-    ensures source { IfOk result (λ read. IsSourceModule read.content) }
+    ensures of_form { IfOk result (λ read. IsModuleOf form read.content) }
     ensures no_bundle { IfOk result (λ read. All HasNoBundle read.content.funcs) }
 {
-    let raw = read_in(alloc, text)?;
-    type_in(alloc, raw)
+    let raw = read_in(alloc, form, text)?;
+    type_in(alloc, form, raw)
 }
 
 fn input_in(alloc: Global, text: &[u8]) -> Result<Vec<i64>, Refusal>

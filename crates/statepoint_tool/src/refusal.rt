@@ -1,5 +1,6 @@
 use crate::request::FileName;
 use ir_types::Fault;
+use map_bytes::MapFault;
 use sp_ids::Memory;
 
 /// What is wrong with the text of a module.
@@ -41,6 +42,8 @@ pub(crate) enum Cause {
     /// The first line of the input that is neither blank nor a number, or that holds the first number too many.
     Input { line: u32 },
     Plan(PlanFault),
+    /// The first fault of the bytes of a stack map.
+    Map(MapFault),
 }
 
 /// Why the work did not come to its end.

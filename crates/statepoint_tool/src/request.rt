@@ -1,5 +1,7 @@
 ghost use Rattle.std.specs.Prelude.{◌≡◌, IfOk, string_bytes};
+ghost use Rattle.statepoint_tool.specs.Work.{form_of};
 
+use ir_ast::Form;
 use sp_ids::Memory;
 use std::alloc::Global;
 use std::marker::Model;
@@ -52,6 +54,27 @@ pub(crate) struct RunRequest {
     pub(crate) steps: u64,
 }
 
+/// What a module runs on.
+#[derive(Debug, Drop)]
+pub(crate) enum Engine {
+    /// The reference interpreter: a source module runs by its meaning.
+    Meaning,
+    /// The address machine: a rewritten module runs over the stack map in the file of this name, or else over its own.
+    Machine { map: Option<FileName> },
+}
+
+impl Engine {
+    /// The form of the modules that it runs.
+    pub(crate) fn form(&self) -> Form
+        ensures { result ≡ form_of self.now }
+    {
+        match self {
+            Engine::Meaning => Form::Source,
+            Engine::Machine { .. } => Form::Rewritten,
+        }
+    }
+}
+
 /// What is written of a rewritten module.
 #[derive(Clone, Copy, Debug, PartialEq, Eq)]
 pub(crate) enum Part {
@@ -66,11 +89,22 @@ pub(crate) enum Part {
 #[derive(Debug, Drop)]
 pub(crate) enum Command {
     /// Write the text of the module.
-    Show { module: FileName },
+    Show {
+        module: FileName,
+    },
     /// Write this of the rewritten module.
-    Rewrite { module: FileName, part: Part },
+    Rewrite {
+        module: FileName,
+        part: Part,
+    },
     /// Run the module by the source meaning, over the input and under the plan, for at most so many steps.
     Source(RunRequest),
     /// The same, of the rewritten module. No module is rewritten yet, so that this is the run of the source meaning.
     Run(RunRequest),
+    /// Run this rewritten module on the address machine, without checking it first, over the stack map in the file of this
+    /// name, or else over its own.
+    Exec {
+        request: RunRequest,
+        map: Option<FileName>,
+    },
 }

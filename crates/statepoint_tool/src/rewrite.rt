@@ -16,7 +16,7 @@ use crate::refusal::{Cause, ModuleFault, Refusal};
 use crate::request::{FileName, Part};
 use crate::show::show_module;
 use crate::status::Status;
-use ir_ast::Module;
+use ir_ast::{Form, Module};
 use sp_rewrite::RewriteFault;
 use std::alloc::Global;
 use tool_io::{Files, Sink};
@@ -36,7 +36,7 @@ pub(crate) fn rewrite<F: Files, O: Sink>(
     ensures counted { NoneFell (F.faults files.old) (F.faults files.new) }
     ensures out_counted { O.faults out.old ≤ O.faults out.new }
 {
-    let read = take_module(alloc, files, name)?;
+    let read = take_module(alloc, Form::Source, files, name)?;
     rewrite_module(alloc, read, part, out)
 }
 

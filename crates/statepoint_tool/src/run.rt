@@ -1,16 +1,20 @@
-//! The commands `source` and `run`: the module, the input and the plan are taken in this order, then the module runs.
+//! The commands `source`, `run` and `exec`: the module, the input and the plan are taken in this order, then the module runs.
 ghost use Rattle.std.specs.Prelude.{◌≡◌, ◌≤◌, ℕ, IfOk, OnErr, IsErrOf};
+ghost use Rattle.std.specs.List.{All};
+ghost use Rattle.ir_ast.specs.Bundles.{HasNoBundle};
 ghost use Rattle.ir_cfg.specs.SourceModules.{IsSourceModule};
+ghost use Rattle.ir_cfg.specs.TypedModules.{IsModuleOf};
 ghost use Rattle.tool_io.specs.Counts.{NoneFell, Rose};
 ghost use Rattle.statepoint_tool.specs.Answers.{Came, IsBegun, IsDone, Works, sink_seen};
 ghost use Rattle.statepoint_tool.specs.Steps.{Go};
-ghost use Rattle.statepoint_tool.specs.Taken.{files_seen, MayGive};
-ghost use Rattle.statepoint_tool.specs.Work.{MayGiveAll, MayGiveBoth, Running, after_input, after_module, run_work};
+ghost use Rattle.statepoint_tool.specs.Taken.{files_seen};
+ghost use Rattle.statepoint_tool.specs.Work.{MayGiveAll, MayGiveFromInput, MayGiveFromPlan, MayGiveMap, Running, after_input, after_module, form_of, run_phase, run_work};
 
 use crate::closing::close;
+use crate::machine::run_on_machine;
 use crate::phases::{take_input, take_module, take_plan};
 use crate::refusal::Refusal;
-use crate::request::{FileName, RunRequest};
+use crate::request::{Engine, FileName, RunRequest};
 use crate::status::Status;
 use ir_ast::Module;
 use ir_meaning::{RefFault, reference};
@@ -18,15 +22,16 @@ use move_plan::Plan;
 use std::alloc::Global;
 use tool_io::{Files, Sink};
 
-/// Does the run that is asked for, by the source meaning.
+/// Does the run that is asked for.
 pub(crate) fn run<F: Files, O: Sink>(
     alloc: Global,
+    engine: Engine,
     request: RunRequest,
     files: &mut F,
     out: &mut O,
 ) -> Result<Status, Refusal>
-    ensures works { Works (MayGiveAll (files_seen (F.contents files.old) (F.faults files.old) (F.faults files.new)) request)
-        (run_work request) result
+    ensures works { Works (MayGiveAll (files_seen (F.contents files.old) (F.faults files.old) (F.faults files.new)) engine request)
+        (run_work engine request) result
         (sink_seen (O.written out.old) (O.written out.new) (O.faults out.old) (O.faults out.new)) }
     ensures kept { F.contents files.new ≡ F.contents files.old }
     ensures counted { NoneFell (F.faults files.old) (F.faults files.new) }
@@ -38,56 +43,88 @@ pub(crate) fn run<F: Files, O: Sink>(
         plan,
         steps,
     } = request;
-    let read = take_module(alloc, files, code)?;
-    run_module(alloc, &read, input, plan, steps, files, out)
+    let read = take_module(alloc, engine.form(), files, code)?;
+    run_module(alloc, &read, engine, input, plan, steps, files, out)
 }
 
 // What is left once the module is read.
 fn run_module<F: Files, O: Sink>(
     alloc: Global,
     read: &Module,
+    engine: Engine,
     input: FileName,
     plan: FileName,
     steps: u64,
     files: &mut F,
     out: &mut O,
 ) -> Result<Status, Refusal>
-    requires source { IsSourceModule read.now.content }
-    ensures works { Works (MayGiveBoth (files_seen (F.contents files.old) (F.faults files.old) (F.faults files.new)) input plan)
-        (after_module input plan read.now.content steps) result
+    requires of_form { IsModuleOf (form_of engine) read.now.content }
+    requires no_bundle { All HasNoBundle read.now.content.funcs }
+    ensures works { Works (MayGiveFromInput (files_seen (F.contents files.old) (F.faults files.old) (F.faults files.new)) input plan engine)
+        (after_module input plan engine read.now.content steps) result
         (sink_seen (O.written out.old) (O.written out.new) (O.faults out.old) (O.faults out.new)) }
     ensures kept { F.contents files.new ≡ F.contents files.old }
     ensures counted { NoneFell (F.faults files.old) (F.faults files.new) }
     ensures out_counted { O.faults out.old ≤ O.faults out.new }
 {
     let numbers = take_input(alloc, files, input)?;
-    run_with_input(alloc, read, &numbers, plan, steps, files, out)
+    run_with_input(alloc, read, engine, &numbers, plan, steps, files, out)
 }
 
 // What is left once the input is read.
 fn run_with_input<F: Files, O: Sink>(
     alloc: Global,
     read: &Module,
+    engine: Engine,
     numbers: &[i64],
     plan: FileName,
     steps: u64,
     files: &mut F,
     out: &mut O,
 ) -> Result<Status, Refusal>
-    requires source { IsSourceModule read.now.content }
-    ensures works { Works (MayGive (files_seen (F.contents files.old) (F.faults files.old) (F.faults files.new)) plan)
-        (after_input plan read.now.content numbers.now steps) result
+    requires of_form { IsModuleOf (form_of engine) read.now.content }
+    requires no_bundle { All HasNoBundle read.now.content.funcs }
+    ensures works { Works (MayGiveFromPlan (files_seen (F.contents files.old) (F.faults files.old) (F.faults files.new)) plan engine)
+        (after_input plan engine read.now.content numbers.now steps) result
         (sink_seen (O.written out.old) (O.written out.new) (O.faults out.old) (O.faults out.new)) }
     ensures kept { F.contents files.new ≡ F.contents files.old }
     ensures counted { NoneFell (F.faults files.old) (F.faults files.new) }
     ensures out_counted { O.faults out.old ≤ O.faults out.new }
 {
     let lines = take_plan(alloc, files, plan)?;
-    run_under_plan(alloc, read, numbers, &lines, steps, out)
+    run_under_plan(alloc, read, engine, numbers, &lines, steps, files, out)
 }
 
-// The run itself.
-fn run_under_plan<O: Sink>(
+// What is left once the plan is read.
+fn run_under_plan<F: Files, O: Sink>(
+    alloc: Global,
+    read: &Module,
+    engine: Engine,
+    numbers: &[i64],
+    plan: &Plan,
+    steps: u64,
+    files: &mut F,
+    out: &mut O,
+) -> Result<Status, Refusal>
+    requires of_form { IsModuleOf (form_of engine) read.now.content }
+    requires no_bundle { All HasNoBundle read.now.content.funcs }
+    ensures works { Works (MayGiveMap (files_seen (F.contents files.old) (F.faults files.old) (F.faults files.new)) engine)
+        (run_phase engine read.now.content numbers.now plan.now steps) result
+        (sink_seen (O.written out.old) (O.written out.new) (O.faults out.old) (O.faults out.new)) }
+    ensures kept { F.contents files.new ≡ F.contents files.old }
+    ensures counted { NoneFell (F.faults files.old) (F.faults files.new) }
+    ensures out_counted { O.faults out.old ≤ O.faults out.new }
+{
+    match engine {
+        Engine::Meaning => run_by_meaning(alloc, read, numbers, plan, steps, out),
+        Engine::Machine { map } => {
+            run_on_machine(alloc, read, map, numbers, plan, steps, files, out)
+        }
+    }
+}
+
+// The run by the source meaning.
+fn run_by_meaning<O: Sink>(
     alloc: Global,
     read: &Module,
     numbers: &[i64],
@@ -125,6 +162,6 @@ fn write_run<O: Sink>(
     ensures out_counted { O.faults out.old ≤ O.faults out.new }
 {
     let ran = reference(alloc, read, numbers, plan, steps, out)?;
-    let status = close(read, ran, out)?;
+    let status = close(read, ran.end, ran.func, ran.steps, ran.events, out)?;
     Ok(status)
 }

@@ -10,7 +10,7 @@ use crate::phases::take_module;
 use crate::refusal::Refusal;
 use crate::request::FileName;
 use crate::status::Status;
-use ir_ast::Module;
+use ir_ast::{Form, Module};
 use ir_printer::print;
 use std::alloc::Global;
 use tool_io::{Failed, Files, Sink};
@@ -29,7 +29,7 @@ pub(crate) fn show<F: Files, O: Sink>(
     ensures counted { NoneFell (F.faults files.old) (F.faults files.new) }
     ensures out_counted { O.faults out.old ≤ O.faults out.new }
 {
-    let read = take_module(alloc, files, name)?;
+    let read = take_module(alloc, Form::Source, files, name)?;
     show_module(&read, out)
 }
 

@@ -2,7 +2,7 @@
 ghost use Rattle.std.specs.Prelude.{◌≡◌, ◌≢◌, ◌≤◌, ◌⊎◌, ℕ, List, map, string_bytes};
 ghost use Rattle.tool_io.specs.Counts.{NoneFell};
 ghost use Rattle.statepoint_tool.specs.Answers.{SinkFailed, IsAnswer, IsTold, Works, sink_seen};
-ghost use Rattle.statepoint_tool.specs.Causes.{CannotRead, EndsWith, HasSomeInputFault, HasSomeModuleFault, HasSomePlanFault, IsTooLong, NoCommand};
+ghost use Rattle.statepoint_tool.specs.Causes.{CannotRead, EndsWith, HasSomeInputFault, HasSomeMapFault, HasSomeModuleFault, HasSomePlanFault, IsTooLong, NoCommand};
 ghost use Rattle.statepoint_tool.specs.Complete.{IsComplete};
 ghost use Rattle.statepoint_tool.specs.Statuses.{Exactly, ReadFaultCounted, Says, Writes};
 ghost use Rattle.statepoint_tool.specs.Taken.{files_seen};
@@ -11,7 +11,7 @@ ghost use Rattle.statepoint_tool.specs.Work.{MayGiveNamed, work as work_of};
 
 use crate::notes::put_note;
 use crate::refusal::{Cause, Refusal};
-use crate::request::Command;
+use crate::request::{Command, Engine};
 use crate::rewrite::rewrite;
 use crate::run::run;
 use crate::show::show;
@@ -24,10 +24,13 @@ use tool_io::{Failed, Files, Sink};
 ///
 /// `show` writes the text of the module, `rewrite` that of the rewritten module, `maps` its stack map,
 /// as text or with `--raw` as bytes. `source` and `run` write the lines of the source meaning, over the numbers of the
-/// input and under the `go` lines of the plan, and then the line that closes the run.
+/// input and under the `go` lines of the plan, and then the line that closes the run. `exec` with `--trust` writes the lines
+/// that the address machine prints, which runs a rewritten module as it is under the moves and the `go` lines of the plan,
+/// over the module's own stack map or that in the file of `--map`, and then the closing line.
 ///
-/// The work goes in this order: the words; the module is taken, read and typed; for `rewrite` and `maps` it is rewritten; for `source` and `run` the input is taken
-/// and read, then the plan, and the module runs. A run writes each line by one `put`, as it comes. A refusal puts one line on `notes`.
+/// The work goes in this order: the words; the module is taken, read and typed; for `rewrite` and `maps` it is rewritten;
+/// for `source`, `run` and `exec` the input is taken and read, then the plan, then the stack map where one is named, and the
+/// module runs. A run writes each line by one `put`, as it comes. A refusal puts one line on `notes`.
 ///
 /// What the files gave is what is told of them, or anything where nothing is told; a file could not be
 /// read only where a fault was counted for its name. Each status comes exactly where its cause holds over
@@ -63,6 +66,11 @@ pub fn statepoint<F: Files, O: Sink, E: Sink>(
         (sink_seen (O.written out.old) (O.written out.new) (O.faults out.old) (O.faults out.new))
         (sink_seen (E.written notes.old) (E.written notes.new) (E.faults notes.old) (E.faults notes.new))
         result Status.Trapped (EndsWith Status.Trapped) }
+    ensures stray { Exactly (map string_bytes words.now)
+        (files_seen (F.contents files.old) (F.faults files.old) (F.faults files.new))
+        (sink_seen (O.written out.old) (O.written out.new) (O.faults out.old) (O.faults out.new))
+        (sink_seen (E.written notes.old) (E.written notes.new) (E.faults notes.old) (E.faults notes.new))
+        result Status.Stray (EndsWith Status.Stray) }
     ensures words_refused { Exactly (map string_bytes words.now)
         (files_seen (F.contents files.old) (F.faults files.old) (F.faults files.new))
         (sink_seen (O.written out.old) (O.written out.new) (O.faults out.old) (O.faults out.new))
@@ -83,6 +91,11 @@ pub fn statepoint<F: Files, O: Sink, E: Sink>(
         (sink_seen (O.written out.old) (O.written out.new) (O.faults out.old) (O.faults out.new))
         (sink_seen (E.written notes.old) (E.written notes.new) (E.faults notes.old) (E.faults notes.new))
         result Status.PlanRefused HasSomePlanFault }
+    ensures map_refused { Exactly (map string_bytes words.now)
+        (files_seen (F.contents files.old) (F.faults files.old) (F.faults files.new))
+        (sink_seen (O.written out.old) (O.written out.new) (O.faults out.old) (O.faults out.new))
+        (sink_seen (E.written notes.old) (E.written notes.new) (E.faults notes.old) (E.faults notes.new))
+        result Status.MapRefused HasSomeMapFault }
     ensures too_long { Exactly (map string_bytes words.now)
         (files_seen (F.contents files.old) (F.faults files.old) (F.faults files.new))
         (sink_seen (O.written out.old) (O.written out.new) (O.faults out.old) (O.faults out.new))
@@ -99,8 +112,6 @@ pub fn statepoint<F: Files, O: Sink, E: Sink>(
         SinkFailed (sink_seen (O.written out.old) (O.written out.new) (O.faults out.old) (O.faults out.new)) ⊎
         SinkFailed (sink_seen (E.written notes.old) (E.written notes.new) (E.faults notes.old) (E.faults notes.new)) }
     ensures never_said_no { result ≢ Status.CheckSaidNo }
-    ensures never_map_refused { result ≢ Status.MapRefused }
-    ensures never_stray { result ≢ Status.Stray }
 
     // What the call leaves.
     ensures writes { Writes result (map string_bytes words.now)
@@ -154,8 +165,15 @@ fn work<F: Files, O: Sink>(
     match command(alloc, words) {
         Ok(Command::Show { module }) => show(alloc, module, files, out),
         Ok(Command::Rewrite { module, part }) => rewrite(alloc, module, part, files, out),
-        Ok(Command::Source(request)) => run(alloc, request, files, out),
-        Ok(Command::Run(request)) => run(alloc, request, files, out),
+        Ok(Command::Source(request)) => run(alloc, Engine::Meaning, request, files, out),
+        Ok(Command::Run(request)) => run(alloc, Engine::Meaning, request, files, out),
+        Ok(Command::Exec { request, map }) => run(
+            alloc,
+            Engine::Machine { map },
+            request,
+            files,
+            out,
+        ),
         Err(WordsFault::Words) => Err(Refusal::Defined(Cause::Words)),
         Err(WordsFault::Memory) => Err(Refusal::Memory),
     }

@@ -1,7 +1,7 @@
 ghost use Rattle.std.specs.Prelude.{◌≡◌, Some, None, map, string_bytes, IfOk, IsErrOf};
 ghost use Rattle.std.specs.Char.{is_ascii_digit};
 ghost use Rattle.std.specs.List.{list_all};
-ghost use Rattle.statepoint_tool.specs.Words.{command_of, names_file, of_module, of_raw, of_run, request_of, rewrite_of, run_of, show_of, source_of, steps_of};
+ghost use Rattle.statepoint_tool.specs.Words.{command_of, exec_over, names_file, of_exec, of_exec_over, of_module, of_raw, of_run, request_of, rewrite_of, show_of, steps_of};
 
 use crate::request::{Command, FileName, Part, RunRequest};
 use sp_ids::{Memory, limits};
@@ -44,6 +44,36 @@ pub(crate) fn command(alloc: Global, words: &[String]) -> Result<Command, WordsF
             plan.as_str(),
             steps.as_str(),
         ),
+        [_program, name, code, input, plan, steps, trust] => of_exec(
+            alloc,
+            name.as_str(),
+            code.as_str(),
+            input.as_str(),
+            plan.as_str(),
+            steps.as_str(),
+            trust.as_str(),
+        ),
+        [
+            _program,
+            name,
+            code,
+            input,
+            plan,
+            steps,
+            trust,
+            option,
+            map_file,
+        ] => of_exec_over(
+            alloc,
+            name.as_str(),
+            code.as_str(),
+            input.as_str(),
+            plan.as_str(),
+            steps.as_str(),
+            trust.as_str(),
+            option.as_str(),
+            map_file.as_str(),
+        ),
         _ => Err(WordsFault::Words),
     }
 }
@@ -79,12 +109,88 @@ fn of_run(
     ensures none { IsErrOf result WordsFault.Words → of_run name.now code.now input.now plan.now steps.now ≡ None }
 {
     if name == "source" {
-        source_command(alloc, code, input, plan, steps)
-    } else if name == "run" {
-        run_command(alloc, code, input, plan, steps)
-    } else {
-        Err(WordsFault::Words)
+        let request = run_request(alloc, code, input, plan, steps)?;
+        return Ok(Command::Source(request));
     }
+    if name == "run" {
+        let request = run_request(alloc, code, input, plan, steps)?;
+        return Ok(Command::Run(request));
+    }
+    Err(WordsFault::Words)
+}
+
+// The command that runs a rewritten module as it is, over its own stack map.
+#[tactic(auto, unfolding(crate::specs::Words::of_exec))]
+fn of_exec(
+    alloc: Global,
+    name: &str,
+    code: &str,
+    input: &str,
+    plan: &str,
+    steps: &str,
+    trust: &str,
+) -> Result<Command, WordsFault>
+    ensures gives { IfOk result (λ command. of_exec name.now code.now input.now plan.now steps.now trust.now ≡ Some command) }
+    ensures none { IsErrOf result WordsFault.Words → of_exec name.now code.now input.now plan.now steps.now trust.now ≡ None }
+{
+    if name != "exec" {
+        return Err(WordsFault::Words);
+    }
+    if trust != "--trust" {
+        return Err(WordsFault::Words);
+    }
+    let request = run_request(alloc, code, input, plan, steps)?;
+    Ok(Command::Exec { request, map: None })
+}
+
+// The same, over the stack map in a file.
+#[tactic(auto, unfolding(crate::specs::Words::of_exec_over))]
+fn of_exec_over(
+    alloc: Global,
+    name: &str,
+    code: &str,
+    input: &str,
+    plan: &str,
+    steps: &str,
+    trust: &str,
+    option: &str,
+    map_file: &str,
+) -> Result<Command, WordsFault>
+    ensures gives { IfOk result (λ command. of_exec_over name.now code.now input.now plan.now steps.now trust.now option.now map_file.now ≡ Some command) }
+    ensures none { IsErrOf result WordsFault.Words → of_exec_over name.now code.now input.now plan.now steps.now trust.now option.now map_file.now ≡ None }
+{
+    if name != "exec" {
+        return Err(WordsFault::Words);
+    }
+    if trust != "--trust" {
+        return Err(WordsFault::Words);
+    }
+    if option != "--map" {
+        return Err(WordsFault::Words);
+    }
+    exec_over_command(alloc, code, input, plan, steps, map_file)
+}
+
+// The command `exec` over these words, the last of which names a stack map.
+fn exec_over_command(
+    alloc: Global,
+    code: &str,
+    input: &str,
+    plan: &str,
+    steps: &str,
+    map_file: &str,
+) -> Result<Command, WordsFault>
+    ensures gives { IfOk result (λ command. exec_over code.now input.now plan.now steps.now map_file.now ≡ Some command) }
+    ensures none { IsErrOf result WordsFault.Words → exec_over code.now input.now plan.now steps.now map_file.now ≡ None }
+{
+    if !may_name_file(map_file) {
+        return Err(WordsFault::Words);
+    }
+    let request = run_request(alloc, code, input, plan, steps)?;
+    Ok(Command::Exec {
+        request,
+        map: Some(FileName::of(alloc, map_file)?),
+    })
 }
 
 // The command `show` over this word.
@@ -127,36 +233,6 @@ fn rewrite_command(alloc: Global, part: Part, module_name: &str) -> Result<Comma
         module: FileName::of(alloc, module_name)?,
         part,
     })
-}
-
-// The command `source` over these words.
-fn source_command(
-    alloc: Global,
-    code: &str,
-    input: &str,
-    plan: &str,
-    steps: &str,
-) -> Result<Command, WordsFault>
-    ensures gives { IfOk result (λ command. source_of code.now input.now plan.now steps.now ≡ Some command) }
-    ensures none { IsErrOf result WordsFault.Words → source_of code.now input.now plan.now steps.now ≡ None }
-{
-    let request = run_request(alloc, code, input, plan, steps)?;
-    Ok(Command::Source(request))
-}
-
-// The command `run` over these words.
-fn run_command(
-    alloc: Global,
-    code: &str,
-    input: &str,
-    plan: &str,
-    steps: &str,
-) -> Result<Command, WordsFault>
-    ensures gives { IfOk result (λ command. run_of code.now input.now plan.now steps.now ≡ Some command) }
-    ensures none { IsErrOf result WordsFault.Words → run_of code.now input.now plan.now steps.now ≡ None }
-{
-    let request = run_request(alloc, code, input, plan, steps)?;
-    Ok(Command::Run(request))
 }
 
 // The run that these words ask for.

@@ -1,4 +1,4 @@
-use Rattle.rewritten_pairs.proofs.SourceFacts as laws
+use Rattle.rewritten_pairs.proofs.TakesFacts as laws
 use Rattle.rewritten_pairs.proofs.source_is_verified.Goals as goal
 
 pub returns : goal.returns

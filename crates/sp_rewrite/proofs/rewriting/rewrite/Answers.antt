@@ -40,6 +40,9 @@ returns-in_ok-after-in-Some-clause-rewritten c =
 pub returns-in_ok-after-in-Some-clause-target : goal.returns-in_ok-after-in-Some-clause-target
 returns-in_ok-after-in-Some-clause-target c = laws.rewriting_is_target c.args.source.content c.of.result.content c.requires (returns-in_ok-after-in-Some-clause-rewritten c)
 
+pub returns-in_ok-after-in-Some-clause-verified : goal.returns-in_ok-after-in-Some-clause-verified
+returns-in_ok-after-in-Some-clause-verified c = laws.rewriting_is_verified c.args.source.content c.of.result.content c.requires (returns-in_ok-after-in-Some-clause-rewritten c)
+
 pub returns-in_ok-after-in-Some-clause-formed : goal.returns-in_ok-after-in-Some-clause-formed
 returns-in_ok-after-in-Some-clause-formed c = formed_module Rewritten c.of.result.content (returns-in_ok-after-in-Some-clause-target c).typed
 

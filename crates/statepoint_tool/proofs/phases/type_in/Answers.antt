@@ -1,11 +1,10 @@
-use Rattle.ir_ast.specs.declared.modules.Form.TheVariants as text_forms
 use Rattle.ir_lines.specs.Views.{seen_lines}
 use Rattle.statepoint_tool.proofs.TextLaws.{typed-go, typed-stop}
 use Rattle.statepoint_tool.proofs.phases.type_in.Goals as goal
 
 pub returns-in-Ok-clause-typed : goal.returns-in-Ok-clause-typed
-returns-in-Ok-clause-typed c = typed-go text_forms.Source (seen_lines c.args.raw.lines) c.in-Ok.read c.in-Ok.ensures.answers
+returns-in-Ok-clause-typed c = typed-go c.args.form (seen_lines c.args.raw.lines) c.in-Ok.read c.in-Ok.ensures.answers
 
 pub returns-in-Err-Fault-clause-typed : goal.returns-in-Err-Fault-clause-typed
 returns-in-Err-Fault-clause-typed c =
-    typed-stop text_forms.Source (seen_lines c.args.raw.lines) c.in-Err-Fault.field-0 c.in-Err-Fault.fault c.in-Err-Fault.field-0-is c.in-Err-Fault.ensures.answers
+    typed-stop c.args.form (seen_lines c.args.raw.lines) c.in-Err-Fault.field-0 c.in-Err-Fault.fault c.in-Err-Fault.field-0-is c.in-Err-Fault.ensures.answers

@@ -1,9 +1,9 @@
 use Rattle.std.proofs.Common.{List}
 use Rattle.std.specs.Prelude.{ℤ}
 use Rattle.std.proofs.lemmas.Result.{err_from_is_err_and}
-use Rattle.statepoint_tool.specs.Taken.{files_seen, MayGive}
-use Rattle.statepoint_tool.specs.Work.{after_input}
-use Rattle.statepoint_tool.proofs.GivenLaws.{MayGive-as_told, MayGive-earlier, as_told}
+use Rattle.statepoint_tool.specs.Taken.{files_seen}
+use Rattle.statepoint_tool.specs.Work.{MayGiveFromPlan, after_input}
+use Rattle.statepoint_tool.proofs.GivenLaws.{MayGiveFromPlan-as_told, MayGiveFromPlan-earlier, from_plan_as_told}
 use Rattle.statepoint_tool.proofs.WorksLaws.{Works-stops, Works-goes_on}
 use Rattle.statepoint_tool.proofs.run.run_module.Goals as goal
 
@@ -11,14 +11,14 @@ pub returns-in_err-numbers-clause-works : goal.returns-in_err-numbers-clause-wor
 returns-in_err-numbers-clause-works g c =
     let files = files_seen (g.F.Files.contents c.args.files.now) (g.F.Files.faults c.args.files.now) (g.F.Files.faults c.take_input.new.files) in
     let exit = err_from_is_err_and c.from_residual.result c.from_residual.ensures.1 in
-    rw (exit.1, exit.2) (Works-stops (λ (numbers : List ℤ). after_input c.args.plan c.args.read.now.content numbers c.args.steps)
-    (MayGive files c.args.plan) (as_told files c.args.plan) (MayGive-as_told files c.args.plan)
+    rw (exit.1, exit.2) (Works-stops (λ (numbers : List ℤ). after_input c.args.plan c.args.engine c.args.read.now.content numbers c.args.steps)
+    (MayGiveFromPlan files c.args.plan c.args.engine) (from_plan_as_told files c.args.plan c.args.engine) (MayGiveFromPlan-as_told files c.args.plan c.args.engine)
     (g.O.Sink.written c.args.out.now) (g.O.Sink.faults c.args.out.now) c.in_err-numbers.ensures.read)
 
 pub returns-clause-works : goal.returns-clause-works
 returns-clause-works g c =
     let after = g.F.Files.faults c.run_with_input.new.files in
     let files = files_seen (g.F.Files.contents c.args.files.now) (g.F.Files.faults c.args.files.now) after in
-    Works-goes_on (λ (numbers : List ℤ). after_input c.args.plan c.args.read.now.content numbers c.args.steps) (MayGive files c.args.plan)
-    (λ given. MayGive-earlier _ _ _ _ after c.args.plan given c.in_ok-numbers.ensures.kept c.in_ok-numbers.ensures.counted)
+    Works-goes_on (λ (numbers : List ℤ). after_input c.args.plan c.args.engine c.args.read.now.content numbers c.args.steps) (MayGiveFromPlan files c.args.plan c.args.engine)
+    (λ given. MayGiveFromPlan-earlier _ _ _ _ after c.in_ok-numbers.ensures.kept c.in_ok-numbers.ensures.counted c.args.plan c.args.engine given)
     after c.run_with_input.ensures.counted c.in_ok-numbers.ensures.read (rw c.deref.ensures.value at c.run_with_input.ensures.works)

@@ -1,16 +1,24 @@
 use Rattle.std.proofs.Common.{List}
 use Rattle.move_plan.specs.declared.plan_lines.PlanLine.{PlanLine}
 use Rattle.std.proofs.lemmas.Result.{err_from_is_err_and}
-use Rattle.statepoint_tool.specs.Work.{Running}
-use Rattle.statepoint_tool.proofs.WorksLaws.{Works-stops_at, Works-goes_on_at}
+use Rattle.statepoint_tool.specs.Taken.{files_seen}
+use Rattle.statepoint_tool.specs.Work.{MayGiveMap, run_phase}
+use Rattle.statepoint_tool.proofs.GivenLaws.{MayGiveMap-as_told, MayGiveMap-earlier, map_as_told}
+use Rattle.statepoint_tool.proofs.WorksLaws.{Works-stops, Works-goes_on}
 use Rattle.statepoint_tool.proofs.run.run_with_input.Goals as goal
 
 pub returns-in_err-lines-clause-works : goal.returns-in_err-lines-clause-works
 returns-in_err-lines-clause-works g c =
+    let files = files_seen (g.F.Files.contents c.args.files.now) (g.F.Files.faults c.args.files.now) (g.F.Files.faults c.take_plan.new.files) in
     let exit = err_from_is_err_and c.from_residual.result c.from_residual.ensures.1 in
-    rw (exit.1, exit.2) (Works-stops_at (λ (lines : List PlanLine). Running c.args.read.now.content c.args.numbers.now lines c.args.steps)
+    rw (exit.1, exit.2) (Works-stops (λ (lines : List PlanLine). run_phase c.args.engine c.args.read.now.content c.args.numbers.now lines c.args.steps)
+    (MayGiveMap files c.args.engine) (map_as_told files c.args.engine) (MayGiveMap-as_told files c.args.engine)
     (g.O.Sink.written c.args.out.now) (g.O.Sink.faults c.args.out.now) c.in_err-lines.ensures.read)
 
 pub returns-clause-works : goal.returns-clause-works
 returns-clause-works g c =
-    Works-goes_on_at (λ (lines : List PlanLine). Running c.args.read.now.content c.args.numbers.now lines c.args.steps) c.in_ok-lines.ensures.read c.run_under_plan.ensures.came
+    let after = g.F.Files.faults c.run_under_plan.new.files in
+    let files = files_seen (g.F.Files.contents c.args.files.now) (g.F.Files.faults c.args.files.now) after in
+    Works-goes_on (λ (lines : List PlanLine). run_phase c.args.engine c.args.read.now.content c.args.numbers.now lines c.args.steps) (MayGiveMap files c.args.engine)
+    (λ given. MayGiveMap-earlier _ _ _ _ after c.in_ok-lines.ensures.kept c.in_ok-lines.ensures.counted c.args.engine given)
+    after c.run_under_plan.ensures.counted c.in_ok-lines.ensures.read c.run_under_plan.ensures.works

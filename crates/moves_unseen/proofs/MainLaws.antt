@@ -1,0 +1,97 @@
+-- The function with which a target module begins, and how many registers a function has.
+use Rattle.std.proofs.Common.{◌≡◌, ◌≢◌, ℕ, suc, ◌+◌, ◌-◌, ◌<◌, Bool, true, false, not, List, [], ◌∷◌, ◌++◌, length, map, refl, sym, ap, ◌∙◌, arith, ltb, Option, Some, None, codes}
+use Rattle.std.specs.Prelude.{slice_get, slice_index, is_some, unwrap_or, if◌then◌else◌}
+use Rattle.std.specs.List.{All, filter, position, prefix_len}
+use Rattle.std.specs.Option.{option_map_or}
+use Rattle.std.specs.Str.{bytes_eq}
+use Rattle.std.proofs.lemmas.Bool.{false_from_ne_true, lt-ltb}
+use Rattle.std.proofs.lemmas.Slice.Eq.{bytes_eq-Decides}
+use Rattle.std.proofs.lemmas.List.{length-append, length-map}
+use Rattle.ir_ast.specs.Blocks.{BasicBlock}
+use Rattle.ir_ast.specs.Faults.NoMain.{HasMain}
+use Rattle.ir_ast.specs.Funcs.{Function, instructions_of}
+use Rattle.ir_ast.specs.Insts.{Instruction}
+use Rattle.ir_ast.specs.Modules.{ModuleContent}
+use Rattle.ir_ast.specs.Values.{argument, definition_type, definitions_of, outcome, value_types}
+use Rattle.object_meaning.specs.Lines.{after_all, first_registers, following, main_of, register_count, registers_of}
+
+-- ---- registers
+
+abbrev has_result : Instruction → Bool
+has_result inst = is_some inst.result
+
+after_append : (next : ℕ) (xs ys : List Instruction) → after_all next (xs ++ ys) ≡ after_all (after_all next xs) ys
+after_append next [] ys = refl
+after_append next (x ∷ xs) ys = after_append (following next x) xs ys
+
+after_is : (next : ℕ) (insts : List Instruction) → after_all next insts ≡ next + length (filter has_result insts)
+after_is next [] = omega arith
+after_is next (inst ∷ insts) = by (is_some inst.result) (λ n. after_is n insts)
+  where
+    by : (b : Bool) → ((n : ℕ) → after_all n insts ≡ n + length (filter has_result insts))
+        → after_all (if b then next + 1 else next) insts ≡ next + length (if b then inst ∷ filter has_result insts else filter has_result insts)
+    by true rest = let is = rest (next + 1) in omega arith
+    by false rest = rest next
+
+last_after : (next : ℕ) (registers : List ℕ) → 0 < length registers → slice_index (next ∷ registers) (length (next ∷ registers) - 1) ≡ slice_index registers (length registers - 1)
+last_after next [] some = absurd (omega arith)
+last_after next (first ∷ registers) some =
+    let longer : suc (suc (length registers)) - 1 ≡ suc (length registers) = omega arith in
+    let shorter : suc (length registers) - 1 ≡ length registers = omega arith in
+    ap (λ place. slice_index (next ∷ first ∷ registers) place) longer ∙ sym (ap (λ place. slice_index (first ∷ registers) place) shorter)
+
+some_registers : (next : ℕ) (blocks : List BasicBlock) → 0 < length (first_registers next blocks)
+some_registers next [] = omega arith
+some_registers next (block ∷ blocks) = omega arith
+
+last_register : (next : ℕ) (blocks : List BasicBlock)
+    → slice_index (first_registers next blocks) (length (first_registers next blocks) - 1) ≡ after_all next (instructions_of blocks)
+last_register next [] = refl
+last_register next (block ∷ blocks) =
+    last_after next (first_registers (after_all next block.insts) blocks) (some_registers (after_all next block.insts) blocks)
+    ∙ (last_register (after_all next block.insts) blocks ∙ sym (after_append next block.insts (instructions_of blocks)))
+
+value_count : (func : Function) → length (value_types func) ≡ length func.args + length (filter has_result (instructions_of func.blocks))
+value_count func =
+    let all = length-map (definitions_of func) definition_type in
+    let both = length-append (map argument func.args) (map outcome (filter has_result (instructions_of func.blocks))) in
+    let first = length-map func.args argument in
+    let second = length-map (filter has_result (instructions_of func.blocks)) outcome in
+    omega arith
+
+-- a register for each value
+pub register_for_each : (content : ModuleContent) (number : ℕ) (func : Function) → slice_get content.funcs number ≡ Some func → register_count content number ≡ length (value_types func)
+register_for_each content number func found =
+    ap (λ (each : Option Function). option_map_or (λ defined. slice_index (registers_of defined) (length (registers_of defined) - 1)) each 0) found
+    ∙ (last_register (length func.args) func.blocks ∙ (after_is (length func.args) (instructions_of func.blocks) ∙ sym (value_count func)))
+
+-- ---- `@main`
+
+abbrev is_main : Function → Bool
+is_main func = bytes_eq func.name (codes "main")
+
+not_main : (func : Function) → func.name ≢ codes "main" → bytes_eq func.name (codes "main") ≡ false
+not_main func other = false_from_ne_true (bytes_eq func.name (codes "main")) (λ same. other ((bytes_eq-Decides func.name (codes "main")).0 same))
+
+before_is : (earlier : List Function) (main : Function) (later : List Function) → All (λ (func : Function). func.name ≢ codes "main") earlier → main.name ≡ codes "main"
+    → prefix_len (λ func. not (bytes_eq func.name (codes "main"))) (earlier ++ main ∷ later) ≡ length earlier
+before_is [] main later others name =
+    ap (λ (b : Bool). if not b then 1 + prefix_len (λ func. not (bytes_eq func.name (codes "main"))) later else 0) ((bytes_eq-Decides main.name (codes "main")).1 name)
+before_is (func ∷ earlier) main later others name =
+    ap (λ (b : Bool). if not b then 1 + prefix_len (λ func. not (bytes_eq func.name (codes "main"))) (earlier ++ main ∷ later) else 0) (not_main func (others 0 func (omega arith)))
+    ∙ (ap (λ (n : ℕ). 1 + n) (before_is earlier main later (λ k d within. others (suc k) d (omega arith)) name) ∙ (let more : 1 + length earlier ≡ suc (length earlier) = omega arith in more))
+
+get_middle : (earlier : List Function) (main : Function) (later : List Function) → slice_get (earlier ++ main ∷ later) (length earlier) ≡ Some main
+get_middle [] main later = refl
+get_middle (func ∷ earlier) main later = get_middle earlier main later
+
+pub main_found : (content : ModuleContent) (has : HasMain content) → slice_get content.funcs (main_of content) ≡ Some has.main
+main_found content has =
+    let funcs = has.earlier ++ has.main ∷ has.later in
+    let long = length-append has.earlier (has.main ∷ has.later) in
+    let within : length has.earlier < length (has.earlier ++ has.main ∷ has.later) = omega arith in
+    let place : unwrap_or (position (λ func. bytes_eq func.name (codes "main")) (has.earlier ++ has.main ∷ has.later)) 0 ≡ length has.earlier =
+    ap (λ (n : ℕ). unwrap_or (if ltb n (length (has.earlier ++ has.main ∷ has.later)) then Some n else None) 0) (before_is has.earlier has.main has.later has.first has.name)
+    ∙ ap (λ (b : Bool). unwrap_or (if b then Some (length has.earlier) else None) 0) (lt-ltb (length has.earlier) (length (has.earlier ++ has.main ∷ has.later)) within) in
+    ap (λ (all : List Function). slice_get all (unwrap_or (position (λ func. bytes_eq func.name (codes "main")) all) 0)) has.whole
+    ∙ (ap (slice_get (has.earlier ++ has.main ∷ has.later)) place ∙ get_middle has.earlier has.main has.later)
