@@ -1,7 +1,9 @@
 pub mod Objects
 pub mod Frames
+pub mod Awaits
 pub mod States
 pub mod Steps
 pub mod Types
 pub mod Entries
+pub mod Waits
 pub mod Statements

@@ -9,6 +9,7 @@ use Rattle.machine_meaning.specs.Words.{worded}
 use Rattle.machine_meaning.specs.Machines.{Machine, Machinery, return_address}
 use Rattle.moves_unseen.specs.Objects.{AreHeld}
 use Rattle.moves_unseen.specs.Frames.{FrameWords, IsRunning, IsWaiting}
+use Rattle.moves_unseen.specs.Awaits.{TasksAwait}
 
 pub record Extra : Type 0 where
   pub running : FrameWords
@@ -68,6 +69,7 @@ pub record IsRelated (content : ModuleContent) (state : State) (extra : Extra) :
   pub running : IsRunning content state.objects extra.heap.stands state.running extra.running
   pub below : AllZip (IsWaiting content extra.heap.stands) state.below extra.below
   pub tasks : AllZip (λ frames held. AllZip (IsWaiting content extra.heap.stands) frames held) state.tasks extra.tasks
+  pub await : TasksAwait content state
 
 -- the machine is the target meaning's state on words
 pub record Follows (content : ModuleContent) (machinery : Machinery) (state : State) (machine : Machine) : Type 0 where
