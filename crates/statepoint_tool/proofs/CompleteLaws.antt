@@ -8,15 +8,15 @@ use Rattle.tool_io.proofs.AppendLaws.{AppendsFront-all, AppendsFront-front}
 use Rattle.statepoint_tool.specs.Complete.{IsTold, MapIsTold, RunIsTold, AllTold, IsWhole, IsShort, WantsMemory, IsComplete}
 use Rattle.statepoint_tool.specs.Steps.{Step, Go, Stop, Then, goes_on, stops}
 use Rattle.statepoint_tool.specs.Taken.{Taken, Bytes, Longer, Faulty, FilesSeen, MayGive}
-use Rattle.statepoint_tool.specs.Words.{command_of}
+use Rattle.tool_words.specs.Words.{command_of}
 use Rattle.statepoint_tool.specs.Work.{Output, Given, MayGiveMap, MayGiveAll, MayGiveNamed, command_work, show_work, rewrite_work, run_phase, run_work, work}
 use Rattle.statepoint_tool.specs.declared.refusal.Refusal.{Refusal}
 use Rattle.statepoint_tool.specs.declared.refusal.Refusal.TheVariants.{Defined, WriteFault, Memory}
-use Rattle.statepoint_tool.specs.declared.request.Engine.{Engine}
-use Rattle.statepoint_tool.specs.declared.request.Engine.TheVariants.{Meaning, Machine}
-use Rattle.statepoint_tool.specs.declared.request.RunRequest.{RunRequest}
-use Rattle.statepoint_tool.specs.declared.request.Command.{Command}
-use Rattle.statepoint_tool.specs.declared.request.Command.TheVariants.{Show, Rewrite, Source, Run, Exec}
+use Rattle.statepoint_tool.specs.declared.engine.Engine.{Engine}
+use Rattle.statepoint_tool.specs.declared.engine.Engine.TheVariants.{Meaning, Machine}
+use Rattle.tool_words.specs.declared.request.RunRequest.{RunRequest}
+use Rattle.tool_words.specs.declared.request.Command.{Command}
+use Rattle.tool_words.specs.declared.request.Command.TheVariants.{Show, Rewrite, Source, Run, Exec}
 use Rattle.statepoint_tool.specs.declared.status.Status.{Status}
 use Rattle.statepoint_tool.proofs.StepLaws.{not_both}
 use Rattle.statepoint_tool.proofs.CauseLaws.{Once-work, work-ends}

@@ -5,8 +5,8 @@ use Rattle.std.proofs.lemmas.Bool.Decides.{nat_tests}
 use Rattle.tool_io.specs.Counts.{NoneFell}
 use Rattle.tool_io.proofs.CountLaws.{Rose-then-none_fell, Rose-after-none_fell}
 use Rattle.statepoint_tool.specs.Work.{MayGiveMap, MayGiveFromPlan, MayGiveFromInput}
-use Rattle.statepoint_tool.specs.declared.request.Engine.{Engine}
-use Rattle.statepoint_tool.specs.declared.request.Engine.TheVariants.{Meaning, Machine}
+use Rattle.statepoint_tool.specs.declared.engine.Engine.{Engine}
+use Rattle.statepoint_tool.specs.declared.engine.Engine.TheVariants.{Meaning, Machine}
 use Rattle.statepoint_tool.specs.Taken.{Taken, Bytes, Longer, Faulty, FilesSeen, files_seen, MayGive}
 
 -- what told contents give

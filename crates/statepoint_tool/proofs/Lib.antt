@@ -1,4 +1,3 @@
-pub mod StepBounds
 pub mod GivenLaws
 pub mod StepLaws
 pub mod TextLaws

@@ -22,18 +22,18 @@ use Rattle.object_meaning.specs.SourceRuns.{SourceGives}
 use Rattle.statepoint_tool.specs.PlanFaults.{IsLeastPlanFault}
 use Rattle.statepoint_tool.specs.Steps.{Go}
 use Rattle.statepoint_tool.specs.Taken.{Taken, Bytes, Longer, Faulty}
-use Rattle.statepoint_tool.specs.Words.{command_of}
+use Rattle.tool_words.specs.Words.{command_of}
 use Rattle.statepoint_tool.specs.Work.{Given, Output, content_of, shown, written_of, output_of, form_of, map_phase, executed}
 use Rattle.statepoint_tool.specs.declared.refusal.Cause.{Cause}
 use Rattle.statepoint_tool.specs.declared.refusal.Cause.TheVariants as cause
 use Rattle.statepoint_tool.specs.declared.refusal.ModuleFault.{ModuleFault}
 use Rattle.statepoint_tool.specs.declared.refusal.ModuleFault.TheVariants.{Syntax, Limit, Typed, TooManyRelocations}
 use Rattle.statepoint_tool.specs.declared.refusal.PlanFault.{PlanFault}
-use Rattle.statepoint_tool.specs.declared.request.Part.{Part}
-use Rattle.statepoint_tool.specs.declared.request.Engine.{Engine}
-use Rattle.statepoint_tool.specs.declared.request.Engine.TheVariants.{Meaning, Machine}
-use Rattle.statepoint_tool.specs.declared.request.RunRequest.{RunRequest}
-use Rattle.statepoint_tool.specs.declared.request.Command.TheVariants.{Show, Rewrite, Source, Run, Exec}
+use Rattle.tool_words.specs.declared.request.Part.{Part}
+use Rattle.statepoint_tool.specs.declared.engine.Engine.{Engine}
+use Rattle.statepoint_tool.specs.declared.engine.Engine.TheVariants.{Meaning, Machine}
+use Rattle.tool_words.specs.declared.request.RunRequest.{RunRequest}
+use Rattle.tool_words.specs.declared.request.Command.TheVariants.{Show, Rewrite, Source, Run, Exec}
 use Rattle.statepoint_tool.specs.declared.status.Status.{Status}
 
 -- ---- texts of modules

@@ -5,14 +5,14 @@ use Rattle.statepoint_tool.specs.Answers.{SinkSeen, Gained, GainedFront, SinkFai
 use Rattle.statepoint_tool.specs.Causes.{Ends}
 use Rattle.statepoint_tool.specs.Notes.{refusal_line}
 use Rattle.statepoint_tool.specs.Taken.{Taken, Bytes, FilesSeen}
-use Rattle.statepoint_tool.specs.Words.{command_of}
+use Rattle.tool_words.specs.Words.{command_of}
 use Rattle.statepoint_tool.specs.Work.{Output, Given}
 use Rattle.statepoint_tool.specs.declared.refusal.Refusal.TheVariants.{Memory}
-use Rattle.statepoint_tool.specs.declared.request.Engine.{Engine}
-use Rattle.statepoint_tool.specs.declared.request.Engine.TheVariants.{Meaning, Machine}
-use Rattle.statepoint_tool.specs.declared.request.RunRequest.{RunRequest}
-use Rattle.statepoint_tool.specs.declared.request.Command.{Command}
-use Rattle.statepoint_tool.specs.declared.request.Command.TheVariants.{Show, Rewrite, Source, Run, Exec}
+use Rattle.statepoint_tool.specs.declared.engine.Engine.{Engine}
+use Rattle.statepoint_tool.specs.declared.engine.Engine.TheVariants.{Meaning, Machine}
+use Rattle.tool_words.specs.declared.request.RunRequest.{RunRequest}
+use Rattle.tool_words.specs.declared.request.Command.{Command}
+use Rattle.tool_words.specs.declared.request.Command.TheVariants.{Show, Rewrite, Source, Run, Exec}
 use Rattle.statepoint_tool.specs.declared.status.Status.{Status}
 use Rattle.statepoint_tool.specs.declared.status.Status.TheVariants.{WantOfMemory, WriteFault}
 

@@ -1,5 +1,4 @@
 pub mod Status
-pub mod Words
 pub mod Steps
 pub mod Taken
 pub mod Closings

@@ -30,17 +30,17 @@ use Rattle.statepoint_tool.specs.Closings.{closing_line, status_of_end}
 use Rattle.statepoint_tool.specs.PlanFaults.{IsLeastPlanFault}
 use Rattle.statepoint_tool.specs.Steps.{Step, Go, Stop, comes_to, Then}
 use Rattle.statepoint_tool.specs.Taken.{Taken, FilesSeen, MayGive, file_phase}
-use Rattle.statepoint_tool.specs.Words.{command_of}
+use Rattle.tool_words.specs.Words.{command_of}
 use Rattle.statepoint_tool.specs.declared.refusal.Cause.TheVariants.{Words, Module, Input, Plan, Map}
 use Rattle.statepoint_tool.specs.declared.refusal.ModuleFault.TheVariants.{Syntax, Limit, Typed, TooManyRelocations}
 use Rattle.statepoint_tool.specs.declared.refusal.PlanFault.{PlanFault}
-use Rattle.statepoint_tool.specs.declared.request.Part.{Part}
-use Rattle.statepoint_tool.specs.declared.request.Part.TheVariants.{Text, MapText, MapBytes}
-use Rattle.statepoint_tool.specs.declared.request.Engine.{Engine}
-use Rattle.statepoint_tool.specs.declared.request.Engine.TheVariants.{Meaning, Machine}
-use Rattle.statepoint_tool.specs.declared.request.RunRequest.{RunRequest}
-use Rattle.statepoint_tool.specs.declared.request.Command.{Command}
-use Rattle.statepoint_tool.specs.declared.request.Command.TheVariants.{Show, Rewrite, Source, Run, Exec}
+use Rattle.tool_words.specs.declared.request.Part.{Part}
+use Rattle.tool_words.specs.declared.request.Part.TheVariants.{Text, MapText, MapBytes}
+use Rattle.statepoint_tool.specs.declared.engine.Engine.{Engine}
+use Rattle.statepoint_tool.specs.declared.engine.Engine.TheVariants.{Meaning, Machine}
+use Rattle.tool_words.specs.declared.request.RunRequest.{RunRequest}
+use Rattle.tool_words.specs.declared.request.Command.{Command}
+use Rattle.tool_words.specs.declared.request.Command.TheVariants.{Show, Rewrite, Source, Run, Exec}
 use Rattle.statepoint_tool.specs.declared.status.Status.{Status}
 use Rattle.statepoint_tool.specs.declared.status.Status.TheVariants.{Done}
 

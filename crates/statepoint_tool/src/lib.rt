@@ -2,19 +2,18 @@
 #![tactic(auto)]
 
 mod closing;
+mod engine;
 mod machine;
 mod maps;
 mod notes;
 mod phases;
 mod refusal;
-mod request;
 mod rewrite;
 mod run;
 mod show;
 mod status;
 mod top;
-mod words;
 
-pub use request::FileName;
 pub use status::Status;
 pub use top::statepoint;
+pub use tool_words::FileName;

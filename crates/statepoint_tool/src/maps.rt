@@ -9,7 +9,7 @@ ghost use Rattle.statepoint_tool.specs.Answers.{Came, sink_seen};
 ghost use Rattle.statepoint_tool.specs.Work.{after_rewriting};
 
 use crate::refusal::Refusal;
-use crate::request::Part;
+use tool_words::Part;
 use crate::status::Status;
 use frame_slots::Layouts;
 use ir_ast::Module;

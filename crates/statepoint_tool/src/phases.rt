@@ -16,7 +16,7 @@ ghost use Rattle.statepoint_tool.specs.Taken.{files_seen};
 ghost use Rattle.statepoint_tool.specs.Work.{reading, module_phase, ReadingInput, ReadingPlan, Typing};
 
 use crate::refusal::{Cause, ModuleFault, PlanFault, Refusal};
-use crate::request::FileName;
+use tool_words::FileName;
 use ir_ast::{Form, Module};
 use ir_reader::{Raw, ReadFault, read, read_rewritten};
 use ir_types::{TypeFault, typed, typed_rewritten};

@@ -1,4 +1,4 @@
-use crate::request::FileName;
+use tool_words::FileName;
 use ir_types::Fault;
 use map_bytes::MapFault;
 use sp_ids::Memory;

@@ -13,7 +13,7 @@ ghost use Rattle.statepoint_tool.specs.Work.{MayGiveShown, Rewriting, after_rewr
 use crate::maps::{write_map_bytes, write_map_text};
 use crate::phases::take_module;
 use crate::refusal::{Cause, ModuleFault, Refusal};
-use crate::request::{FileName, Part};
+use tool_words::{FileName, Part};
 use crate::show::show_module;
 use crate::status::Status;
 use ir_ast::{Form, Module};

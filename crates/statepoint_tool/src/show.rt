@@ -8,7 +8,7 @@ ghost use Rattle.statepoint_tool.specs.Work.{MayGiveShown, show_phase, show_work
 
 use crate::phases::take_module;
 use crate::refusal::Refusal;
-use crate::request::FileName;
+use tool_words::FileName;
 use crate::status::Status;
 use ir_ast::{Form, Module};
 use ir_printer::print;

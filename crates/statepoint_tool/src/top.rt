@@ -6,17 +6,17 @@ ghost use Rattle.statepoint_tool.specs.Causes.{CannotRead, EndsWith, HasSomeInpu
 ghost use Rattle.statepoint_tool.specs.Complete.{IsComplete};
 ghost use Rattle.statepoint_tool.specs.Statuses.{Exactly, ReadFaultCounted, Says, Writes};
 ghost use Rattle.statepoint_tool.specs.Taken.{files_seen};
-ghost use Rattle.statepoint_tool.specs.Words.{command_of};
+ghost use Rattle.tool_words.specs.Words.{command_of};
 ghost use Rattle.statepoint_tool.specs.Work.{MayGiveNamed, work as work_of};
 
 use crate::notes::put_note;
 use crate::refusal::{Cause, Refusal};
-use crate::request::{Command, Engine};
+use crate::engine::Engine;
 use crate::rewrite::rewrite;
 use crate::run::run;
 use crate::show::show;
 use crate::status::Status;
-use crate::words::{WordsFault, command};
+use tool_words::{Command, WordsFault, command};
 use std::alloc::Global;
 use tool_io::{Failed, Files, Sink};
 

@@ -1,7 +1,5 @@
 ghost use Rattle.std.specs.Prelude.{◌≡◌, IfOk, string_bytes};
-ghost use Rattle.statepoint_tool.specs.Work.{form_of};
 
-use ir_ast::Form;
 use sp_ids::Memory;
 use std::alloc::Global;
 use std::marker::Model;
@@ -22,7 +20,7 @@ impl Model for FileName {
 
 impl FileName {
     /// A copy of the word.
-    pub(crate) fn of(alloc: Global, word: &str) -> Result<FileName, Memory>
+    pub fn of(alloc: Global, word: &str) -> Result<FileName, Memory>
         ensures { IfOk result (λ name. name ≡ word.now) }
     {
         Ok(FileName {
@@ -38,7 +36,7 @@ impl FileName {
     }
 
     /// The name as text.
-    pub(crate) fn as_str(&self) -> &str
+    pub fn as_str(&self) -> &str
         ensures { result.now ≡ self.now }
     {
         self.text.as_str()
@@ -47,37 +45,16 @@ impl FileName {
 
 /// A run that the words ask for: the names of the files that it takes, and how many steps it may take.
 #[derive(Debug, Drop)]
-pub(crate) struct RunRequest {
-    pub(crate) code: FileName,
-    pub(crate) input: FileName,
-    pub(crate) plan: FileName,
-    pub(crate) steps: u64,
-}
-
-/// What a module runs on.
-#[derive(Debug, Drop)]
-pub(crate) enum Engine {
-    /// The reference interpreter: a source module runs by its meaning.
-    Meaning,
-    /// The address machine: a rewritten module runs over the stack map in the file of this name, or else over its own.
-    Machine { map: Option<FileName> },
-}
-
-impl Engine {
-    /// The form of the modules that it runs.
-    pub(crate) fn form(&self) -> Form
-        ensures { result ≡ form_of self.now }
-    {
-        match self {
-            Engine::Meaning => Form::Source,
-            Engine::Machine { .. } => Form::Rewritten,
-        }
-    }
+pub struct RunRequest {
+    pub code: FileName,
+    pub input: FileName,
+    pub plan: FileName,
+    pub steps: u64,
 }
 
 /// What is written of a rewritten module.
 #[derive(Clone, Copy, Debug, PartialEq, Eq)]
-pub(crate) enum Part {
+pub enum Part {
     Text,
     /// Its stack map as text.
     MapText,
@@ -87,7 +64,7 @@ pub(crate) enum Part {
 
 /// What the words of the command line ask for.
 #[derive(Debug, Drop)]
-pub(crate) enum Command {
+pub enum Command {
     /// Write the text of the module.
     Show {
         module: FileName,

@@ -1,7 +1,7 @@
 ghost use Rattle.std.specs.Prelude.{◌≡◌, Some, None, map, string_bytes, IfOk, IsErrOf};
 ghost use Rattle.std.specs.Char.{is_ascii_digit};
 ghost use Rattle.std.specs.List.{list_all};
-ghost use Rattle.statepoint_tool.specs.Words.{command_of, exec_over, names_file, of_exec, of_exec_over, of_module, of_raw, of_run, request_of, rewrite_of, show_of, steps_of};
+ghost use Rattle.tool_words.specs.Words.{command_of, exec_over, names_file, of_exec, of_exec_over, of_module, of_raw, of_run, request_of, rewrite_of, show_of, steps_of};
 
 use crate::request::{Command, FileName, Part, RunRequest};
 use sp_ids::{Memory, limits};
@@ -9,7 +9,7 @@ use std::alloc::Global;
 
 /// Why the words give no command.
 #[derive(Clone, Copy, Debug, PartialEq, Eq)]
-pub(crate) enum WordsFault {
+pub enum WordsFault {
     /// They are none that any command has.
     Words,
     Memory,
@@ -17,7 +17,7 @@ pub(crate) enum WordsFault {
 
 impl From<Memory> for WordsFault {
     ghost use Rattle.std.specs.Prelude.{◌≡◌};
-    ghost use Rattle.statepoint_tool.specs.declared.words.WordsFault.TheVariants.{Memory as OutOfMemory};
+    ghost use Rattle.tool_words.specs.declared.words.WordsFault.TheVariants.{Memory as OutOfMemory};
 
     ghost from_gives = { λ _ fault. fault ≡ OutOfMemory };
 
@@ -27,7 +27,7 @@ impl From<Memory> for WordsFault {
 }
 
 /// The command that the words give, the program's name first.
-pub(crate) fn command(alloc: Global, words: &[String]) -> Result<Command, WordsFault>
+pub fn command(alloc: Global, words: &[String]) -> Result<Command, WordsFault>
     ensures gives { IfOk result (λ command. command_of (map string_bytes words.now) ≡ Some command) }
     ensures none { IsErrOf result WordsFault.Words → command_of (map string_bytes words.now) ≡ None }
 {

@@ -1,8 +1,8 @@
 use Rattle.std.proofs.Common.{◌≡◌, true, rules}
 use Rattle.std.specs.Char.{is_ascii_digit}
 use Rattle.std.specs.List.{list_all}
-use Rattle.statepoint_tool.proofs.StepBounds.{steps_of-unparsed}
-use Rattle.statepoint_tool.proofs.words.step_bound.Goals as goal
+use Rattle.tool_words.proofs.StepBounds.{steps_of-unparsed}
+use Rattle.tool_words.proofs.words.step_bound.Goals as goal
 
 pub returns-in_default : goal.returns-in_default
 returns-in_default c =

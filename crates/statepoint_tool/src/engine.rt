@@ -1,0 +1,26 @@
+ghost use Rattle.std.specs.Prelude.{◌≡◌};
+ghost use Rattle.statepoint_tool.specs.Work.{form_of};
+
+use ir_ast::Form;
+use tool_words::FileName;
+
+/// What a module runs on.
+#[derive(Debug, Drop)]
+pub(crate) enum Engine {
+    /// The reference interpreter: a source module runs by its meaning.
+    Meaning,
+    /// The address machine: a rewritten module runs over the stack map in the file of this name, or else over its own.
+    Machine { map: Option<FileName> },
+}
+
+impl Engine {
+    /// The form of the modules that it runs.
+    pub(crate) fn form(&self) -> Form
+        ensures { result ≡ form_of self.now }
+    {
+        match self {
+            Engine::Meaning => Form::Source,
+            Engine::Machine { .. } => Form::Rewritten,
+        }
+    }
+}
