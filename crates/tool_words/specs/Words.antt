@@ -8,7 +8,7 @@ use Rattle.tool_words.specs.declared.request.Part.{Part}
 use Rattle.tool_words.specs.declared.request.Part.TheVariants.{Text, MapText, MapBytes}
 use Rattle.tool_words.specs.declared.request.RunRequest.{RunRequest}
 use Rattle.tool_words.specs.declared.request.Command.{Command}
-use Rattle.tool_words.specs.declared.request.Command.TheVariants.{Show, Rewrite, Source, Run, Exec}
+use Rattle.tool_words.specs.declared.request.Command.TheVariants.{Show, Rewrite, Check, Source, Run, Exec}
 
 -- a word that may name a file: it isn't empty, and begins with `-` only where it is `-`
 abbrev pub names_file : List ℕ → Bool
@@ -38,20 +38,26 @@ source_of code input plan steps = option_map (λ request. Source request) (reque
 abbrev pub run_of : (code input plan steps : List ℕ) → Option Command
 run_of code input plan steps = option_map (λ request. Run request) (request_of code input plan steps)
 
--- the command `exec` asks for the run of a rewritten module, over its own stack map
-abbrev pub exec_of : (code input plan steps : List ℕ) → Option Command
-exec_of code input plan steps = option_map (λ request. Exec request None) (request_of code input plan steps)
+-- the command `exec` asks for the run of a rewritten module, over its own stack map; without trust it is verified first
+abbrev pub exec_of : Bool → (code input plan steps : List ℕ) → Option Command
+exec_of trust code input plan steps = option_map (λ request. Exec request None trust) (request_of code input plan steps)
 
--- or over that in a file
-abbrev pub exec_over : (code input plan steps map_file : List ℕ) → Option Command
-exec_over code input plan steps map_file =
-    if names_file map_file then option_map (λ request. Exec request (Some map_file)) (request_of code input plan steps) else None
+-- or, with an option, over that in a file
+unfoldable pub exec_over : Bool → (code input plan steps option map_file : List ℕ) → Option Command
+exec_over trust code input plan steps option map_file =
+    if bytes_eq option (codes "--map")
+    then (if names_file map_file then option_map (λ request. Exec request (Some map_file) trust) (request_of code input plan steps) else None)
+    else None
 
 -- the command `show` names one
 abbrev pub show_of : List ℕ → Option Command
 show_of module_file = if names_file module_file then Some (Show module_file) else None
 
--- and so do those that write of its rewritten module
+-- and so does `check`, a rewritten one
+abbrev pub check_of : List ℕ → Option Command
+check_of module_file = if names_file module_file then Some (Check module_file) else None
+
+-- and those that write of its rewritten module
 abbrev pub rewrite_of : Part → List ℕ → Option Command
 rewrite_of part module_file = if names_file module_file then Some (Rewrite module_file part) else None
 
@@ -61,6 +67,7 @@ of_module name module_file =
     if bytes_eq name (codes "show") then show_of module_file
     else if bytes_eq name (codes "rewrite") then rewrite_of Text module_file
     else if bytes_eq name (codes "maps") then rewrite_of MapText module_file
+    else if bytes_eq name (codes "check") then check_of module_file
     else None
 
 -- with an option
@@ -72,18 +79,23 @@ unfoldable pub of_run : (name code input plan steps : List ℕ) → Option Comma
 of_run name code input plan steps =
     if bytes_eq name (codes "source") then source_of code input plan steps
     else if bytes_eq name (codes "run") then run_of code input plan steps
+    else if bytes_eq name (codes "exec") then exec_of false code input plan steps
     else None
 
--- the module is run as it is, without being checked first
+-- the module is run as it is, without being verified first
 unfoldable pub of_exec : (name code input plan steps trust : List ℕ) → Option Command
 of_exec name code input plan steps trust =
-    if bytes_eq name (codes "exec") then (if bytes_eq trust (codes "--trust") then exec_of code input plan steps else None) else None
+    if bytes_eq name (codes "exec") then (if bytes_eq trust (codes "--trust") then exec_of true code input plan steps else None) else None
+
+-- it is run over the stack map in a file, verified first or not
+unfoldable pub of_exec_map : (name code input plan steps option map_file : List ℕ) → Option Command
+of_exec_map name code input plan steps option map_file =
+    if bytes_eq name (codes "exec") then exec_over false code input plan steps option map_file else None
 
 unfoldable pub of_exec_over : (name code input plan steps trust option map_file : List ℕ) → Option Command
 of_exec_over name code input plan steps trust option map_file =
     if bytes_eq name (codes "exec")
-    then (if bytes_eq trust (codes "--trust")
-    then (if bytes_eq option (codes "--map") then exec_over code input plan steps map_file else None) else None) else None
+    then (if bytes_eq trust (codes "--trust") then exec_over true code input plan steps option map_file else None) else None
 
 -- the program's name, the command's name, and what the command takes; nothing else is a command
 abbrev pub command_of : List (List ℕ) → Option Command
@@ -91,5 +103,6 @@ command_of (program ∷ name ∷ module_file ∷ []) = of_module name module_fil
 command_of (program ∷ name ∷ module_file ∷ option ∷ []) = of_raw name module_file option
 command_of (program ∷ name ∷ code ∷ input ∷ plan ∷ steps ∷ []) = of_run name code input plan steps
 command_of (program ∷ name ∷ code ∷ input ∷ plan ∷ steps ∷ trust ∷ []) = of_exec name code input plan steps trust
+command_of (program ∷ name ∷ code ∷ input ∷ plan ∷ steps ∷ option ∷ map_file ∷ []) = of_exec_map name code input plan steps option map_file
 command_of (program ∷ name ∷ code ∷ input ∷ plan ∷ steps ∷ trust ∷ option ∷ map_file ∷ []) = of_exec_over name code input plan steps trust option map_file
 command_of _ = None

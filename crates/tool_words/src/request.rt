@@ -74,14 +74,19 @@ pub enum Command {
         module: FileName,
         part: Part,
     },
+    /// Say whether the verifier finds a fault in this rewritten module, and which is the least.
+    Check {
+        module: FileName,
+    },
     /// Run the module by the source meaning, over the input and under the plan, for at most so many steps.
     Source(RunRequest),
     /// The same, of the rewritten module. No module is rewritten yet, so that this is the run of the source meaning.
     Run(RunRequest),
-    /// Run this rewritten module on the address machine, without checking it first, over the stack map in the file of this
-    /// name, or else over its own.
+    /// Run this rewritten module on the address machine, over the stack map in the file of this name, or else over its own. It
+    /// is verified first, unless it is trusted.
     Exec {
         request: RunRequest,
         map: Option<FileName>,
+        trust: bool,
     },
 }

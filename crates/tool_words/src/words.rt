@@ -1,7 +1,7 @@
 ghost use Rattle.std.specs.Prelude.{◌≡◌, Some, None, map, string_bytes, IfOk, IsErrOf};
 ghost use Rattle.std.specs.Char.{is_ascii_digit};
 ghost use Rattle.std.specs.List.{list_all};
-ghost use Rattle.tool_words.specs.Words.{command_of, exec_over, names_file, of_exec, of_exec_over, of_module, of_raw, of_run, request_of, rewrite_of, show_of, steps_of};
+ghost use Rattle.tool_words.specs.Words.{check_of, command_of, exec_of, exec_over, names_file, of_exec, of_exec_map, of_exec_over, of_module, of_raw, of_run, request_of, rewrite_of, show_of, steps_of};
 
 use crate::request::{Command, FileName, Part, RunRequest};
 use sp_ids::{Memory, limits};
@@ -53,6 +53,16 @@ pub fn command(alloc: Global, words: &[String]) -> Result<Command, WordsFault>
             steps.as_str(),
             trust.as_str(),
         ),
+        [_program, name, code, input, plan, steps, option, map_file] => of_exec_map(
+            alloc,
+            name.as_str(),
+            code.as_str(),
+            input.as_str(),
+            plan.as_str(),
+            steps.as_str(),
+            option.as_str(),
+            map_file.as_str(),
+        ),
         [
             _program,
             name,
@@ -90,6 +100,8 @@ fn of_module(alloc: Global, name: &str, module_name: &str) -> Result<Command, Wo
         rewrite_command(alloc, Part::Text, module_name)
     } else if name == "maps" {
         rewrite_command(alloc, Part::MapText, module_name)
+    } else if name == "check" {
+        check_command(alloc, module_name)
     } else {
         Err(WordsFault::Words)
     }
@@ -116,7 +128,30 @@ fn of_run(
         let request = run_request(alloc, code, input, plan, steps)?;
         return Ok(Command::Run(request));
     }
+    if name == "exec" {
+        return exec_command(alloc, code, input, plan, steps, false);
+    }
     Err(WordsFault::Words)
+}
+
+// The command `exec` over its own stack map.
+fn exec_command(
+    alloc: Global,
+    code: &str,
+    input: &str,
+    plan: &str,
+    steps: &str,
+    trust: bool,
+) -> Result<Command, WordsFault>
+    ensures gives { IfOk result (λ command. exec_of trust code.now input.now plan.now steps.now ≡ Some command) }
+    ensures none { IsErrOf result WordsFault.Words → exec_of trust code.now input.now plan.now steps.now ≡ None }
+{
+    let request = run_request(alloc, code, input, plan, steps)?;
+    Ok(Command::Exec {
+        request,
+        map: None,
+        trust,
+    })
 }
 
 // The command that runs a rewritten module as it is, over its own stack map.
@@ -139,11 +174,31 @@ fn of_exec(
     if trust != "--trust" {
         return Err(WordsFault::Words);
     }
-    let request = run_request(alloc, code, input, plan, steps)?;
-    Ok(Command::Exec { request, map: None })
+    exec_command(alloc, code, input, plan, steps, true)
 }
 
-// The same, over the stack map in a file.
+// The command that runs a rewritten module over the stack map in a file.
+#[tactic(auto, unfolding(crate::specs::Words::of_exec_map))]
+fn of_exec_map(
+    alloc: Global,
+    name: &str,
+    code: &str,
+    input: &str,
+    plan: &str,
+    steps: &str,
+    option: &str,
+    map_file: &str,
+) -> Result<Command, WordsFault>
+    ensures gives { IfOk result (λ command. of_exec_map name.now code.now input.now plan.now steps.now option.now map_file.now ≡ Some command) }
+    ensures none { IsErrOf result WordsFault.Words → of_exec_map name.now code.now input.now plan.now steps.now option.now map_file.now ≡ None }
+{
+    if name != "exec" {
+        return Err(WordsFault::Words);
+    }
+    exec_over_command(alloc, code, input, plan, steps, option, map_file, false)
+}
+
+// Both.
 #[tactic(auto, unfolding(crate::specs::Words::of_exec_over))]
 fn of_exec_over(
     alloc: Global,
@@ -165,24 +220,27 @@ fn of_exec_over(
     if trust != "--trust" {
         return Err(WordsFault::Words);
     }
-    if option != "--map" {
-        return Err(WordsFault::Words);
-    }
-    exec_over_command(alloc, code, input, plan, steps, map_file)
+    exec_over_command(alloc, code, input, plan, steps, option, map_file, true)
 }
 
-// The command `exec` over these words, the last of which names a stack map.
+// The command `exec` over these words, of which the last two name a stack map.
+#[tactic(auto, unfolding(crate::specs::Words::exec_over))]
 fn exec_over_command(
     alloc: Global,
     code: &str,
     input: &str,
     plan: &str,
     steps: &str,
+    option: &str,
     map_file: &str,
+    trust: bool,
 ) -> Result<Command, WordsFault>
-    ensures gives { IfOk result (λ command. exec_over code.now input.now plan.now steps.now map_file.now ≡ Some command) }
-    ensures none { IsErrOf result WordsFault.Words → exec_over code.now input.now plan.now steps.now map_file.now ≡ None }
+    ensures gives { IfOk result (λ command. exec_over trust code.now input.now plan.now steps.now option.now map_file.now ≡ Some command) }
+    ensures none { IsErrOf result WordsFault.Words → exec_over trust code.now input.now plan.now steps.now option.now map_file.now ≡ None }
 {
+    if option != "--map" {
+        return Err(WordsFault::Words);
+    }
     if !may_name_file(map_file) {
         return Err(WordsFault::Words);
     }
@@ -190,6 +248,7 @@ fn exec_over_command(
     Ok(Command::Exec {
         request,
         map: Some(FileName::of(alloc, map_file)?),
+        trust,
     })
 }
 
@@ -202,6 +261,19 @@ fn show_command(alloc: Global, module_name: &str) -> Result<Command, WordsFault>
         return Err(WordsFault::Words);
     }
     Ok(Command::Show {
+        module: FileName::of(alloc, module_name)?,
+    })
+}
+
+// The command `check` over this word.
+fn check_command(alloc: Global, module_name: &str) -> Result<Command, WordsFault>
+    ensures gives { IfOk result (λ command. check_of module_name.now ≡ Some command) }
+    ensures none { IsErrOf result WordsFault.Words → check_of module_name.now ≡ None }
+{
+    if !may_name_file(module_name) {
+        return Err(WordsFault::Words);
+    }
+    Ok(Command::Check {
         module: FileName::of(alloc, module_name)?,
     })
 }
