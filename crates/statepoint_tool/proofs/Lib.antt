@@ -3,6 +3,7 @@ pub mod StepLaws
 pub mod TextLaws
 pub mod InputLaws
 pub mod ReadsLaws
+pub mod JudgeLaws
 pub mod WorksLaws
 pub mod NamedLaws
 pub mod RewriteLaws

@@ -9,8 +9,9 @@ use tool_words::FileName;
 pub(crate) enum Engine {
     /// The reference interpreter: a source module runs by its meaning.
     Meaning,
-    /// The address machine: a rewritten module runs over the stack map in the file of this name, or else over its own.
-    Machine { map: Option<FileName> },
+    /// The address machine: a rewritten module runs over the stack map in the file of this name, or else over its own. It is
+    /// verified first, unless it is trusted.
+    Machine { map: Option<FileName>, trust: bool },
 }
 
 impl Engine {

@@ -3,6 +3,7 @@
 
 mod closing;
 mod engine;
+mod judging;
 mod machine;
 mod maps;
 mod notes;

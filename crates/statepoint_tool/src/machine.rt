@@ -28,6 +28,7 @@ pub(crate) fn run_on_machine<F: Files, O: Sink>(
     alloc: Global,
     read: &Module,
     map: Option<FileName>,
+    trust: bool,
     numbers: &[i64],
     plan: &Plan,
     steps: u64,
@@ -36,8 +37,8 @@ pub(crate) fn run_on_machine<F: Files, O: Sink>(
 ) -> Result<Status, Refusal>
     requires target { IsTargetModule read.now.content }
     requires no_bundle { All HasNoBundle read.now.content.funcs }
-    ensures works { Works (MayGiveMap (files_seen (F.contents files.old) (F.faults files.old) (F.faults files.new)) (Engine.Machine «map»))
-        (run_phase (Engine.Machine «map») read.now.content numbers.now plan.now steps) result
+    ensures works { Works (MayGiveMap (files_seen (F.contents files.old) (F.faults files.old) (F.faults files.new)) (Engine.Machine «map» trust))
+        (run_phase (Engine.Machine «map» trust) read.now.content numbers.now plan.now steps) result
         (sink_seen (O.written out.old) (O.written out.new) (O.faults out.old) (O.faults out.new)) }
     ensures kept { F.contents files.new ≡ F.contents files.old }
     ensures counted { NoneFell (F.faults files.old) (F.faults files.new) }

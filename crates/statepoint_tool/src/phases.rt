@@ -153,7 +153,8 @@ fn type_as(alloc: Global, form: Form, raw: Raw) -> Result<Module, TypeFault>
     }
 }
 
-fn module_in(alloc: Global, form: Form, text: &[u8]) -> Result<Module, Refusal>
+/// The module of this form that a text stands for.
+pub(crate) fn module_in(alloc: Global, form: Form, text: &[u8]) -> Result<Module, Refusal>
     requires { length text.now ≤ 16777216 }
     ensures read { Agrees (λ read. read) result (module_phase form text.now) }
     ensures formed { IfOk result (λ read. IsFormedModule read.content) }

@@ -1,6 +1,7 @@
 use tool_words::FileName;
 use ir_types::Fault;
 use map_bytes::MapFault;
+use statepoint_verify::Fault as CheckFault;
 use sp_ids::Memory;
 
 /// What is wrong with the text of a module.
@@ -44,6 +45,8 @@ pub(crate) enum Cause {
     Plan(PlanFault),
     /// The first fault of the bytes of a stack map.
     Map(MapFault),
+    /// The least fault that the verifier tells.
+    Check(CheckFault),
 }
 
 /// Why the work did not come to its end.

@@ -12,7 +12,8 @@ ghost use Rattle.statepoint_tool.specs.Work.{MayGiveAll, MayGiveFromInput, MayGi
 
 use crate::closing::close;
 use crate::machine::run_on_machine;
-use crate::phases::{take_input, take_module, take_plan};
+use crate::judging::take_run_module;
+use crate::phases::{take_input, take_plan};
 use crate::refusal::Refusal;
 use crate::engine::Engine;
 use tool_words::{FileName, RunRequest};
@@ -44,7 +45,7 @@ pub(crate) fn run<F: Files, O: Sink>(
         plan,
         steps,
     } = request;
-    let read = take_module(alloc, engine.form(), files, code)?;
+    let read = take_run_module(alloc, &engine, files, code)?;
     run_module(alloc, &read, engine, input, plan, steps, files, out)
 }
 
@@ -118,8 +119,8 @@ fn run_under_plan<F: Files, O: Sink>(
 {
     match engine {
         Engine::Meaning => run_by_meaning(alloc, read, numbers, plan, steps, out),
-        Engine::Machine { map } => {
-            run_on_machine(alloc, read, map, numbers, plan, steps, files, out)
+        Engine::Machine { map, trust } => {
+            run_on_machine(alloc, read, map, trust, numbers, plan, steps, files, out)
         }
     }
 }

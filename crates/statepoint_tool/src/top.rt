@@ -1,8 +1,8 @@
 //! The top call.
-ghost use Rattle.std.specs.Prelude.{◌≡◌, ◌≢◌, ◌≤◌, ◌⊎◌, ℕ, List, map, string_bytes};
+ghost use Rattle.std.specs.Prelude.{◌≡◌, ◌≤◌, ◌⊎◌, ℕ, List, map, string_bytes};
 ghost use Rattle.tool_io.specs.Counts.{NoneFell};
 ghost use Rattle.statepoint_tool.specs.Answers.{SinkFailed, IsAnswer, IsTold, Works, sink_seen};
-ghost use Rattle.statepoint_tool.specs.Causes.{CannotRead, EndsWith, HasSomeInputFault, HasSomeMapFault, HasSomeModuleFault, HasSomePlanFault, IsTooLong, NoCommand};
+ghost use Rattle.statepoint_tool.specs.Causes.{CannotRead, EndsWith, HasSomeCheckFault, HasSomeInputFault, HasSomeMapFault, HasSomeModuleFault, HasSomePlanFault, IsTooLong, NoCommand};
 ghost use Rattle.statepoint_tool.specs.Complete.{IsComplete};
 ghost use Rattle.statepoint_tool.specs.Statuses.{Exactly, ReadFaultCounted, Says, Writes};
 ghost use Rattle.statepoint_tool.specs.Taken.{files_seen};
@@ -12,6 +12,7 @@ ghost use Rattle.statepoint_tool.specs.Work.{MayGiveNamed, work as work_of};
 use crate::notes::put_note;
 use crate::refusal::{Cause, Refusal};
 use crate::engine::Engine;
+use crate::judging::check;
 use crate::rewrite::rewrite;
 use crate::run::run;
 use crate::show::show;
@@ -24,12 +25,13 @@ use tool_io::{Failed, Files, Sink};
 ///
 /// `show` writes the text of the module, `rewrite` that of the rewritten module, `maps` its stack map,
 /// as text or with `--raw` as bytes. `source` and `run` write the lines of the source meaning, over the numbers of the
-/// input and under the `go` lines of the plan, and then the line that closes the run. `exec` with `--trust` writes the lines
-/// that the address machine prints, which runs a rewritten module as it is under the moves and the `go` lines of the plan,
-/// over the module's own stack map or that in the file of `--map`, and then the closing line.
+/// input and under the `go` lines of the plan, and then the line that closes the run. `check` writes `ok` where the verifier
+/// finds no fault in a rewritten module. `exec` writes the lines that the address machine prints, which runs a rewritten module
+/// under the moves and the `go` lines of the plan, over the module's own stack map or that in the file of `--map`, and then the
+/// closing line; without `--trust` the module is verified first.
 ///
-/// The work goes in this order: the words; the module is taken, read and typed; for `rewrite` and `maps` it is rewritten;
-/// for `source`, `run` and `exec` the input is taken and read, then the plan, then the stack map where one is named, and the
+/// The work goes in this order: the words; the module is taken, read and typed; for `rewrite` and `maps` it is rewritten, for
+/// `check` and for `exec` without `--trust` verified; for `source`, `run` and `exec` the input is taken and read, then the plan, then the stack map where one is named, and the
 /// module runs. A run writes each line by one `put`, as it comes. A refusal puts one line on `notes`.
 ///
 /// What the files gave is what is told of them, or anything where nothing is told; a file could not be
@@ -96,6 +98,11 @@ pub fn statepoint<F: Files, O: Sink, E: Sink>(
         (sink_seen (O.written out.old) (O.written out.new) (O.faults out.old) (O.faults out.new))
         (sink_seen (E.written notes.old) (E.written notes.new) (E.faults notes.old) (E.faults notes.new))
         result Status.MapRefused HasSomeMapFault }
+    ensures said_no { Exactly (map string_bytes words.now)
+        (files_seen (F.contents files.old) (F.faults files.old) (F.faults files.new))
+        (sink_seen (O.written out.old) (O.written out.new) (O.faults out.old) (O.faults out.new))
+        (sink_seen (E.written notes.old) (E.written notes.new) (E.faults notes.old) (E.faults notes.new))
+        result Status.CheckSaidNo HasSomeCheckFault }
     ensures too_long { Exactly (map string_bytes words.now)
         (files_seen (F.contents files.old) (F.faults files.old) (F.faults files.new))
         (sink_seen (O.written out.old) (O.written out.new) (O.faults out.old) (O.faults out.new))
@@ -111,7 +118,6 @@ pub fn statepoint<F: Files, O: Sink, E: Sink>(
     ensures write_fault_counted { result ≡ Status.WriteFault →
         SinkFailed (sink_seen (O.written out.old) (O.written out.new) (O.faults out.old) (O.faults out.new)) ⊎
         SinkFailed (sink_seen (E.written notes.old) (E.written notes.new) (E.faults notes.old) (E.faults notes.new)) }
-    ensures never_said_no { result ≢ Status.CheckSaidNo }
 
     // What the call leaves.
     ensures writes { Writes result (map string_bytes words.now)
@@ -165,11 +171,16 @@ fn work<F: Files, O: Sink>(
     match command(alloc, words) {
         Ok(Command::Show { module }) => show(alloc, module, files, out),
         Ok(Command::Rewrite { module, part }) => rewrite(alloc, module, part, files, out),
+        Ok(Command::Check { module }) => check(alloc, module, files, out),
         Ok(Command::Source(request)) => run(alloc, Engine::Meaning, request, files, out),
         Ok(Command::Run(request)) => run(alloc, Engine::Meaning, request, files, out),
-        Ok(Command::Exec { request, map }) => run(
+        Ok(Command::Exec {
+            request,
+            map,
+            trust,
+        }) => run(
             alloc,
-            Engine::Machine { map },
+            Engine::Machine { map, trust },
             request,
             files,
             out,
