@@ -1,25 +1,44 @@
 -- The run of a source module is that of its rewritten module on the machine.
-use Rattle.std.proofs.Common.{◌≡◌, refl, sym, ◌∙◌}
+use Rattle.std.proofs.Common.{◌≡◌, ℕ, ℤ, List, ◌++◌, reverse, refl, sym, ap, ◌∙◌, append_assoc}
+use Rattle.std.proofs.lemmas.List.Folds.{concat-append}
+use Rattle.std.specs.List.{All, concat}
+use Rattle.ir_ast.specs.Bundles.{HasNoBundle}
 use Rattle.ir_ast.specs.Modules.{ModuleContent}
+use Rattle.ir_cfg.specs.SourceModules.{IsSourceModule}
 use Rattle.move_plan.specs.Plans.{go}
+use Rattle.move_plan.specs.declared.plan_lines.PlanLine.{PlanLine}
+use Rattle.object_meaning.specs.Effects.{text_of}
+use Rattle.object_meaning.specs.Outcomes.{whole_text}
+use Rattle.object_meaning.proofs.OutcomeLaws.{concat-reverse}
+use Rattle.stackmap_write.specs.ModuleMaps.{map_of}
+use Rattle.machine_meaning.specs.Code.{machinery_of}
+use Rattle.machine_meaning.specs.MachineRuns.{MachineOutcome}
+use Rattle.machine_meaning.specs.Machines.{Machinery}
+use Rattle.machine_meaning.specs.TrapLines.{closing_of}
+use Rattle.machine_ends.specs.Statements.{PrintsMore}
+use Rattle.machine_ends.proofs.EndLaws.{each_run_ends}
+use Rattle.machine_ends.proofs.PrintLaws.{printed_first}
 use Rattle.sp_rewrite.specs.Statements.{IsRewritten}
 use Rattle.sp_rewrite.proofs.BareLaws.{no_bundle}
 use Rattle.sp_rewrite.proofs.RewrittenLaws.{rewriting_is_target, rewriting_is_verified, rewriting_keeps_meaning}
 use Rattle.rewritten_definite.specs.Statements.{rewritten_source}
 use Rattle.moves_unseen.specs.Waits.{IsSound}
-use Rattle.rewritten_runs.specs.Statements.{SeenRunsAreSource, SourcesRunOnMachine}
+use Rattle.rewritten_runs.specs.Statements.{FrontsAreSource, SeenRunsAreSource, SourcesRunOnMachine}
 use Rattle.rewritten_runs.proofs.NameLaws.{names_are_kept}
-use Rattle.runs_unseen.proofs.RunLaws.{moves_are_unseen, runs_keep_their_way}
+use Rattle.runs_unseen.proofs.RunLaws.{machine_runs_are_seen, moves_are_unseen, runs_keep_their_way}
+
+sound_after : (content after : ModuleContent) → IsSourceModule content → All HasNoBundle content.funcs → IsRewritten content after → IsSound after
+sound_after content after source bare is = record {
+  target = rewriting_is_target content after source is;
+  bundles = no_bundle content after is bare;
+  verified = rewriting_is_verified content after source is;
+}
 
 pub sources_run_on_machine : SourcesRunOnMachine
 sources_run_on_machine content reached source bare drops input plan bound outcome gives =
     let after : ModuleContent = rewritten_source reached in
     let is : IsRewritten content after = record { reached = reached; drops = drops; rest = refl } in
-    let sound : IsSound after = record {
-      target = rewriting_is_target content after source is;
-      bundles = no_bundle content after is bare;
-      verified = rewriting_is_verified content after source is;
-    } in
+    let sound = sound_after content after source bare is in
     let target = (rewriting_keeps_meaning content after source is input (go plan) bound outcome).0 gives in
     let run = moves_are_unseen after sound input plan bound outcome target in
     let way = runs_keep_their_way after sound input plan bound run.0 run.1.0 in
@@ -51,3 +70,26 @@ seen_runs_are_source content after source is input go_line bound end func steps 
   events_are = seen.events_are;
   written = seen.written;
 }
+
+all_lines : (lines closing : List (List ℕ)) → concat (reverse lines ++ closing) ≡ text_of lines ++ concat closing
+all_lines lines closing = concat-append (reverse lines) closing ∙ ap (λ (text : List ℕ). text ++ concat closing) (concat-reverse lines)
+
+more_text : (printed last closing : List (List ℕ)) (more : PrintsMore printed last) → text_of last ++ concat closing ≡ text_of printed ++ (more.more ++ concat closing)
+more_text printed last closing more = ap (λ (text : List ℕ). text ++ concat closing) more.text ∙ append_assoc (text_of printed) more.more (concat closing)
+
+pub fronts_are_source : FrontsAreSource
+fronts_are_source content after source bare is input plan bound now reached =
+    let machinery : Machinery = machinery_of after (map_of after) plan bound in
+    let ended = each_run_ends machinery input in
+    let machine : MachineOutcome = ended.outcome in
+    let last = ended.gives.last in
+    let printed = printed_first machinery input now machine reached ended.gives in
+    let found = machine_runs_are_seen after (sound_after content after source bare is) input plan bound machine ended.gives in
+    let closing = closing_of machinery machine.end last.state in
+    let lines : machine.lines ≡ reverse last.lines ++ closing = ap (λ (m : MachineOutcome). m.lines) ended.gives.is in
+    record {
+      outcome = found.outcome;
+      gives = (rewriting_keeps_meaning content after source is input (go plan) bound found.outcome).1 found.gives;
+      more = printed.more ++ concat closing;
+      is = ap concat (sym found.seen.lines ∙ lines) ∙ (all_lines last.lines closing ∙ more_text now.lines last.lines closing printed);
+    }

@@ -1,10 +1,11 @@
 -- The run of a source module on objects that never move, beside the run of its rewritten module on the machine.
-use Rattle.std.specs.Prelude.{◌≡◌, ℕ, ℤ, List, map, Option}
+use Rattle.std.specs.Prelude.{◌≡◌, ℕ, ℤ, List, ◌++◌, map, Option}
 use Rattle.sp_ids.specs.declared.ends.End.{End}
 use Rattle.sp_ids.specs.declared.ends.End.TheVariants.{LostFrame, Poison}
 use Rattle.ir_ast.specs.Modules.{ModuleContent}
 use Rattle.tool_io.specs.Sink.{append_known}
 use Rattle.move_plan.specs.declared.plan_lines.PlanLine.{PlanLine}
+use Rattle.object_meaning.specs.Effects.{text_of}
 use Rattle.object_meaning.specs.Outcomes.{Outcome, whole_text}
 use Rattle.object_meaning.specs.SourceRuns.{SourceGives}
 use Rattle.object_meaning.specs.Texts.{function_name}
@@ -40,3 +41,10 @@ pub record IsSourceRun (content : ModuleContent) (input : List ℤ) (go_line : �
   pub steps_are : steps ≡ outcome.steps
   pub events_are : events ≡ outcome.events
   pub written : new ≡ append_known old (whole_text outcome)
+
+-- these lines, newest first, are a front of what the source meaning writes
+pub record IsSourceFront (content : ModuleContent) (input : List ℤ) (go_line : ℕ → Option ℕ) (bound : ℕ) (printed : List (List ℕ)) : Type 0 where
+  pub outcome : Outcome
+  pub gives : SourceGives content input go_line bound outcome
+  pub more : List ℕ
+  pub is : whole_text outcome ≡ text_of printed ++ more

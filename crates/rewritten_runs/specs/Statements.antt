@@ -8,12 +8,18 @@ use Rattle.ir_cfg.specs.SourceModules.{IsSourceModule}
 use Rattle.ir_cfg.specs.Unreached.{ModuleDropsUnreached}
 use Rattle.move_plan.specs.declared.plan_lines.PlanLine.{PlanLine}
 use Rattle.move_plan.specs.Plans.{go}
+use Rattle.object_meaning.specs.Effects.{Progress}
 use Rattle.object_meaning.specs.Outcomes.{Outcome}
+use Rattle.object_meaning.specs.Runs.{Reaches}
 use Rattle.object_meaning.specs.SourceRuns.{SourceGives}
 use Rattle.object_meaning.specs.Texts.{function_name}
+use Rattle.stackmap_write.specs.ModuleMaps.{map_of}
+use Rattle.machine_meaning.specs.Code.{machinery_of}
+use Rattle.machine_meaning.specs.MachineRuns.{machine_opening, machine_proceeds}
+use Rattle.machine_meaning.specs.Machines.{Machine}
 use Rattle.sp_rewrite.specs.Statements.{IsRewritten}
 use Rattle.runs_unseen.specs.Runs.{IsSeenRun}
-use Rattle.rewritten_runs.specs.Runs.{IsRunOnMachine, IsSourceRun}
+use Rattle.rewritten_runs.specs.Runs.{IsRunOnMachine, IsSourceFront, IsSourceRun}
 
 -- whatever a source module's run gives, its rewritten module's run on the machine gives
 abbrev pub SourcesRunOnMachine : Type 0
@@ -25,6 +31,13 @@ abbrev pub SeenRunsAreSource : Type 0
 SeenRunsAreSource = (content after : ModuleContent) → IsSourceModule content → IsRewritten content after → (input : List ℤ) (go_line : ℕ → Option ℕ) (bound : ℕ)
     → (end : End) (func steps events printed : ℕ) (old new : Option (List ℕ)) → IsSeenRun after input go_line bound end func steps events printed old new
     → IsSourceRun content input go_line bound end func steps events old new
+
+-- and what it has printed by some state
+abbrev pub FrontsAreSource : Type 0
+FrontsAreSource = (content after : ModuleContent) → IsSourceModule content → All HasNoBundle content.funcs → IsRewritten content after
+    → (input : List ℤ) (plan : List PlanLine) (bound : ℕ) (now : Progress Machine)
+    → Reaches {E = End} (machine_proceeds (machinery_of after (map_of after) plan bound)) (machine_opening (machinery_of after (map_of after) plan bound) input) now
+    → IsSourceFront content input (go plan) bound now.lines
 
 -- functions keep their names
 abbrev pub NamesAreKept : Type 0
