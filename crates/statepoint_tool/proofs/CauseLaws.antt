@@ -14,7 +14,8 @@ use Rattle.map_bytes.specs.Maps.{StackMap}
 use Rattle.pair_facts.specs.Faults.{IsVerified, IsLeastFault as IsLeastCheckFault}
 use Rattle.stackmap_write.specs.ModuleMaps.{map_of}
 use Rattle.tool_io.specs.Counts.{Rose}
-use Rattle.statepoint_tool.specs.Causes.{IsAccepted, AsksToShow, AsksToCheck, AsksToRewrite, IsAskedFor, by_source, by_run, by_exec, AsksForRun, ReadsToRewrite, ReadsModule, ReadsInput, ReadsPlan, Runs, Executes, ReadsForMap, IsTrusted, Checks, engine_asked, module_run, steps_asked, Ends, by_showing, by_checking, by_rewriting, by_running, by_executing, EndsWith, NoCommand, NamesModule, to_show, to_check, to_rewrite, to_run, NamesJudged, to_judge, to_run_judged, HasCheckFault, HasSomeCheckFault, HasModuleFault, in_text, too_many, HasSomeModuleFault, HasSomeInputFault, HasSomePlanFault, HasSomeMapFault, FileGives, module_gives, input_gives, plan_gives, map_gives, CannotRead, IsTooLong, StopsBy}
+use Rattle.statepoint_tool.specs.Causes.{IsAccepted, AsksToShow, AsksToCheck, AsksToRewrite, IsAskedFor, by_source, by_run, by_exec, AsksForRun, ReadsToRewrite, ReadsModule, ReadsInput, ReadsPlan, Runs, Executes, ReadsForMap, IsTrusted, Checks, engine_asked, module_run, steps_asked, Ends, by_showing, by_checking, by_rewriting, by_running, by_executing, EndsWith, NoCommand, NamesModule, to_show, to_check, to_rewrite, to_run, NamesJudged, to_judge, to_run_judged, HasCheckFault, HasSomeCheckFault, NamesSource, to_write, to_run_rewritten, RunsSource, HasModuleFault, in_text, too_many, HasSomeModuleFault, HasSomeInputFault, HasSomePlanFault, HasSomeMapFault, FileGives, module_gives, input_gives, plan_gives, map_gives, CannotRead, IsTooLong, StopsBy}
+use Rattle.sp_rewrite.specs.Relocates.{HasManyRelocates}
 use Rattle.statepoint_tool.specs.Statuses.{CauseOf, status_of_step}
 use Rattle.statepoint_tool.specs.Steps.{Step, Go, Stop, Then, goes_on, stops}
 use Rattle.statepoint_tool.specs.Taken.{Taken, Bytes, Longer, Faulty, FilesSeen, MayGive, file_phase}
@@ -26,7 +27,7 @@ use Rattle.statepoint_tool.specs.declared.refusal.Cause.TheVariants as cause
 use Rattle.statepoint_tool.specs.declared.refusal.ModuleFault.{ModuleFault}
 use Rattle.statepoint_tool.specs.declared.refusal.ModuleFault.TheVariants.{TooManyRelocations}
 use Rattle.statepoint_tool.specs.declared.engine.Engine.{Engine}
-use Rattle.statepoint_tool.specs.declared.engine.Engine.TheVariants.{Meaning, Machine}
+use Rattle.statepoint_tool.specs.declared.engine.Engine.TheVariants.{Meaning, Rewriter, Machine}
 use Rattle.tool_words.specs.declared.request.RunRequest.{RunRequest}
 use Rattle.tool_words.specs.declared.request.Command.{Command}
 use Rattle.tool_words.specs.declared.request.Command.TheVariants.{Show, Rewrite, Check, Source, Run, Exec}
@@ -35,7 +36,7 @@ use Rattle.statepoint_tool.specs.declared.status.Status.TheVariants.{ModuleRefus
 use Rattle.statepoint_tool.proofs.RewriteLaws.{Once-rewrite_phase}
 use Rattle.statepoint_tool.proofs.InputLaws.{Once-ReadingInput, Once-ReadingPlan, input-gives, input-refused, plan-gives, plan-refused}
 use Rattle.statepoint_tool.proofs.RunLaws.{Once-Running}
-use Rattle.statepoint_tool.proofs.JudgeLaws.{Once-checked_phase, Once-run_module_phase, passes, says_no, trusted_of, as-trusted, file-stops}
+use Rattle.statepoint_tool.proofs.JudgeLaws.{Once-checked_phase, Once-run_module_phase, passes, says_no, large, trusted_of, as-trusted, file-stops}
 use Rattle.statepoint_tool.proofs.MachineLaws.{Once-Executing, Once-ReadingMap, map-refused}
 use Rattle.statepoint_tool.proofs.StepLaws.{Once, stop_in, same-value, not_both, Once-comes_to, Once-Then, Once-file_phase}
 use Rattle.statepoint_tool.proofs.TextLaws.{Accepts, accepts, StopsByText, refuses, as-accepted, as-refused, Once-module_phase}
@@ -49,6 +50,7 @@ Once-map_phase content (Some name) taken = Once-file_phase name ReadingMap Once-
 Once-run_phase : (engine : Engine) (content : ModuleContent) (numbers : List ℤ) (lines : List PlanLine) (steps : ℕ) (taken : Taken) →
     Once (run_phase engine content numbers lines steps taken)
 Once-run_phase Meaning content numbers lines steps taken = Once-Running content numbers lines steps
+Once-run_phase Rewriter content numbers lines steps taken = Once-Running content numbers lines steps
 Once-run_phase (Machine map_file trust) content numbers lines steps taken =
     Once-Then (map_phase content map_file taken) (Executing content numbers lines steps) (Once-map_phase content map_file taken)
     (Once-Executing content numbers lines steps)
@@ -84,7 +86,7 @@ Once-command (Some (Check module_file)) given =
     Once-Then (file_phase module_file checked_phase given.module_file) after_check
     (Once-file_phase module_file checked_phase Once-checked_phase given.module_file) (λ (whole : LinedModule). Once-comes_to (Go passed))
 Once-command (Some (Source request)) given = Once-run_work Meaning request given
-Once-command (Some (Run request)) given = Once-run_work Meaning request given
+Once-command (Some (Run request)) given = Once-run_work Rewriter request given
 Once-command (Some (Exec request map_file trust)) given = Once-run_work (Machine map_file trust) request given
 
 pub Once-work : (words : List (List ℕ)) (given : Given) → Once (work words given)
@@ -193,7 +195,16 @@ module _ (words : List (List ℕ)) (given : Given) where
       → Rewriting (content_of text_forms.Source reads.lines) step → Explains (Stop reason) words given
   rewriting_stops reads _ reason is (rewritten own own_is few) = absurd (not_both own reason is)
   rewriting_stops reads _ reason is (has_too_many many) =
-      stop-at reason (cause.Module TooManyRelocations) (sym is) (too_many reads many)
+      stop-at reason (cause.Module TooManyRelocations) (sym is)
+      (too_many (record {
+        name = reads.asks.module_file;
+        names = to_write reads.asks;
+        text = reads.text;
+        taken = reads.taken;
+        lines = reads.lines;
+        accepted = reads.accepted;
+        many = many;
+      }))
 
   rewriting_explains : (reads : ReadsToRewrite words given) (step : Step Output) → Then (Rewriting (content_of text_forms.Source reads.lines)) (after_rewriting reads.asks.part) step → Explains step words given
   rewriting_explains reads _ (goes_on after step first rest) =
@@ -242,7 +253,8 @@ module _ (words : List (List ℕ)) (given : Given) where
 
   phase_explains : (reads : ReadsPlan words given) (engine : Engine) → engine_asked reads ≡ engine → (step : Step Output) →
       run_phase engine (module_run reads) reads.reads.numbers reads.plan (steps_asked reads) given.map_file step → Explains step words given
-  phase_explains reads Meaning is step due = running_explains (record { reads = reads; engine = is }) step due
+  phase_explains reads Meaning is step due = running_explains (record { reads = reads; engine = subst RunsSource (sym is) tt }) step due
+  phase_explains reads Rewriter is step due = running_explains (record { reads = reads; engine = subst RunsSource (sym is) tt }) step due
   phase_explains reads (Machine map_file trust) is _ (goes_on map step first rest) =
       executing_explains (record { reads = reads; map_file = map_file; trust = trust; engine = is; map = map; takes = first }) step rest
   phase_explains reads (Machine map_file trust) is _ (stops reason first) = no_map_stops reads map_file trust is reason first
@@ -304,7 +316,18 @@ module _ (words : List (List ℕ)) (given : Given) where
   judged_stops : (engine : Engine) (request : RunRequest) → IsAskedFor words engine request → (text : List ℕ) → given.module_file ≡ Bytes text → (whole : LinedModule) → Accepts (form_of engine) text whole
       → (reason : Cause) → judged engine whole (Stop reason) → Explains (Stop reason) words given
   judged_stops _ _ (by_source request is) text taken whole accepted reason stopped = absurd (not_both whole reason (sym stopped))
-  judged_stops _ _ (by_run request is) text taken whole accepted reason stopped = absurd (not_both whole reason (sym stopped))
+  judged_stops _ _ (by_run request is) text taken whole accepted reason stopped =
+      let found = large whole reason (Stop reason) refl stopped in
+      stop-at {A = Output} reason (cause.Module TooManyRelocations) (ap Stop found.is)
+      (too_many (record {
+        name = request.code;
+        names = to_run_rewritten request is;
+        text = text;
+        taken = taken;
+        lines = accepted.lines;
+        accepted = accepted.accepted;
+        many = subst (λ (w : LinedModule). HasManyRelocates w.content) accepted.is found.many;
+      }))
   judged_stops _ _ (by_exec request map_file true is) text taken whole accepted reason stopped = absurd (not_both whole reason (sym stopped))
   judged_stops _ _ (by_exec request map_file false is) text taken whole accepted reason stopped =
       said_no_stops request.code text (to_run_judged request map_file is) taken whole accepted reason stopped
@@ -332,7 +355,7 @@ module _ (words : List (List ℕ)) (given : Given) where
   command_explains (Some (Rewrite module_file part)) is step due = rewrite_explains (record { module_file = module_file; part = part; command = is }) given.module_file refl step due
   command_explains (Some (Check module_file)) is step due = check_explains (record { module_file = module_file; command = is }) given.module_file refl step due
   command_explains (Some (Source request)) is step due = run_explains (record { engine = Meaning; request = request; asked = by_source request is }) given.module_file refl step due
-  command_explains (Some (Run request)) is step due = run_explains (record { engine = Meaning; request = request; asked = by_run request is }) given.module_file refl step due
+  command_explains (Some (Run request)) is step due = run_explains (record { engine = Rewriter; request = request; asked = by_run request is }) given.module_file refl step due
   command_explains (Some (Exec request map_file trust)) is step due =
       run_explains (record { engine = Machine map_file trust; request = request; asked = by_exec request map_file trust is }) given.module_file refl step due
 
@@ -426,6 +449,12 @@ module _ (words : List (List ℕ)) (given : Given) where
       with_plan reads step
       (subst (λ (e : Engine). run_phase e (module_run reads) reads.reads.numbers reads.plan (steps_asked reads) given.map_file step) (sym is) due)
 
+  runs_phase : (engine : Engine) → RunsSource engine → (content : ModuleContent) (numbers : List ℤ) (lines : List PlanLine) (steps : ℕ) (step : Step Output)
+      → Running content numbers lines steps step → run_phase engine content numbers lines steps given.map_file step
+  runs_phase Meaning runs content numbers lines steps step due = due
+  runs_phase Rewriter runs content numbers lines steps step due = due
+  runs_phase (Machine map_file trust) runs content numbers lines steps step due = absurd runs
+
   -- the work of a run is the source meaning, or the machine's run
   pub work-ends : (output : Output) → Ends words given output → work words given (Go output)
   work-ends _ (by_showing shows) =
@@ -445,7 +474,9 @@ module _ (words : List (List ℕ)) (given : Given) where
       let output = written_of rewrites.reads.asks.part rewrites.after in
       with_source rewrites.reads (Go output) (goes_on rewrites.after (Go output) (rewritten rewrites.after rewrites.is rewrites.few) refl)
   work-ends _ (by_running runs outcome gives) =
-      phase_by runs.reads Meaning (Go (output_of (module_run runs.reads) outcome)) runs.engine (comes outcome gives)
+      with_plan runs.reads (Go (output_of (module_run runs.reads) outcome))
+      (runs_phase (engine_asked runs.reads) runs.engine (module_run runs.reads) runs.reads.reads.numbers runs.reads.plan (steps_asked runs.reads)
+      (Go (output_of (module_run runs.reads) outcome)) (comes outcome gives))
   work-ends _ (by_executing runs outcome gives) =
       let output = executed (module_run runs.reads) outcome gives.last.lines in
       phase_by runs.reads (Machine runs.map_file runs.trust) (Go output) runs.engine (goes_on runs.map (Go output) runs.takes (executes outcome gives))
@@ -471,13 +502,24 @@ module _ (words : List (List ℕ)) (given : Given) where
       commanded_run asks (Stop reason)
       (stops reason (file-stops asks.request.code (module_phase (form_of asks.engine)) (judged asks.engine) given.module_file reason stopped))
 
+  large_stops : (name text : List ℕ) → NamesSource words name → given.module_file ≡ Bytes text → (lines : List Line) → IsAccepted text_forms.Source text lines
+      → HasManyRelocates (content_of text_forms.Source lines) → work words given (Stop (cause.Module TooManyRelocations))
+  large_stops _ text (to_write asks) taken lines accepted many =
+      let reason = cause.Module TooManyRelocations in
+      with_source (record { asks = asks; text = text; taken = taken; lines = lines; accepted = accepted }) (Stop reason) (stops reason (has_too_many many))
+  large_stops _ text (to_run_rewritten request is) taken lines accepted many =
+      let reason = cause.Module TooManyRelocations in
+      let whole = module_of text_forms.Source lines in
+      commanded (Some (Run request)) (Stop reason) is
+      (stops reason (subst (λ (t : Taken). file_phase request.code (run_module_phase Rewriter) t (Stop reason)) (sym taken)
+      (goes_on whole (Stop reason) (as-accepted text_forms.Source text lines accepted) (stops reason (has_too_many many)))))
+
   stops-HasModuleFault : (fault : ModuleFault) → HasModuleFault words given fault → work words given (Stop (cause.Module fault))
   stops-HasModuleFault _ (in_text fault has) =
       let reason = cause.Module fault in
       module_stops has.form has.name reason has.names
       (subst (λ (t : Taken). file_phase has.name (module_phase has.form) t (Stop reason)) (sym has.taken) (as-refused has.form has.text fault has.has))
-  stops-HasModuleFault _ (too_many reads many) =
-      let reason = cause.Module TooManyRelocations in with_source reads (Stop reason) (stops reason (has_too_many many))
+  stops-HasModuleFault _ (too_many large) = large_stops large.name large.text large.names large.taken large.lines large.accepted large.many
 
   pub comes-HasSomeModuleFault : HasSomeModuleFault words given → ComesWith ModuleRefused
   comes-HasSomeModuleFault has = (Stop (cause.Module has.0), stops-HasModuleFault has.0 has.1, refl)

@@ -1,7 +1,9 @@
 -- What verifying a module comes to, before it is run or told of.
 use Rattle.std.proofs.Common.{◌≡◌, ◌∙◌, inl, inr, ℕ, Bool, true, false, List, Option, refl, sym, ap, subst, arith}
 use Rattle.ir_ast.specs.declared.modules.Form.TheVariants as text_forms
-use Rattle.ir_ast.specs.Modules.{LinedModule}
+use Rattle.ir_ast.specs.Modules.{LinedModule, ModuleContent}
+use Rattle.rewritten_definite.specs.Statements.{rewritten_source}
+use Rattle.sp_rewrite.specs.Relocates.{HasFewRelocates, HasManyRelocates}
 use Rattle.ir_lines.specs.Statements.{Line}
 use Rattle.ir_lines.specs.Modules.{module_of}
 use Rattle.pair_facts.specs.Faults.{IsVerified, IsNoLater, IsLeastFault}
@@ -12,13 +14,15 @@ use Rattle.statepoint_verify.specs.Verdicts.{IsRefusal}
 use Rattle.statepoint_tool.specs.Causes.{IsTrusted}
 use Rattle.statepoint_tool.specs.Steps.{Step, Go, Stop, Then, goes_on, stops, comes_to}
 use Rattle.statepoint_tool.specs.Taken.{Taken, Bytes, Longer, Faulty, file_phase}
-use Rattle.statepoint_tool.specs.Work.{Judging, verified, said_no, judged, form_of, module_phase, checked_phase, run_module_phase}
+use Rattle.statepoint_tool.specs.Work.{Judging, verified, said_no, Rewriting, rewritten, too_many, judged, form_of, module_phase, checked_phase, run_module_phase}
 use Rattle.statepoint_tool.specs.declared.engine.Engine.{Engine}
-use Rattle.statepoint_tool.specs.declared.engine.Engine.TheVariants.{Meaning, Machine}
+use Rattle.statepoint_tool.specs.declared.engine.Engine.TheVariants.{Meaning, Rewriter, Machine}
 use Rattle.statepoint_tool.specs.declared.refusal.Cause.{Cause}
-use Rattle.statepoint_tool.specs.declared.refusal.Cause.TheVariants.{Check, ReadFault, TooLong}
+use Rattle.statepoint_tool.specs.declared.refusal.Cause.TheVariants.{Check, Module, ReadFault, TooLong}
+use Rattle.statepoint_tool.specs.declared.refusal.ModuleFault.TheVariants.{TooManyRelocations}
 use Rattle.statepoint_tool.proofs.StepLaws.{Once, stop_in, same-value, not_both, Once-comes_to, Once-Then}
 use Rattle.statepoint_tool.proofs.TextLaws.{Once-module_phase}
+use Rattle.statepoint_tool.proofs.RewriteLaws.{Once-Rewriting}
 
 same_line : (l c m d : ℕ) → IsNoLater l c m d → IsNoLater m d l c → l ≡ m
 same_line l c m d (inl p) (inl q) = absurd (omega arith)
@@ -53,6 +57,7 @@ Once-Judging whole _ _ (said_no one p) (said_no other q) = ap (λ (fault : Check
 
 Once-judged : (engine : Engine) (whole : LinedModule) → Once (judged engine whole)
 Once-judged Meaning whole = Once-comes_to (Go whole)
+Once-judged Rewriter whole = Once-Then (Rewriting whole.content) (λ after. comes_to (Go whole)) (Once-Rewriting whole.content) (λ (after : ModuleContent). Once-comes_to (Go whole))
 Once-judged (Machine map_file true) whole = Once-comes_to (Go whole)
 Once-judged (Machine map_file false) whole = Once-Judging whole
 
@@ -98,15 +103,41 @@ pub record GoesOn (engine : Engine) (whole after : LinedModule) : Type 0 where
   pub is : after ≡ whole
   pub trusted : IsTrusted engine whole.content
 
+few_by : (content : ModuleContent) (step : Step ModuleContent) (after : ModuleContent) → step ≡ Go after → Rewriting content step → HasFewRelocates content
+few_by content _ after is (rewritten own own_is few) = few
+few_by content _ after is (too_many many) = absurd (not_both after (Module TooManyRelocations) (sym is))
+
+goes_rewritten : (whole after : LinedModule) (step : Step LinedModule) → step ≡ Go after → Then (Rewriting whole.content) (λ (made : ModuleContent). comes_to (Go whole)) step → GoesOn Rewriter whole after
+goes_rewritten whole after _ is (goes_on made step first rest) =
+    record { is = same-value after whole (sym is ∙ rest); trusted = few_by whole.content (Go made) made refl first }
+goes_rewritten whole after _ is (stops reason first) = absurd (not_both after reason (sym is))
+
 pub trusted_of : (engine : Engine) (whole after : LinedModule) → judged engine whole (Go after) → GoesOn engine whole after
 trusted_of Meaning whole after same = record { is = same-value after whole same; trusted = tt }
+trusted_of Rewriter whole after phase = goes_rewritten whole after (Go after) refl phase
 trusted_of (Machine map_file true) whole after same = record { is = same-value after whole same; trusted = tt }
 trusted_of (Machine map_file false) whole after judging = let found = passes whole after judging in record { is = found.is; trusted = found.verified }
 
 pub as-trusted : (engine : Engine) (whole : LinedModule) → IsTrusted engine whole.content → judged engine whole (Go whole)
 as-trusted Meaning whole trusted = refl
+as-trusted Rewriter whole few = goes_on (rewritten_source few.reached) (Go whole) (rewritten (rewritten_source few.reached) (record { reached = few.reached; drops = few.drops; rest = refl }) few) refl
 as-trusted (Machine map_file true) whole trusted = refl
 as-trusted (Machine map_file false) whole trusted = verified trusted
+
+-- a module that is to be rewritten stops where it would have too many relocates
+pub record IsLarge (whole : LinedModule) (cause : Cause) : Type 0 where
+  pub is : cause ≡ Module TooManyRelocations
+  pub many : HasManyRelocates whole.content
+
+large_by : (whole : LinedModule) (step : Step ModuleContent) (cause : Cause) → step ≡ Stop cause → Rewriting whole.content step → IsLarge whole cause
+large_by whole _ cause is (rewritten own own_is few) = absurd (not_both own cause is)
+large_by whole _ cause is (too_many many) = record { is = (let s : stop_in ModuleContent (Module TooManyRelocations) ≡ Stop cause = is in cc); many = many }
+
+pub large : (whole : LinedModule) (cause : Cause) (step : Step LinedModule) → step ≡ Stop cause → judged Rewriter whole step → IsLarge whole cause
+large whole cause _ is (goes_on made step first rest) = absurd (not_both whole cause (sym rest ∙ is))
+large whole cause _ is (stops own first) =
+    let same : own ≡ cause = (let s : stop_in LinedModule own ≡ Stop cause = is in cc) in
+    large_by whole (Stop own) cause (ap (stop_in ModuleContent) same) first
 
 -- ---- phases of a file
 

@@ -9,7 +9,7 @@ use Rattle.statepoint_tool.specs.Work.{Output, Given, MayGiveAll, MayGiveNamed, 
 use Rattle.statepoint_tool.specs.declared.refusal.Cause.TheVariants.{Words}
 use Rattle.statepoint_tool.specs.declared.refusal.Refusal.TheVariants.{Defined, Memory}
 use Rattle.statepoint_tool.specs.declared.engine.Engine.{Engine}
-use Rattle.statepoint_tool.specs.declared.engine.Engine.TheVariants.{Meaning, Machine}
+use Rattle.statepoint_tool.specs.declared.engine.Engine.TheVariants.{Meaning, Rewriter, Machine}
 use Rattle.tool_words.specs.declared.request.RunRequest.{RunRequest}
 use Rattle.tool_words.specs.declared.request.Command.{Command}
 use Rattle.tool_words.specs.declared.request.Command.TheVariants.{Show, Rewrite, Check, Source, Run, Exec}
@@ -33,7 +33,7 @@ all_as_told files (Some (Rewrite module_file part)) =
 all_as_told files (Some (Check module_file)) =
     record { module_file = as_told files module_file; input = Bytes []; plan = Bytes []; map_file = Bytes [] }
 all_as_told files (Some (Source request)) = run_as_told files Meaning request
-all_as_told files (Some (Run request)) = run_as_told files Meaning request
+all_as_told files (Some (Run request)) = run_as_told files Rewriter request
 all_as_told files (Some (Exec request map_file trust)) = run_as_told files (Machine map_file trust) request
 
 MayGiveAll-as_told : (files : FilesSeen) (engine : Engine) (request : RunRequest) → MayGiveAll files engine request (run_as_told files engine request)
@@ -46,7 +46,7 @@ MayGiveNamed-as_told files (Some (Show module_file)) = MayGive-as_told files mod
 MayGiveNamed-as_told files (Some (Rewrite module_file part)) = MayGive-as_told files module_file
 MayGiveNamed-as_told files (Some (Check module_file)) = MayGive-as_told files module_file
 MayGiveNamed-as_told files (Some (Source request)) = MayGiveAll-as_told files Meaning request
-MayGiveNamed-as_told files (Some (Run request)) = MayGiveAll-as_told files Meaning request
+MayGiveNamed-as_told files (Some (Run request)) = MayGiveAll-as_told files Rewriter request
 MayGiveNamed-as_told files (Some (Exec request map_file trust)) = MayGiveAll-as_told files (Machine map_file trust) request
 
 -- want of memory before anything was written

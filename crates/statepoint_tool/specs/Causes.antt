@@ -34,7 +34,7 @@ use Rattle.statepoint_tool.specs.declared.refusal.ModuleFault.TheVariants.{Synta
 use Rattle.statepoint_tool.specs.declared.refusal.PlanFault.{PlanFault}
 use Rattle.tool_words.specs.declared.request.Part.{Part}
 use Rattle.statepoint_tool.specs.declared.engine.Engine.{Engine}
-use Rattle.statepoint_tool.specs.declared.engine.Engine.TheVariants.{Meaning, Machine}
+use Rattle.statepoint_tool.specs.declared.engine.Engine.TheVariants.{Meaning, Rewriter, Machine}
 use Rattle.tool_words.specs.declared.request.RunRequest.{RunRequest}
 use Rattle.tool_words.specs.declared.request.Command.TheVariants.{Show, Rewrite, Check, Source, Run, Exec}
 use Rattle.statepoint_tool.specs.declared.status.Status.{Status}
@@ -77,10 +77,10 @@ pub record AsksToCheck (words : List (List ℕ)) : Type 0 where
   pub module_file : List ℕ
   pub command : command_of words ≡ Some (Check module_file)
 
--- the words ask for this run: of a source module, by its meaning, or of a rewritten one, on the machine
+-- the words ask for this run: of a source module, by its meaning or rewritten, or of a rewritten one, on the machine
 pub data IsAskedFor (words : List (List ℕ)) : Engine → RunRequest → Type 0 where
   by_source : (request : RunRequest) → command_of words ≡ Some (Source request) → IsAskedFor words Meaning request
-  by_run : (request : RunRequest) → command_of words ≡ Some (Run request) → IsAskedFor words Meaning request
+  by_run : (request : RunRequest) → command_of words ≡ Some (Run request) → IsAskedFor words Rewriter request
   by_exec : (request : RunRequest) (map_file : Option (List ℕ)) (trust : Bool) → command_of words ≡ Some (Exec request map_file trust)
       → IsAskedFor words (Machine map_file trust) request
 
@@ -121,9 +121,10 @@ pub record Checks (words : List (List ℕ)) (given : Given) : Type 0 where
   pub accepted : IsAccepted text_forms.Rewritten text lines
   pub verified : IsVerified (content_of text_forms.Rewritten lines)
 
--- a module that isn't trusted has no fault of the verifier
+-- a module that is to be rewritten has few relocates, and a rewritten one that isn't trusted has no fault of the verifier
 abbrev pub IsTrusted : Engine → ModuleContent → Type 0
 IsTrusted Meaning content = ⊤
+IsTrusted Rewriter content = HasFewRelocates content
 IsTrusted (Machine map_file true) content = ⊤
 IsTrusted (Machine map_file false) content = IsVerified content
 
@@ -164,10 +165,16 @@ engine_asked reads = reads.reads.accepts.asks.engine
 abbrev pub steps_asked : {words : List (List ℕ)} {given : Given} → ReadsPlan words given → ℕ
 steps_asked reads = reads.reads.accepts.asks.request.steps
 
--- the module runs by its meaning
+-- what `source` and `run` write is the source meaning
+abbrev pub RunsSource : Engine → Type 0
+RunsSource Meaning = ⊤
+RunsSource Rewriter = ⊤
+RunsSource (Machine map_file trust) = ⊥
+
+-- a source module runs
 pub record Runs (words : List (List ℕ)) (given : Given) : Type 0 where
   pub reads : ReadsPlan words given
-  pub engine : engine_asked reads ≡ Meaning
+  pub engine : RunsSource (engine_asked reads)
 
 -- its run over that input and under that plan gives this
 abbrev pub RunGives : {words : List (List ℕ)} {given : Given} → Runs words given → Outcome → Type 0
@@ -222,10 +229,25 @@ pub record TextHasFault (words : List (List ℕ)) (given : Given) (fault : Modul
   pub taken : given.module_file ≡ Bytes text
   pub has : HasTextFault form text fault
 
--- the module has this fault: its text does, or it is accepted and, rewritten, would have too many relocates
+-- the words name this file as that of a module to be rewritten: to be written, or run
+pub data NamesSource (words : List (List ℕ)) : List ℕ → Type 0 where
+  to_write : (asks : AsksToRewrite words) → NamesSource words asks.module_file
+  to_run_rewritten : (request : RunRequest) → command_of words ≡ Some (Run request) → NamesSource words request.code
+
+-- the module is accepted and, rewritten, would have too many relocates
+pub record IsTooLarge (words : List (List ℕ)) (given : Given) : Type 0 where
+  pub name : List ℕ
+  pub names : NamesSource words name
+  pub text : List ℕ
+  pub taken : given.module_file ≡ Bytes text
+  pub lines : List Line
+  pub accepted : IsAccepted text_forms.Source text lines
+  pub many : HasManyRelocates (content_of text_forms.Source lines)
+
+-- the module has this fault: its text does, or it is too large
 pub data HasModuleFault (words : List (List ℕ)) (given : Given) : ModuleFault → Type 0 where
   in_text : (fault : ModuleFault) → TextHasFault words given fault → HasModuleFault words given fault
-  too_many : (reads : ReadsToRewrite words given) → HasManyRelocates (content_of text_forms.Source reads.lines) → HasModuleFault words given TooManyRelocations
+  too_many : IsTooLarge words given → HasModuleFault words given TooManyRelocations
 
 abbrev pub HasSomeModuleFault : List (List ℕ) → Given → Type 0
 HasSomeModuleFault words given = (fault : ModuleFault) × HasModuleFault words given fault

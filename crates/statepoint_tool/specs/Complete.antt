@@ -9,7 +9,7 @@ use Rattle.tool_words.specs.Words.{command_of}
 use Rattle.statepoint_tool.specs.Work.{Output, Given}
 use Rattle.statepoint_tool.specs.declared.refusal.Refusal.TheVariants.{Memory}
 use Rattle.statepoint_tool.specs.declared.engine.Engine.{Engine}
-use Rattle.statepoint_tool.specs.declared.engine.Engine.TheVariants.{Meaning, Machine}
+use Rattle.statepoint_tool.specs.declared.engine.Engine.TheVariants.{Meaning, Rewriter, Machine}
 use Rattle.tool_words.specs.declared.request.RunRequest.{RunRequest}
 use Rattle.tool_words.specs.declared.request.Command.{Command}
 use Rattle.tool_words.specs.declared.request.Command.TheVariants.{Show, Rewrite, Check, Source, Run, Exec}
@@ -27,6 +27,7 @@ pub record IsTold (files : FilesSeen) (name : List ℕ) (given : Taken) : Type 0
 -- each file that the command names is told
 abbrev pub MapIsTold : FilesSeen → Engine → Taken → Type 0
 MapIsTold files Meaning given = ⊤
+MapIsTold files Rewriter given = ⊤
 MapIsTold files (Machine None trust) given = ⊤
 MapIsTold files (Machine (Some name) trust) given = IsTold files name given
 
@@ -41,7 +42,7 @@ AllTold files (Some (Show module_file)) given = IsTold files module_file given.m
 AllTold files (Some (Rewrite module_file part)) given = IsTold files module_file given.module_file
 AllTold files (Some (Check module_file)) given = IsTold files module_file given.module_file
 AllTold files (Some (Source request)) given = RunIsTold files Meaning request given
-AllTold files (Some (Run request)) given = RunIsTold files Meaning request given
+AllTold files (Some (Run request)) given = RunIsTold files Rewriter request given
 AllTold files (Some (Exec request map_file trust)) given = RunIsTold files (Machine map_file trust) request given
 
 -- the defined output with the defined status, and nothing said

@@ -3,6 +3,7 @@ pub mod Steps
 pub mod Taken
 pub mod Closings
 pub mod PlanFaults
+pub mod Runners
 pub mod Work
 pub mod Notes
 pub mod Answers

@@ -39,7 +39,7 @@ use Rattle.statepoint_tool.specs.declared.refusal.PlanFault.{PlanFault}
 use Rattle.tool_words.specs.declared.request.Part.{Part}
 use Rattle.tool_words.specs.declared.request.Part.TheVariants.{Text, MapText, MapBytes}
 use Rattle.statepoint_tool.specs.declared.engine.Engine.{Engine}
-use Rattle.statepoint_tool.specs.declared.engine.Engine.TheVariants.{Meaning, Machine}
+use Rattle.statepoint_tool.specs.declared.engine.Engine.TheVariants.{Meaning, Rewriter, Machine}
 use Rattle.tool_words.specs.declared.request.RunRequest.{RunRequest}
 use Rattle.tool_words.specs.declared.request.Command.{Command}
 use Rattle.tool_words.specs.declared.request.Command.TheVariants.{Show, Rewrite, Check, Source, Run, Exec}
@@ -65,6 +65,7 @@ MayGiveShown files module_file given = MayGive files module_file given.module_fi
 -- a stack map is taken for a run on the machine that names one
 abbrev pub MayGiveMap : FilesSeen → Engine → Taken → Type 0
 MayGiveMap files Meaning given = ⊤
+MayGiveMap files Rewriter given = ⊤
 MayGiveMap files (Machine None trust) given = ⊤
 MayGiveMap files (Machine (Some name) trust) given = MayGive files name given
 
@@ -105,14 +106,22 @@ pub data Judging (whole : LinedModule) : Step LinedModule → Type 0 where
   verified : IsVerified whole.content → Judging whole (Go whole)
   said_no : (fault : CheckFault) → IsLeastCheckFault whole fault.line fault.code → Judging whole (Stop (CheckSays fault))
 
+-- rewriting a module: its rewritten module, or that this would have too many relocates
+pub data Rewriting (content : ModuleContent) : Step ModuleContent → Type 0 where
+  rewritten : (after : ModuleContent) → IsRewritten content after → HasFewRelocates content → Rewriting content (Go after)
+  too_many : HasManyRelocates content → Rewriting content (Stop (Module TooManyRelocations))
+
 -- the form of the modules that an engine runs
 abbrev pub form_of : Engine → TextForm
 form_of Meaning = text_forms.Source
+form_of Rewriter = text_forms.Source
 form_of (Machine map_file trust) = text_forms.Rewritten
 
--- a rewritten module that isn't trusted is verified before it runs
+-- before a module runs: one that is to be rewritten has no more relocates than may be, and a rewritten one that isn't trusted is
+-- verified
 abbrev pub judged : Engine → LinedModule → Step LinedModule → Type 0
 judged Meaning whole = comes_to (Go whole)
+judged Rewriter whole = Then (Rewriting whole.content) (λ after. comes_to (Go whole))
 judged (Machine map_file true) whole = comes_to (Go whole)
 judged (Machine map_file false) whole = Judging whole
 
@@ -137,12 +146,7 @@ shown content = record { text = text_of content; status = Done }
 abbrev pub show_phase : LinedModule → Step Output → Type 0
 show_phase whole = comes_to (Go (shown whole.content))
 
--- rewriting a module: its rewritten module, or that this would have too many relocates
-pub data Rewriting (content : ModuleContent) : Step ModuleContent → Type 0 where
-  rewritten : (after : ModuleContent) → IsRewritten content after → HasFewRelocates content → Rewriting content (Go after)
-  too_many : HasManyRelocates content → Rewriting content (Stop (Module TooManyRelocations))
-
--- of which this is written, its text, or its stack map as text or as bytes
+-- of a rewritten module this is written, its text, or its stack map as text or as bytes
 abbrev pub text_of_part : Part → ModuleContent → List ℕ
 text_of_part Text content = text_of content
 text_of_part MapText content = text_of_map (map_of content)
@@ -201,9 +205,11 @@ pub data Executing (content : ModuleContent) (input : List ℤ) (plan : List Pla
   executes : (outcome : MachineOutcome) (gives : MachineGives content map input plan steps outcome)
       → Executing content input plan steps map (Go (executed content outcome gives.last.lines))
 
--- a source module runs by its meaning, a rewritten one on the machine
+-- a source module runs by its meaning, a rewritten one on the machine. What `run` writes is the source meaning too: the run of
+-- the rewritten module on the machine is the same
 abbrev pub run_phase : Engine → ModuleContent → List ℤ → List PlanLine → ℕ → Taken → Step Output → Type 0
 run_phase Meaning content numbers lines steps given = Running content numbers lines steps
+run_phase Rewriter content numbers lines steps given = Running content numbers lines steps
 run_phase (Machine map_file trust) content numbers lines steps given =
     Then (map_phase content map_file given) (Executing content numbers lines steps)
 
@@ -241,7 +247,7 @@ command_work (Some (Show module_file)) given = show_work module_file given
 command_work (Some (Rewrite module_file part)) given = rewrite_work part module_file given
 command_work (Some (Check module_file)) given = check_work module_file given
 command_work (Some (Source request)) given = run_work Meaning request given
-command_work (Some (Run request)) given = run_work Meaning request given
+command_work (Some (Run request)) given = run_work Rewriter request given
 command_work (Some (Exec request map_file trust)) given = run_work (Machine map_file trust) request given
 
 abbrev pub work : List (List ℕ) → Given → Step Output → Type 0
@@ -254,5 +260,5 @@ MayGiveNamed files (Some (Show module_file)) given = MayGiveShown files module_f
 MayGiveNamed files (Some (Rewrite module_file part)) given = MayGiveShown files module_file given
 MayGiveNamed files (Some (Check module_file)) given = MayGiveShown files module_file given
 MayGiveNamed files (Some (Source request)) given = MayGiveAll files Meaning request given
-MayGiveNamed files (Some (Run request)) given = MayGiveAll files Meaning request given
+MayGiveNamed files (Some (Run request)) given = MayGiveAll files Rewriter request given
 MayGiveNamed files (Some (Exec request map_file trust)) given = MayGiveAll files (Machine map_file trust) request given

@@ -9,6 +9,8 @@ use tool_words::FileName;
 pub(crate) enum Engine {
     /// The reference interpreter: a source module runs by its meaning.
     Meaning,
+    /// The address machine: a source module is rewritten, and then runs over its own stack map.
+    Rewriter,
     /// The address machine: a rewritten module runs over the stack map in the file of this name, or else over its own. It is
     /// verified first, unless it is trusted.
     Machine { map: Option<FileName>, trust: bool },
@@ -20,7 +22,7 @@ impl Engine {
         ensures { result ≡ form_of self.now }
     {
         match self {
-            Engine::Meaning => Form::Source,
+            Engine::Meaning | Engine::Rewriter => Form::Source,
             Engine::Machine { .. } => Form::Rewritten,
         }
     }

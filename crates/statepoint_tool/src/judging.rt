@@ -1,20 +1,16 @@
-//! Rewritten modules that are verified before anything else is done with them.
+//! Rewritten modules that are verified.
 ghost use Rattle.std.specs.Prelude.{◌≡◌, ◌≤◌, length, IfOk};
-ghost use Rattle.std.specs.List.{All};
-ghost use Rattle.ir_ast.specs.Bundles.{HasNoBundle};
 ghost use Rattle.ir_cfg.specs.TargetModules.{IsTargetModule};
-ghost use Rattle.ir_cfg.specs.TypedModules.{IsModuleOf};
 ghost use Rattle.tool_io.specs.Counts.{NoneFell};
 ghost use Rattle.statepoint_tool.specs.Answers.{Agrees, Came, Reads, Works, sink_seen};
 ghost use Rattle.statepoint_tool.specs.Taken.{files_seen};
-ghost use Rattle.statepoint_tool.specs.Work.{Judging, MayGiveShown, after_check, check_work, checked_phase, form_of, judged, run_module_phase};
+ghost use Rattle.statepoint_tool.specs.Work.{Judging, MayGiveShown, after_check, check_work, checked_phase};
 
-use crate::engine::Engine;
 use crate::phases::{module_in, take};
 use crate::refusal::{Cause, Refusal};
 use crate::status::Status;
 use ir_ast::{Form, Module};
-use statepoint_verify::{VerifyFault, verify};
+use statepoint_verify::{Verified, VerifyFault, verify};
 use std::alloc::Global;
 use tool_io::{Failed, Files, Sink};
 use tool_words::FileName;
@@ -33,8 +29,8 @@ pub(crate) fn check<F: Files, O: Sink>(
     ensures counted { NoneFell (F.faults files.old) (F.faults files.new) }
     ensures out_counted { O.faults out.old ≤ O.faults out.new }
 {
-    let read = take_checked(alloc, files, name)?;
-    write_ok(&read, out)
+    let checked = take_checked(alloc, files, name)?;
+    write_ok(&checked, out)
 }
 
 // The rewritten module in the file of this name, which is verified.
@@ -42,9 +38,9 @@ fn take_checked<F: Files>(
     alloc: Global,
     files: &mut F,
     name: FileName,
-) -> Result<Module, Refusal>
+) -> Result<Verified, Refusal>
     ensures read { Reads (files_seen (F.contents files.old) (F.faults files.old) (F.faults files.new)) name
-        checked_phase (λ read. read) result }
+        checked_phase (λ checked. checked) result }
     ensures kept { F.contents files.new ≡ F.contents files.old }
     ensures counted { NoneFell (F.faults files.old) (F.faults files.new) }
 {
@@ -52,16 +48,16 @@ fn take_checked<F: Files>(
     checked_in(alloc, &text)
 }
 
-fn checked_in(alloc: Global, text: &[u8]) -> Result<Module, Refusal>
+fn checked_in(alloc: Global, text: &[u8]) -> Result<Verified, Refusal>
     requires { length text.now ≤ 16777216 }
-    ensures read { Agrees (λ read. read) result (checked_phase text.now) }
+    ensures read { Agrees (λ checked. checked) result (checked_phase text.now) }
 {
     let read = module_in(alloc, Form::Rewritten, text)?;
     verified(alloc, read)
 }
 
-fn write_ok<O: Sink>(read: &Module, out: &mut O) -> Result<Status, Refusal>
-    ensures came { Came result (after_check read.now)
+fn write_ok<O: Sink>(checked: &Verified, out: &mut O) -> Result<Status, Refusal>
+    ensures came { Came result (after_check checked.now)
         (sink_seen (O.written out.old) (O.written out.new) (O.faults out.old) (O.faults out.new)) }
     ensures out_counted { O.faults out.old ≤ O.faults out.new }
 {
@@ -71,59 +67,14 @@ fn write_ok<O: Sink>(read: &Module, out: &mut O) -> Result<Status, Refusal>
     }
 }
 
-/// The module of a run in the file of this name. A rewritten one that isn't trusted is verified.
-pub(crate) fn take_run_module<F: Files>(
-    alloc: Global,
-    engine: &Engine,
-    files: &mut F,
-    name: FileName,
-) -> Result<Module, Refusal>
-    ensures read { Reads (files_seen (F.contents files.old) (F.faults files.old) (F.faults files.new)) name
-        (run_module_phase engine.now) (λ read. read) result }
-    ensures of_form { IfOk result (λ read. IsModuleOf (form_of engine.now) read.content) }
-    ensures no_bundle { IfOk result (λ read. All HasNoBundle read.content.funcs) }
-    ensures kept { F.contents files.new ≡ F.contents files.old }
-    ensures counted { NoneFell (F.faults files.old) (F.faults files.new) }
-{
-    let text = take(alloc, files, name)?;
-    run_module_in(alloc, engine, &text)
-}
-
-fn run_module_in(alloc: Global, engine: &Engine, text: &[u8]) -> Result<Module, Refusal>
-    requires { length text.now ≤ 16777216 }
-    ensures read { Agrees (λ read. read) result (run_module_phase engine.now text.now) }
-    ensures of_form { IfOk result (λ read. IsModuleOf (form_of engine.now) read.content) }
-    ensures no_bundle { IfOk result (λ read. All HasNoBundle read.content.funcs) }
-{
-    let read = module_in(alloc, engine.form(), text)?;
-    judged(alloc, engine, read)
-}
-
-fn judged(alloc: Global, engine: &Engine, read: Module) -> Result<Module, Refusal>
-    requires of_form { IsModuleOf (form_of engine.now) read.content }
-    ensures judged { Agrees (λ after. after) result (judged engine.now read) }
-    ensures kept { IfOk result (λ after. after ≡ read) }
-{
-    match engine {
-        Engine::Meaning => Ok(read),
-        Engine::Machine { trust, .. } => {
-            if *trust {
-                Ok(read)
-            } else {
-                verified(alloc, read)
-            }
-        }
-    }
-}
-
-// The module, if it has no fault of the verifier.
-fn verified(alloc: Global, read: Module) -> Result<Module, Refusal>
+/// The module, if it has no fault of the verifier.
+pub(crate) fn verified(alloc: Global, read: Module) -> Result<Verified, Refusal>
     requires { IsTargetModule read.content }
-    ensures judged { Agrees (λ after. after) result (Judging read) }
-    ensures kept { IfOk result (λ after. after ≡ read) }
+    ensures judged { Agrees (λ checked. checked) result (Judging read) }
+    ensures kept { IfOk result (λ checked. checked ≡ read) }
 {
     match verify(alloc, read) {
-        Ok(verified) => Ok(verified.into_module()),
+        Ok(checked) => Ok(checked),
         Err(VerifyFault::Fault { fault, .. }) => Err(Refusal::Defined(Cause::Check(fault))),
         Err(VerifyFault::Memory { .. }) => Err(Refusal::Memory),
     }

@@ -11,6 +11,7 @@ mod phases;
 mod refusal;
 mod rewrite;
 mod run;
+mod runner;
 mod show;
 mod status;
 mod top;

@@ -173,7 +173,7 @@ fn work<F: Files, O: Sink>(
         Ok(Command::Rewrite { module, part }) => rewrite(alloc, module, part, files, out),
         Ok(Command::Check { module }) => check(alloc, module, files, out),
         Ok(Command::Source(request)) => run(alloc, Engine::Meaning, request, files, out),
-        Ok(Command::Run(request)) => run(alloc, Engine::Meaning, request, files, out),
+        Ok(Command::Run(request)) => run(alloc, Engine::Rewriter, request, files, out),
         Ok(Command::Exec {
             request,
             map,
