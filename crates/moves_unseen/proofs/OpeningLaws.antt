@@ -135,6 +135,13 @@ module _ (content : ModuleContent) (map_given : StackMap) (input : List ℤ) (pl
       running = running_is;
       below = tt;
       tasks = (tt, tt);
+      await = record {
+        below = tt;
+        tasks = (tt, tt);
+        place = refl;
+        runs = λ first. refl;
+        waits = λ frame more is. absurd cc;
+      };
     };
   }
 
