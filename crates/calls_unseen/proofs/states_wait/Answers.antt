@@ -1,0 +1,5 @@
+use Rattle.calls_unseen.proofs.StatesWaiting as laws
+use Rattle.calls_unseen.proofs.states_wait.Goals as goal
+
+pub returns : goal.returns
+returns c = laws.states_wait
