@@ -2,12 +2,12 @@
 #![tactic(auto)]
 
 ghost use Rattle.calls_unseen.specs.WaitingStates.{StacksAreAll, StatesWait};
-ghost use Rattle.moves_unseen.specs.Waits.{CallsFollow, RunningFramesWait, SpillsAre, TasksFollow};
+ghost use Rattle.moves_unseen.specs.Waits.{CallsFollow, TasksFollow};
 
 /// A related state that stands at a statepoint is one all of whose frames wait, once the machine has put the live entries in
 /// their slots.
 pub fn states_wait()
-    ensures { RunningFramesWait → SpillsAre → StatesWait }
+    ensures { StatesWait }
 {}
 
 /// The machine's frames and stacks of all tasks are those of the target meaning's frames.
@@ -17,10 +17,10 @@ pub fn stacks_are_all()
 
 /// A call of a defined function is one step of both, which enters the same frame and keeps the relation, or ends both alike.
 pub fn calls_follow()
-    ensures { RunningFramesWait → SpillsAre → CallsFollow }
+    ensures { CallsFollow }
 {}
 
 /// So is the start of a task.
 pub fn tasks_follow()
-    ensures { RunningFramesWait → SpillsAre → TasksFollow }
+    ensures { TasksFollow }
 {}
