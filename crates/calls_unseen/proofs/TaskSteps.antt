@@ -62,21 +62,19 @@ second_passed types more [] fit = absurd fit
 second_passed types more (first ∷ []) fit = absurd fit.1
 second_passed types more (first ∷ second ∷ given) fit = (0, (omega arith), refl)
 
--- the task that a place of all tasks began with
-began_with_main : (content : ModuleContent) (tasks : List (List Frame)) (at running : ℕ) (frames : List Frame) (now : List (List Frame)) → slice_get tasks at ≡ Some []
-    → (first : Frame) (below : List Frame) → first.func ≡ running → frames ≡ first ∷ below
-    → (at ≡ 0 → began running below ≡ main_of content)
+-- task 0 began with `@main` also where the frames of the running task are put back
+abbrev began_with : List Frame → ℕ
+began_with [] = 0
+began_with (first ∷ below) = began first.func below
+
+began_with_main : (content : ModuleContent) (tasks : List (List Frame)) (at : ℕ) (first : Frame) (below : List Frame) (new : List (List Frame)) → slice_get tasks at ≡ Some []
+    → (at ≡ 0 → began first.func below ≡ main_of content)
     → ((frame : Frame) (more : List Frame) → slice_get tasks 0 ≡ Some (frame ∷ more) → began frame.func more ≡ main_of content)
-    → (frame : Frame) (more : List Frame) → slice_get (set tasks at frames ++ now) 0 ≡ Some (frame ∷ more) → began frame.func more ≡ main_of content
-began_with_main content [] at running frames now place first below func_is frames_are runs waits_so frame more found = absurd (none-some [] place)
-began_with_main content (task ∷ tasks) zero running frames now place first below func_is frames_are runs waits_so frame more found =
-    let same : first ∷ below ≡ frame ∷ more = sym frames_are ∙ same_Some frames (frame ∷ more) found in
-    sym (ap (by_list (began running below)) same ∙ refl) ∙ (ap (λ (func : ℕ). began func below) func_is ∙ runs refl)
-  where
-    by_list : ℕ → List Frame → ℕ
-    by_list default [] = default
-    by_list default (one ∷ others) = began one.func others
-began_with_main content (task ∷ tasks) (suc at) running frames now place first below func_is frames_are runs waits_so frame more found = waits_so frame more found
+    → (frame : Frame) (more : List Frame) → slice_get (set tasks at (first ∷ below) ++ new) 0 ≡ Some (frame ∷ more) → began frame.func more ≡ main_of content
+began_with_main content [] at first below new place runs waited frame more found = absurd (none-some [] place)
+began_with_main content (task ∷ tasks) zero first below new place runs waited frame more found =
+    ap began_with (sym (same_Some (first ∷ below) (frame ∷ more) found)) ∙ runs refl
+began_with_main content (task ∷ tasks) (suc at) first below new place runs waited frame more found = waited frame more found
 
 module _ (states_wait : StatesWait) (content : ModuleContent) (sound : IsSound content) (plan : List PlanLine) (bound : ℕ) (state : State) (extra : Extra)
     (related : IsRelated content state extra) (line : Line) (rest : List Line) (is : state.running.rest ≡ line ∷ rest)
@@ -213,8 +211,7 @@ module _ (states_wait : StatesWait) (content : ModuleContent) (sound : IsSound c
         (All-cons (AreAwaiting None) [] [] tt (All-nil (AreAwaiting None)));
     place = ap (slice_get (frames_of_all state ++ [] ∷ [])) (sym (length-set state.tasks state.task (state.running ∷ state.below))) ∙ get_middle (frames_of_all state) [] [];
     runs = λ first. let within = some_task in absurd (omega (arith, first));
-    waits = began_with_main content state.tasks state.task state.running.func (state.running ∷ state.below) ([] ∷ []) related.await.place state.running state.below refl refl
-        related.await.runs related.await.waits;
+    waits = began_with_main content state.tasks state.task state.running state.below ([] ∷ []) related.await.place related.await.runs related.await.waits;
   }
 
   related_there : IsRelated content started_state started_extra
