@@ -33,10 +33,13 @@ or_dropped xs zero place none = let same : 0 + place ≡ place = omega arith in 
 or_dropped [] (suc count) place none = refl
 or_dropped (x ∷ xs) (suc count) place none = let same : suc count + place ≡ suc (count + place) = omega arith in rw same (or_dropped xs count place none)
 
+drop_none : {A : Type 0} (count : ℕ) → drop {A = A} count [] ≡ []
+drop_none zero = refl
+drop_none (suc count) = refl
+
 dropped_twice : {A : Type 0} (xs : List A) (first second : ℕ) → drop second (drop first xs) ≡ drop (first + second) xs
 dropped_twice xs zero second = let same : 0 + second ≡ second = omega arith in rw same refl
-dropped_twice [] (suc first) zero = refl
-dropped_twice [] (suc first) (suc second) = refl
+dropped_twice [] (suc first) second = drop_none second ∙ sym (drop_none (suc first + second))
 dropped_twice (x ∷ xs) (suc first) second = let same : suc first + second ≡ suc (first + second) = omega arith in rw same (dropped_twice xs first second)
 
 -- an element that passes the test
