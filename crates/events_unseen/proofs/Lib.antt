@@ -3,3 +3,5 @@ pub mod EventLaws
 pub mod ResumeLaws
 pub mod SwitchLaws
 pub mod PollSteps
+pub mod ObjectLaws
+pub mod ObjectSteps
