@@ -1,0 +1,4 @@
+pub mod GroupLaws
+pub mod EntryLaws
+pub mod ResumeLaws
+pub mod StateLaws

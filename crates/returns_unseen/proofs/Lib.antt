@@ -1,0 +1,3 @@
+pub mod ResultTypes
+pub mod AnswerLaws
+pub mod ReturnSteps
