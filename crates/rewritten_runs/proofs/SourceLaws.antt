@@ -9,7 +9,6 @@ use Rattle.moves_unseen.specs.Waits.{IsSound}
 use Rattle.sp_rewrite.specs.Statements.{IsRewritten}
 use Rattle.sp_rewrite.proofs.BareLaws.{no_bundle}
 use Rattle.sp_rewrite.proofs.RewrittenLaws.{rewriting_is_target, rewriting_is_verified, rewriting_keeps_meaning}
-use Rattle.runs_unseen.proofs.LineCases.{all_lines_follow}
 use Rattle.runs_unseen.proofs.SeenRuns.{seen_here, seen_there}
 use Rattle.rewritten_runs.specs.Statements.{MachineRunsAreSources, SourceRunsAreUnseen}
 
@@ -21,13 +20,13 @@ sound_of content after source bare is = record {
 }
 
 pub source_runs_are_unseen : SourceRunsAreUnseen
-source_runs_are_unseen = λ steps content after source bare is input plan bound outcome gives.
-    seen_there (all_lines_follow steps) after (sound_of content after source bare is) input plan bound outcome
+source_runs_are_unseen = λ content after source bare is input plan bound outcome gives.
+    seen_there after (sound_of content after source bare is) input plan bound outcome
     ((rewriting_keeps_meaning content after source is input (go plan) bound outcome).0 gives)
 
 pub machine_runs_are_sources : MachineRunsAreSources
-machine_runs_are_sources = λ steps content after source bare is input plan bound machine gives.
-    let seen = seen_here (all_lines_follow steps) after (sound_of content after source bare is) input plan bound machine gives in record {
+machine_runs_are_sources = λ content after source bare is input plan bound machine gives.
+    let seen = seen_here after (sound_of content after source bare is) input plan bound machine gives in record {
       outcome = seen.outcome;
       gives = (rewriting_keeps_meaning content after source is input (go plan) bound seen.outcome).1 seen.gives;
       seen = seen.seen;

@@ -12,7 +12,6 @@ use Rattle.stackmap_write.specs.ModuleMaps.{map_of}
 use Rattle.machine_meaning.specs.MachineRuns.{MachineGives, MachineOutcome}
 use Rattle.moves_unseen.specs.Statements.{IsSeen}
 use Rattle.sp_rewrite.specs.Statements.{IsRewritten}
-use Rattle.runs_unseen.specs.Statements.{StepLaws}
 
 -- what the source means, to which a run of the machine is the same
 pub record IsRunOfSource (content after : ModuleContent) (input : List ℤ) (plan : List PlanLine) (bound : ℕ) (machine : MachineOutcome) : Type 0 where
@@ -22,12 +21,12 @@ pub record IsRunOfSource (content after : ModuleContent) (input : List ℤ) (pla
 
 -- what the source meaning gives, the machine gives too, whatever the plan moves
 abbrev pub SourceRunsAreUnseen : Type 0
-SourceRunsAreUnseen = StepLaws → (content after : ModuleContent) → IsSourceModule content → All HasNoBundle content.funcs → IsRewritten content after
+SourceRunsAreUnseen = (content after : ModuleContent) → IsSourceModule content → All HasNoBundle content.funcs → IsRewritten content after
     → (input : List ℤ) (plan : List PlanLine) (bound : ℕ) (outcome : Outcome) → SourceGives content input (go plan) bound outcome
     → (machine : MachineOutcome) × (MachineGives after (map_of after) input plan bound machine × IsSeen after outcome machine)
 
 -- and whatever the machine gives is what the source means
 abbrev pub MachineRunsAreSources : Type 0
-MachineRunsAreSources = StepLaws → (content after : ModuleContent) → IsSourceModule content → All HasNoBundle content.funcs → IsRewritten content after
+MachineRunsAreSources = (content after : ModuleContent) → IsSourceModule content → All HasNoBundle content.funcs → IsRewritten content after
     → (input : List ℤ) (plan : List PlanLine) (bound : ℕ) (machine : MachineOutcome) → MachineGives after (map_of after) input plan bound machine
     → IsRunOfSource content after input plan bound machine

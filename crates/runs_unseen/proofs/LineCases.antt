@@ -34,7 +34,7 @@ use Rattle.moves_unseen.specs.Waits as dues
 use Rattle.moves_unseen.proofs.BranchSteps.{jump_follows, unreachable_follows}
 use Rattle.moves_unseen.proofs.PlainSteps.{plain_follows}
 use Rattle.moves_unseen.proofs.StandLaws.{line_here}
-use Rattle.runs_unseen.specs.Statements.{StepLaws}
+use Rattle.runs_unseen.proofs.StepLaws.{calls_follow, helpers_follow, new_objects_follow, polls_follow, returns_follow, skips_follow, tasks_follow}
 
 -- a path of a run is a path to its block
 arrives_reached : (func : Function) (block : ℕ) (front : Pairs) → Arrives func block front → Reached (graph_of func) block
@@ -101,73 +101,72 @@ module _ (content : ModuleContent) (sound : IsSound content) (plan : List PlanLi
 
   -- ---- steps
 
-  module _ (laws : StepLaws) where
-    by_call : (callee : Callee) (types : List Ty) → line.inst.op ≡ ops.Call callee types → Both
-    by_call callees.Check types op_is = plain (ops.Call callees.Check types) op_is (checks types)
-    by_call callees.Same types op_is = plain (ops.Call callees.Same types) op_is (compares types)
-    by_call callees.Print types op_is = plain (ops.Call callees.Print types) op_is (prints types)
-    by_call callees.Read types op_is = plain (ops.Call callees.Read types) op_is (reads types)
-    by_call (callees.Fun func) types op_is = absurd (no_plain_call (callees.Fun func) types op_is refl)
-    by_call (callees.New layout) types op_is = absurd (no_plain_call (callees.New layout) types op_is refl)
-    by_call callees.TaskStart types op_is = absurd (no_plain_call callees.TaskStart types op_is refl)
-    by_call callees.Poll types op_is = absurd (no_plain_call callees.Poll types op_is refl)
+  by_call : (callee : Callee) (types : List Ty) → line.inst.op ≡ ops.Call callee types → Both
+  by_call callees.Check types op_is = plain (ops.Call callees.Check types) op_is (checks types)
+  by_call callees.Same types op_is = plain (ops.Call callees.Same types) op_is (compares types)
+  by_call callees.Print types op_is = plain (ops.Call callees.Print types) op_is (prints types)
+  by_call callees.Read types op_is = plain (ops.Call callees.Read types) op_is (reads types)
+  by_call (callees.Fun func) types op_is = absurd (no_plain_call (callees.Fun func) types op_is refl)
+  by_call (callees.New layout) types op_is = absurd (no_plain_call (callees.New layout) types op_is refl)
+  by_call callees.TaskStart types op_is = absurd (no_plain_call callees.TaskStart types op_is refl)
+  by_call callees.Poll types op_is = absurd (no_plain_call callees.Poll types op_is refl)
 
-    waits_for : (due : Callee → Type 0) (id : ℕ) (callee : Callee) (types : List Ty) → line.inst.op ≡ ops.Statepoint id callee types → due callee → IsStatepointOf due line.inst.op
-    waits_for due id callee types op_is is_due = subst (IsStatepointOf due) (sym op_is) (dues.waits id callee types is_due)
+  waits_for : (due : Callee → Type 0) (id : ℕ) (callee : Callee) (types : List Ty) → line.inst.op ≡ ops.Statepoint id callee types → due callee → IsStatepointOf due line.inst.op
+  waits_for due id callee types op_is is_due = subst (IsStatepointOf due) (sym op_is) (dues.waits id callee types is_due)
 
-    helps : (id : ℕ) (callee : Callee) (types : List Ty) → line.inst.op ≡ ops.Statepoint id callee types → IsHelper callee → Both
-    helps id callee types op_is due = laws.helpers content sound plan bound state extra related line rest is (waits_for IsHelper id callee types op_is due)
+  helps : (id : ℕ) (callee : Callee) (types : List Ty) → line.inst.op ≡ ops.Statepoint id callee types → IsHelper callee → Both
+  helps id callee types op_is due = helpers_follow content sound plan bound state extra related line rest is (waits_for IsHelper id callee types op_is due)
 
-    by_statepoint : (id : ℕ) (callee : Callee) (types : List Ty) → line.inst.op ≡ ops.Statepoint id callee types → Both
-    by_statepoint id (callees.Fun func) types op_is =
-        laws.calls content sound plan bound state extra related line rest is (waits_for IsDefined id (callees.Fun func) types op_is (dues.defined func))
-    by_statepoint id (callees.New layout) types op_is =
-        laws.new_objects content sound plan bound state extra related line rest is (waits_for MakesObject id (callees.New layout) types op_is (dues.makes layout))
-    by_statepoint id callees.TaskStart types op_is =
-        laws.tasks content sound plan bound state extra related line rest is (waits_for StartsTask id callees.TaskStart types op_is dues.starts)
-    by_statepoint id callees.Poll types op_is =
-        laws.polls content sound plan bound state extra related line rest is (waits_for Polls id callees.Poll types op_is dues.polls)
-    by_statepoint id callees.Print types op_is = helps id callees.Print types op_is dues.prints
-    by_statepoint id callees.Read types op_is = helps id callees.Read types op_is dues.reads
-    by_statepoint id callees.Check types op_is = helps id callees.Check types op_is dues.checks
-    by_statepoint id callees.Same types op_is = helps id callees.Same types op_is dues.compares
+  by_statepoint : (id : ℕ) (callee : Callee) (types : List Ty) → line.inst.op ≡ ops.Statepoint id callee types → Both
+  by_statepoint id (callees.Fun func) types op_is =
+      calls_follow content sound plan bound state extra related line rest is (waits_for IsDefined id (callees.Fun func) types op_is (dues.defined func))
+  by_statepoint id (callees.New layout) types op_is =
+      new_objects_follow content sound plan bound state extra related line rest is (waits_for MakesObject id (callees.New layout) types op_is (dues.makes layout))
+  by_statepoint id callees.TaskStart types op_is =
+      tasks_follow content sound plan bound state extra related line rest is (waits_for StartsTask id callees.TaskStart types op_is dues.starts)
+  by_statepoint id callees.Poll types op_is =
+      polls_follow content sound plan bound state extra related line rest is (waits_for Polls id callees.Poll types op_is dues.polls)
+  by_statepoint id callees.Print types op_is = helps id callees.Print types op_is dues.prints
+  by_statepoint id callees.Read types op_is = helps id callees.Read types op_is dues.reads
+  by_statepoint id callees.Check types op_is = helps id callees.Check types op_is dues.checks
+  by_statepoint id callees.Same types op_is = helps id callees.Same types op_is dues.compares
 
-    skip : (op : Op) → line.inst.op ≡ op → IsSkipped op → Both
-    skip op op_is due = laws.skips content sound plan bound state extra related line rest is (subst IsSkipped (sym op_is) due)
+  skip : (op : Op) → line.inst.op ≡ op → IsSkipped op → Both
+  skip op op_is due = skips_follow content sound plan bound state extra related line rest is (subst IsSkipped (sym op_is) due)
 
-    by_operator : (op : Op) → line.inst.op ≡ op → Both
-    by_operator ops.Add op_is = plain ops.Add op_is (computes ops.Add add)
-    by_operator ops.Sub op_is = plain ops.Sub op_is (computes ops.Sub sub)
-    by_operator ops.Mul op_is = plain ops.Mul op_is (computes ops.Mul mul)
-    by_operator ops.Udiv op_is = plain ops.Udiv op_is (computes ops.Udiv udiv)
-    by_operator ops.Sdiv op_is = plain ops.Sdiv op_is (computes ops.Sdiv sdiv)
-    by_operator ops.Urem op_is = plain ops.Urem op_is (computes ops.Urem urem)
-    by_operator ops.Srem op_is = plain ops.Srem op_is (computes ops.Srem srem)
-    by_operator ops.And op_is = plain ops.And op_is (computes ops.And conjunction)
-    by_operator ops.Or op_is = plain ops.Or op_is (computes ops.Or disjunction)
-    by_operator ops.Xor op_is = plain ops.Xor op_is (computes ops.Xor difference)
-    by_operator ops.Shl op_is = plain ops.Shl op_is (computes ops.Shl shl)
-    by_operator ops.Lshr op_is = plain ops.Lshr op_is (computes ops.Lshr lshr)
-    by_operator ops.Ashr op_is = plain ops.Ashr op_is (computes ops.Ashr ashr)
-    by_operator (ops.Icmp pred) op_is = plain (ops.Icmp pred) op_is (orders pred)
-    by_operator (ops.Trunc width) op_is = plain (ops.Trunc width) op_is (computes (ops.Trunc width) (trunc width))
-    by_operator (ops.Zext width) op_is = plain (ops.Zext width) op_is (computes (ops.Zext width) (zext width))
-    by_operator (ops.Sext width) op_is = plain (ops.Sext width) op_is (computes (ops.Sext width) (sext width))
-    by_operator ops.Select op_is = plain ops.Select op_is chooses
-    by_operator ops.Phi op_is = skip ops.Phi op_is dues.phi
-    by_operator (ops.Gep elem index_width field) op_is = plain (ops.Gep elem index_width field) op_is (advances elem index_width field)
-    by_operator ops.Load op_is = plain ops.Load op_is loads
-    by_operator ops.Store op_is = plain ops.Store op_is stores
-    by_operator (ops.Call callee types) op_is = by_call callee types op_is
-    by_operator (ops.Statepoint id callee types) op_is = by_statepoint id callee types op_is
-    by_operator ops.GcResult op_is = skip ops.GcResult op_is dues.result
-    by_operator ops.GcRelocate op_is = skip ops.GcRelocate op_is dues.relocate
-    by_operator ops.Br op_is = jump ops.Br op_is jumps
-    by_operator ops.CondBr op_is = jump ops.CondBr op_is branches
-    by_operator ops.Switch op_is = jump ops.Switch op_is switches
-    by_operator ops.Ret op_is = laws.returns content sound plan bound state extra related line rest is (subst Returns (sym op_is) dues.returns)
-    by_operator ops.Unreachable op_is = unreachable_follows content sound.target (map_of content) plan bound state extra related line rest is op_is
+  by_operator : (op : Op) → line.inst.op ≡ op → Both
+  by_operator ops.Add op_is = plain ops.Add op_is (computes ops.Add add)
+  by_operator ops.Sub op_is = plain ops.Sub op_is (computes ops.Sub sub)
+  by_operator ops.Mul op_is = plain ops.Mul op_is (computes ops.Mul mul)
+  by_operator ops.Udiv op_is = plain ops.Udiv op_is (computes ops.Udiv udiv)
+  by_operator ops.Sdiv op_is = plain ops.Sdiv op_is (computes ops.Sdiv sdiv)
+  by_operator ops.Urem op_is = plain ops.Urem op_is (computes ops.Urem urem)
+  by_operator ops.Srem op_is = plain ops.Srem op_is (computes ops.Srem srem)
+  by_operator ops.And op_is = plain ops.And op_is (computes ops.And conjunction)
+  by_operator ops.Or op_is = plain ops.Or op_is (computes ops.Or disjunction)
+  by_operator ops.Xor op_is = plain ops.Xor op_is (computes ops.Xor difference)
+  by_operator ops.Shl op_is = plain ops.Shl op_is (computes ops.Shl shl)
+  by_operator ops.Lshr op_is = plain ops.Lshr op_is (computes ops.Lshr lshr)
+  by_operator ops.Ashr op_is = plain ops.Ashr op_is (computes ops.Ashr ashr)
+  by_operator (ops.Icmp pred) op_is = plain (ops.Icmp pred) op_is (orders pred)
+  by_operator (ops.Trunc width) op_is = plain (ops.Trunc width) op_is (computes (ops.Trunc width) (trunc width))
+  by_operator (ops.Zext width) op_is = plain (ops.Zext width) op_is (computes (ops.Zext width) (zext width))
+  by_operator (ops.Sext width) op_is = plain (ops.Sext width) op_is (computes (ops.Sext width) (sext width))
+  by_operator ops.Select op_is = plain ops.Select op_is chooses
+  by_operator ops.Phi op_is = skip ops.Phi op_is dues.phi
+  by_operator (ops.Gep elem index_width field) op_is = plain (ops.Gep elem index_width field) op_is (advances elem index_width field)
+  by_operator ops.Load op_is = plain ops.Load op_is loads
+  by_operator ops.Store op_is = plain ops.Store op_is stores
+  by_operator (ops.Call callee types) op_is = by_call callee types op_is
+  by_operator (ops.Statepoint id callee types) op_is = by_statepoint id callee types op_is
+  by_operator ops.GcResult op_is = skip ops.GcResult op_is dues.result
+  by_operator ops.GcRelocate op_is = skip ops.GcRelocate op_is dues.relocate
+  by_operator ops.Br op_is = jump ops.Br op_is jumps
+  by_operator ops.CondBr op_is = jump ops.CondBr op_is branches
+  by_operator ops.Switch op_is = jump ops.Switch op_is switches
+  by_operator ops.Ret op_is = returns_follow content sound plan bound state extra related line rest is (subst Returns (sym op_is) dues.returns)
+  by_operator ops.Unreachable op_is = unreachable_follows content sound.target (map_of content) plan bound state extra related line rest is op_is
 
 -- each line that is executed
-pub all_lines_follow : StepLaws → AllLinesFollow
-all_lines_follow laws = λ content sound plan bound state extra related line rest is due. by_operator content sound plan bound state extra related line rest is laws line.inst.op refl
+pub all_lines_follow : AllLinesFollow
+all_lines_follow = λ content sound plan bound state extra related line rest is due. by_operator content sound plan bound state extra related line rest is line.inst.op refl

@@ -29,11 +29,11 @@ use Rattle.machine_meaning.specs.MachineSteps.{machine_at, machine_step}
 use Rattle.machine_meaning.specs.Words.{worded}
 use Rattle.moves_unseen.specs.States.{Extra, Follows, IsRelated, machine_of}
 use Rattle.moves_unseen.specs.Steps.{IsLast, StepFollows, both_end, both_go, both_print}
-use Rattle.moves_unseen.specs.Waits.{AllLinesFollow, IsSound}
+use Rattle.moves_unseen.specs.Waits.{IsSound}
 use Rattle.moves_unseen.proofs.OpeningLaws.{openings_follow}
 use Rattle.runs_unseen.specs.Runs.{event_in}
 use Rattle.runs_unseen.proofs.EventLaws.{events_are}
-use Rattle.runs_unseen.proofs.LineCases.{accesses_are}
+use Rattle.runs_unseen.proofs.LineCases.{accesses_are, all_lines_follow}
 
 -- ---- states with what they have printed
 
@@ -106,7 +106,7 @@ module _ (content : ModuleContent) (machinery : Machinery) (setting : Setting) (
 
 -- ---- steps
 
-module _ (content : ModuleContent) (sound : IsSound content) (lines_follow : AllLinesFollow) (plan : List PlanLine) (bound : ℕ) where
+module _ (content : ModuleContent) (sound : IsSound content) (plan : List PlanLine) (bound : ℕ) where
   abbrev machinery : Machinery
   machinery = machinery_of content (map_of content) plan bound
 
@@ -127,7 +127,7 @@ module _ (content : ModuleContent) (sound : IsSound content) (lines_follow : All
       (subst (StepFollows content machinery (ends (Trap Unreachable) state))
       (sym (ap (machine_at machinery (machine_of machinery state extra)) (ap (map worded) is)))
       (both_end (Trap Unreachable) state (machine_of machinery state extra) (record { extra = extra; is = refl; objects = related.objects })))
-  step_at state extra related (line ∷ rest) is = lines_follow content sound plan bound state extra related line rest is tt
+  step_at state extra related (line ∷ rest) is = all_lines_follow content sound plan bound state extra related line rest is tt
 
   step_both : (state : State) (machine : Machine) → Follows content machinery state machine → StepFollows content machinery (step setting state) (machine_step machinery machine)
   step_both state machine follows =

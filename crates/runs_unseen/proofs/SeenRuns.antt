@@ -31,7 +31,7 @@ use Rattle.machine_meaning.proofs.OutcomeLaws.{gives_one as machine_gives_one}
 use Rattle.machine_ends.proofs.PrintLaws.{printed_first}
 use Rattle.moves_unseen.specs.Objects.{AreHeld}
 use Rattle.moves_unseen.specs.Statements.{IsSeen, MovesAreUnseen}
-use Rattle.moves_unseen.specs.Waits.{AllLinesFollow, IsSound}
+use Rattle.moves_unseen.specs.Waits.{IsSound}
 use Rattle.runs_unseen.specs.Runs.{IsSameRun, IsSeenFront, IsSeenRun, event_in}
 use Rattle.runs_unseen.specs.Statements.{IsSeenOf}
 use Rattle.runs_unseen.proofs.BareLaws.{closing_bare}
@@ -51,7 +51,7 @@ concat_reverse (line ∷ lines) =
     ap concat (reverse-append (line ∷ []) lines)
     ∙ (concat-append (reverse lines) (line ∷ []) ∙ (ap (λ text. text ++ (line ++ [])) (concat_reverse lines) ∙ ap (λ more. text_of lines ++ more) (append-nil line)))
 
-module _ (lines_follow : AllLinesFollow) (content : ModuleContent) (sound : IsSound content) (input : List ℤ) (plan : List PlanLine) (bound : ℕ) where
+module _ (content : ModuleContent) (sound : IsSound content) (input : List ℤ) (plan : List PlanLine) (bound : ℕ) where
   abbrev machinery : Machinery
   machinery = machinery_of content (map_of content) plan bound
 
@@ -82,8 +82,8 @@ module _ (lines_follow : AllLinesFollow) (content : ModuleContent) (sound : IsSo
       → (machine : MachineOutcome) × (MachineGives content (map_of content) input plan bound machine × IsSeen content outcome machine)
   seen_there outcome gives =
       let there = followed (proceeds setting) (machine_proceeds machinery) happens (happens_there machinery) (accessing setting) accessing_there _ _
-      (simulates content sound lines_follow plan bound) gives.run.within (opening setting input) (machine_opening machinery input) outcome.end gives.last
-      (opens content sound lines_follow plan bound input) gives.run.by in
+      (simulates content sound plan bound) gives.run.within (opening setting input) (machine_opening machinery input) outcome.end gives.last
+      (opens content sound plan bound input) gives.run.by in
       let does = there.does ∙ traced_mapped event_in (λ (progress : Progress Machine). happenings_at machinery progress.state progress.state.state.running.rest) (machine_proceeds machinery) there.within (Go (machine_opening machinery input)) in (
         machine_outcome machinery input there.within outcome.end there.last_there,
         (
@@ -163,17 +163,17 @@ same_run content outcome one other first second = record {
   accesses = first.accesses ∙ sym second.accesses;
 }
 
-pub moves_are_free : AllLinesFollow → (content : ModuleContent) → IsSound content → (input : List ℤ) (plan other : List PlanLine) → ((event : ℕ) → go plan event ≡ go other event)
+pub moves_are_free : (content : ModuleContent) → IsSound content → (input : List ℤ) (plan other : List PlanLine) → ((event : ℕ) → go plan event ≡ go other event)
     → (bound : ℕ) (one two : MachineOutcome) → MachineGives content (map_of content) input plan bound one
     → MachineGives content (map_of content) input other bound two → IsSameRun one two
-moves_are_free lines_follow content sound input plan other same bound one two gives_one_so gives_two =
-    let first = seen_here lines_follow content sound input plan bound one gives_one_so in
-    let second = seen_here lines_follow content sound input other bound two gives_two in
+moves_are_free content sound input plan other same bound one two gives_one_so gives_two =
+    let first = seen_here content sound input plan bound one gives_one_so in
+    let second = seen_here content sound input other bound two gives_two in
     let lines : go plan ≡ go other = fun_ext same in
     let there = subst (λ (go_line : ℕ → Option ℕ). TargetGives content input go_line bound first.outcome) lines first.gives in
     let outcomes = gives_one (target_setting content (go other) bound) input first.outcome second.outcome there second.gives in
     same_run content second.outcome one two (subst (λ (o : Outcome). IsSeen content o one) outcomes first.seen) second.seen
 
-pub moves_are_unseen : AllLinesFollow → MovesAreUnseen
-moves_are_unseen lines_follow = λ content target bundles verified input plan bound outcome gives.
-    seen_there lines_follow content (record { target = target; bundles = bundles; verified = verified }) input plan bound outcome gives
+pub moves_are_unseen : MovesAreUnseen
+moves_are_unseen = λ content target bundles verified input plan bound outcome gives.
+    seen_there content (record { target = target; bundles = bundles; verified = verified }) input plan bound outcome gives

@@ -1,4 +1,5 @@
--- The law of whole runs, from the laws of single lines.
+-- The law of whole runs, the other way round and as code that runs a module has it. `AllLinesFollow` and `MovesAreUnseen` stand in
+-- `moves_unseen`.
 use Rattle.std.specs.Prelude.{◌≡◌, ℕ, ℤ, List, Option, Some, []}
 use Rattle.std.specs.List.{concat}
 use Rattle.sp_ids.specs.declared.ends.End.{End}
@@ -17,27 +18,9 @@ use Rattle.machine_meaning.specs.Code.{machinery_of}
 use Rattle.machine_meaning.specs.Machines.{Machine}
 use Rattle.machine_meaning.specs.MachineRuns.{MachineGives, MachineOutcome, machine_opening, machine_proceeds}
 use Rattle.machine_meaning.specs.TrapLines.{deopt_places}
-use Rattle.moves_unseen.specs.Statements.{IsSeen, MovesAreUnseen}
-use Rattle.moves_unseen.specs.Waits.{AllLinesFollow, CallsFollow, HelpersFollow, IsSound, NewObjectsFollow, PollsFollow, ReturnsFollow, SkipsFollow, TasksFollow}
+use Rattle.moves_unseen.specs.Statements.{IsSeen}
+use Rattle.moves_unseen.specs.Waits.{IsSound}
 use Rattle.runs_unseen.specs.Runs.{IsSameRun, IsSeenFront, IsSeenRun}
-
--- the laws of the lines that wait, return, or took effect before
-pub record StepLaws : Type 0 where
-  pub calls : CallsFollow
-  pub tasks : TasksFollow
-  pub returns : ReturnsFollow
-  pub new_objects : NewObjectsFollow
-  pub polls : PollsFollow
-  pub helpers : HelpersFollow
-  pub skips : SkipsFollow
-
--- so each line is one step of both
-abbrev pub EachLineFollows : Type 0
-EachLineFollows = StepLaws → AllLinesFollow
-
--- and the machine's run over the map of a verified module gives what the target meaning gives
-abbrev pub RunsAreUnseen : Type 0
-RunsAreUnseen = StepLaws → MovesAreUnseen
 
 -- what the target meaning gives, to which a run of the machine is the same
 pub record IsSeenOf (content : ModuleContent) (input : List ℤ) (plan : List PlanLine) (bound : ℕ) (machine : MachineOutcome) : Type 0 where
@@ -47,29 +30,29 @@ pub record IsSeenOf (content : ModuleContent) (input : List ℤ) (plan : List Pl
 
 -- the other way round: whatever the machine gives is what the target meaning gives
 abbrev pub MachineRunsAreSeen : Type 0
-MachineRunsAreSeen = StepLaws → (content : ModuleContent) → IsSound content → (input : List ℤ) (plan : List PlanLine) (bound : ℕ) (machine : MachineOutcome)
+MachineRunsAreSeen = (content : ModuleContent) → IsSound content → (input : List ℤ) (plan : List PlanLine) (bound : ℕ) (machine : MachineOutcome)
     → MachineGives content (map_of content) input plan bound machine → IsSeenOf content input plan bound machine
 
 -- no run comes to a word that is no object's address, or loses a frame
 abbrev pub RunsKeepTheirWay : Type 0
-RunsKeepTheirWay = StepLaws → (content : ModuleContent) → IsSound content → (input : List ℤ) (plan : List PlanLine) (bound : ℕ) (machine : MachineOutcome)
+RunsKeepTheirWay = (content : ModuleContent) → IsSound content → (input : List ℤ) (plan : List PlanLine) (bound : ℕ) (machine : MachineOutcome)
     → MachineGives content (map_of content) input plan bound machine → (machine.end ≡ Poison → ⊥) × (machine.end ≡ LostFrame → ⊥)
 
 -- two plans with the same `go` lines give the same, whatever they move
 abbrev pub MovesAreFree : Type 0
-MovesAreFree = StepLaws → (content : ModuleContent) → IsSound content → (input : List ℤ) (plan other : List PlanLine) → ((event : ℕ) → go plan event ≡ go other event)
+MovesAreFree = (content : ModuleContent) → IsSound content → (input : List ℤ) (plan other : List PlanLine) → ((event : ℕ) → go plan event ≡ go other event)
     → (bound : ℕ) (one two : MachineOutcome) → MachineGives content (map_of content) input plan bound one
     → MachineGives content (map_of content) input other bound two → IsSameRun one two
 
 -- what a run answers and puts into a sink is that of the target meaning
 abbrev pub AnswersAreSeen : Type 0
-AnswersAreSeen = StepLaws → (content : ModuleContent) → IsSound content → (input : List ℤ) (plan : List PlanLine) (bound : ℕ) (machine : MachineOutcome)
+AnswersAreSeen = (content : ModuleContent) → IsSound content → (input : List ℤ) (plan : List PlanLine) (bound : ℕ) (machine : MachineOutcome)
     → MachineGives content (map_of content) input plan bound machine → (old new : Option (List ℕ)) → new ≡ append_known old (concat machine.lines)
     → IsSeenRun content input (go plan) bound machine.end machine.func machine.steps machine.events machine.printed old new
 
 -- what a run has printed in a state that it comes to is a front of what the target meaning writes
 abbrev pub FrontsAreSeen : Type 0
-FrontsAreSeen = StepLaws → (content : ModuleContent) → IsSound content → (input : List ℤ) (plan : List PlanLine) (bound : ℕ) (now : Progress Machine)
+FrontsAreSeen = (content : ModuleContent) → IsSound content → (input : List ℤ) (plan : List PlanLine) (bound : ℕ) (now : Progress Machine)
     → Reaches {E = End} (machine_proceeds (machinery_of content (map_of content) plan bound)) (machine_opening (machinery_of content (map_of content) plan bound) input) now
     → (old new : Option (List ℕ)) → AppendsFront old new (text_of now.lines) → IsSeenFront content input (go plan) bound old new
 

@@ -1,17 +1,19 @@
 //! The law of whole runs: over the map of a verified module moves are never noticed. No code.
 #![tactic(auto)]
 
-ghost use Rattle.runs_unseen.specs.Statements.{AnswersAreSeen, EachLineFollows, FrontsAreSeen, MachineRunsAreSeen, MapsNameNothing, MovesAreFree, RunsAreUnseen, RunsKeepTheirWay};
+ghost use Rattle.moves_unseen.specs.Statements.{MovesAreUnseen};
+ghost use Rattle.moves_unseen.specs.Waits.{AllLinesFollow};
+ghost use Rattle.runs_unseen.specs.Statements.{AnswersAreSeen, FrontsAreSeen, MachineRunsAreSeen, MapsNameNothing, MovesAreFree, RunsKeepTheirWay};
 
 /// Each line that is executed is one step of the target meaning and one of the machine, and the relation holds behind it.
 pub fn lines_follow()
-    ensures { EachLineFollows }
+    ensures { AllLinesFollow }
 {}
 
 /// For each run of the target meaning the machine's run over the map of the module gives the same lines, end, steps, events and
 /// accesses, and objects whose cells are held, whatever the plan moves.
 pub fn runs_are_unseen()
-    ensures { RunsAreUnseen }
+    ensures { MovesAreUnseen }
 {}
 
 /// Whatever the machine gives over the map of the module is what the target meaning gives.

@@ -2,4 +2,4 @@ use Rattle.runs_unseen.proofs.LineCases as laws
 use Rattle.runs_unseen.proofs.lines_follow.Goals as goal
 
 pub returns : goal.returns
-returns c = λ steps. laws.all_lines_follow steps
+returns c = laws.all_lines_follow
