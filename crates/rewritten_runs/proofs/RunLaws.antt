@@ -25,7 +25,7 @@ use Rattle.rewritten_definite.specs.Statements.{rewritten_source}
 use Rattle.moves_unseen.specs.Waits.{IsSound}
 use Rattle.rewritten_runs.specs.Statements.{FrontsAreSource, SeenRunsAreSource, SourcesRunOnMachine}
 use Rattle.rewritten_runs.proofs.NameLaws.{names_are_kept}
-use Rattle.runs_unseen.proofs.RunLaws.{machine_runs_are_seen, moves_are_unseen, runs_keep_their_way}
+use Rattle.runs_unseen.proofs.SeenRuns.{keeps_way, seen_here, seen_there}
 
 sound_after : (content after : ModuleContent) → IsSourceModule content → All HasNoBundle content.funcs → IsRewritten content after → IsSound after
 sound_after content after source bare is = record {
@@ -40,8 +40,8 @@ sources_run_on_machine content reached source bare drops input plan bound outcom
     let is : IsRewritten content after = record { reached = reached; drops = drops; rest = refl } in
     let sound = sound_after content after source bare is in
     let target = (rewriting_keeps_meaning content after source is input (go plan) bound outcome).0 gives in
-    let run = moves_are_unseen after sound input plan bound outcome target in
-    let way = runs_keep_their_way after sound input plan bound run.0 run.1.0 in
+    let run = seen_there after sound input plan bound outcome target in
+    let way = keeps_way after sound input plan bound run.0 run.1.0 in
     let seen = run.1.1 in
     record {
       after = after;
@@ -84,7 +84,7 @@ fronts_are_source content after source bare is input plan bound now reached =
     let machine : MachineOutcome = ended.outcome in
     let last = ended.gives.last in
     let printed = printed_first machinery input now machine reached ended.gives in
-    let found = machine_runs_are_seen after (sound_after content after source bare is) input plan bound machine ended.gives in
+    let found = seen_here after (sound_after content after source bare is) input plan bound machine ended.gives in
     let closing = closing_of machinery machine.end last.state in
     let lines : machine.lines ≡ reverse last.lines ++ closing = ap (λ (m : MachineOutcome). m.lines) ended.gives.is in
     record {
