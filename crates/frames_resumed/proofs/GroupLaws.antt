@@ -1,18 +1,20 @@
 -- The group of a statepoint in its block: its lines, the values that they give, and what stands behind it.
-use Rattle.std.proofs.Common.{◌≡◌, ℕ, zero, suc, ◌+◌, ◌-◌, ◌<◌, ◌≤◌, ◌==◌, Bool, true, false, List, [], ◌∷◌, length, get_or, take, drop, refl, sym, ap, ◌∙◌, subst, arith, Option, Some, None, inl, inr}
-use Rattle.std.specs.Prelude.{nat_lt, slice_get, is_some, if◌then◌else◌}
+use Rattle.std.proofs.Common.{◌≡◌, ℕ, zero, suc, ◌+◌, ◌-◌, ◌<◌, ◌≤◌, ◌==◌, Bool, true, false, List, [], ◌∷◌, ◌++◌, length, get_or, take, drop, refl, sym, ap, ◌∙◌, subst, arith, Option, Some, None, inl, inr}
+use Rattle.std.specs.Prelude.{nat_lt, slice_get, slice_index, is_some, if◌then◌else◌}
 use Rattle.std.specs.List.{list_any}
 use Rattle.std.specs.Option.{option_map_or}
 use Rattle.std.proofs.lemmas.Bool.{cases_Bool, eqb-true, true≢false}
 use Rattle.std.proofs.lemmas.List.Sums.{prefix_len_passes}
 use Rattle.std.proofs.lemmas.Option.{none-some, same_Some}
+use Rattle.ir_ast.specs.declared.ops.Operand.{Operand}
+use Rattle.ir_ast.specs.declared.ops.Operand.TheVariants.{Int}
 use Rattle.ir_ast.specs.Faults.GroupShape.{entries_of, is_statepoint}
 use Rattle.ir_ast.specs.Insts.{Instruction}
 use Rattle.object_meaning.specs.Frames.{group_length, is_member}
 use Rattle.object_meaning.specs.Jumps.{phi_count}
 use Rattle.object_meaning.specs.Lines.{Line, after_all, following, numbered}
 use Rattle.object_meaning.specs.TargetRuns.{plain_lines}
-use Rattle.pair_facts.specs.Lines.{gives, group_in, head_at, is_given, line_before, line_in, no_line}
+use Rattle.pair_facts.specs.Lines.{gives, group_in, head_at, is_given, line_before, line_in, no_line, operand_at}
 use Rattle.pair_facts.specs.Pairs.{Pairs, after, after_group}
 use Rattle.pair_facts.specs.Paths.{pairs_at}
 use Rattle.pair_facts.proofs.BoolLemmas.{either}
@@ -22,11 +24,6 @@ use Rattle.moves_unseen.proofs.PhiLaws.{picked, picked_is, put_each}
 use Rattle.moves_unseen.proofs.StandLaws.{line_is, no_head}
 
 -- ---- lists
-
-pub get_dropped : {A : Type 0} (xs : List A) (count place : ℕ) → slice_get (drop count xs) place ≡ slice_get xs (count + place)
-get_dropped xs zero place = let same : 0 + place ≡ place = omega arith in rw same refl
-get_dropped [] (suc count) place = refl
-get_dropped (x ∷ xs) (suc count) place = let same : suc count + place ≡ suc (count + place) = omega arith in rw same (get_dropped xs count place)
 
 or_dropped : {A : Type 0} (xs : List A) (count place : ℕ) (none : A) → get_or (drop count xs) place none ≡ get_or xs (count + place) none
 or_dropped xs zero place none = let same : 0 + place ≡ place = omega arith in rw same refl
@@ -41,6 +38,16 @@ dropped_twice : {A : Type 0} (xs : List A) (first second : ℕ) → drop second 
 dropped_twice xs zero second = let same : 0 + second ≡ second = omega arith in rw same refl
 dropped_twice [] (suc first) second = drop_none second ∙ sym (drop_none (suc first + second))
 dropped_twice (x ∷ xs) (suc first) second = let same : suc first + second ≡ suc (first + second) = omega arith in rw same (dropped_twice xs first second)
+
+pub front_index : (front below : List ℕ) (place : ℕ) → place < length front → slice_index (front ++ below) place ≡ slice_index front place
+front_index [] below place within = absurd (omega arith)
+front_index (word ∷ front) below zero within = refl
+front_index (word ∷ front) below (suc place) within = front_index front below place (omega arith)
+
+pub past_operands : (operands : List Operand) (place : ℕ) → length operands ≤ place → operand_at operands place ≡ Int 0
+past_operands [] place past = refl
+past_operands (first ∷ operands) zero past = absurd (omega arith)
+past_operands (first ∷ operands) (suc place) past = past_operands operands place (omega arith)
 
 -- an element that passes the test
 pub record IsFound {A : Type 0} (test : A → Bool) (xs : List A) : Type 0 where
@@ -121,10 +128,7 @@ group_put made next insts head held at none old within same =
     (group_length (plain_lines (after_all next (take (suc head) insts)) (drop (suc head) insts))) held at none old inside same)
     within
 
--- the lines of the group after a statepoint, by their places
-pub member_here : (lines : List Line) (head place : ℕ) (line : Line) → slice_get (group_in lines head) place ≡ Some line → slice_get lines (suc head + place) ≡ Some line
-member_here lines head place line is =
-    sym (get_dropped lines (suc head) place) ∙ (taken_lower (group_length (drop (suc head) lines)) (drop (suc head) lines) place line is).1
+-- ---- behind a group
 
 module _ (lines : List Line) (head : ℕ) (statepoint : is_statepoint (line_in lines head).inst.op ≡ true) where
   abbrev tail : List Line

@@ -1,4 +1,3 @@
 pub mod GroupLaws
-pub mod EntryLaws
 pub mod ResumeLaws
 pub mod StateLaws

@@ -1,7 +1,7 @@
 -- A frame that waits goes on behind its group, in both meanings.
-use Rattle.std.proofs.Common.{◌≡◌, ℕ, zero, suc, ◌+◌, ◌<◌, ◌≤◌, ◌==◌, ◌&&◌, Bool, true, false, List, [], ◌∷◌, ◌++◌, length, get_or, map, take, drop, refl, sym, ap, ◌∙◌, subst, arith, Option, Some, None, inl, inr}
+use Rattle.std.proofs.Common.{◌≡◌, ℕ, zero, suc, ◌+◌, ◌<◌, ◌≤◌, ◌==◌, ◌&&◌, Bool, true, false, List, [], ◌∷◌, ◌++◌, length, get_or, map, take, drop, refl, sym, ap, ◌∙◌, subst, arith, Some, inl, inr}
 use Rattle.std.specs.Prelude.{slice_get, slice_index, slice_index_or, if◌then◌else◌}
-use Rattle.std.specs.List.{Contains, drop-map, prefix_len}
+use Rattle.std.specs.List.{Contains, drop-map}
 use Rattle.std.proofs.lemmas.Bool.{and_parts, cases_lt, eqb-true, true≢false}
 use Rattle.std.proofs.lemmas.List.{take-map}
 use Rattle.std.proofs.lemmas.Option.{none-some, same_Some, slice_get_within}
@@ -14,12 +14,12 @@ use Rattle.ir_ast.specs.declared.ops.Operand.TheVariants as operands
 use Rattle.ir_ast.specs.declared.types.Ty.{Ty}
 use Rattle.ir_ast.specs.Faults.GroupShape.{entries_of, is_statepoint, live_entries}
 use Rattle.ir_ast.specs.Funcs.{Function}
-use Rattle.ir_ast.specs.Insts.{Instruction}
 use Rattle.ir_ast.specs.Lines.{LineOf}
 use Rattle.ir_ast.specs.Modules.{ModuleContent}
 use Rattle.ir_ast.specs.Objects.{Datum, Object, Pointer, null, number}
 use Rattle.ir_ast.specs.Types.{is_pointer}
 use Rattle.ir_ast.specs.Values.{outcome_type, value_types}
+use Rattle.frame_forms.specs.FrameSizes.{frame_words}
 use Rattle.moving_heap.specs.declared.stands.Stand.{Stand}
 use Rattle.frame_walk.specs.Maps.{Pair}
 use Rattle.object_meaning.specs.Frames.{answered, answered_at, answered_by, group_length, index_in, is_member, member_value, member_write, regrouped}
@@ -28,27 +28,28 @@ use Rattle.object_meaning.specs.Registers.{nothing, number_in, operand, pointer_
 use Rattle.object_meaning.specs.States.{Frame}
 use Rattle.pair_facts.specs.declared.bases.Base.TheVariants.{Named}
 use Rattle.pair_facts.specs.Lines.{gives, group_in, is_null, is_relocate, line_in, lines_at, operand_at}
-use Rattle.pair_facts.specs.Pairs.{Pairs, after_group, base_index, derived_index, member_pairs, null_pairs, own_pairs, relocated_pairs, relocates_base}
-use Rattle.pair_facts.specs.Uses.{Relocates, Uses, entries_at, entries_used, relocates}
+use Rattle.pair_facts.specs.Pairs.{after_group, base_index, derived_index, member_pairs, own_pairs, relocated_pairs, relocates_base}
+use Rattle.pair_facts.specs.Uses.{entries_at, entries_used, relocates}
 use Rattle.pair_facts.proofs.GroupLaws.{given_is, stands_member}
 use Rattle.machine_meaning.specs.Machines.{gone_behind, gone_from, regrouped_by, slot_put, slot_value}
 use Rattle.machine_meaning.specs.Relations.{word_in, IsPair}
 use Rattle.machine_meaning.specs.Words.{worded, worded_operand}
-use Rattle.moves_unseen.specs.Frames.{AreNumbers, AreWords, FrameWords, IsRunning, IsWaiting, StandsAt, group_pairs, relocated_pair}
+use Rattle.moves_unseen.specs.Frames.{AreNumbers, FrameWords, IsRunning, IsWaiting, group_pairs, relocated_pair}
 use Rattle.moves_unseen.specs.States.{worded_frame}
 use Rattle.moves_unseen.specs.Types.{IsLineOf}
 use Rattle.moves_unseen.specs.Waits.{GoesOn, IsAnswer, IsSound}
 use Rattle.moves_unseen.proofs.LineTypes.{lines_are_typed}
 use Rattle.moves_unseen.proofs.LiteralLaws.{literals_bare}
 use Rattle.moves_unseen.proofs.PassLaws.{put_words}
-use Rattle.moves_unseen.proofs.PhiLaws.{length_each, picked, picked_is, put_each}
+use Rattle.moves_unseen.proofs.PhiLaws.{length_each, picked, put_each}
 use Rattle.moves_unseen.proofs.RegisterLaws.{word_of_value}
 use Rattle.moves_unseen.proofs.SelectSteps.{is_value_named}
 use Rattle.moves_unseen.proofs.StandLaws.{line_is}
 use Rattle.moves_unseen.proofs.ValueLaws.{pair_of_base, value_at}
 use Rattle.moves_unseen.proofs.VerifiedLaws.{pair_stands}
-use Rattle.frames_resumed.proofs.EntryLaws.{entries_within, entry_pointer, front_index, past_operands}
-use Rattle.frames_resumed.proofs.GroupLaws.{behind_group, found_in, group_picks, group_put, last_is, member_here, rest_is}
+use Rattle.frames_spilled.proofs.GroupSlots.{entry_pointer, member_at, pair_of}
+use Rattle.frames_spilled.proofs.RoomLaws.{entries_fit}
+use Rattle.frames_resumed.proofs.GroupLaws.{behind_group, found_in, front_index, group_picks, group_put, last_is, past_operands, rest_is}
 
 -- ---- what a member makes
 
@@ -107,6 +108,13 @@ relocate_op op is = absurd cc
 null_operand : (operand : Operand) → is_null operand ≡ true → operand ≡ operands.Null
 null_operand operands.Null is = refl
 null_operand operand is = absurd cc
+
+entries_room : (func : Function) (block place : ℕ) (line : Line) → slice_get (lines_at func block) place ≡ Some line → (op : Op) → line.inst.op ≡ op → is_statepoint op ≡ true
+    → length (entries_of line.inst) ≤ frame_words func
+entries_room func block place line is (ops.Statepoint id callee passed) op_is statepoint =
+    let room = entries_fit func block place line is id callee passed op_is in
+    let same = ap (λ (op : Op). length (live_entries op line.inst.operands)) op_is in omega arith
+entries_room func block place line is op op_is statepoint = absurd cc
 
 -- ---- both meanings at a statepoint
 
@@ -170,17 +178,18 @@ module _ (content : ModuleContent) (sound : IsSound content) (objects : List Obj
   abbrev stack : List ℕ
   stack = held.slots ++ below
 
-  abbrev data_of : Line → Datum
-  data_of member = member_value frame.registers entries answer member member.inst.op
+  -- what a member gives, in both
+  abbrev datum_of : Line → Datum
+  datum_of member = member_value frame.registers entries answer member member.inst.op
 
   abbrev word_of : Line → ℕ
   word_of member = member_word stack word member member.inst.op
 
   abbrev new_registers : List Datum
-  new_registers = put_each (λ member. member_value frame.registers entries answer member member.inst.op) group frame.registers
+  new_registers = put_each datum_of group frame.registers
 
   abbrev new_words : List ℕ
-  new_words = put_each (λ member. member_word stack word member member.inst.op) group held.words
+  new_words = put_each word_of group held.words
 
   head_line : line_in lines head ≡ waiting.call
   head_line = line_is lines head waiting.call waiting.is
@@ -195,7 +204,7 @@ module _ (content : ModuleContent) (sound : IsSound content) (objects : List Obj
 
   member_line : (place : ℕ) (member : Line) → slice_get group place ≡ Some member → IsLineOf content func member
   member_line place member is =
-      lines_are_typed content sound.target frame.func func waiting.at.defined frame.block (suc head + place) member (member_here lines head place member is)
+      lines_are_typed content sound.target frame.func func waiting.at.defined frame.block (suc head + place) member (member_at lines head place member is)
 
   within : (place : ℕ) (member : Line) (to : ℕ) → slice_get group place ≡ Some member → member.to ≡ Some to → to < length types
   within place member to is given =
@@ -210,26 +219,26 @@ module _ (content : ModuleContent) (sound : IsSound content) (objects : List Obj
   abbrev next : ℕ
   next = slice_index (registers_of func) frame.block
 
-  register_is : (at : ℕ) → get_or new_registers at nothing ≡ picked (λ member. member_value frame.registers entries answer member member.inst.op) group at (get_or frame.registers at nothing)
+  register_is : (at : ℕ) → get_or new_registers at nothing ≡ picked datum_of group at (get_or frame.registers at nothing)
   register_is at =
-      group_put (λ member. member_value frame.registers entries answer member member.inst.op) next (insts_in func frame.block) head frame.registers at nothing (get_or frame.registers at nothing) in_registers refl
+      group_put datum_of next (insts_in func frame.block) head frame.registers at nothing (get_or frame.registers at nothing) in_registers refl
 
-  word_is : (at : ℕ) → get_or new_words at 0 ≡ picked (λ member. member_word stack word member member.inst.op) group at (get_or held.words at 0)
+  word_is : (at : ℕ) → get_or new_words at 0 ≡ picked word_of group at (get_or held.words at 0)
   word_is at =
-      group_put (λ member. member_word stack word member member.inst.op) next (insts_in func frame.block) head held.words at 0 (get_or held.words at 0) in_words refl
+      group_put word_of next (insts_in func frame.block) head held.words at 0 (get_or held.words at 0) in_words refl
 
   -- what a member gives
   given_register : (place : ℕ) (member : Line) (at : ℕ) → slice_get group place ≡ Some member → gives member at ≡ true
       → get_or new_registers at nothing ≡ member_value frame.registers entries answer member member.inst.op
   given_register place member at is given =
       register_is at
-      ∙ group_picks (λ member. member_value frame.registers entries answer member member.inst.op) next (insts_in func frame.block) head place member at (get_or frame.registers at nothing) is (given_is member at given)
+      ∙ group_picks datum_of next (insts_in func frame.block) head place member at (get_or frame.registers at nothing) is (given_is member at given)
 
   given_word : (place : ℕ) (member : Line) (at : ℕ) → slice_get group place ≡ Some member → gives member at ≡ true
       → get_or new_words at 0 ≡ member_word stack word member member.inst.op
   given_word place member at is given =
       word_is at
-      ∙ group_picks (λ member. member_word stack word member member.inst.op) next (insts_in func frame.block) head place member at (get_or held.words at 0) is (given_is member at given)
+      ∙ group_picks word_of next (insts_in func frame.block) head place member at (get_or held.words at 0) is (given_is member at given)
 
   -- ---- numbers
 
@@ -253,7 +262,7 @@ module _ (content : ModuleContent) (sound : IsSound content) (objects : List Obj
   new_numbers : AreNumbers types new_registers new_words
   new_numbers at ty typed plain =
       word_is at
-      ∙ (number_picked (λ member. member_value frame.registers entries answer member member.inst.op) (λ member. member_word stack word member member.inst.op) group at
+      ∙ (number_picked datum_of word_of group at
       (get_or frame.registers at nothing) (get_or held.words at 0)
       (λ place member is given. member_number place member at ty typed plain is given member.inst.op refl (is_part place member is))
       (waiting.numbers at ty typed plain)
@@ -268,13 +277,13 @@ module _ (content : ModuleContent) (sound : IsSound content) (objects : List Obj
       let there = stands_member lines head place member statepoint_here is in
       pair_stands func frame.block (suc head + place) (λ code. sound.verified frame.func frame.block (suc head + place) code func waiting.at.defined) 2 head
       (entries_used member (entries_at lines head))
-      (relocates head member (record { stands = member_here lines head place member is; relocate = relocate; in_group = there.member.head_is }))
+      (relocates head member (record { stands = member_at lines head place member is; relocate = relocate; in_group = there.member.head_is }))
       waiting.pairs waiting.at.arrived
 
   derived_within : (place : ℕ) (member : Line) → slice_get group place ≡ Some member → is_relocate member.inst.op ≡ true → derived_index member < length held.slots
   derived_within place member is relocate = elim (cases_lt (derived_index member) (length (entries_at lines head))) [
     | inl low ↦ (
-        let room = entries_within func frame.block head waiting.call waiting.is in
+        let room = entries_room func frame.block head waiting.call waiting.is waiting.call.inst.op refl waiting.statepoint in
         let same = ap length entries_here in
         let whole = waiting.room in omega arith)
     | inr high ↦
@@ -283,19 +292,22 @@ module _ (content : ModuleContent) (sound : IsSound content) (objects : List Obj
         ∙ (literals_bare func frame.block head waiting.pairs waiting.at.arrived 0).0 (Named (operand_at (entries_at lines head) (base_index member))))))
   ]
 
+  pointer_of : (entry : ℕ) → slice_index_or (map (λ (each : Operand). pointer_in (value frame.registers each)) entries) entry null ≡ pointer_in (operand frame.registers entries entry)
+  pointer_of entry = entry_pointer frame.registers entries entry ∙ sym (ap pointer_in (value_at frame.registers entries entry))
+
   -- its slots
   slot_pair : (place : ℕ) (member : Line) → slice_get group place ≡ Some member → is_relocate member.inst.op ≡ true
       → IsPair stands (pointer_in (operand frame.registers entries (derived_index member))) (pointer_in (operand frame.registers entries (base_index member)))
       (slice_index held.slots (derived_index member)) (slice_index held.slots (base_index member))
   slot_pair place member is relocate =
-      let pair : Pair = record { base = base_index member; derived = derived_index member } in
+      let pair : Pair = pair_of member in
       let own : Contains (relocated_pair member) pair = subst (λ (b : Bool). Contains (if b then pair ∷ [] else []) pair) (sym relocate) (contains_first pair []) in
       let at = get_contained (group_pairs lines head) pair (joined_contains relocated_pair group member pair (contains_get group place member is) own) in
       pair_as stands
       (slice_index_or (map (λ (entry : Operand). pointer_in (value frame.registers entry)) entries) (derived_index member) null) (pointer_in (operand frame.registers entries (derived_index member)))
       (slice_index_or (map (λ (entry : Operand). pointer_in (value frame.registers entry)) entries) (base_index member) null) (pointer_in (operand frame.registers entries (base_index member)))
       (slice_index held.slots (derived_index member)) (slice_index held.slots (derived_index member)) (slice_index held.slots (base_index member)) (slice_index held.slots (base_index member))
-      (entry_pointer frame.registers entries (derived_index member)) (entry_pointer frame.registers entries (base_index member)) refl refl
+      (pointer_of (derived_index member)) (pointer_of (base_index member)) refl refl
       (waiting.slots.each at.0 pair at.1)
 
   relocated_register : (place : ℕ) (member : Line) (at : ℕ) → slice_get group place ≡ Some member → gives member at ≡ true → member.inst.op ≡ ops.GcRelocate
@@ -396,8 +408,8 @@ module _ (content : ModuleContent) (sound : IsSound content) (objects : List Obj
       rest = rest_is lines head statepoint_here;
     };
     words = record {
-      registers_count = length_each (λ member. member_value frame.registers entries answer member member.inst.op) group frame.registers ∙ waiting.registers_count;
-      words_count = length_each (λ member. member_word stack word member member.inst.op) group held.words ∙ waiting.words_count;
+      registers_count = length_each datum_of group frame.registers ∙ waiting.registers_count;
+      words_count = length_each word_of group held.words ∙ waiting.words_count;
       numbers = new_numbers;
       pointers = new_pointers;
     };

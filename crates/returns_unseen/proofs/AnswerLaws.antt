@@ -1,10 +1,10 @@
 -- What a `ret` answers is what the group of the frame below takes.
-use Rattle.std.proofs.Common.{◌≡◌, ℕ, true, false, List, [], ◌∷◌, length, map, refl, sym, ap, ◌∙◌, subst, Option, Some, inl, inr}
+use Rattle.std.proofs.Common.{◌≡◌, ℕ, true, false, List, [], ◌∷◌, length, refl, sym, ap, ◌∙◌, subst, Some, inl, inr}
 use Rattle.std.specs.Prelude.{slice_get}
 use Rattle.std.specs.List.{AllZip, Contains}
 use Rattle.std.specs.Option.{option_map}
 use Rattle.std.proofs.lemmas.Option.{same_Some}
-use Rattle.list_laws.proofs.Contents.{contains_first, get_contained}
+use Rattle.list_laws.proofs.Contents.{contains_first}
 use Rattle.ir_ast.specs.declared.ops.Op.{Op}
 use Rattle.ir_ast.specs.declared.ops.Op.TheVariants as ops
 use Rattle.ir_ast.specs.declared.ops.Operand.{Operand}
@@ -23,7 +23,6 @@ use Rattle.moving_heap.specs.declared.stands.Stand.{Stand}
 use Rattle.object_meaning.specs.Lines.{Line, main_of}
 use Rattle.object_meaning.specs.Registers.{number_in, operand, pointer_in, value}
 use Rattle.object_meaning.specs.States.{Frame}
-use Rattle.pair_facts.specs.declared.bases.Base.TheVariants.{Named}
 use Rattle.pair_facts.specs.Lines.{group_in, lines_at, operand_at}
 use Rattle.pair_facts.specs.Uses.{escapes, escaping, own_use}
 use Rattle.machine_meaning.specs.Relations.{word_in}
@@ -38,7 +37,7 @@ use Rattle.moves_unseen.proofs.PlainSteps.{number_repeated}
 use Rattle.moves_unseen.proofs.StandLaws.{line_here}
 use Rattle.moves_unseen.proofs.ValueLaws.{base_of_pair, same_number, value_at}
 use Rattle.moves_unseen.proofs.VerifiedLaws.{pair_stands}
-use Rattle.returns_unseen.proofs.ResultTypes.{result_type}
+use Rattle.frames_spilled.proofs.ResultLaws.{result_type}
 
 pointer_type : (ty : Ty) → is_pointer ty ≡ true → ty ≡ Ptr
 pointer_type Ptr managed = refl
@@ -117,8 +116,7 @@ module _ (content : ModuleContent) (sound : IsSound content) (objects : List Obj
 
       type_is : (member : Line) → Contains (group_in (lines_at waiting.func caller.block) waiting.place) member → member.inst.op ≡ ops.GcResult → member.inst.ty ≡ line.inst.ty
       type_is member inside op =
-          let at = get_contained (group_in (lines_at waiting.func caller.block) waiting.place) member inside in
-          result_type content sound.target caller.func waiting.func waiting.at.defined caller.block waiting.place waiting.call waiting.is waiting.statepoint at.0 member at.1 op
+          result_type content sound.target caller.func waiting.func waiting.at.defined caller.block waiting.place waiting.call waiting.is waiting.statepoint member inside op
           ∙ (call_type ∙ sym answers)
 
   -- `@main` answers an integer

@@ -1,3 +1,2 @@
-pub mod ResultTypes
 pub mod AnswerLaws
 pub mod ReturnSteps

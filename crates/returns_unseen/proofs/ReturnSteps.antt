@@ -1,11 +1,10 @@
 -- A `ret` is one step of both: to the frame below, to task 0, or from the run.
 use Rattle.std.proofs.Common.{◌≡◌, ℕ, suc, ◌+◌, ◌==◌, Bool, true, false, List, [], ◌∷◌, ◌++◌, length, map, drop, refl, sym, ap, ◌∙◌, subst, arith, ltb, Option, Some, None}
 use Rattle.std.specs.Prelude.{slice_get, if◌then◌else◌}
-use Rattle.std.specs.List.{All, AllZip}
+use Rattle.std.specs.List.{AllZip}
 use Rattle.std.specs.Option.{option_map_or}
 use Rattle.std.proofs.lemmas.Bool.{eqb-true}
 use Rattle.std.proofs.lemmas.List.Elements.{All-cons, All-head, All-tail}
-use Rattle.std.proofs.lemmas.Option.{same_Some}
 use Rattle.sp_ids.specs.declared.ends.End.TheVariants.{OutOfSteps, Return, Trap}
 use Rattle.sp_ids.specs.declared.ends.Trap.TheVariants.{Unreachable}
 use Rattle.sp_ids.specs.Numbers.{signed}
@@ -21,7 +20,7 @@ use Rattle.move_plan.specs.Plans.{go}
 use Rattle.frame_forms.specs.FrameSizes.{frame_words}
 use Rattle.object_meaning.specs.Effects.{Effect, ends, goes_on}
 use Rattle.object_meaning.specs.Frames.{resumed}
-use Rattle.object_meaning.specs.Lines.{Line, main_of}
+use Rattle.object_meaning.specs.Lines.{Line}
 use Rattle.object_meaning.specs.Numbers.{width_of}
 use Rattle.object_meaning.specs.Registers.{nothing, number_in, operand}
 use Rattle.object_meaning.specs.States.{Frame, Setting, State}

@@ -1,0 +1,7 @@
+pub mod TaskLaws
+pub mod EventLaws
+pub mod ResumeLaws
+pub mod SwitchLaws
+pub mod PollSteps
+pub mod ObjectLaws
+pub mod ObjectSteps

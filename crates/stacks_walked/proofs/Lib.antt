@@ -1,0 +1,3 @@
+pub mod RelocateLaws
+pub mod ClosedLaws
+pub mod WalkLaws
