@@ -33,6 +33,16 @@ impl Model for Verified {
 }
 
 impl Verified {
+    /// A target module that is proved to have no fault, as the rewriting's is. Nothing is done when this runs: the fact is the
+    /// caller's to show. A module of which it isn't known is for [`verify`].
+    pub fn proved(target: Module) -> Verified
+        requires target { IsTargetModule target.content }
+        requires verified { IsVerified target.content }
+        ensures { result ≡ target }
+    {
+        Verified { target }
+    }
+
     /// The module.
     pub fn module(&self) -> &Module
         ensures value { result.now ≡ self.now }
@@ -40,6 +50,15 @@ impl Verified {
         ensures verified { IsVerified self.now.content }
     {
         &self.target
+    }
+
+    /// The module, given back.
+    pub fn into_module(self) -> Module
+        ensures value { result ≡ self }
+        ensures target { IsTargetModule self.content }
+        ensures verified { IsVerified self.content }
+    {
+        self.target
     }
 }
 

@@ -1,0 +1,64 @@
+-- The readings of a text in the source form are those of a reader.
+use Rattle.std.proofs.Common.{◌≡◌, ◌∙◌, ℕ, ◌≤◌, refl, sym, ap, subst, Bool, true, false, not, List, [], ◌∷◌, map, length, Ok}
+use Rattle.sp_text.specs.Lines.{lines_of as text_lines}
+use Rattle.sp_text.specs.Tokens.{tokens}
+use Rattle.ir_ast.specs.declared.modules.Form.{Form as TextForm}
+use Rattle.ir_ast.specs.declared.modules.Form.TheVariants.{Source}
+use Rattle.ir_lines.specs.Statements.{Line, lines_of}
+use Rattle.ir_lines.specs.Views.{seen_line, seen_lines}
+use Rattle.ir_reader.specs.Raws.{IsRead, Readings, seen_numbered}
+use Rattle.ir_reader.specs.Text.{Numbered, opening, readings_in}
+use Rattle.ir_reader.specs.declared.raw.NumberedReading.{NumberedReading}
+use Rattle.ir_reader.specs.declared.states.State.{State}
+use Rattle.line_forms.specs.Forms.{is_group_form}
+use Rattle.line_forms.specs.Seen.{Said, label, line}
+use Rattle.line_forms.specs.declared.readings.Reading.TheVariants as readings
+use Rattle.module_laws.proofs.Runs.{IsOwn, IsSpelled, Runs, readings-run}
+use Rattle.accepted_texts.proofs.Saying.{Readable, line_is_read}
+use Rattle.accepted_texts.proofs.Kept.{AllKept, IsKept, readings_kept}
+
+not_true : (b : Bool) → not b ≡ true → b ≡ false
+not_true false e = refl
+not_true true e = absurd (let bad : false ≡ true = e in cc)
+
+-- what a line says some reading says
+is_read : (what : Said) → IsKept what → IsOwn Source what → IsSpelled what → Readable what
+is_read (label name) kept own spelled = record { reading = readings.Label (record { now = name }); is = refl }
+is_read (line l) kept own spelled = line_is_read l.form l.items (tokens spelled.0) [] kept (not_true (is_group_form l.form) own) spelled.1
+
+pub record AreRead (xs : List Numbered) : Type 0 where
+  pub found : List NumberedReading
+  pub are : map seen_numbered found ≡ xs
+
+are_read : (xs : List Numbered) (s : State) → s.form ≡ Source → AllKept xs → Runs s xs → AreRead xs
+are_read [] s form kept runs = record { found = []; are = refl }
+are_read (x ∷ xs) s form kept runs =
+    let own : IsOwn Source x.said = subst (λ (f : TextForm). IsOwn f x.said) form runs.step.own in
+    let first = is_read x.said kept.0 own runs.step.spelled in
+    let rest = are_read xs runs.next (runs.step.form ∙ form) kept.1 runs.more in
+    let one : NumberedReading = record { line = x.line; reading = first.reading } in
+    let seen : seen_numbered one ≡ x = ap (λ (what : Said). (let now : Numbered = record { line = x.line; said = what } in now)) first.is in
+    record {
+      found = one ∷ rest.found;
+      are = ap (λ (y : Numbered). y ∷ map seen_numbered rest.found) seen ∙ ap (λ (ys : List Numbered). x ∷ ys) rest.are;
+    }
+
+seen_again : (rs : List NumberedReading) → lines_of (map seen_numbered rs) ≡ seen_lines rs
+seen_again [] = refl
+seen_again (r ∷ rs) = ap (λ (ls : List Line). seen_line r ∷ ls) (seen_again rs)
+
+-- so a text that has readings is one that was read
+pub record WasRead (text : List ℕ) (xs : List Numbered) : Type 0 where
+  pub found : List NumberedReading
+  pub read : IsRead (record { text = text; form = Source; lines = found })
+  pub lines : seen_lines found ≡ lines_of xs
+
+pub was_read : (text : List ℕ) (xs : List Numbered) → length text ≤ 16777216 → readings_in Source text ≡ Ok xs → WasRead text xs
+unfolding readings_in
+was_read text xs small e =
+    let all = are_read xs (opening Source) refl (readings_kept (text_lines text) (opening Source) 1 xs e) (readings-run (text_lines text) (opening Source) 1 xs e) in
+    record {
+      found = all.found;
+      read = record { small = small; lines = e ∙ ap (λ (ys : List Numbered). Ok ys) (sym all.are) };
+      lines = sym (seen_again all.found) ∙ ap lines_of all.are;
+    }
