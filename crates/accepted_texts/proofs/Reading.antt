@@ -14,7 +14,7 @@ use Rattle.line_forms.specs.Forms.{is_group_form}
 use Rattle.line_forms.specs.Seen.{Said, label, line}
 use Rattle.line_forms.specs.declared.readings.Reading.TheVariants as readings
 use Rattle.module_laws.proofs.Runs.{IsOwn, IsSpelled, Runs, readings-run}
-use Rattle.accepted_texts.proofs.Saying.{Readable, line_is_read}
+use Rattle.accepted_texts.proofs.Saying.{Readable, lent, line_is_read}
 use Rattle.accepted_texts.proofs.Kept.{AllKept, IsKept, readings_kept}
 
 not_true : (b : Bool) → not b ≡ true → b ≡ false
@@ -23,7 +23,7 @@ not_true true e = absurd (let bad : false ≡ true = e in cc)
 
 -- what a line says some reading says
 is_read : (what : Said) → IsKept what → IsOwn Source what → IsSpelled what → Readable what
-is_read (label name) kept own spelled = record { reading = readings.Label (record { now = name }); is = refl }
+is_read (label name) kept own spelled = record { reading = readings.Label (lent name); is = refl }
 is_read (line l) kept own spelled = line_is_read l.form l.items (tokens spelled.0) [] kept (not_true (is_group_form l.form) own) spelled.1
 
 pub record AreRead (xs : List Numbered) : Type 0 where

@@ -1,4 +1,5 @@
 -- A line of a source form, made of what stands at its slots, is what some reading says.
+use denote.Bor.{Bor}
 use Rattle.std.proofs.Common.{◌≡◌, ◌∙◌, ℕ, refl, sym, ap, subst, Bool, true, false, List, [], ◌∷◌, ◌++◌}
 use Rattle.std.specs.Prelude.{map, Option, Some, None}
 use Rattle.std.specs.Option.{option_copied}
@@ -28,10 +29,16 @@ use Rattle.line_forms.specs.declared.readings.Reading.{Reading}
 use Rattle.line_forms.specs.declared.readings.Reading.TheVariants as readings
 use Rattle.module_laws.proofs.Formed.{went}
 
+pair_first : {A B : Type 0} (one other : A × B) → Some one ≡ Some other → one.0 ≡ other.0
+pair_first {A} {B} one other e = (let same : one ≡ other = cc in ap (λ (both : A × B). both.0) same)
+
 -- ---- parts of readings for what they say
 
+abbrev pub lent : {A : Type 0} → A → Bor A
+lent x = record { ref_ptr = (0, 0); now = x }
+
 abbrev value_for : Val → Value
-value_for (local name) = values.Local (record { now = name })
+value_for (local name) = values.Local (lent name)
 value_for (number n) = values.Number n
 value_for (truth b) = values.Truth b
 value_for null = values.Null
@@ -43,14 +50,14 @@ value_back (truth b) = refl
 value_back null = refl
 
 abbrev entry_for : Val × List ℕ → Entry
-entry_for e = record { value = value_for e.0; label = record { now = e.1 } }
+entry_for e = record { value = value_for e.0; label = lent e.1 }
 
 entry_back : (e : Val × List ℕ) → seen_entry (entry_for e) ≡ e
 entry_back e = ap (λ (v : Val). (let now : Val × List ℕ = (v, e.1) in now)) (value_back e.0)
 
 abbrev passed_for : Given → Passed
 passed_for (given ty v) = all_passed.Value ty (value_for v)
-passed_for (function name) = all_passed.Function (record { now = name })
+passed_for (function name) = all_passed.Function (lent name)
 
 passed_back : (p : Given) → seen_passed (passed_for p) ≡ p
 passed_back (given ty v) = ap (given ty) (value_back v)
@@ -58,7 +65,7 @@ passed_back (function name) = refl
 
 abbrev argument_named : TypeWord → Option (List ℕ) → Argument
 argument_named ty None = record { ty = ty; name = None }
-argument_named ty (Some name) = record { ty = ty; name = Some (record { now = name }) }
+argument_named ty (Some name) = record { ty = ty; name = Some (lent name) }
 
 argument_back : (ty : TypeWord) (name : Option (List ℕ)) → seen_argument (argument_named ty name) ≡ record { ty = ty; name = name }
 argument_back ty None = refl
@@ -162,7 +169,7 @@ module _ {R : Type 0} (rest : R → List Item) (a : R) (here more : List Item) (
   passed_over : {A : Type 0} (found : Found A) → says_nothing found ≡ Some (here, behind) → Spoken R rest (here ++ more)
   unfolding after
   passed_over None e = absurd (let bad : None ≡ Some (here, behind) = e in cc)
-  passed_over (Some (x, left)) e = quiet (let same : Some ([], left) ≡ Some (here, behind) = e in cc)
+  passed_over (Some (x, left)) e = quiet (sym (pair_first ([], left) (here, behind) e))
 
   -- a part that says this
   told : {A : Type 0} (item : A → Item) (x : A) → here ≡ item x ∷ [] → (B : Type 0) (view : B → A) (b : B) → view b ≡ x
@@ -175,7 +182,7 @@ module _ {R : Type 0} (rest : R → List Item) (a : R) (here more : List Item) (
   unfolding after
   spoken item view for back None e = absurd (let bad : None ≡ Some (here, behind) = e in cc)
   spoken {A} {B} item view for back (Some (x, left)) e =
-      told item x (let same : Some (item x ∷ [], left) ≡ Some (here, behind) = e in cc) B view (for x) (back x)
+      told item x (sym (pair_first (item x ∷ [], left) (here, behind) e)) B view (for x) (back x)
 
   same_spoken : {A : Type 0} (item : A → Item) (found : Found A) → says item found ≡ Some (here, behind)
       → Spoken (A × R) (λ both. item both.0 ∷ rest both.1) (here ++ more)
@@ -236,11 +243,11 @@ part_spoken a_guarded f ts here more behind e a is = same_spoken (items_of f) a 
 part_spoken a_live f ts here more behind e a is = same_spoken (items_of f) a here more behind is items.live _ e
 part_spoken a_result f ts here more behind e a is = same_spoken (items_of f) a here more behind is items.ty _ e
 part_spoken (a_number of_type) f ts here more behind e a is = same_spoken (items_of f) a here more behind is items.literal _ e
-part_spoken blank f ts here more behind e a is = quiet (items_of f) a here more behind is (let same : Some ([], ts) ≡ Some (here, behind) = e in cc)
+part_spoken blank f ts here more behind e a is = quiet (items_of f) a here more behind is (sym (pair_first ([], ts) (here, behind) e))
 part_spoken (m text) f ts here more behind e a is = passed_over (items_of f) a here more behind is _ e
 part_spoken (w text) f ts here more behind e a is = passed_over (items_of f) a here more behind is _ e
 part_spoken (g text) f ts here more behind e a is = passed_over (items_of f) a here more behind is _ e
-part_spoken (dropped what) f ts here more behind e a is = quiet (items_of f) a here more behind is (let same : Some ([], _) ≡ Some (here, behind) = e in cc)
+part_spoken (dropped what) f ts here more behind e a is = quiet (items_of f) a here more behind is (sym (pair_first ([], _) (here, behind) e))
 part_spoken a_managed f ts here more behind e a is = passed_over (items_of f) a here more behind is _ e
 part_spoken a_quoted f ts here more behind e a is = passed_over (items_of f) a here more behind is _ e
 part_spoken a_hash f ts here more behind e a is = passed_over (items_of f) a here more behind is _ e
@@ -249,14 +256,14 @@ part_spoken a_statepoint_type f ts here more behind e a is = passed_over (items_
 part_spoken a_family f ts here more behind e a is = passed_over (items_of f) a here more behind is _ e
 part_spoken a_bracketing f ts here more behind e a is = passed_over (items_of f) a here more behind is _ e
 
-pub parse_spoken : (f : List Slot) (ts : List Tok) (says : List Item) (behind : List Tok) → parse f ts ≡ Some (says, behind) → Spoken (Parts f) (items_of f) says
+pub parse_spoken : (f : List Slot) (ts : List Tok) (whole : List Item) (behind : List Tok) → parse f ts ≡ Some (whole, behind) → Spoken (Parts f) (items_of f) whole
 unfolding parse
-parse_spoken [] ts says behind e = (tt, (let same : Some ([], ts) ≡ Some (says, behind) = e in cc))
-parse_spoken (s ∷ f) ts says behind e =
-    let first = went (part s ts) (λ here left. after (parse f left) (λ more end. Some (here ++ more, end))) (says, behind) e in
-    let rest = went (parse f first.rest) (λ more end. Some (first.x ++ more, end)) (says, behind) first.more in
+parse_spoken [] ts whole behind e = (tt, pair_first ([], ts) (whole, behind) e)
+parse_spoken (s ∷ f) ts whole behind e =
+    let first = went (part s ts) (λ here left. after (parse f left) (λ more end. Some (here ++ more, end))) (whole, behind) e in
+    let rest = went (parse f first.rest) (λ more end. Some (first.x ++ more, end)) (whole, behind) first.more in
     let more = parse_spoken f first.rest rest.x rest.rest rest.is in
-    let same : first.x ++ rest.x ≡ says = (let whole : Some (first.x ++ rest.x, rest.rest) ≡ Some (says, behind) = rest.more in cc) in
+    let same : first.x ++ rest.x ≡ whole = pair_first (first.x ++ rest.x, rest.rest) (whole, behind) rest.more in
     subst (Spoken (Parts (s ∷ f)) (items_of (s ∷ f))) same (part_spoken s f ts first.x rest.x first.rest first.is more.0 more.1)
 
 -- ---- a line of a form is a reading
@@ -266,46 +273,46 @@ pub record Readable (what : Said) : Type 0 where
   pub is : seen reading ≡ what
 
 -- the name of a definition's strategy
-strategy_back : (s : Option (List ℕ)) → (named : _) × (option_copied named ≡ s)
+strategy_back : (s : Option (List ℕ)) → (named : Option (Bor (List ℕ))) × (option_copied named ≡ s)
 strategy_back None = (None, refl)
-strategy_back (Some name) = (Some (record { now = name }), refl)
+strategy_back (Some name) = (Some (lent name), refl)
 
 form_spoken : (form : Form) → is_dropped_form form ≡ false → is_group_form form ≡ false → (a : Parts (slots form)) → Readable (of_form form (items_of (slots form) a))
 form_spoken (forms.Dropped which) kept own a = absurd (let bad : true ≡ false = kept in cc)
-form_spoken forms.Layout kept own a = record { reading = readings.Layout (record { now = a.0 }) (small a.1.0); is = refl }
-form_spoken forms.Declare kept own a = record { reading = readings.Declare a.0 (record { now = a.1.0.0 }) (small a.1.0.1); is = refl }
+form_spoken forms.Layout kept own a = record { reading = readings.Layout (lent a.0) (small a.1.0); is = refl }
+form_spoken forms.Declare kept own a = record { reading = readings.Declare a.0 (lent a.1.0.0) (small a.1.0.1); is = refl }
 form_spoken forms.Define kept own a =
     let named = strategy_back a.1.1.0 in
-    record { reading = readings.Define a.0 (record { now = a.1.0.0 }) (small a.1.0.1) named.0;
+    record { reading = readings.Define a.0 (lent a.1.0.0) (small a.1.0.1) named.0;
       is = ap (λ (s : Option (List ℕ)). of_form forms.Define (items.ty a.0 ∷ items.defined a.1.0.0 (map seen_argument a.1.0.1) ∷ items.strategy s ∷ [])) named.1 }
 form_spoken forms.Close kept own a = record { reading = readings.Close; is = refl }
-form_spoken (forms.Binary op) kept own a = record { reading = readings.Binary (record { now = a.0 }) op a.1.0 a.1.1.0 a.1.1.1.0; is = refl }
-form_spoken forms.Compare kept own a = record { reading = readings.Compare (record { now = a.0 }) a.1.0 a.1.1.0 a.1.1.1.0 a.1.1.1.1.0; is = refl }
-form_spoken (forms.Convert op) kept own a = record { reading = readings.Convert (record { now = a.0 }) op a.1.0 a.1.1.0 a.1.1.1.0; is = refl }
-form_spoken forms.Select kept own a = record { reading = readings.Select (record { now = a.0 }) a.1.0 a.1.1.0 a.1.1.1.0 a.1.1.1.1.0 a.1.1.1.1.1.0; is = refl }
-form_spoken forms.Phi kept own a = record { reading = readings.Phi (record { now = a.0 }) a.1.0 (small a.1.1.0); is = refl }
-form_spoken forms.ScalarElement kept own a = record { reading = readings.ScalarElement (record { now = a.0 }) a.1.0 a.1.1.0 a.1.1.1.0 a.1.1.1.1.0; is = refl }
+form_spoken (forms.Binary op) kept own a = record { reading = readings.Binary (lent a.0) op a.1.0 a.1.1.0 a.1.1.1.0; is = refl }
+form_spoken forms.Compare kept own a = record { reading = readings.Compare (lent a.0) a.1.0 a.1.1.0 a.1.1.1.0 a.1.1.1.1.0; is = refl }
+form_spoken (forms.Convert op) kept own a = record { reading = readings.Convert (lent a.0) op a.1.0 a.1.1.0 a.1.1.1.0; is = refl }
+form_spoken forms.Select kept own a = record { reading = readings.Select (lent a.0) a.1.0 a.1.1.0 a.1.1.1.0 a.1.1.1.1.0 a.1.1.1.1.1.0; is = refl }
+form_spoken forms.Phi kept own a = record { reading = readings.Phi (lent a.0) a.1.0 (small a.1.1.0); is = refl }
+form_spoken forms.ScalarElement kept own a = record { reading = readings.ScalarElement (lent a.0) a.1.0 a.1.1.0 a.1.1.1.0 a.1.1.1.1.0; is = refl }
 form_spoken forms.LayoutElement kept own a =
-    record { reading = readings.LayoutElement (record { now = a.0 }) (record { now = a.1.0 }) a.1.1.0 a.1.1.1.0 a.1.1.1.1.0 a.1.1.1.1.1.0; is = refl }
-form_spoken forms.Load kept own a = record { reading = readings.Load (record { now = a.0 }) a.1.0 a.1.1.0; is = refl }
+    record { reading = readings.LayoutElement (lent a.0) (lent a.1.0) a.1.1.0 a.1.1.1.0 a.1.1.1.1.0 a.1.1.1.1.1.0; is = refl }
+form_spoken forms.Load kept own a = record { reading = readings.Load (lent a.0) a.1.0 a.1.1.0; is = refl }
 form_spoken forms.Store kept own a = record { reading = readings.Store a.0 a.1.0 a.1.1.0; is = refl }
-form_spoken forms.ValueCall kept own a = record { reading = readings.ValueCall (record { now = a.0 }) a.1.0 (record { now = a.1.1.0.0 }) (small a.1.1.0.1); is = refl }
-form_spoken forms.VoidCall kept own a = record { reading = readings.VoidCall (record { now = a.0.0 }) (small a.0.1); is = refl }
-form_spoken forms.Jump kept own a = record { reading = readings.Jump (record { now = a.0 }); is = refl }
-form_spoken forms.Branch kept own a = record { reading = readings.Branch a.0 (record { now = a.1.0 }) (record { now = a.1.1.0 }); is = refl }
-form_spoken forms.Switch kept own a = record { reading = readings.Switch a.0 a.1.0 (record { now = a.1.1.0 }); is = refl }
-form_spoken forms.Case kept own a = record { reading = readings.Case a.0 a.1.0 (record { now = a.1.1.0 }); is = refl }
+form_spoken forms.ValueCall kept own a = record { reading = readings.ValueCall (lent a.0) a.1.0 (lent a.1.1.0.0) (small a.1.1.0.1); is = refl }
+form_spoken forms.VoidCall kept own a = record { reading = readings.VoidCall (lent a.0.0) (small a.0.1); is = refl }
+form_spoken forms.Jump kept own a = record { reading = readings.Jump (lent a.0); is = refl }
+form_spoken forms.Branch kept own a = record { reading = readings.Branch a.0 (lent a.1.0) (lent a.1.1.0); is = refl }
+form_spoken forms.Switch kept own a = record { reading = readings.Switch a.0 a.1.0 (lent a.1.1.0); is = refl }
+form_spoken forms.Case kept own a = record { reading = readings.Case a.0 a.1.0 (lent a.1.1.0); is = refl }
 form_spoken forms.SwitchEnd kept own a = record { reading = readings.SwitchEnd; is = refl }
 form_spoken forms.ReturnVoid kept own a = record { reading = readings.ReturnVoid; is = refl }
 form_spoken forms.Return kept own a = record { reading = readings.Return a.0 a.1.0; is = refl }
 form_spoken forms.Unreachable kept own a = record { reading = readings.Unreachable; is = refl }
-form_spoken (forms.Cast op) kept own a = record { reading = readings.Cast (record { now = a.0 }) op a.1.0 a.1.1.0 a.1.1.1.0; is = refl }
+form_spoken (forms.Cast op) kept own a = record { reading = readings.Cast (lent a.0) op a.1.0 a.1.1.0 a.1.1.1.0; is = refl }
 form_spoken forms.Statepoint kept own a = absurd (let bad : true ≡ false = own in cc)
 form_spoken forms.GcResult kept own a = absurd (let bad : true ≡ false = own in cc)
 form_spoken forms.GcRelocate kept own a = absurd (let bad : true ≡ false = own in cc)
 
-pub line_is_read : (form : Form) (says : List Item) (ts behind : List Tok) → is_dropped_form form ≡ false → is_group_form form ≡ false
-    → parse (slots form) ts ≡ Some (says, behind) → Readable (of_form form says)
-line_is_read form says ts behind kept own e =
-    let parts = parse_spoken (slots form) ts says behind e in
+pub line_is_read : (form : Form) (whole : List Item) (ts behind : List Tok) → is_dropped_form form ≡ false → is_group_form form ≡ false
+    → parse (slots form) ts ≡ Some (whole, behind) → Readable (of_form form whole)
+line_is_read form whole ts behind kept own e =
+    let parts = parse_spoken (slots form) ts whole behind e in
     subst (λ (now : List Item). Readable (of_form form now)) parts.1 (form_spoken form kept own parts.0)
