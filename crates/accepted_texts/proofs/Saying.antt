@@ -1,4 +1,4 @@
--- A line of a source form, made of what stands at its slots, is what some reading says.
+-- A line of a form, made of what stands at its slots, is what some reading says.
 use denote.Bor.{Bor}
 use Rattle.std.proofs.Common.{◌≡◌, ◌∙◌, ℕ, refl, sym, ap, subst, Bool, true, false, List, [], ◌∷◌, ◌++◌}
 use Rattle.std.specs.Prelude.{map, Option, Some, None}
@@ -21,7 +21,7 @@ use Rattle.line_parts.specs.Seen.{seen_value, seen_argument, seen_passed, seen_e
 use Rattle.group_parts.specs.Statepoints.{Guarded}
 use Rattle.line_forms.specs.Slots.{Item, Slot, part, parse, says, says_nothing, blank, m, w, g, dropped, a_managed, a_quoted, a_hash, to_brace, a_statepoint_type, a_family, a_bracketing, a_family_answer, a_local, a_layout_name, a_width, a_type, an_answer, a_cast_type, a_value, a_case, a_pred, a_scalar, a_layout, a_place, some_fields, some_entries, a_declared, a_defined, a_called, a_strategy, a_token, a_guarded, a_live, a_result, a_number}
 use Rattle.line_forms.specs.Slots as items
-use Rattle.line_forms.specs.Forms.{slots, is_dropped_form, is_group_form}
+use Rattle.line_forms.specs.Forms.{slots, is_dropped_form}
 use Rattle.line_forms.specs.Seen.{Said, of_form, seen}
 use Rattle.line_forms.specs.declared.forms.Form.{Form}
 use Rattle.line_forms.specs.declared.forms.Form.TheVariants as forms
@@ -29,21 +29,24 @@ use Rattle.line_forms.specs.declared.readings.Reading.{Reading}
 use Rattle.line_forms.specs.declared.readings.Reading.TheVariants as readings
 use Rattle.module_laws.proofs.Formed.{went}
 
-pair_first : {A B : Type 0} (one other : A × B) → Some one ≡ Some other → one.0 ≡ other.0
+pub pair_first : {A B : Type 0} (one other : A × B) → Some one ≡ Some other → one.0 ≡ other.0
 pair_first {A} {B} one other e = (let same : one ≡ other = cc in ap (λ (both : A × B). both.0) same)
+
+pub pair_rest : {A B : Type 0} (one other : A × B) → Some one ≡ Some other → one.1 ≡ other.1
+pair_rest {A} {B} one other e = (let same : one ≡ other = cc in ap (λ (both : A × B). both.1) same)
 
 -- ---- parts of readings for what they say
 
 abbrev pub lent : {A : Type 0} → A → Bor A
 lent x = record { ref_ptr = (0, 0); now = x }
 
-abbrev value_for : Val → Value
+abbrev pub value_for : Val → Value
 value_for (local name) = values.Local (lent name)
 value_for (number n) = values.Number n
 value_for (truth b) = values.Truth b
 value_for null = values.Null
 
-value_back : (v : Val) → seen_value (value_for v) ≡ v
+pub value_back : (v : Val) → seen_value (value_for v) ≡ v
 value_back (local name) = refl
 value_back (number n) = refl
 value_back (truth b) = refl
@@ -55,11 +58,11 @@ entry_for e = record { value = value_for e.0; label = lent e.1 }
 entry_back : (e : Val × List ℕ) → seen_entry (entry_for e) ≡ e
 entry_back e = ap (λ (v : Val). (let now : Val × List ℕ = (v, e.1) in now)) (value_back e.0)
 
-abbrev passed_for : Given → Passed
+abbrev pub passed_for : Given → Passed
 passed_for (given ty v) = all_passed.Value ty (value_for v)
 passed_for (function name) = all_passed.Function (lent name)
 
-passed_back : (p : Given) → seen_passed (passed_for p) ≡ p
+pub passed_back : (p : Given) → seen_passed (passed_for p) ≡ p
 passed_back (given ty v) = ap (given ty) (value_back v)
 passed_back (function name) = refl
 
@@ -74,11 +77,11 @@ argument_back ty (Some name) = refl
 abbrev argument_for : Named → Argument
 argument_for n = argument_named n.ty n.name
 
-all_back : {A B : Type 0} (view : B → A) (for : A → B) → ((x : A) → view (for x) ≡ x) → (xs : List A) → map view (map for xs) ≡ xs
+pub all_back : {A B : Type 0} (view : B → A) (for : A → B) → ((x : A) → view (for x) ≡ x) → (xs : List A) → map view (map for xs) ≡ xs
 all_back view for back [] = refl
 all_back view for back (x ∷ xs) = ap (λ y. y ∷ map view (map for xs)) (back x) ∙ ap (λ ys. x ∷ ys) (all_back view for back xs)
 
-abbrev small : {A : Type 0} → List A → SmallVec A
+abbrev pub small : {A : Type 0} → List A → SmallVec A
 small xs = record { items = xs; capacity = 0 }
 
 -- ---- what stands at slots, as parts of readings
@@ -110,7 +113,7 @@ At a_result rest = TypeWord × rest
 At (a_number of_type) rest = Literal × rest
 At _ rest = rest
 
-abbrev Parts : List Slot → Type 0
+abbrev pub Parts : List Slot → Type 0
 Parts [] = Unit {0}
 Parts (s ∷ f) = At s (Parts f)
 
@@ -152,7 +155,7 @@ saying a_statepoint_type f rest a = rest a
 saying a_family f rest a = rest a
 saying a_bracketing f rest a = rest a
 
-abbrev items_of : (f : List Slot) → Parts f → List Item
+abbrev pub items_of : (f : List Slot) → Parts f → List Item
 items_of [] a = []
 items_of (s ∷ f) a = saying s (Parts f) (items_of f) a
 
@@ -277,7 +280,12 @@ strategy_back : (s : Option (List ℕ)) → (named : Option (Bor (List ℕ))) ×
 strategy_back None = (None, refl)
 strategy_back (Some name) = (Some (lent name), refl)
 
-form_spoken : (form : Form) → is_dropped_form form ≡ false → is_group_form form ≡ false → (a : Parts (slots form)) → Readable (of_form form (items_of (slots form) a))
+-- but a statepoint, whose reading has vectors
+abbrev pub is_statepoint : Form → Bool
+is_statepoint forms.Statepoint = true
+is_statepoint _ = false
+
+form_spoken : (form : Form) → is_dropped_form form ≡ false → is_statepoint form ≡ false → (a : Parts (slots form)) → Readable (of_form form (items_of (slots form) a))
 form_spoken (forms.Dropped which) kept own a = absurd (let bad : true ≡ false = kept in cc)
 form_spoken forms.Layout kept own a = record { reading = readings.Layout (lent a.0) (small a.1.0); is = refl }
 form_spoken forms.Declare kept own a = record { reading = readings.Declare a.0 (lent a.1.0.0) (small a.1.0.1); is = refl }
@@ -308,10 +316,10 @@ form_spoken forms.Return kept own a = record { reading = readings.Return a.0 a.1
 form_spoken forms.Unreachable kept own a = record { reading = readings.Unreachable; is = refl }
 form_spoken (forms.Cast op) kept own a = record { reading = readings.Cast (lent a.0) op a.1.0 a.1.1.0 a.1.1.1.0; is = refl }
 form_spoken forms.Statepoint kept own a = absurd (let bad : true ≡ false = own in cc)
-form_spoken forms.GcResult kept own a = absurd (let bad : true ≡ false = own in cc)
-form_spoken forms.GcRelocate kept own a = absurd (let bad : true ≡ false = own in cc)
+form_spoken forms.GcResult kept own a = record { reading = readings.GcResult (lent a.0) a.1.0 (lent a.1.1.0); is = refl }
+form_spoken forms.GcRelocate kept own a = record { reading = readings.GcRelocate (lent a.0) (lent a.1.0) a.1.1.0 a.1.1.1.0; is = refl }
 
-pub line_is_read : (form : Form) (whole : List Item) (ts behind : List Tok) → is_dropped_form form ≡ false → is_group_form form ≡ false
+pub line_is_read : (form : Form) (whole : List Item) (ts behind : List Tok) → is_dropped_form form ≡ false → is_statepoint form ≡ false
     → parse (slots form) ts ≡ Some (whole, behind) → Readable (of_form form whole)
 line_is_read form whole ts behind kept own e =
     let parts = parse_spoken (slots form) ts whole behind e in
