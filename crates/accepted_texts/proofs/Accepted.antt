@@ -57,8 +57,7 @@ accepted_is_of form needs text readings small read none =
     let whole = module_of form lines in
     let raw : Readings = record { text = text; form = form; lines = was.found } in
     let is : whole ≡ module_of form (seen_lines was.found) = ap (λ (now : List Line). module_of form now) (sym was.lines) in
-    let clean : HasNoPlainFault form (seen_lines was.found) = subst (λ (now : List Line). HasNoPlainFault form now) (sym was.lines) (no_plain form lines none) in
-    (
+    let clean : HasNoPlainFault form (seen_lines was.found) = subst (λ (now : List Line). HasNoPlainFault form now) (sym was.lines) (no_plain form lines none) in (
       record { typed = whole_typed raw was.read whole is clean; definite = all_definite form lines none },
       All-weaker IsTextFunction HasNoBundle (λ func own. own.no_bundle) whole.content.funcs (whole_functions raw was.read whole is clean),
     )

@@ -137,8 +137,15 @@ module _ (func : Function) (value : ℕ) where
       by : Decided (Somewhere one) → Decided (Earlier (two ∷ rest)) → Decided (Earlier (one ∷ two ∷ rest))
       by (inl some) more = inl (record { front = []; back = rest; block = one; next = two; at = some.0; is = refl; defines = some.1 })
       by (inr none) (inl some) =
-          inl (record { front = one ∷ some.front; back = some.back; block = some.block; next = some.next; at = some.at;
-            is = ap (λ (path : List ℕ). one ∷ path) some.is; defines = some.defines })
+          inl (record {
+            front = one ∷ some.front;
+            back = some.back;
+            block = some.block;
+            next = some.next;
+            at = some.at;
+            is = ap (λ (path : List ℕ). one ∷ path) some.is;
+            defines = some.defines;
+          })
       by (inr none) (inr not) =
           inr (λ some. not (behind_first one two rest some.front some.back some.block some.next some.at some.is some.defines none))
 

@@ -34,7 +34,7 @@ Leaves {A} read = (ts : List Tok) (x : A) (rest : List Tok) → read ts ≡ Some
 all_left : {A : Type 0} (ts : List Tok) (own x : A) (rest : List Tok) → found own ts ≡ found x rest → length rest ≤ length ts
 all_left ts own x rest e = (let same = ap length (same_rest own x ts rest e) in omega (arith, same))
 
-one_leaves : {A : Type 0} (says : Tok → Option A) → Leaves (one_at says)
+pub one_leaves : {A : Type 0} (says : Tok → Option A) → Leaves (one_at says)
 unfolding one_at
 one_leaves says [] x rest e = absurd (let bad : None ≡ found x rest = e in cc)
 one_leaves {A} says (t ∷ ts) x rest e = by (says t) e
@@ -44,7 +44,7 @@ one_leaves {A} says (t ∷ ts) x rest e = by (says t) e
     by (Some own) e = (let left = all_left ts own x rest e in omega (arith, left))
 
 -- one part behind another
-then_leaves : {A B : Type 0} (read : List Tok → Found A) (next : A → List Tok → Found B) → Leaves read → ((x : A) → Leaves (next x)) → Leaves (λ ts. after (read ts) next)
+pub then_leaves : {A B : Type 0} (read : List Tok → Found A) (next : A → List Tok → Found B) → Leaves read → ((x : A) → Leaves (next x)) → Leaves (λ ts. after (read ts) next)
 then_leaves read next first more ts y rest e =
     let here = went (read ts) next (y, rest) e in
     let one = first ts here.x here.rest here.is in
@@ -54,10 +54,10 @@ then_leaves read next first more ts y rest e =
 then_done : {A B : Type 0} (read : List Tok → Found A) (own : A → B) → Leaves read → Leaves (λ ts. after (read ts) (λ x rest. found (own x) rest))
 then_done read own first = then_leaves read (λ x rest. found (own x) rest) first (λ x ts y rest e. all_left ts (own x) y rest e)
 
-mark_leaves : (text : List ℕ) → Leaves (mark_at text)
+pub mark_leaves : (text : List ℕ) → Leaves (mark_at text)
 mark_leaves text = one_leaves (stands (is_mark text))
 
-word_leaves : (text : List ℕ) → Leaves (word_at text)
+pub word_leaves : (text : List ℕ) → Leaves (word_at text)
 word_leaves text = one_leaves (stands (is_word text))
 
 -- ---- types
@@ -101,6 +101,7 @@ allowed_leaves allows ts x rest e = then_leaves spelled_type_at (λ ty rest. if 
     by : (b : Bool) (ty x : TypeWord) (ts rest : List Tok) → (if b then found ty ts else None) ≡ found x rest → length rest ≤ length ts
     by true ty x ts rest e = all_left ts ty x rest e
     by false ty x ts rest e = absurd (let bad : None ≡ found x rest = e in cc)
+
     test : (ty : TypeWord) → Leaves (λ rest. if allows ty then found ty rest else None)
     test ty ts x rest e = by (allows ty) ty x ts rest e
 
@@ -135,14 +136,14 @@ unfolding number_at
 number_leaves of_type ts x rest e =
     then_leaves _ _ (word_leaves of_type) (λ _ ts x rest e.
     (let left = one_leaves literal_of (past_all drops.Groups ts) x rest e in
-        let fewer = past_all-le drops.Groups ts in omega (arith, left, fewer))) ts x rest e
+    let fewer = past_all-le drops.Groups ts in omega (arith, left, fewer))) ts x rest e
 
 zero_leaves : Leaves zero_at
 unfolding zero_at
 zero_leaves ts x rest e =
     then_leaves _ _ (word_leaves (codes "i32")) (λ _ ts x rest e.
     (let left = one_leaves _ (past_all drops.Groups ts) x rest e in
-        let fewer = past_all-le drops.Groups ts in omega (arith, left, fewer))) ts x rest e
+    let fewer = past_all-le drops.Groups ts in omega (arith, left, fewer))) ts x rest e
 
 id_leaves : Leaves id_at
 unfolding id_at
@@ -244,6 +245,7 @@ target_few ts target rest e =
     by : (b : Bool) (s : Signature) (name : List ℕ) (target : Signature × List ℕ) (left rest : List Tok) → (if b then found (named_as s name) left else None) ≡ found target rest → s ≡ target.0
     by true s name target left rest e = ap (λ (t : Signature × List ℕ). t.0) (same_first (named_as s name) target left rest e)
     by false s name target left rest e = absurd (let bad : None ≡ found target rest = e in cc)
+
     named : Bounds parameters_called (λ ts. after (element_at (past_all drops.BesideElementType ts)) (λ s ts.
         after (global_at (past_all drops.BesideElementType ts)) (λ name ts. named_target s name ts)))
     named ts target rest e =

@@ -291,8 +291,10 @@ form_spoken forms.Layout kept own a = record { reading = readings.Layout (lent a
 form_spoken forms.Declare kept own a = record { reading = readings.Declare a.0 (lent a.1.0.0) (small a.1.0.1); is = refl }
 form_spoken forms.Define kept own a =
     let named = strategy_back a.1.1.0 in
-    record { reading = readings.Define a.0 (lent a.1.0.0) (small a.1.0.1) named.0;
-      is = ap (λ (s : Option (List ℕ)). of_form forms.Define (items.ty a.0 ∷ items.defined a.1.0.0 (map seen_argument a.1.0.1) ∷ items.strategy s ∷ [])) named.1 }
+    record {
+      reading = readings.Define a.0 (lent a.1.0.0) (small a.1.0.1) named.0;
+      is = ap (λ (s : Option (List ℕ)). of_form forms.Define (items.ty a.0 ∷ items.defined a.1.0.0 (map seen_argument a.1.0.1) ∷ items.strategy s ∷ [])) named.1;
+    }
 form_spoken forms.Close kept own a = record { reading = readings.Close; is = refl }
 form_spoken (forms.Binary op) kept own a = record { reading = readings.Binary (lent a.0) op a.1.0 a.1.1.0 a.1.1.1.0; is = refl }
 form_spoken forms.Compare kept own a = record { reading = readings.Compare (lent a.0) a.1.0 a.1.1.0 a.1.1.1.0 a.1.1.1.1.0; is = refl }
