@@ -1,6 +1,6 @@
 -- The moves of an event, where all frames of all tasks wait: no frame is lost, all frames wait after them, and each cell holds
 -- what it held.
-use Rattle.std.proofs.Common.{◌≡◌, ℕ, zero, suc, List, [], ◌∷◌, ◌++◌, get_or, set, map, refl, sym, ap, ◌∙◌, subst, Option, Some, None, Result, Ok, Err, ◌⊎◌, inl, inr}
+use Rattle.std.proofs.Common.{◌≡◌, ℕ, List, [], ◌∷◌, get_or, set, map, refl, sym, ap, ◌∙◌, subst, Option, Some, Result, Ok, ◌⊎◌, inl, inr}
 use Rattle.std.specs.Prelude.{slice_get}
 use Rattle.std.specs.List.{AllZip}
 use Rattle.std.proofs.lemmas.Option.{same_Some}
@@ -19,13 +19,14 @@ use Rattle.stackmap_write.specs.ModuleMaps.{map_of}
 use Rattle.machine_meaning.specs.Code.{machinery_of}
 use Rattle.machine_meaning.specs.EventPlaces.{flip_of}
 use Rattle.machine_meaning.specs.Machines.{Machine, Machinery, all_frames, all_stacks}
-use Rattle.machine_meaning.specs.Moving.{after_walk, joined, moved_by, moved_heap, moves_due, walked_all, walked_task, walked_tasks}
+use Rattle.machine_meaning.specs.Moving.{after_walk, joined, moved_by, moved_heap, moves_due, walked_all, walked_tasks}
 use Rattle.moves_unseen.specs.Awaits.{TasksAwait}
 use Rattle.moves_unseen.specs.Frames.{FrameWords, IsWaiting}
 use Rattle.moves_unseen.specs.Objects.{AreHeld}
 use Rattle.moves_unseen.specs.States.{Extra, machine_of, stack_of, stacks_of, worded_frame, worded_frames, worded_state, worded_tasks}
-use Rattle.moves_unseen.specs.Waits.{IsSound, StacksAreWalked}
+use Rattle.moves_unseen.specs.Waits.{IsSound}
 use Rattle.moves_unseen.proofs.HeapLaws.{group_held}
+use Rattle.stacks_walked.proofs.WalkLaws.{stacks_walked}
 use Rattle.events_unseen.proofs.TaskLaws.{first_same, rest_same, set_back, stack_at, stacks_set, tasks_set, worded_at, zip_at, zip_set}
 
 -- a state whose running frame waits too, at its statepoint
@@ -62,7 +63,7 @@ machine_as state other stack other_stack stacks other_stacks heap one two three 
 
 -- ---- the walk over the stacks of all tasks
 
-module _ (walks : StacksAreWalked) (content : ModuleContent) (sound : IsSound content) (plan : List PlanLine) (bound : ℕ) (stands : List Stand) (settled : AreSettled stands)
+module _ (content : ModuleContent) (sound : IsSound content) (plan : List PlanLine) (bound : ℕ) (stands : List Stand) (settled : AreSettled stands)
     (lines : List Move) (flip : Option ℕ) (some : group_moves stands lines flip ≡ [] → ⊥) where
   abbrev the_machinery : Machinery
   the_machinery = machinery_of content (map_of content) plan bound
@@ -81,7 +82,7 @@ module _ (walks : StacksAreWalked) (content : ModuleContent) (sound : IsSound co
   tasks_walked [] (held ∷ helds) waiting = absurd waiting
   tasks_walked (frames ∷ tasks) [] waiting = absurd waiting
   tasks_walked (frames ∷ tasks) (held ∷ helds) waiting =
-      let one = walks content sound plan bound stands settled lines flip some frames held waiting.0 in
+      let one = stacks_walked content sound plan bound stands settled lines flip some frames held waiting.0 in
       let more = tasks_walked tasks helds waiting.1 in
       record {
         after = one.after ∷ more.after;
@@ -94,7 +95,7 @@ module _ (walks : StacksAreWalked) (content : ModuleContent) (sound : IsSound co
 
 -- ---- an event
 
-module _ (walks : StacksAreWalked) (content : ModuleContent) (sound : IsSound content) (plan : List PlanLine) (bound : ℕ) (state : State) (extra : Extra) (all : AllWait content state extra) where
+module _ (content : ModuleContent) (sound : IsSound content) (plan : List PlanLine) (bound : ℕ) (state : State) (extra : Extra) (all : AllWait content state extra) where
   abbrev machinery : Machinery
   machinery = machinery_of content (map_of content) plan bound
 
@@ -169,8 +170,8 @@ module _ (walks : StacksAreWalked) (content : ModuleContent) (sound : IsSound co
   all_waiting = zip_set (λ frames held. AllZip (IsWaiting content stands) frames held) state.tasks extra.tasks task frames words all.tasks (all.running, all.below)
 
   module _ (some : due ≡ [] → ⊥) where
-    walked : TasksWalked walks content sound plan bound stands all.objects.settled lines flip some all_tasks all_words
-    walked = tasks_walked walks content sound plan bound stands all.objects.settled lines flip some all_tasks all_words all_waiting
+    walked : TasksWalked content sound plan bound stands all.objects.settled lines flip some all_tasks all_words
+    walked = tasks_walked content sound plan bound stands all.objects.settled lines flip some all_tasks all_words all_waiting
 
     abbrev now : List Stand
     now = map (carried due) stands

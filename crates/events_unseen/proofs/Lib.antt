@@ -1,6 +1,5 @@
 pub mod TaskLaws
 pub mod EventLaws
-pub mod ResumeLaws
 pub mod SwitchLaws
 pub mod PollSteps
 pub mod ObjectLaws

@@ -1,33 +1,24 @@
 -- A new object: the sizes of all objects, the pointer to it, and the frames that wait.
-use Rattle.std.proofs.Common.{◌≡◌, ℕ, zero, suc, ◌+◌, ◌≤◌, ◌<◌, ◌%◌, ◌^◌, true, false, List, [], ◌∷◌, ◌++◌, length, get_or, map, refl, sym, ap, ◌∙◌, subst, arith, Option, Some, None}
+use Rattle.std.proofs.Common.{◌≡◌, ℕ, suc, ◌+◌, ◌≤◌, ◌%◌, ◌^◌, true, List, [], ◌∷◌, ◌++◌, length, get_or, refl, sym, ap, ◌∙◌, subst, arith, Some}
 use Rattle.std.specs.Prelude.{slice_get}
-use Rattle.std.specs.List.{AllZip, Contains, sum_by}
+use Rattle.std.specs.List.{AllZip, sum_by}
 use Rattle.std.proofs.lemmas.Bool.{true≢false}
 use Rattle.std.proofs.lemmas.List.{length_push}
 use Rattle.std.proofs.lemmas.List.Sums.{sum_by-cons}
-use Rattle.list_laws.proofs.Contents.{get_contained}
-use Rattle.ir_ast.specs.declared.ops.Callee.TheVariants.{New}
-use Rattle.ir_ast.specs.declared.ops.Op.TheVariants.{GcResult, Statepoint}
-use Rattle.ir_ast.specs.declared.types.Ty.{Ty}
-use Rattle.ir_ast.specs.declared.types.Ty.TheVariants.{Ptr}
-use Rattle.ir_ast.specs.Faults.GroupShape.{entries_of, is_statepoint}
 use Rattle.ir_ast.specs.Layouts.{ObjectLayout}
 use Rattle.ir_ast.specs.Modules.{ModuleContent}
 use Rattle.ir_ast.specs.Objects.{Object, Pointer, footprint, pointer}
 use Rattle.ir_ast.specs.Types.{is_pointer}
 use Rattle.moving_heap.specs.declared.stands.Stand.{Stand}
 use Rattle.moving_heap.specs.Places.{first_place, new_stand}
-use Rattle.object_meaning.specs.Lines.{Line}
-use Rattle.object_meaning.specs.Registers.{number_in}
 use Rattle.object_meaning.specs.States.{Frame}
 use Rattle.pair_facts.specs.Lines.{group_in, lines_at}
-use Rattle.machine_meaning.specs.Relations.{IsPair, addr}
 use Rattle.machine_meaning.proofs.AddressLaws.{addr_of}
 use Rattle.moves_unseen.specs.Frames.{FrameWords, IsWaiting}
 use Rattle.moves_unseen.specs.Objects.{IsBase}
 use Rattle.moves_unseen.specs.Waits.{IsAnswer, IsSound}
 use Rattle.moves_unseen.proofs.AllocLaws.{addr_before, in_heap_before}
-use Rattle.stacks_walked.proofs.RelocateLaws.{result_type}
+use Rattle.frames_spilled.proofs.ResultLaws.{result_type}
 
 -- ---- sizes
 
@@ -107,8 +98,7 @@ pub base_answers : (content : ModuleContent) → IsSound content → (stands : L
     → IsAnswer stands (group_in (lines_at waiting.func frame.block) waiting.place) (pointer to) word
 base_answers content sound stands frame held waiting managed to word base = record {
   numbers = λ member inside op plain.
-      let at = get_contained (group_in (lines_at waiting.func frame.block) waiting.place) member inside in
-      let type = result_type content sound.target frame.func waiting.func waiting.at.defined frame.block waiting.place waiting.call waiting.is waiting.statepoint at.0 member at.1 op in
+      let type = result_type content sound.target frame.func waiting.func waiting.at.defined frame.block waiting.place waiting.call waiting.is waiting.statepoint member inside op in
       absurd (true≢false (sym managed ∙ (sym (ap is_pointer type) ∙ plain)));
   bases = λ member inside op kind. base;
 }

@@ -1,5 +1,5 @@
 -- A new object: an event, and then both make the object, or trap for its count or for want of room.
-use Rattle.std.proofs.Common.{◌≡◌, ℕ, ℤ, zero, suc, ◌+◌, ◌≤◌, Bool, true, false, if◌then◌else◌, List, [], ◌∷◌, ◌++◌, length, map, take, drop, refl, sym, ap, ◌∙◌, subst, arith, ltb, Option, Some, None, Ok, Err}
+use Rattle.std.proofs.Common.{◌≡◌, ℕ, ℤ, zero, suc, ◌+◌, Bool, true, false, if◌then◌else◌, List, [], ◌∷◌, ◌++◌, length, map, take, drop, refl, sym, ap, ◌∙◌, subst, arith, ltb, Some, Ok, Err}
 use Rattle.std.specs.Prelude.{int_lt, pos, slice_get, unsigned_abs}
 use Rattle.std.specs.List.{AllZip, sum_by}
 use Rattle.std.proofs.lemmas.Bool.{ltb-false}
@@ -19,7 +19,6 @@ use Rattle.ir_ast.specs.declared.ops.Operand.{Operand}
 use Rattle.ir_ast.specs.declared.types.Ty.{Ty}
 use Rattle.ir_ast.specs.declared.types.Ty.TheVariants.{Int, Ptr}
 use Rattle.ir_ast.specs.Faults.TypeClash.{Fits, IsCallOf, RuleOf, asked}
-use Rattle.ir_ast.specs.Insts.{Instruction}
 use Rattle.ir_ast.specs.Modules.{ModuleContent}
 use Rattle.ir_ast.specs.Objects.{Datum, Object, Pointer, footprint, number, pointer}
 use Rattle.ir_ast.specs.Scope.{Signature, scope_of}
@@ -30,7 +29,7 @@ use Rattle.move_plan.specs.declared.plan_lines.PlanLine.{PlanLine}
 use Rattle.move_plan.specs.Plans.{go}
 use Rattle.moving_heap.specs.declared.heap.AllocFault.TheVariants as faults
 use Rattle.moving_heap.specs.declared.stands.Stand.{Stand}
-use Rattle.moving_heap.specs.Heaps.{alloc_answer, with_object}
+use Rattle.moving_heap.specs.Heaps.{with_object}
 use Rattle.moving_heap.specs.Heaps.{footprint as bytes_for}
 use Rattle.moving_heap.specs.Places.{first_place, new_stand}
 use Rattle.object_meaning.specs.Calls.{allocating, made as object_made}
@@ -38,7 +37,7 @@ use Rattle.object_meaning.specs.Effects.{Effect}
 use Rattle.object_meaning.specs.Effects as effects
 use Rattle.object_meaning.specs.Frames.{answered, answered_at, answered_by, grouped, regrouped, resumed}
 use Rattle.object_meaning.specs.Lines.{Line}
-use Rattle.object_meaning.specs.Registers.{number_in, operand, value}
+use Rattle.object_meaning.specs.Registers.{number_in, operand}
 use Rattle.object_meaning.specs.States.{Frame, Setting, State}
 use Rattle.object_meaning.specs.Steps.{step}
 use Rattle.object_meaning.specs.TargetRuns.{target_setting}
@@ -54,15 +53,15 @@ use Rattle.moves_unseen.specs.Frames.{FrameWords, IsWaiting}
 use Rattle.moves_unseen.specs.States.{Extra, IsRelated, machine_of}
 use Rattle.moves_unseen.specs.Steps.{StepFollows, both_end, both_go}
 use Rattle.moves_unseen.specs.Types.{IsLineOf}
-use Rattle.moves_unseen.specs.Waits.{IsSound, MakesObject, NewObjectsFollow, RunningFramesWait, SpillsAre, StacksAreWalked, WaitingFramesGoOn, makes}
+use Rattle.moves_unseen.specs.Waits.{IsSound, MakesObject, NewObjectsFollow, makes}
 use Rattle.moves_unseen.proofs.AllocLaws.{made_is_held}
 use Rattle.moves_unseen.proofs.LineTypes.{lines_are_typed}
 use Rattle.moves_unseen.proofs.StandLaws.{line_here}
 use Rattle.moves_unseen.proofs.ValueLaws.{same_number, value_at, word_at}
-use Rattle.events_unseen.proofs.EventLaws.{AllWait, HasMoved}
+use Rattle.events_unseen.proofs.EventLaws.{AllWait}
 use Rattle.events_unseen.proofs.ObjectLaws.{all_more, base_answers, new_base, sizes_same, waits_more, zip_each}
-use Rattle.events_unseen.proofs.PollSteps.{all_wait, event_is, here, made, statepoint_at, there}
-use Rattle.events_unseen.proofs.ResumeLaws.{goes_on}
+use Rattle.events_unseen.proofs.PollSteps.{event_is, here, made, statepoint_at, there}
+use Rattle.events_unseen.proofs.SwitchLaws.{goes_on}
 
 -- ---- what the module says of the line
 
@@ -126,7 +125,7 @@ module _ (content : ModuleContent) (sound : IsSound content) (stands : List Stan
 
 -- ---- the object is made
 
-module _ (goes : WaitingFramesGoOn) (content : ModuleContent) (sound : IsSound content) (plan : List PlanLine) (bound : ℕ) (state : State) (extra : Extra)
+module _ (content : ModuleContent) (sound : IsSound content) (plan : List PlanLine) (bound : ℕ) (state : State) (extra : Extra)
     (all : AllWait content (with_event state) extra) (line : Line) (rest : List Line) (is : state.running.rest ≡ line ∷ rest) (id layout : ℕ) (types : List Ty)
     (op_is : line.inst.op ≡ Statepoint id (callees.New layout) types) where
   abbrev machinery : Machinery
@@ -186,7 +185,7 @@ module _ (goes : WaitingFramesGoOn) (content : ModuleContent) (sound : IsSound c
         let few = ltb-false 67108864 (bytes count) room in
         let base = new_base stands (bytes_for fields count) (length state.objects) (sym all.objects.stands_count) (omega arith) in
         let managed = answers_pointer content sound (stands ++ new ∷ []) state.running extra.running all_then.running line rest is id layout types op_is in
-        let follows = goes_on goes content sound machinery state_then extra_then all_then (pointer to) (first_place stands)
+        let follows = goes_on content sound machinery state_then extra_then all_then (pointer to) (first_place stands)
         (base_answers content sound (stands ++ new ∷ []) state.running extra.running all_then.running managed to (first_place stands) base) in
         subst (λ (frame : Frame). StepFollows content machinery (effects.goes_on (record state_then { running = frame }))
         (effects.goes_on (gone_on (number (first_place stands)) (record machine { heap = with_object extra.heap layout fields count })))) (answered_is (pointer to))
@@ -228,7 +227,7 @@ module _ (goes : WaitingFramesGoOn) (content : ModuleContent) (sound : IsSound c
 
 -- ---- both steps
 
-module _ (waits : RunningFramesWait) (spills : SpillsAre) (walks : StacksAreWalked) (goes : WaitingFramesGoOn) (content : ModuleContent) (sound : IsSound content) (plan : List PlanLine) (bound : ℕ)
+module _ (content : ModuleContent) (sound : IsSound content) (plan : List PlanLine) (bound : ℕ)
     (state : State) (extra : Extra) (related : IsRelated content state extra) (line : Line) (rest : List Line) (is : state.running.rest ≡ line ∷ rest) where
   abbrev the_machinery : Machinery
   the_machinery = machinery_of content (map_of content) plan bound
@@ -236,22 +235,22 @@ module _ (waits : RunningFramesWait) (spills : SpillsAre) (walks : StacksAreWalk
   new_follows : (id : ℕ) (callee : Callee) (types : List Ty) → line.inst.op ≡ Statepoint id callee types → MakesObject callee
       → StepFollows content the_machinery (step (target_setting content (go plan) bound) state) (machine_step the_machinery (machine_of the_machinery state extra))
   new_follows id _ types op_is (makes layout) =
-      let moved = made waits spills walks content sound plan bound state extra related line rest is id (callees.New layout) types op_is in
+      let moved = made content sound plan bound state extra related line rest is id (callees.New layout) types op_is in
       let wait = moved.waits.running in
       subst (λ (effect : Effect State). StepFollows content the_machinery effect (machine_step the_machinery (machine_of the_machinery state extra)))
-      (sym (here waits spills walks content sound plan bound state extra related line rest is id (callees.New layout) types op_is))
+      (sym (here content sound plan bound state extra related line rest is id (callees.New layout) types op_is))
       (subst (StepFollows content the_machinery (allocating (target_setting content (go plan) bound) state (grouped state (drop (length types) line.inst.operands) rest) layout
       (signed 64 (number_in (operand state.running.registers (take (length types) line.inst.operands) 0)))))
-      (sym (there waits spills walks content sound plan bound state extra related line rest is id (callees.New layout) types op_is
-      ∙ event_is waits spills walks content sound plan bound state extra related line rest is id (callees.New layout) types op_is
+      (sym (there content sound plan bound state extra related line rest is id (callees.New layout) types op_is
+      ∙ event_is content sound plan bound state extra related line rest is id (callees.New layout) types op_is
       (λ now. allocating_machine now layout (fields_in content.layouts layout)
       (signed 64 (number_in (operand now.state.running.registers (take (length types) (map worded_operand line.inst.operands)) 0))))))
-      (object_follows goes content sound plan bound state moved.after moved.waits line rest is id layout types op_is
+      (object_follows content sound plan bound state moved.after moved.waits line rest is id layout types op_is
       (number_in (operand state.running.registers (take (length types) line.inst.operands) 0))
       (number_in (operand (map number moved.after.running.words) (take (length types) (map worded_operand line.inst.operands)) 0))
       (sym (count_same content sound moved.after.heap.stands state.running moved.after.running moved.waits.running line rest is id layout types op_is))))
 
-pub new_objects_follow : RunningFramesWait → SpillsAre → StacksAreWalked → WaitingFramesGoOn → NewObjectsFollow
-new_objects_follow waits spills walks goes content sound plan bound state extra related line rest is due =
+pub new_objects_follow : NewObjectsFollow
+new_objects_follow content sound plan bound state extra related line rest is due =
     let at = statepoint_at MakesObject line.inst.op due in
-    new_follows waits spills walks goes content sound plan bound state extra related line rest is at.id at.callee at.types at.is at.due_is
+    new_follows content sound plan bound state extra related line rest is at.id at.callee at.types at.is at.due_is

@@ -1,36 +1,36 @@
 -- The `go` line of a poll: both switch to the same task, where all frames of all tasks wait.
-use Rattle.std.proofs.Common.{◌≡◌, ℕ, zero, List, [], ◌∷◌, get_or, set, refl, sym, ap, ◌∙◌, subst, arith, Option, Some, None, inl, inr}
+use Rattle.std.proofs.Common.{◌≡◌, ℕ, List, [], ◌∷◌, get_or, set, refl, sym, ap, ◌∙◌, subst, Option, Some, None, inl, inr}
 use Rattle.std.specs.Prelude.{slice_get}
-use Rattle.std.specs.List.{All, AllZip}
+use Rattle.std.specs.List.{AllZip}
 use Rattle.std.specs.Option.{option_map_or}
-use Rattle.std.proofs.lemmas.Option.{same_Some}
 use Rattle.list_laws.proofs.Contents.{all_at, all_from_at}
 use Rattle.list_laws.proofs.Places.{get_set, get_written}
 use Rattle.ir_ast.specs.Modules.{ModuleContent}
+use Rattle.ir_ast.specs.Objects.{Datum, number}
 use Rattle.object_meaning.specs.Frames.{resumed}
 use Rattle.object_meaning.specs.Lines.{main_of}
 use Rattle.object_meaning.specs.Registers.{nothing}
 use Rattle.object_meaning.specs.States.{Frame, State}
 use Rattle.object_meaning.specs.Tasks.{switched, switched_to}
-use Rattle.moving_heap.specs.declared.stands.Stand.{Stand}
 use Rattle.pair_facts.specs.Lines.{group_in, lines_at}
-use Rattle.object_meaning.specs.Lines.{Line}
 use Rattle.machine_meaning.specs.Machines.{Machine, Machinery, gone_on}
 use Rattle.machine_meaning.specs.MachineTasks.{switched_machine}
 use Rattle.moves_unseen.specs.Awaits.{AllAwait, AreAwaiting, IsAwaiting, began}
 use Rattle.moves_unseen.specs.Frames.{FrameWords, IsWaiting}
 use Rattle.moves_unseen.specs.States.{Extra, Follows, machine_of, stack_of, stacks_of, worded_frame, worded_frames, worded_state, worded_tasks}
-use Rattle.moves_unseen.specs.Waits.{IsAnswer, IsSound, WaitingFramesGoOn}
+use Rattle.moves_unseen.specs.Waits.{IsAnswer, IsSound}
+use Rattle.frames_resumed.proofs.StateLaws.{nothing_answers, resumed_follows}
 use Rattle.events_unseen.proofs.EventLaws.{AllWait, machine_as}
-use Rattle.events_unseen.proofs.ResumeLaws.{goes_on}
 use Rattle.events_unseen.proofs.TaskLaws.{first_same, get_other, rest_same, stack_at, stacks_set, tasks_set, worded_at, worded_none, zip_at, zip_set}
 
--- `nothing` is the answer of each group: a number that is 0, a pointer that is `null`
-pub nothing_answers : (stands : List Stand) (group : List Line) → IsAnswer stands group nothing 0
-nothing_answers stands group = record {
-  numbers = λ member inside op plain. refl;
-  bases = λ member inside op managed. record { heap = record { object = omega arith; offset = omega arith }; first = refl; word = refl };
-}
+-- both go on behind the group at which the running frame waits
+pub goes_on : (content : ModuleContent) → IsSound content → (machinery : Machinery) (state : State) (extra : Extra) (all : AllWait content state extra) (answer : Datum) (word : ℕ)
+    → IsAnswer extra.heap.stands (group_in (lines_at all.running.func state.running.block) all.running.place) answer word
+    → Follows content machinery (resumed state answer) (gone_on (number word) (machine_of machinery state extra))
+goes_on content sound machinery state extra all answer word is_answer =
+    resumed_follows content sound machinery state extra all.objects all.settled all.running all.below all.tasks all.await answer word is_answer
+
+-- ---- another task
 
 module _ (content : ModuleContent) (machinery : Machinery) (state : State) (extra : Extra) (all : AllWait content state extra) (on_top : IsAwaiting None state.running)
     (to : ℕ) (frame : Frame) (below : List Frame) (there : slice_get state.tasks to ≡ Some (frame ∷ below)) where
@@ -94,16 +94,20 @@ module _ (content : ModuleContent) (machinery : Machinery) (state : State) (extr
   switched_with : (held : List FrameWords) → slice_get extra.tasks to ≡ Some held → AllZip (IsWaiting content extra.heap.stands) (frame ∷ below) held
       → (then : Extra) × AllWait content state_then then × (switched_machine machine to (slice_get machine.state.tasks to) ≡ machine_of machinery state_then then)
   switched_with [] at waiting = absurd waiting
-  switched_with (first ∷ more) at waiting = (extra_then, record {
-    objects = all.objects;
-    settled = all.settled;
-    running = waiting.0;
-    below = waiting.1;
-    tasks =
-        zip_set (λ frames held. AllZip (IsWaiting content extra.heap.stands) frames held) (set state.tasks task frames) (set extra.tasks task words) to [] []
-        (zip_set (λ frames held. AllZip (IsWaiting content extra.heap.stands) frames held) state.tasks extra.tasks task frames words all.tasks (all.running, all.below)) tt;
-    await = awaits_then;
-  }, ap (switched_machine machine to) (worded_at state.tasks extra.tasks to (frame ∷ below) (first ∷ more) there at) ∙ machine_is)
+  switched_with (first ∷ more) at waiting = (
+    extra_then,
+    record {
+      objects = all.objects;
+      settled = all.settled;
+      running = waiting.0;
+      below = waiting.1;
+      tasks =
+          zip_set (λ frames held. AllZip (IsWaiting content extra.heap.stands) frames held) (set state.tasks task frames) (set extra.tasks task words) to [] []
+          (zip_set (λ frames held. AllZip (IsWaiting content extra.heap.stands) frames held) state.tasks extra.tasks task frames words all.tasks (all.running, all.below)) tt;
+      await = awaits_then;
+    },
+    ap (switched_machine machine to) (worded_at state.tasks extra.tasks to (frame ∷ below) (first ∷ more) there at) ∙ machine_is,
+  )
     where
       extra_then : Extra
       extra_then = record { running = first; below = more; tasks = set (set extra.tasks task words) to []; heap = extra.heap }
@@ -139,11 +143,11 @@ module _ (content : ModuleContent) (machinery : Machinery) (state : State) (extr
 
 -- ---- the line of an event
 
-module _ (goes : WaitingFramesGoOn) (content : ModuleContent) (sound : IsSound content) (machinery : Machinery) (state : State) (extra : Extra) (all : AllWait content state extra)
+module _ (content : ModuleContent) (sound : IsSound content) (machinery : Machinery) (state : State) (extra : Extra) (all : AllWait content state extra)
     (on_top : IsAwaiting None state.running) where
   stays : Follows content machinery (resumed state nothing) (gone_on nothing (machine_of machinery state extra))
   stays =
-      goes_on goes content sound machinery state extra all nothing 0
+      goes_on content sound machinery state extra all nothing 0
       (nothing_answers extra.heap.stands (group_in (lines_at all.running.func state.running.block) all.running.place))
 
   goes_to : (to : ℕ) (found : Option (List Frame)) → slice_get state.tasks to ≡ found
@@ -159,7 +163,7 @@ module _ (goes : WaitingFramesGoOn) (content : ModuleContent) (sound : IsSound c
   goes_to to (Some (frame ∷ below)) there =
       let both = switched_both content machinery state extra all on_top to frame below there in
       subst (λ (machine : Machine). Follows content machinery (resumed (state_then content machinery state extra all on_top to frame below there) nothing) (gone_on nothing machine)) (sym both.2)
-      (goes_on goes content sound machinery (state_then content machinery state extra all on_top to frame below there) both.0 both.1 nothing 0
+      (goes_on content sound machinery (state_then content machinery state extra all on_top to frame below there) both.0 both.1 nothing 0
       (nothing_answers both.0.heap.stands (group_in (lines_at both.1.running.func frame.block) both.1.running.place)))
 
   pub goes_by : (go : Option ℕ)

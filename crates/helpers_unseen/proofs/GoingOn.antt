@@ -1,9 +1,7 @@
 -- A state that stands at a statepoint, whose frame has spilled its live entries, goes on behind the group with an answer.
-use Rattle.std.proofs.Common.{◌≡◌, ℕ, ◌∷◌, List, length, drop, refl, sym, ap, ◌∙◌, subst, arith, true, false, Some}
-use Rattle.std.specs.Prelude.{slice_get}
+use Rattle.std.proofs.Common.{◌≡◌, ℕ, ◌∷◌, List, length, drop, refl, sym, ap, ◌∙◌, false}
 use Rattle.std.proofs.lemmas.Bool.{true≢false}
 use Rattle.ir_ast.specs.declared.ops.Callee.{Callee}
-use Rattle.ir_ast.specs.declared.ops.Op.{Op}
 use Rattle.ir_ast.specs.declared.ops.Op.TheVariants.{Statepoint}
 use Rattle.ir_ast.specs.declared.ops.Operand.{Operand}
 use Rattle.ir_ast.specs.declared.types.Ty.{Ty}
@@ -11,23 +9,22 @@ use Rattle.ir_ast.specs.Faults.GroupShape.{is_statepoint}
 use Rattle.ir_ast.specs.Modules.{ModuleContent}
 use Rattle.ir_ast.specs.Objects.{Datum, number}
 use Rattle.ir_ast.specs.Types.{is_pointer}
-use Rattle.object_meaning.specs.Frames.{answered, answered_at, answered_by, grouped, regrouped}
+use Rattle.object_meaning.specs.Frames.{answered, answered_at, answered_by, grouped, regrouped, resumed}
 use Rattle.object_meaning.specs.Lines.{Line}
-use Rattle.object_meaning.specs.Registers.{nothing}
 use Rattle.object_meaning.specs.States.{Frame, State}
 use Rattle.pair_facts.specs.Lines.{group_in, lines_at}
-use Rattle.machine_meaning.specs.Machines.{Machine, Machinery, gone_on, spilled}
+use Rattle.machine_meaning.specs.Machines.{Machinery, gone_on, spilled}
 use Rattle.machine_meaning.specs.Words.{worded}
-use Rattle.moves_unseen.specs.Awaits.{AllAwait}
 use Rattle.moves_unseen.specs.Frames.{FrameWords, IsWaiting}
-use Rattle.moves_unseen.specs.States.{Extra, Follows, IsRelated, machine_of, return_below, stack_of, worded_state}
-use Rattle.moves_unseen.specs.Waits.{GoesOn, IsAnswer, IsSound, WaitingFramesGoOn, spilled_words}
+use Rattle.moves_unseen.specs.States.{Extra, Follows, IsRelated, machine_of}
+use Rattle.moves_unseen.specs.Waits.{IsAnswer, IsSound, spilled_words}
 use Rattle.moves_unseen.proofs.StandLaws.{line_here}
+use Rattle.frames_resumed.proofs.StateLaws.{resumed_follows}
 use Rattle.frames_spilled.proofs.ResultLaws.{result_type}
 use Rattle.frames_spilled.proofs.SpillLaws.{spills}
 use Rattle.frames_spilled.proofs.WaitLaws.{waits}
 
-module _ (content : ModuleContent) (sound : IsSound content) (go_on : WaitingFramesGoOn) (machinery : Machinery) (state : State) (extra : Extra) (related : IsRelated content state extra)
+module _ (content : ModuleContent) (sound : IsSound content) (machinery : Machinery) (state : State) (extra : Extra) (related : IsRelated content state extra)
     (line : Line) (rest : List Line) (is : state.running.rest ≡ line ∷ rest) (id : ℕ) (callee : Callee) (types : List Ty) (op_is : line.inst.op ≡ Statepoint id callee types) where
   abbrev entries : List Operand
   entries = drop (length types) line.inst.operands
@@ -50,17 +47,7 @@ module _ (content : ModuleContent) (sound : IsSound content) (go_on : WaitingFra
   abbrev pub group : List Line
   group = group_in (lines_at waiting.func state.running.block) waiting.place
 
-  -- no answer is 0, and `null`
-  pub nothing_answered : IsAnswer extra.heap.stands group nothing 0
-  nothing_answered = record {
-    numbers = λ member contained op_of plain. refl;
-    bases = λ member contained op_of managed. record {
-      heap = record { object = omega arith; offset = omega arith };
-      first = refl;
-      word = refl;
-    };
-  }
-
+  -- a result has the type of the statepoint's line, so a number answers where this is no pointer
   pub number_answered : is_pointer line.inst.ty ≡ false → (word : ℕ) → IsAnswer extra.heap.stands group (number word) word
   number_answered plain word = record {
     numbers = λ member contained op_of plain. refl;
@@ -72,39 +59,15 @@ module _ (content : ModuleContent) (sound : IsSound content) (go_on : WaitingFra
 
   -- ---- behind the group
 
-  abbrev pub after_state : Datum → State
-  after_state answer = record state { running = answered state.running answer }
-
   answered_is : (answer : Datum) → answered state.running answer ≡ regrouped state.running entries rest answer
   answered_is answer =
       ap (λ (lines : List Line). answered_at state.running lines answer) is ∙ ap (answered_by state.running line rest answer) op_is
 
-  pub grouped_is : (answer : Datum) → grouped state entries rest answer ≡ after_state answer
+  pub grouped_is : (answer : Datum) → grouped state entries rest answer ≡ resumed state answer
   grouped_is answer = ap (λ (frame : Frame). record state { running = frame }) (sym (answered_is answer))
-
-  same_func : (answer : Datum) → (answered state.running answer).func ≡ state.running.func
-  same_func answer = ap (λ (frame : Frame). frame.func) (answered_is answer)
-
-  abbrev tail : List ℕ
-  tail = return_below machinery (worded_state state extra).below ∷ stack_of machinery (worded_state state extra).below extra.below
-
-  went : (answer : Datum) (word : ℕ) → IsAnswer extra.heap.stands group answer word → GoesOn content state.objects extra.heap.stands state.running held answer word tail
-  went answer word given = go_on content sound state.objects extra.heap.stands state.running held waiting answer word given tail
 
   -- both go on behind the group with the answer, and are related there
   pub goes_on_behind : (answer : Datum) (word : ℕ) → IsAnswer extra.heap.stands group answer word
-      → Follows content machinery (after_state answer) (gone_on (number word) (machine_of machinery state held_extra))
+      → Follows content machinery (resumed state answer) (gone_on (number word) (machine_of machinery state held_extra))
   goes_on_behind answer word given =
-      let on = went answer word given in
-      record {
-        extra = record extra { running = record held { words = on.words } };
-        is = ap (λ (frame : Frame). record (machine_of machinery state held_extra) { state = record (machine_of machinery state held_extra).state { running = frame } }) on.is;
-        related = record {
-          objects = related.objects;
-          settled = related.settled;
-          running = on.running;
-          below = related.below;
-          tasks = related.tasks;
-          await = subst (λ (func : ℕ). AllAwait content func state.below state.task state.tasks) (sym (same_func answer)) related.await;
-        };
-      }
+      resumed_follows content sound machinery state held_extra related.objects related.settled waiting related.below related.tasks related.await answer word given

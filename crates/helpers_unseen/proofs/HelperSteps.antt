@@ -4,7 +4,6 @@ use Rattle.std.specs.Prelude.{slice_get, Result, Ok, Err}
 use Rattle.std.specs.Int.{w64, cast_unsigned}
 use Rattle.std.specs.List.{AllZip, Contains}
 use Rattle.std.specs.Option.{option_map_or}
-use Rattle.std.proofs.lemmas.List.{take-map}
 use Rattle.std.proofs.lemmas.Option.{same_Some}
 use Rattle.list_laws.proofs.Contents.{contains_first, contains_later}
 use Rattle.list_laws.proofs.Places.{get_front, get_taken}
@@ -28,11 +27,11 @@ use Rattle.ir_ast.specs.Types.{is_pointer}
 use Rattle.ir_ast.specs.Values.{value_types}
 use Rattle.moving_heap.specs.Heaps.{checked}
 use Rattle.object_meaning.specs.Accesses.{Place, accessed, cell_named}
-use Rattle.object_meaning.specs.Calls.{called, taking}
+use Rattle.object_meaning.specs.Calls.{taking}
 use Rattle.object_meaning.specs.Calls.{checked as checked_here}
 use Rattle.object_meaning.specs.Comparisons.{bit, same_pointer}
 use Rattle.object_meaning.specs.Effects.{Effect, ends, goes_on, prints}
-use Rattle.object_meaning.specs.Frames.{grouped}
+use Rattle.object_meaning.specs.Frames.{grouped, resumed}
 use Rattle.object_meaning.specs.Lines.{Line}
 use Rattle.object_meaning.specs.Registers.{nothing, number_in, operand, pointer_in, value}
 use Rattle.object_meaning.specs.States.{Setting, State}
@@ -44,10 +43,10 @@ use Rattle.machine_meaning.specs.Machines.{Machine, Machinery, gone_on, lifted}
 use Rattle.machine_meaning.specs.MachineSteps.{calls, checking, machine_acts, machine_at, machine_step}
 use Rattle.machine_meaning.specs.Relations.{IsPair, check_of, word_in}
 use Rattle.machine_meaning.specs.Words.{worded, worded_operand}
-use Rattle.moves_unseen.specs.States.{Extra, Follows, IsRelated, machine_of}
+use Rattle.moves_unseen.specs.States.{Extra, IsRelated, machine_of}
 use Rattle.moves_unseen.specs.Steps.{IsNumber, StepFollows, both_end, both_go, both_print}
 use Rattle.moves_unseen.specs.Types.{IsLineOf}
-use Rattle.moves_unseen.specs.Waits.{IsHelper, IsSound, IsStatepointOf, WaitingFramesGoOn, waits, checks as a_check, compares as a_comparison, prints as a_print, reads as a_read}
+use Rattle.moves_unseen.specs.Waits.{IsHelper, IsSound, IsStatepointOf, waits, checks as a_check, compares as a_comparison, prints as a_print, reads as a_read}
 use Rattle.moves_unseen.proofs.CheckSteps.{access_trap, denied_so}
 use Rattle.moves_unseen.proofs.ComparisonLaws.{pairs_compared}
 use Rattle.moves_unseen.proofs.LineTypes.{lines_are_typed}
@@ -56,13 +55,14 @@ use Rattle.moves_unseen.proofs.PlainSteps.{number_at}
 use Rattle.moves_unseen.proofs.StandLaws.{line_here}
 use Rattle.moves_unseen.proofs.ValueLaws.{same_number, value_at, word_at}
 use Rattle.moves_unseen.proofs.VerifiedLaws.{pair_stands}
-use Rattle.helpers_unseen.proofs.GoingOn.{after_state, goes_on_behind, grouped_is, held_extra, nothing_answered, number_answered, spilled_is}
+use Rattle.frames_resumed.proofs.StateLaws.{nothing_answers}
+use Rattle.helpers_unseen.proofs.GoingOn.{goes_on_behind, group, grouped_is, held_extra, number_answered, spilled_is}
 
 -- an argument stands before the live entries
 argument : (registers : List Datum) (operands : List Operand) (count place : ℕ) → place < count → operand registers (take count operands) place ≡ operand registers operands place
 argument registers operands count place low = ap (λ (found : Option Operand). option_map_or (value registers) found nothing) (get_taken operands place count low)
 
-module _ (content : ModuleContent) (sound : IsSound content) (go_on : WaitingFramesGoOn) (machinery : Machinery) (setting : Setting) (layouts_are : setting.layouts ≡ content.layouts)
+module _ (content : ModuleContent) (sound : IsSound content) (machinery : Machinery) (setting : Setting) (layouts_are : setting.layouts ≡ content.layouts)
     (state : State) (extra : Extra) (related : IsRelated content state extra) (line : Line) (rest : List Line) (is : state.running.rest ≡ line ∷ rest) (id : ℕ) (types : List Ty) where
   abbrev func : Function
   func = related.running.func
@@ -127,7 +127,7 @@ module _ (content : ModuleContent) (sound : IsSound content) (go_on : WaitingFra
 
   module _ (op_is : line.inst.op ≡ Statepoint id Check types) where
     abbrev check_extra : Extra
-    check_extra = held_extra content sound go_on machinery state extra related line rest is id Check types op_is
+    check_extra = held_extra content sound machinery state extra related line rest is id Check types op_is
 
     abbrev check_machine : Machine
     check_machine = machine_of machinery state check_extra
@@ -172,7 +172,7 @@ module _ (content : ModuleContent) (sound : IsSound content) (go_on : WaitingFra
         ap (machine_at machinery machine) (ap (map worded) is)
         ∙ (ap (machine_acts machinery machine (worded line) (map worded rest)) op_is
         ∙ (ap (λ (now : Machine). calls machinery now (worded line) (map worded rest) Check (take (length types) (map worded_operand operands)))
-        (spilled_is content sound go_on machinery state extra related line rest is id Check types op_is)
+        (spilled_is content sound machinery state extra related line rest is id Check types op_is)
         ∙ (ap (λ (n : ℕ). checking check_machine (checked extra.heap (in_line 0) (in_line 1) (cell_named n)))
         (same_word 2 (argument_number Check op_is (record { answer = Void; params = Ptr ∷ Ptr ∷ Int 64 ∷ [] }) refl 2 (Int 64) refl refl))
         ∙ ap (checking check_machine) (check_is_access content.layouts state.objects extra.heap related.objects asked_cell to (pointer_in (operand registers operands 0)) (in_line 1) (in_line 0) check_pair))))
@@ -181,10 +181,10 @@ module _ (content : ModuleContent) (sound : IsSound content) (go_on : WaitingFra
         → StepFollows content machinery (checked_here state (grouped state entries rest) found) (checking check_machine (check_of found))
     check_by (Ok place) found =
         subst (λ (next : State). StepFollows content machinery (goes_on next) (goes_on (gone_on nothing check_machine)))
-        (sym (grouped_is content sound go_on machinery state extra related line rest is id Check types op_is nothing))
-        (both_go (after_state content sound go_on machinery state extra related line rest is id Check types op_is nothing) (gone_on nothing check_machine)
-        (goes_on_behind content sound go_on machinery state extra related line rest is id Check types op_is nothing 0
-        (nothing_answered content sound go_on machinery state extra related line rest is id Check types op_is)))
+        (sym (grouped_is content sound machinery state extra related line rest is id Check types op_is nothing))
+        (both_go (resumed state nothing) (gone_on nothing check_machine)
+        (goes_on_behind content sound machinery state extra related line rest is id Check types op_is nothing 0
+        (nothing_answers extra.heap.stands (group content sound machinery state extra related line rest is id Check types op_is))))
     check_by (Err trap) found =
         subst (StepFollows content machinery (ends (Trapped trap) state)) (sym (denied_so check_machine trap (access_trap content.layouts state.objects asked_cell to trap found)))
         (both_end (Trapped trap) state check_machine (record { extra = check_extra; is = refl; objects = related.objects }))
@@ -199,7 +199,7 @@ module _ (content : ModuleContent) (sound : IsSound content) (go_on : WaitingFra
 
   module _ (op_is : line.inst.op ≡ Statepoint id Same types) where
     abbrev same_extra : Extra
-    same_extra = held_extra content sound go_on machinery state extra related line rest is id Same types op_is
+    same_extra = held_extra content sound machinery state extra related line rest is id Same types op_is
 
     abbrev same_machine : Machine
     same_machine = machine_of machinery state same_extra
@@ -251,7 +251,7 @@ module _ (content : ModuleContent) (sound : IsSound content) (go_on : WaitingFra
         ap (machine_at machinery machine) (ap (map worded) is)
         ∙ (ap (machine_acts machinery machine (worded line) (map worded rest)) op_is
         ∙ (ap (λ (now : Machine). calls machinery now (worded line) (map worded rest) Same (take (length types) (map worded_operand operands)))
-        (spilled_is content sound go_on machinery state extra related line rest is id Same types op_is)
+        (spilled_is content sound machinery state extra related line rest is id Same types op_is)
         ∙ ap (λ (b : Bool). goes_on (gone_on (number (bit b)) same_machine)) same_compared))
 
     pub same_follows : StepFollows content machinery (step setting state) (machine_step machinery machine)
@@ -259,17 +259,17 @@ module _ (content : ModuleContent) (sound : IsSound content) (go_on : WaitingFra
         subst (λ (effect : Effect State). StepFollows content machinery effect (machine_step machinery machine)) (sym same_here)
         (subst (StepFollows content machinery (goes_on (grouped state entries rest (number answer)))) (sym same_there)
         (subst (λ (next : State). StepFollows content machinery (goes_on next) (goes_on (gone_on (number answer) same_machine)))
-        (sym (grouped_is content sound go_on machinery state extra related line rest is id Same types op_is (number answer)))
-        (both_go (after_state content sound go_on machinery state extra related line rest is id Same types op_is (number answer)) (gone_on (number answer) same_machine)
-        (goes_on_behind content sound go_on machinery state extra related line rest is id Same types op_is (number answer) answer
-        (number_answered content sound go_on machinery state extra related line rest is id Same types op_is
+        (sym (grouped_is content sound machinery state extra related line rest is id Same types op_is (number answer)))
+        (both_go (resumed state (number answer)) (gone_on (number answer) same_machine)
+        (goes_on_behind content sound machinery state extra related line rest is id Same types op_is (number answer) answer
+        (number_answered content sound machinery state extra related line rest is id Same types op_is
         (ap is_pointer (type_is Same op_is (record { answer = Int 1; params = Ptr ∷ Ptr ∷ Ptr ∷ Ptr ∷ [] }) refl)) answer)))))
 
   -- ---- print
 
   module _ (op_is : line.inst.op ≡ Statepoint id Print types) where
     abbrev print_extra : Extra
-    print_extra = held_extra content sound go_on machinery state extra related line rest is id Print types op_is
+    print_extra = held_extra content sound machinery state extra related line rest is id Print types op_is
 
     abbrev print_machine : Machine
     print_machine = machine_of machinery state print_extra
@@ -295,7 +295,7 @@ module _ (content : ModuleContent) (sound : IsSound content) (go_on : WaitingFra
         ap (machine_at machinery machine) (ap (map worded) is)
         ∙ (ap (machine_acts machinery machine (worded line) (map worded rest)) op_is
         ∙ (ap (λ (now : Machine). calls machinery now (worded line) (map worded rest) Print (take (length types) (map worded_operand operands)))
-        (spilled_is content sound go_on machinery state extra related line rest is id Print types op_is)
+        (spilled_is content sound machinery state extra related line rest is id Print types op_is)
         ∙ (ap (λ (d : Datum). prints (number_in d) (gone_on nothing print_machine)) (argument (map number words) (map worded_operand operands) (length types) 0 (omega arith))
         ∙ ap (λ (n : ℕ). prints n (gone_on nothing print_machine)) (same_word 0 (argument_number Print op_is (record { answer = Void; params = Int 64 ∷ [] }) refl 0 (Int 64) refl refl)))))
 
@@ -304,16 +304,16 @@ module _ (content : ModuleContent) (sound : IsSound content) (go_on : WaitingFra
         subst (λ (effect : Effect State). StepFollows content machinery effect (machine_step machinery machine)) (sym print_here)
         (subst (StepFollows content machinery (prints shown (grouped state entries rest nothing))) (sym print_there)
         (subst (λ (next : State). StepFollows content machinery (prints shown next) (prints shown (gone_on nothing print_machine)))
-        (sym (grouped_is content sound go_on machinery state extra related line rest is id Print types op_is nothing))
-        (both_print shown (after_state content sound go_on machinery state extra related line rest is id Print types op_is nothing) (gone_on nothing print_machine)
-        (goes_on_behind content sound go_on machinery state extra related line rest is id Print types op_is nothing 0
-        (nothing_answered content sound go_on machinery state extra related line rest is id Print types op_is)))))
+        (sym (grouped_is content sound machinery state extra related line rest is id Print types op_is nothing))
+        (both_print shown (resumed state nothing) (gone_on nothing print_machine)
+        (goes_on_behind content sound machinery state extra related line rest is id Print types op_is nothing 0
+        (nothing_answers extra.heap.stands (group content sound machinery state extra related line rest is id Print types op_is))))))
 
   -- ---- read
 
   module _ (op_is : line.inst.op ≡ Statepoint id Read types) where
     abbrev read_extra : Extra
-    read_extra = held_extra content sound go_on machinery state extra related line rest is id Read types op_is
+    read_extra = held_extra content sound machinery state extra related line rest is id Read types op_is
 
     abbrev read_machine : Machine
     read_machine = machine_of machinery state read_extra
@@ -328,19 +328,19 @@ module _ (content : ModuleContent) (sound : IsSound content) (go_on : WaitingFra
         ap (machine_at machinery machine) (ap (map worded) is)
         ∙ (ap (machine_acts machinery machine (worded line) (map worded rest)) op_is
         ∙ ap (λ (now : Machine). calls machinery now (worded line) (map worded rest) Read (take (length types) (map worded_operand operands)))
-        (spilled_is content sound go_on machinery state extra related line rest is id Read types op_is))
+        (spilled_is content sound machinery state extra related line rest is id Read types op_is))
 
     read_by : (numbers : List ℤ) → StepFollows content machinery (taking state (grouped state entries rest) numbers) (lifted read_machine (taking read_machine.state (λ answer. (gone_on answer read_machine).state) numbers))
     read_by [] = both_end (Trapped Input) state read_machine (record { extra = read_extra; is = refl; objects = related.objects })
     read_by (first ∷ more) =
         let made = cast_unsigned w64 first in
-        let follows = goes_on_behind content sound go_on machinery state extra related line rest is id Read types op_is (number (cast_unsigned w64 first)) (cast_unsigned w64 first)
-        (number_answered content sound go_on machinery state extra related line rest is id Read types op_is
+        let follows = goes_on_behind content sound machinery state extra related line rest is id Read types op_is (number (cast_unsigned w64 first)) (cast_unsigned w64 first)
+        (number_answered content sound machinery state extra related line rest is id Read types op_is
         (ap is_pointer (type_is Read op_is (record { answer = Int 64; params = [] }) refl)) (cast_unsigned w64 first)) in
         subst (λ (next : State). StepFollows content machinery (goes_on (record next { input = more }))
         (goes_on (record read_machine { state = record (gone_on (number (cast_unsigned w64 first)) read_machine).state { input = more } })))
-        (sym (grouped_is content sound go_on machinery state extra related line rest is id Read types op_is (number (cast_unsigned w64 first))))
-        (both_go (record (after_state content sound go_on machinery state extra related line rest is id Read types op_is (number (cast_unsigned w64 first))) { input = more })
+        (sym (grouped_is content sound machinery state extra related line rest is id Read types op_is (number (cast_unsigned w64 first))))
+        (both_go (record (resumed state (number (cast_unsigned w64 first))) { input = more })
         (record read_machine { state = record (gone_on (number (cast_unsigned w64 first)) read_machine).state { input = more } })
         (record {
           extra = follows.extra;
@@ -366,10 +366,10 @@ module _ (content : ModuleContent) (sound : IsSound content) (go_on : WaitingFra
   by_callee _ a_print op_is = print_follows op_is
   by_callee _ a_read op_is = read_follows op_is
 
-module _ (content : ModuleContent) (sound : IsSound content) (go_on : WaitingFramesGoOn) (machinery : Machinery) (setting : Setting) (layouts_are : setting.layouts ≡ content.layouts)
+module _ (content : ModuleContent) (sound : IsSound content) (machinery : Machinery) (setting : Setting) (layouts_are : setting.layouts ≡ content.layouts)
     (state : State) (extra : Extra) (related : IsRelated content state extra) (line : Line) (rest : List Line) (is : state.running.rest ≡ line ∷ rest) where
   by_operator : (op : Op) → IsStatepointOf IsHelper op → line.inst.op ≡ op → StepFollows content machinery (step setting state) (machine_step machinery (machine_of machinery state extra))
-  by_operator _ (waits id callee types due) op_is = by_callee content sound go_on machinery setting layouts_are state extra related line rest is id types callee due op_is
+  by_operator _ (waits id callee types due) op_is = by_callee content sound machinery setting layouts_are state extra related line rest is id types callee due op_is
 
   -- related before, the machine steps as the target meaning, and related after
   pub helpers_follow : IsStatepointOf IsHelper line.inst.op → StepFollows content machinery (step setting state) (machine_step machinery (machine_of machinery state extra))

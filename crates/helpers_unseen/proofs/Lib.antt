@@ -1,3 +1,3 @@
-mod SkipLaws
-mod GoingOn
-mod HelperSteps
+pub mod SkipLaws
+pub mod GoingOn
+pub mod HelperSteps

@@ -21,7 +21,7 @@ use Rattle.object_meaning.specs.Steps.{acts, skipped, step, steps_at}
 use Rattle.pair_facts.specs.declared.bases.Base.{Base}
 use Rattle.pair_facts.specs.declared.bases.Base.TheVariants.{Named}
 use Rattle.pair_facts.specs.Lines.{group_in, head_at, line_before, line_in, lines_at}
-use Rattle.pair_facts.specs.Pairs.{Pairs, after, after_group, given_pairs, is_base_named, is_named, with_given, with_own, without}
+use Rattle.pair_facts.specs.Pairs.{Pairs, after, after_group, given_pairs, is_base_named, is_named, with_given, without}
 use Rattle.pair_facts.specs.Paths.{behind, pairs_at}
 use Rattle.machine_meaning.specs.Machines.{Machine, Machinery}
 use Rattle.machine_meaning.specs.MachineSteps.{machine_acts, machine_at, machine_step}

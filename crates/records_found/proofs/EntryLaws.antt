@@ -1,11 +1,8 @@
 -- Where the map of a module has the record of a statepoint, and what the entry of its function says.
-use Rattle.std.proofs.Common.{◌≡◌, ◌∙◌, ℕ, zero, suc, ◌+◌, ◌*◌, ◌^◌, ◌<◌, ◌≤◌, Bool, true, false, cond, List, [], ◌∷◌, ◌++◌, length, take, drop, map, filter, nat_lt, refl, ap, sym, subst, arith, Some, slice_get}
+use Rattle.std.proofs.Common.{◌≡◌, ◌∙◌, ℕ, zero, suc, ◌+◌, ◌*◌, ◌^◌, ◌<◌, ◌≤◌, true, List, [], ◌∷◌, ◌++◌, length, take, drop, map, nat_lt, refl, ap, subst, arith, Some, slice_get}
 use Rattle.std.specs.List.{All, flat_map}
-use Rattle.std.proofs.lemmas.Bool.{ltb-false}
 use Rattle.std.proofs.lemmas.List.Elements.{All-head, All-tail}
-use Rattle.std.proofs.lemmas.List.Sums.{length-filter}
 use Rattle.std.proofs.lemmas.Option.{none-some, same_Some}
-use Rattle.std.proofs.Math.Seq.{take-append_seam, drop-append_seam}
 use Rattle.list_laws.proofs.Places.{get_front, get_map, get_past}
 use Rattle.ir_ast.specs.declared.ops.Op.{Op}
 use Rattle.ir_ast.specs.declared.ops.Op.TheVariants.{Statepoint}
@@ -13,11 +10,12 @@ use Rattle.ir_ast.specs.Insts.{Instruction}
 use Rattle.ir_ast.specs.Funcs.{Function, instructions_of}
 use Rattle.ir_ast.specs.Faults.GroupShape.{is_statepoint}
 use Rattle.frame_forms.specs.CodeAddresses.{next_start}
-use Rattle.frame_forms.specs.ModuleLayouts.{FunctionLayout, laid_at, laid_from, statepoints_of}
+use Rattle.frame_forms.specs.ModuleLayouts.{laid_at, laid_from, statepoints_of}
 use Rattle.map_bytes.specs.Entries.{Entry, entry_of, entries_of}
 use Rattle.map_bytes.specs.Maps.{MapRecord}
 use Rattle.stackmap_write.specs.ModuleMaps.{entries_of as function_entries, entry_of as function_entry, group_places, records_at, records_from, records_of, statepoint_record}
-use Rattle.stackmap_write.proofs.FitLaws.{IsTarget, length-records}
+use Rattle.stackmap_write.proofs.AddressLaws.{split_by}
+use Rattle.stackmap_write.proofs.FitLaws.{IsTarget}
 use Rattle.records_found.proofs.LineLaws.{run_of}
 
 -- ---- the record of a statepoint
@@ -62,28 +60,6 @@ record_in start (first ∷ rest) (suc place) inst stands is =
     }
 
 -- ---- the entry of its function
-
-none_left : (records : List MapRecord) → length records ≡ 0 → records ≡ []
-none_left [] none = refl
-none_left (one ∷ records) none = absurd (omega arith)
-
--- the records of a function and of those behind it
-split_by : (has : Bool) (start : ℕ) (func : Function) (laid : List FunctionLayout) (rest : List MapRecord) → nat_lt 0 (statepoints_of func) ≡ has
-    → entries_of (map function_entry (cond has (laid_at start func ∷ filter (λ other. nat_lt 0 other.statepoints) laid) (filter (λ other. nat_lt 0 other.statepoints) laid)))
-    (records_of func ++ rest)
-    ≡ map (entry_of (function_entry (laid_at start func))) (records_of func) ++ entries_of (function_entries laid) rest
-unfolding entries_of
-split_by true start func laid rest has =
-    let count : statepoints_of func ≡ length (records_of func) = sym (length-filter (λ inst. is_statepoint inst.op) (instructions_of func.blocks)) ∙ sym (length-records 0 (instructions_of func.blocks)) in
-    ap (λ n. map (entry_of (function_entry (laid_at start func))) (take n (records_of func ++ rest)) ++ entries_of (function_entries laid) (drop n (records_of func ++ rest))) count
-    ∙ ap (λ front. map (entry_of (function_entry (laid_at start func))) front ++ entries_of (function_entries laid) (drop (length (records_of func)) (records_of func ++ rest))) (take-append_seam (records_of func) rest)
-    ∙ ap (λ back. map (entry_of (function_entry (laid_at start func))) (records_of func) ++ entries_of (function_entries laid) back) (drop-append_seam (records_of func) rest)
-split_by false start func laid rest has =
-    let count : statepoints_of func ≡ length (records_of func) = sym (length-filter (λ inst. is_statepoint inst.op) (instructions_of func.blocks)) ∙ sym (length-records 0 (instructions_of func.blocks)) in
-    let few : statepoints_of func ≤ 0 = ltb-false 0 (statepoints_of func) has in
-    let none : records_of func ≡ [] = none_left (records_of func) (omega arith) in
-    ap (λ records. entries_of (function_entries laid) (records ++ rest)) none
-    ∙ sym (ap (λ records. map (entry_of (function_entry (laid_at start func))) records ++ entries_of (function_entries laid) rest) none)
 
 -- a function's layout, and where the entries of its records stand among all
 pub record Laid (start : ℕ) (funcs : List Function) (number : ℕ) (func : Function) : Type 0 where

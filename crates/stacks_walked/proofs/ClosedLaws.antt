@@ -1,18 +1,22 @@
 -- A frame that waits in a verified module: its slots hold each pair of its group, and each base of a pair is `null` or has a slot
 -- that moves with it. So the slots have the words of the same pointers after a group of moves.
-use Rattle.std.proofs.Common.{◌≡◌, ℕ, zero, suc, ◌+◌, ◌<◌, ◌≤◌, ◌==◌, ◌&&◌, ◌||◌, Bool, true, false, List, [], ◌∷◌, ◌++◌, length, map, get_or, set, refl, sym, ap, ◌∙◌, subst, arith, Option, Some, None, ◌⊎◌, inl, inr}
-use Rattle.std.specs.Prelude.{slice_get, slice_index_or, if◌then◌else◌}
-use Rattle.std.specs.List.{Contains, flat_map, list_any}
+use Rattle.std.proofs.Common.{◌≡◌, ℕ, zero, suc, ◌<◌, ◌==◌, ◌&&◌, ◌||◌, Bool, true, false, List, [], ◌∷◌, ◌++◌, length, map, get_or, set, refl, sym, ap, ◌∙◌, subst, Option, Some, ◌⊎◌, inl, inr}
+use Rattle.std.specs.Prelude.{slice_get, if◌then◌else◌}
+use Rattle.std.specs.List.{AllByRecursion, Contains, flat_map, list_any}
 use Rattle.std.proofs.lemmas.Bool.{and_parts, eqb-true}
-use Rattle.std.proofs.lemmas.List.{get_or-map, length-map, length-set}
-use Rattle.list_laws.proofs.Contents.{IsJoined, contains_first, contains_get, contains_joined, contains_later, contains_none, contains_one, get_contained, joined_contains}
+use Rattle.std.proofs.lemmas.List.{length-set}
+use Rattle.std.proofs.lemmas.Option.{none-some, same_Some}
+use Rattle.list_laws.proofs.Contents.{all_at, contains_first, contains_later, get_contained, joined_contains}
+use Rattle.ir_ast.specs.declared.modules.Form.{Form}
 use Rattle.ir_ast.specs.declared.ops.Operand.{Operand}
 use Rattle.ir_ast.specs.declared.ops.Operand.TheVariants as operands
-use Rattle.ir_ast.specs.Faults.GroupShape.{entries_of}
-use Rattle.ir_ast.specs.Funcs.{Function}
+use Rattle.ir_ast.specs.Faultless.{FunctionHasNoFault, OfForm}
+use Rattle.ir_ast.specs.Faults.GroupShape.{GroupsInShape, entries_of, is_statepoint}
+use Rattle.ir_ast.specs.Funcs.{Function, instructions_of}
 use Rattle.ir_ast.specs.Modules.{ModuleContent}
-use Rattle.ir_ast.specs.Objects.{Datum, Pointer}
-use Rattle.ir_ast.specs.Values.{value_types}
+use Rattle.ir_ast.specs.Objects.{Pointer}
+use Rattle.frame_forms.specs.FrameSizes.{frame_words}
+use Rattle.ir_cfg.specs.DefiniteUses.{text_place}
 use Rattle.ir_cfg.specs.Graphs.{graph_of}
 use Rattle.ir_cfg.specs.Paths.{Reached, along, at_entry}
 use Rattle.frame_walk.specs.Maps.{Pair}
@@ -20,13 +24,13 @@ use Rattle.frame_walk.specs.Walks.{SlotWrite, slot_write, write_slots}
 use Rattle.move_plan.specs.declared.plan_lines.Move.{Move}
 use Rattle.moving_heap.specs.declared.stands.Moved.{Moved}
 use Rattle.moving_heap.specs.declared.stands.Stand.{Stand}
-use Rattle.moving_heap.specs.Places.{carried, group_moves, group_targets, moved, moves_of}
+use Rattle.moving_heap.specs.Places.{carried, group_moves, group_targets, moved}
 use Rattle.moving_heap.specs.Settled.{AreSettled}
 use Rattle.moving_heap.proofs.PlaceLemmas.{group_is, group_places}
 use Rattle.object_meaning.specs.Lines.{Line}
 use Rattle.object_meaning.specs.Registers.{pointer_in, value}
 use Rattle.object_meaning.specs.States.{Frame}
-use Rattle.pair_facts.specs.Faults.{IsVerified, open_group}
+use Rattle.pair_facts.specs.Faults.{open_group}
 use Rattle.pair_facts.specs.Lines.{group_in, is_null, is_relocate, line_in, lines_at, operand_at}
 use Rattle.pair_facts.specs.Pairs.{Pairs, base_index, derived_index, has_base, relocates_base}
 use Rattle.pair_facts.specs.Paths.{Arrives, start, went}
@@ -36,29 +40,11 @@ use Rattle.machine_meaning.proofs.SlotLaws.{slots_after}
 use Rattle.moves_unseen.specs.Frames.{FrameWords, IsWaiting, group_pairs, relocated_pair}
 use Rattle.moves_unseen.specs.Waits.{IsSound}
 use Rattle.moves_unseen.proofs.StandLaws.{line_is}
-use Rattle.stacks_walked.proofs.RelocateLaws.{base_within, derived_within, entries_within, in_group, member_line}
+use Rattle.records_found.proofs.SlotLaws.{IsInFrame, all_in_frame}
+use Rattle.frames_spilled.proofs.GroupSlots.{IsPairOf, entry_pointer, pair_in_group, pair_of}
+use Rattle.frames_spilled.proofs.TextLaws.{line_in_text}
 
 -- ---- the pairs of a group
-
--- the relocate that a pair is of
-record IsPairOf (group : List Line) (pair : Pair) : Type 0 where
-  pub i : ℕ
-  pub line : Line
-  pub stands : slice_get group i ≡ Some line
-  pub relocate : is_relocate line.inst.op ≡ true
-  pub is : record { base = base_index line; derived = derived_index line } ≡ pair
-
-pair_of_line : (line : Line) (pair : Pair) (b : Bool) → is_relocate line.inst.op ≡ b → Contains (if b then record { base = base_index line; derived = derived_index line } ∷ [] else []) pair
-    → (is_relocate line.inst.op ≡ true) × (record { base = base_index line; derived = derived_index line } ≡ pair)
-pair_of_line line pair true is inside = (is, contains_one (record { base = base_index line; derived = derived_index line }) pair inside)
-pair_of_line line pair false is inside = absurd (contains_none pair inside)
-
-pair_of : (group : List Line) (k : ℕ) (pair : Pair) → slice_get (flat_map relocated_pair group) k ≡ Some pair → IsPairOf group pair
-pair_of group k pair at =
-    let joined = contains_joined relocated_pair group pair (contains_get (flat_map relocated_pair group) k pair at) in
-    let place = get_contained group joined.of joined.inside in
-    let one = pair_of_line joined.of pair (is_relocate joined.of.inst.op) refl joined.given in
-    record { i = place.0; line = joined.of; stands = place.1; relocate = one.0; is = one.1 }
 
 any_found : {X : Type 0} (p : X → Bool) (xs : List X) → list_any p xs ≡ true → (x : X) × (Contains xs x) × (p x ≡ true)
 any_found p [] is = cc
@@ -71,22 +57,24 @@ any_found {X = X} p (x ∷ xs) is = by (p x) refl is (λ more. any_found p xs mo
 abbrev own_pair : ℕ → Pair
 own_pair entry = record { base = entry; derived = entry }
 
-abbrev pair_by : Line → Pair
-pair_by line = record { base = base_index line; derived = derived_index line }
-
 -- where a relocate of the group keeps the base, the pair of it with itself is one of the group's
 kept_pair : (group : List Line) (entry : ℕ) → has_base group entry ≡ true → (m : ℕ) × (slice_get (flat_map relocated_pair group) m ≡ Some (own_pair entry))
 kept_pair group entry has =
     let found = any_found (relocates_base entry) group has in
     let parts = and_parts (is_relocate found.0.inst.op) ((base_index found.0 == entry) && (derived_index found.0 == entry)) found.2 in
     let same = and_parts (base_index found.0 == entry) (derived_index found.0 == entry) parts.1 in
-    let pair : pair_by found.0 ≡ own_pair entry =
+    let pair : pair_of found.0 ≡ own_pair entry =
     ap (λ (n : ℕ). record { base = n; derived = derived_index found.0 }) (eqb-true (base_index found.0) entry same.0)
     ∙ ap (λ (n : ℕ). record { base = entry; derived = n }) (eqb-true (derived_index found.0) entry same.1) in
     let given : Contains (relocated_pair found.0) (own_pair entry) =
-    subst (λ (b : Bool). Contains (if b then pair_by found.0 ∷ [] else []) (own_pair entry)) (sym parts.0)
+    subst (λ (b : Bool). Contains (if b then pair_of found.0 ∷ [] else []) (own_pair entry)) (sym parts.0)
     (subst (λ (p : Pair). Contains (p ∷ []) (own_pair entry)) (sym pair) (contains_first (own_pair entry) [])) in
     get_contained (flat_map relocated_pair group) (own_pair entry) (joined_contains relocated_pair group found.0 (own_pair entry) found.1 given)
+
+all_here : {X : Type 0} (P : X → Type 0) (xs : List X) (place : ℕ) (x : X) → AllByRecursion P xs → slice_get xs place ≡ Some x → P x
+all_here P [] place x all at = absurd (none-some x at)
+all_here P (first ∷ xs) zero x all at = subst P (same_Some first x at) all.0
+all_here P (first ∷ xs) (suc place) x all at = all_here P xs place x all.1 at
 
 null_is : (operand : Operand) → is_null operand ≡ true → operand ≡ operands.Null
 null_is operands.Null is = refl
@@ -127,30 +115,37 @@ module _ (content : ModuleContent) (sound : IsSound content) (stands : List Stan
   abbrev entries : List Pointer
   entries = map (λ (entry : Operand). pointer_in (value frame.registers entry)) given
 
-  few : length given ≤ length held.slots
-  few = subst (λ (n : ℕ). length given ≤ n) (sym waiting.room) (entries_within func frame.block waiting.place waiting.call waiting.is)
+  shaped : GroupsInShape func
+  shaped =
+      let faultless = all_at (FunctionHasNoFault content) content.funcs frame.func func sound.target.typed.no_fault.functions waiting.at.defined in
+      subst (λ (form : Form). OfForm form func) sound.target.typed.of_form faultless.form
 
-  base_low : (pair : Pair) → IsPairOf group pair → pair.base < length given
-  base_low pair of =
-      subst (λ (p : Pair). p.base < length given) of.is
-      (base_within content sound.target frame.func func waiting.at.defined frame.block waiting.place waiting.call waiting.is waiting.statepoint of.i of.line of.stands of.relocate)
+  -- both slots of a pair are words of the frame
+  in_frame : (pair : Pair) → IsPairOf lines waiting.place pair → (pair.derived < length held.slots) × (pair.base < length held.slots)
+  in_frame pair of =
+      let both = all_here (IsInFrame (frame_words func)) (instructions_of func.blocks) (text_place func frame.block of.place) of.line.inst
+      (all_in_frame func shaped [] (instructions_of func.blocks) refl) (line_in_text func frame.block of.place of.line of.relocates.stands) of.relocates.relocate in (
+        subst (λ (words : ℕ). pair.derived < words) (sym waiting.room) (subst (λ (p : Pair). p.derived < frame_words func) of.is both.1),
+        subst (λ (words : ℕ). pair.base < words) (sym waiting.room) (subst (λ (p : Pair). p.base < frame_words func) of.is both.0),
+      )
 
-  derived_low : (pair : Pair) → IsPairOf group pair → pair.derived < length given
-  derived_low pair of =
-      subst (λ (p : Pair). p.derived < length given) of.is
-      (derived_within content sound.target frame.func func waiting.at.defined frame.block waiting.place waiting.call waiting.is waiting.statepoint of.i of.line of.stands of.relocate)
+  head_is : line_in lines waiting.place ≡ waiting.call
+  head_is = line_is lines waiting.place waiting.call waiting.is
 
-  null_entry : (place : ℕ) → place < length given → is_null (operand_at given place) ≡ true → (get_or entries place no_pointer).object ≡ 0
-  null_entry place within null =
-      ap (λ (p : Pointer). p.object) (get_or-map (λ (entry : Operand). pointer_in (value frame.registers entry)) given place (operands.Int 0) no_pointer within)
+  pair_at : (k : ℕ) (pair : Pair) → slice_get pairs k ≡ Some pair → IsPairOf lines waiting.place pair
+  pair_at k pair at = pair_in_group lines waiting.place (ap (λ (l : Line). is_statepoint l.inst.op) head_is ∙ waiting.statepoint) k pair at
+
+  null_entry : (place : ℕ) → is_null (operand_at given place) ≡ true → (get_or entries place no_pointer).object ≡ 0
+  null_entry place null =
+      ap (λ (p : Pointer). p.object) (entry_pointer frame.registers given place)
       ∙ ap (λ (o : Operand). (pointer_in (value frame.registers o)).object) (null_is (operand_at given place) null)
 
-  base_kept : (pair : Pair) (of : IsPairOf group pair)
+  base_kept : (pair : Pair) (of : IsPairOf lines waiting.place pair)
       → ((m : ℕ) × (slice_get pairs m ≡ Some (record { base = pair.base; derived = pair.base }))) ⊎ ((get_or entries pair.base no_pointer).object ≡ 0)
   base_kept pair of = by (is_null (operand_at (entries_at lines waiting.place) (base_index of.line))) refl (has_base group (base_index of.line)) refl
     where
       entries_are : entries_at lines waiting.place ≡ given
-      entries_are = ap (λ (l : Line). entries_of l.inst) (line_is lines waiting.place waiting.call waiting.is)
+      entries_are = ap (λ (l : Line). entries_of l.inst) head_is
 
       base_is : base_index of.line ≡ pair.base
       base_is = ap (λ (p : Pair). p.base) of.is
@@ -158,29 +153,23 @@ module _ (content : ModuleContent) (sound : IsSound content) (stands : List Stan
       by : (b : Bool) → is_null (operand_at (entries_at lines waiting.place) (base_index of.line)) ≡ b → (c : Bool) → has_base group (base_index of.line) ≡ c
           → ((m : ℕ) × (slice_get pairs m ≡ Some (record { base = pair.base; derived = pair.base }))) ⊎ ((get_or entries pair.base no_pointer).object ≡ 0)
       by true null c has =
-          inr (null_entry pair.base (base_low pair of)
+          inr (null_entry pair.base
           (ap (λ (all : List Operand). is_null (operand_at all pair.base)) (sym entries_are) ∙ (ap (λ (n : ℕ). is_null (operand_at (entries_at lines waiting.place) n)) (sym base_is) ∙ null)))
       by false null true has = inl (subst (λ (n : ℕ). (m : ℕ) × (slice_get pairs m ≡ Some (record { base = n; derived = n }))) base_is (kept_pair group (base_index of.line) has))
       by false null false has =
-          absurd (sound.verified frame.func frame.block (suc waiting.place + of.i) 2 func waiting.at.defined
+          absurd (sound.verified frame.func frame.block of.place 2 func waiting.at.defined
           (open_group (arrives_reached func frame.block waiting.at.arrived.front waiting.at.arrived.arrives) (record {
             head = waiting.place;
             line = of.line;
-            relocates = record {
-              stands = member_line lines waiting.place of.i of.line of.stands;
-              relocate = of.relocate;
-              in_group = in_group func frame.block waiting.place waiting.call waiting.is waiting.statepoint of.i of.line of.stands;
-            };
+            relocates = of.relocates;
             named = null;
             lost = has;
           })))
 
   closed : AreClosed entries pairs (length held.slots)
   closed = record {
-    bases = λ k pair at. base_kept pair (pair_of group k pair at);
-    within = λ k pair at.
-        let of = pair_of group k pair at in
-        let low = few in let base = base_low pair of in let derived = derived_low pair of in ((omega arith), (omega arith));
+    bases = λ k pair at. base_kept pair (pair_at k pair at);
+    within = λ k pair at. in_frame pair (pair_at k pair at);
   }
 
   abbrev pub after_slots : List Moved → List ℕ

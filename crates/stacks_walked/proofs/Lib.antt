@@ -1,3 +1,2 @@
-pub mod RelocateLaws
 pub mod ClosedLaws
 pub mod WalkLaws

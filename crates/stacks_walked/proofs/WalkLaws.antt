@@ -1,5 +1,5 @@
 -- The walk over the stack of a task, frame by frame: each record is that of the statepoint at which the frame waits.
-use Rattle.std.proofs.Common.{◌≡◌, ℕ, zero, suc, ◌+◌, ◌<◌, ◌≤◌, ◌==◌, true, List, [], ◌∷◌, ◌++◌, length, take, drop, map, get_or, refl, sym, ap, ◌∙◌, subst, arith, Option, Some, Result, Ok, Err, if◌then◌else◌}
+use Rattle.std.proofs.Common.{◌≡◌, ℕ, zero, suc, ◌+◌, ◌<◌, true, List, [], ◌∷◌, ◌++◌, length, take, drop, map, get_or, refl, ap, ◌∙◌, arith, Option, Some, Ok, Err, if◌then◌else◌}
 use Rattle.std.specs.List.{AllZip}
 use Rattle.std.proofs.lemmas.Bool.{ne_eqb}
 use Rattle.std.proofs.lemmas.List.{length-append}
@@ -19,7 +19,8 @@ use Rattle.machine_meaning.specs.Machines.{Machinery, return_address}
 use Rattle.machine_meaning.specs.Moving.{walked_task}
 use Rattle.moves_unseen.specs.Frames.{FrameWords, IsWaiting}
 use Rattle.moves_unseen.specs.States.{return_below, stack_of, worded_frame, worded_frames}
-use Rattle.moves_unseen.specs.Waits.{IsRecorded, IsSound, IsWalked, RecordsAreFound}
+use Rattle.moves_unseen.specs.Waits.{IsRecorded, IsSound, IsWalked}
+use Rattle.records_found.proofs.WaitingLaws.{record_is_found}
 use Rattle.stacks_walked.proofs.ClosedLaws.{after_slots, pairs, waits_after}
 
 -- ---- lists
@@ -65,7 +66,7 @@ one_frame found moves fuel address slots next rest entry some is size fits =
 
 -- ---- all frames of a task
 
-module _ (found : RecordsAreFound) (content : ModuleContent) (sound : IsSound content) (plan : List PlanLine) (bound : ℕ) (stands : List Stand) (settled : AreSettled stands)
+module _ (content : ModuleContent) (sound : IsSound content) (plan : List PlanLine) (bound : ℕ) (stands : List Stand) (settled : AreSettled stands)
     (lines : List Move) (flip : Option ℕ) (some : group_moves stands lines flip ≡ [] → ⊥) where
   abbrev machinery : Machinery
   machinery = machinery_of content (map_of content) plan bound
@@ -101,7 +102,7 @@ module _ (found : RecordsAreFound) (content : ModuleContent) (sound : IsSound co
       }
     where
       recorded : IsRecorded machinery frame held (pairs content sound stands frame held waiting.0)
-      recorded = found content sound plan bound stands frame held waiting.0
+      recorded = record_is_found content sound plan bound stands frame held waiting.0
 
       next : ℕ
       next = return_below machinery (worded_frames frames helds)

@@ -1,4 +1,3 @@
-use Rattle.ir_ast.specs.Modules.{ModuleContent}
 use Rattle.move_plan.specs.Plans.{go}
 use Rattle.object_meaning.specs.TargetRuns.{target_setting}
 use Rattle.stackmap_write.specs.ModuleMaps.{map_of}
