@@ -1,7 +1,9 @@
 -- The headline and what a yes of the verifier means, from the whole answer of a call.
-use Rattle.std.proofs.Common.{◌≡◌, ◌≤◌, ℕ, ◌⊎◌, inl, inr, List, [], ◌++◌, length, reverse, Bool, true, false, Option, Some, None, Ok, refl, sym, ap, subst, ◌∙◌, append-nil}
+use Rattle.std.proofs.Common.{◌≡◌, ◌≤◌, ℕ, ◌⊎◌, inl, inr, List, [], ◌∷◌, ◌++◌, length, reverse, Bool, true, false, Option, Some, None, Ok, refl, sym, ap, subst, ◌∙◌, append-nil}
 use Rattle.std.specs.Prelude.{ℤ}
 use Rattle.std.specs.List.{concat}
+use Rattle.std.proofs.lemmas.List.{reverse-append}
+use Rattle.std.proofs.lemmas.List.Folds.{concat-append}
 use Rattle.std.proofs.Math.Path.{fun_ext}
 use Rattle.sp_ids.specs.declared.ends.End.{End}
 use Rattle.sp_ids.specs.declared.ends.End.TheVariants as ended
@@ -22,7 +24,7 @@ use Rattle.object_meaning.specs.SourceRuns.{SourceGives, source_setting}
 use Rattle.object_meaning.specs.TargetRuns.{TargetGives, target_setting}
 use Rattle.object_meaning.specs.Texts.{function_name}
 use Rattle.object_meaning.proofs.EndLaws.{IsFinal}
-use Rattle.object_meaning.proofs.OutcomeLaws.{concat-reverse, gives_final, gives_one, gives_some}
+use Rattle.object_meaning.proofs.OutcomeLaws.{gives_final, gives_one, gives_some}
 use Rattle.machine_meaning.specs.Code.{machinery_of}
 use Rattle.machine_meaning.specs.MachineRuns.{MachineOutcome, MachineGives}
 use Rattle.machine_meaning.specs.TrapLines.{closing_of}
@@ -91,13 +93,20 @@ stray_end ended.LostFrame way is = way.1 refl
 
 -- ---- texts of runs over a module's own map
 
+-- lines that stand newest first, put one by one
+concat_reverse : (lines : List (List ℕ)) → concat (reverse lines) ≡ text_of_lines lines
+concat_reverse [] = refl
+concat_reverse (line ∷ lines) =
+    ap concat (reverse-append (line ∷ []) lines)
+    ∙ (concat-append (reverse lines) (line ∷ []) ∙ (ap (λ text. text ++ (line ++ [])) (concat_reverse lines) ∙ ap (λ more. text_of_lines lines ++ more) (append-nil line)))
+
 -- all lines that the machine writes are those that its steps printed
 lines_printed : (after : ModuleContent) (input : List ℤ) (plan : List PlanLine) (bound : ℕ) (machine : MachineOutcome) (gives : MachineGives after (map_of after) input plan bound machine)
     → concat machine.lines ≡ text_of_lines gives.last.lines
 lines_printed after input plan bound machine gives =
     ap (λ (outcome : MachineOutcome). concat outcome.lines) gives.is
     ∙ (ap (λ (shown : List (List ℕ)). concat (reverse gives.last.lines ++ shown)) (closing_nothing (machinery_of after (map_of after) plan bound) machine.end gives.last.state (names_nothing after))
-    ∙ (ap concat (append-nil (reverse gives.last.lines)) ∙ concat-reverse gives.last.lines))
+    ∙ (ap concat (append-nil (reverse gives.last.lines)) ∙ concat_reverse gives.last.lines))
 
 -- two outputs of one text and one end
 record IsSameOutput (content after : ModuleContent) (meant : Outcome) (machine : MachineOutcome) : Type 0 where
