@@ -1,5 +1,5 @@
 -- The headline and what a yes of the verifier means, from the whole answer of a call.
-use Rattle.std.proofs.Common.{◌≡◌, ◌≤◌, ℕ, ◌⊎◌, inl, inr, List, [], ◌∷◌, ◌++◌, length, reverse, Bool, true, false, Option, Some, None, Ok, refl, sym, ap, subst, ◌∙◌, append-nil}
+use Rattle.std.proofs.Common.{◌≡◌, ◌≤◌, ℕ, ◌⊎◌, inl, inr, List, [], ◌∷◌, ◌++◌, length, reverse, Bool, true, false, Option, Some, None, Ok, refl, sym, ap, subst, ◌∙◌, append-nil, Global}
 use Rattle.std.specs.Prelude.{ℤ}
 use Rattle.std.specs.List.{concat}
 use Rattle.std.proofs.lemmas.List.{reverse-append}
@@ -176,7 +176,7 @@ module _ (words : List (List ℕ)) (given : Given) (run : IsToRunSource words gi
   as_meant : (files : FilesSeen) (out notes : SinkSeen) (status : Status) → IsAnswer words files out notes status → length run.text ≤ 16777216
       → AllTold files (command_of words) given → ¬ SinkFailed out → IsRunAsMeant run status out notes
   as_meant files out notes status answer within told sure =
-      let is = module_of_accepted text_forms.Source run.text run.lines within run.accepted in
+      let is = module_of_accepted text_forms.Source tt run.text run.lines within run.accepted in
       let found = gives_some (source_setting source (go run.plan) run.request.steps) run.input in
       let runs : Runs words given = record { reads = source_reads; engine = tt } in
       let whole = IsComplete-answer words files out notes status answer given (output_of source found.outcome) told (by_running runs found.outcome found.gives) sure in
@@ -239,14 +239,14 @@ module _ (words : List (List ℕ)) (given : Given) (run : IsToRunVerified words 
   own_ends : (machine : MachineOutcome) (gives : OwnGives machine) → Ends words given (executed target machine gives.last.lines)
   own_ends machine gives = by_executing executes machine gives
 
-  own_sound : length run.text ≤ 16777216 → IsSound target
-  own_sound within = sound_of_accepted run.text run.lines within run.accepted run.known
+  own_sound : Global → length run.text ≤ 16777216 → IsSound target
+  own_sound alloc within = sound_of_accepted alloc run.text run.lines within run.accepted run.known
 
-  verified_run : (files : FilesSeen) (out notes : SinkSeen) (status : Status) → IsAnswer words files out notes status → length run.text ≤ 16777216
+  verified_run : Global → (files : FilesSeen) (out notes : SinkSeen) (status : Status) → IsAnswer words files out notes status → length run.text ≤ 16777216
       → AllTold files (command_of words) given → ¬ SinkFailed out → IsVerifiedRun run status out notes
-  verified_run files out notes status answer within told sure =
+  verified_run alloc files out notes status answer within told sure =
       let ended = each_run_ends (machinery_of target (map_of target) run.plan run.request.steps) run.input in
-      let found = seen_here target (own_sound within) run.input run.plan run.request.steps ended.outcome ended.gives in
+      let found = seen_here target (own_sound alloc within) run.input run.plan run.request.steps ended.outcome ended.gives in
       let prints : executed target ended.outcome ended.gives.last.lines ≡ output_of target found.outcome =
       same_output target target run.input run.plan run.request.steps found.outcome ended.outcome ended.gives
       (record { lines = found.seen.lines; end = found.seen.end; func = found.seen.func; name = refl; steps = found.seen.steps; events = found.seen.events }) in
@@ -262,10 +262,10 @@ module _ (words : List (List ℕ)) (given : Given) (run : IsToRunVerified words 
         prints = prints;
       }
 
-pub RunsVerified-answer : (words : List (List ℕ)) (files : FilesSeen) (out notes : SinkSeen) (status : Status) → IsAnswer words files out notes status → RunsVerified words files out notes status
-RunsVerified-answer words files out notes status answer given told run sure =
+pub RunsVerified-answer : Global → (words : List (List ℕ)) (files : FilesSeen) (out notes : SinkSeen) (status : Status) → IsAnswer words files out notes status → RunsVerified words files out notes status
+RunsVerified-answer alloc words files out notes status answer given told run sure =
     let told_run = subst (λ (command : Option Command). AllTold files command given) run.asks told in
-    verified_run words given run files out notes status answer (within_told files run.request.code run.text given.module_file run.taken told_run.0) told sure
+    verified_run words given run alloc files out notes status answer (within_told files run.request.code run.text given.module_file run.taken told_run.0) told sure
 
 -- ---- runs that go astray
 
@@ -276,17 +276,17 @@ exec_command words _ _ (by_run request is) map_file trust same = cc
 exec_command words _ _ (by_exec request own_map own_trust is) map_file trust same = cc
 
 -- a module that is verified and runs over its own map
-sound_if : (engine : Engine) → engine ≡ Machine None false → (text : List ℕ) (lines : List Line) → length text ≤ 16777216 → IsAccepted (form_of engine) text lines
+sound_if : Global → (engine : Engine) → engine ≡ Machine None false → (text : List ℕ) (lines : List Line) → length text ≤ 16777216 → IsAccepted (form_of engine) text lines
     → IsTrusted engine (content_of (form_of engine) lines) → IsSound (content_of (form_of engine) lines)
-sound_if Meaning is text lines within accepted trusted = cc
-sound_if Rewriter is text lines within accepted trusted = cc
-sound_if (Machine map_file true) is text lines within accepted trusted = cc
-sound_if (Machine map_file false) is text lines within accepted trusted = sound_of_accepted text lines within accepted trusted
+sound_if alloc Meaning is text lines within accepted trusted = cc
+sound_if alloc Rewriter is text lines within accepted trusted = cc
+sound_if alloc (Machine map_file true) is text lines within accepted trusted = cc
+sound_if alloc (Machine map_file false) is text lines within accepted trusted = sound_of_accepted alloc text lines within accepted trusted
 
 same_map : (one other : StackMap) → Go one ≡ Go other → one ≡ other
 same_map one other is = cc
 
-module _ (words : List (List ℕ)) (given : Given) (files : FilesSeen) (may : MayGiveNamed files (command_of words) given) where
+module _ (words : List (List ℕ)) (given : Given) (files : FilesSeen) (may : MayGiveNamed files (command_of words) given) (alloc : Global) where
   text_within : (reads : ReadsPlan words given) (map_file : Option (List ℕ)) (trust : Bool) → engine_asked reads ≡ Machine map_file trust → length reads.reads.accepts.text ≤ 16777216
   text_within reads map_file trust is =
       let accepts = reads.reads.accepts in
@@ -305,7 +305,7 @@ module _ (words : List (List ℕ)) (given : Given) (files : FilesSeen) (may : Ma
       record { request = asks.request; map_file = None; trust = true; command = exec_command words asks.engine asks.request asks.asked None true is; unsure = inl refl }
   strayed reads None false is map takes outcome gives stray =
       let accepts = reads.reads.accepts in
-      let sound = sound_if accepts.asks.engine is accepts.text accepts.lines (text_within reads None false is) accepts.accepted accepts.trusted in
+      let sound = sound_if alloc accepts.asks.engine is accepts.text accepts.lines (text_within reads None false is) accepts.accepted accepts.trusted in
       let own = subst (λ (m : StackMap). MachineGives (module_run reads) m reads.reads.numbers reads.plan (steps_asked reads) outcome) (same_map map (map_of (module_run reads)) takes) gives in
       absurd (stray_end outcome.end (keeps_way (module_run reads) sound reads.reads.numbers reads.plan (steps_asked reads) outcome own) stray)
 
@@ -317,10 +317,10 @@ module _ (words : List (List ℕ)) (given : Given) (files : FilesSeen) (may : Ma
       absurd (not_stray outcome.end (gives_final _ runs.reads.reads.numbers outcome gives) is)
   stray_asked _ (by_executing runs outcome gives) is = strayed runs.reads runs.map_file runs.trust runs.engine runs.map runs.takes outcome gives is
 
-pub StrayIsAsked-answer : (words : List (List ℕ)) (files : FilesSeen) (out notes : SinkSeen) (status : Status) → IsAnswer words files out notes status → StrayIsAsked words status
-StrayIsAsked-answer words files out notes status answer is =
+pub StrayIsAsked-answer : Global → (words : List (List ℕ)) (files : FilesSeen) (out notes : SinkSeen) (status : Status) → IsAnswer words files out notes status → StrayIsAsked words status
+StrayIsAsked-answer alloc words files out notes status answer is =
     let found = (Exactly-answer words files out notes status answer Stray (λ clash. cc) (λ clash. cc) (λ given. comes-EndsWith words given Stray)).only is in
-    stray_asked words found.given files found.may found.holds.0 found.holds.1 found.holds.2
+    stray_asked words found.given files found.may alloc found.holds.0 found.holds.1 found.holds.2
 
 -- ---- plans with the same `go` lines
 
@@ -352,11 +352,11 @@ record OwnOutput (words : List (List ℕ)) (given : Given) (run : IsToRunVerifie
   means : TargetGives (target words given run) run.input (go run.plan) run.request.steps meant
   ends : Ends words given (output_of (target words given run) meant)
 
-own_output : (words : List (List ℕ)) (given : Given) (run : IsToRunVerified words given) → length run.text ≤ 16777216 → OwnOutput words given run
-own_output words given run within =
+own_output : Global → (words : List (List ℕ)) (given : Given) (run : IsToRunVerified words given) → length run.text ≤ 16777216 → OwnOutput words given run
+own_output alloc words given run within =
     let content = target words given run in
     let ended = each_run_ends (machinery_of content (map_of content) run.plan run.request.steps) run.input in
-    let found = seen_here content (own_sound words given run within) run.input run.plan run.request.steps ended.outcome ended.gives in
+    let found = seen_here content (own_sound words given run alloc within) run.input run.plan run.request.steps ended.outcome ended.gives in
     record {
       meant = found.outcome;
       means = found.gives;
@@ -370,10 +370,10 @@ one_output : (words : List (List ℕ)) (given : Given) (one other : Output) → 
 one_output words given one other first second =
     let both : Go one ≡ Go other = Once-work words given (Go one) (Go other) (work-ends words given one first) (work-ends words given other second) in cc
 
-pub plans_are_free : PlansAreFree
-plans_are_free words other_words given other one two within text input steps lines output ends =
-    let first = own_output words given one within in
-    let second = own_output other_words other two (subst (λ (t : List ℕ). length t ≤ 16777216) text within) in
+pub plans_are_free : Global → PlansAreFree
+plans_are_free alloc words other_words given other one two within text input steps lines output ends =
+    let first = own_output alloc words given one within in
+    let second = own_output alloc other_words other two (subst (λ (t : List ℕ). length t ≤ 16777216) text within) in
     let content : target words given one ≡ target other_words other two = ap (content_of text_forms.Rewritten) (same_lines one.text two.text one.lines two.lines text one.accepted two.accepted) in
     let same : output_of (target words given one) first.meant ≡ output_of (target other_words other two) second.meant =
     same_meant _ _ one.input two.input (go one.plan) (go two.plan) one.request.steps two.request.steps first.meant second.meant content input (fun_ext lines) steps first.means second.means in

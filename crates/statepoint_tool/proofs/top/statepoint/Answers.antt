@@ -22,7 +22,7 @@ returns-clause-verified_runs g c =
     let files = files_seen (g.F.Files.contents c.args.files.now) (g.F.Files.faults c.args.files.now) (g.F.Files.faults c.answer.new.files) in
     let out = sink_seen (g.O.Sink.written c.args.out.now) (g.O.Sink.written c.answer.new.out) (g.O.Sink.faults c.args.out.now) (g.O.Sink.faults c.answer.new.out) in
     let notes = sink_seen (g.E.Sink.written c.args.notes.now) (g.E.Sink.written c.answer.new.notes) (g.E.Sink.faults c.args.notes.now) (g.E.Sink.faults c.answer.new.notes) in
-    RunsVerified-answer words files out notes c.answer.result c.answer.ensures.answer
+    RunsVerified-answer c.args.alloc words files out notes c.answer.result c.answer.ensures.answer
 
 pub returns-clause-stray_asked : goal.returns-clause-stray_asked
 returns-clause-stray_asked g c =
@@ -30,7 +30,7 @@ returns-clause-stray_asked g c =
     let files = files_seen (g.F.Files.contents c.args.files.now) (g.F.Files.faults c.args.files.now) (g.F.Files.faults c.answer.new.files) in
     let out = sink_seen (g.O.Sink.written c.args.out.now) (g.O.Sink.written c.answer.new.out) (g.O.Sink.faults c.args.out.now) (g.O.Sink.faults c.answer.new.out) in
     let notes = sink_seen (g.E.Sink.written c.args.notes.now) (g.E.Sink.written c.answer.new.notes) (g.E.Sink.faults c.args.notes.now) (g.E.Sink.faults c.answer.new.notes) in
-    StrayIsAsked-answer words files out notes c.answer.result c.answer.ensures.answer
+    StrayIsAsked-answer c.args.alloc words files out notes c.answer.result c.answer.ensures.answer
 
 pub returns-clause-complete : goal.returns-clause-complete
 returns-clause-complete g c =
