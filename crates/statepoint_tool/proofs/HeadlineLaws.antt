@@ -37,6 +37,7 @@ use Rattle.rewritten_runs.specs.Runs.{IsRunOnMachine}
 use Rattle.rewritten_runs.proofs.RunLaws.{sources_run_on_machine}
 use Rattle.sp_rewrite.specs.Statements.{IsRewritten}
 use Rattle.sp_rewrite.proofs.RewrittenLaws.{rewriting_is_target}
+use Rattle.tool_report.specs.Closings.{closing_line as line_of_end}
 use Rattle.tool_words.specs.Words.{command_of}
 use Rattle.tool_words.specs.declared.request.Command.{Command}
 use Rattle.tool_words.specs.declared.request.Command.TheVariants.{Run, Exec}
@@ -120,7 +121,11 @@ record IsSameOutput (content after : ModuleContent) (meant : Outcome) (machine :
 closing_same : (content after : ModuleContent) (meant : Outcome) (machine : MachineOutcome) → IsSameOutput content after meant machine
     → closing_line after machine.end machine.func machine.steps machine.events ≡ closing_line content meant.end meant.func meant.steps meant.events
 closing_same content after meant machine same =
-    rw (same.end, same.func, same.name, same.steps, same.events) refl
+    ap (λ (e : End). closing_line after e machine.func machine.steps machine.events) same.end
+    ∙ (ap (λ (f : ℕ). closing_line after meant.end f machine.steps machine.events) same.func
+    ∙ (ap (λ (n : List ℕ). line_of_end meant.end n machine.steps machine.events) same.name
+    ∙ (ap (λ (s : ℕ). closing_line content meant.end meant.func s machine.events) same.steps
+    ∙ ap (λ (e : ℕ). closing_line content meant.end meant.func meant.steps e) same.events)))
 
 made_output : (text closing : List ℕ) → Status → Output
 made_output text closing status = record { text = text ++ closing; status = status }
@@ -278,10 +283,13 @@ exec_command words _ _ (by_exec request own_map own_trust is) map_file trust sam
 -- a module that is verified and runs over its own map
 sound_if : Global → (engine : Engine) → engine ≡ Machine None false → (text : List ℕ) (lines : List Line) → length text ≤ 16777216 → IsAccepted (form_of engine) text lines
     → IsTrusted engine (content_of (form_of engine) lines) → IsSound (content_of (form_of engine) lines)
-sound_if alloc Meaning is text lines within accepted trusted = cc
-sound_if alloc Rewriter is text lines within accepted trusted = cc
-sound_if alloc (Machine map_file true) is text lines within accepted trusted = cc
+sound_if alloc Meaning is text lines within accepted trusted = absurd (let clash : Meaning ≡ Machine None false = is in cc)
+sound_if alloc Rewriter is text lines within accepted trusted = absurd (let clash : Rewriter ≡ Machine None false = is in cc)
+sound_if alloc (Machine map_file true) is text lines within accepted trusted = absurd (let clash : Machine map_file true ≡ Machine None false = is in cc)
 sound_if alloc (Machine map_file false) is text lines within accepted trusted = sound_of_accepted alloc text lines within accepted trusted
+
+not_done : Done ≡ Stray → ⊥
+not_done is = cc
 
 same_map : (one other : StackMap) → Go one ≡ Go other → one ≡ other
 same_map one other is = cc
@@ -310,9 +318,9 @@ module _ (words : List (List ℕ)) (given : Given) (files : FilesSeen) (may : Ma
       absurd (stray_end outcome.end (keeps_way (module_run reads) sound reads.reads.numbers reads.plan (steps_asked reads) outcome own) stray)
 
   stray_asked : (output : Output) → Ends words given output → output.status ≡ Stray → AsksToStray words
-  stray_asked _ (by_showing shows) is = cc
-  stray_asked _ (by_checking checks) is = cc
-  stray_asked _ (by_rewriting rewrites) is = cc
+  stray_asked _ (by_showing shows) is = absurd (not_done is)
+  stray_asked _ (by_checking checks) is = absurd (not_done is)
+  stray_asked _ (by_rewriting rewrites) is = absurd (not_done is)
   stray_asked _ (by_running runs outcome gives) is =
       absurd (not_stray outcome.end (gives_final _ runs.reads.reads.numbers outcome gives) is)
   stray_asked _ (by_executing runs outcome gives) is = strayed runs.reads runs.map_file runs.trust runs.engine runs.map runs.takes outcome gives is
