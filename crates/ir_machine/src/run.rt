@@ -126,10 +126,10 @@ pub fn run_verified<O: Sink>(
     steps: u64,
     out: &mut O,
 ) -> Result<Ran, SureFault>
-    ensures ran { IfOk result (λ ran. IsRunOver verified.now.content (stack_map map.now.entry) input.now plan.now steps ran (O.written out.old) (O.written out.new)) }
-    ensures seen { All HasNoBundle verified.now.content.funcs → stack_map map.now.entry ≡ map_of verified.now.content
+    ensures ran { IfOk result (λ ran. IsRunOver verified.now.content (stack_map map.now) input.now plan.now steps ran (O.written out.old) (O.written out.new)) }
+    ensures seen { All HasNoBundle verified.now.content.funcs → stack_map map.now ≡ map_of verified.now.content
         → IfOk result (λ ran. IsSeenRun verified.now.content input.now (go plan.now) steps ran.end ran.func.0 ran.steps ran.events ran.lines (O.written out.old) (O.written out.new)) }
-    ensures front { OnErr result (WritesFrontOver verified.now.content (stack_map map.now.entry) input.now plan.now steps (O.written out.old) (O.written out.new)) }
+    ensures front { OnErr result (WritesFrontOver verified.now.content (stack_map map.now) input.now plan.now steps (O.written out.old) (O.written out.new)) }
     ensures failed { IsErrOf result SureFault.Write → Rose (O.faults out.old) (O.faults out.new) }
     ensures count { O.faults out.old ≤ O.faults out.new }
 {

@@ -1,5 +1,6 @@
 -- The run of a source module is that of its rewritten module on the machine.
-use Rattle.std.proofs.Common.{◌≡◌, ℕ, ℤ, List, ◌++◌, reverse, refl, sym, ap, ◌∙◌, append_assoc}
+use Rattle.std.proofs.Common.{◌≡◌, ℕ, ℤ, List, [], ◌∷◌, ◌++◌, reverse, refl, sym, ap, ◌∙◌, append_assoc}
+use Rattle.std.proofs.lemmas.List.{append-nil, reverse-append}
 use Rattle.std.proofs.lemmas.List.Folds.{concat-append}
 use Rattle.std.specs.List.{All, concat}
 use Rattle.ir_ast.specs.Bundles.{HasNoBundle}
@@ -9,7 +10,6 @@ use Rattle.move_plan.specs.Plans.{go}
 use Rattle.move_plan.specs.declared.plan_lines.PlanLine.{PlanLine}
 use Rattle.object_meaning.specs.Effects.{text_of}
 use Rattle.object_meaning.specs.Outcomes.{whole_text}
-use Rattle.object_meaning.proofs.OutcomeLaws.{concat-reverse}
 use Rattle.stackmap_write.specs.ModuleMaps.{map_of}
 use Rattle.machine_meaning.specs.Code.{machinery_of}
 use Rattle.machine_meaning.specs.MachineRuns.{MachineOutcome}
@@ -70,6 +70,13 @@ seen_runs_are_source content after source is input go_line bound end func steps 
   events_are = seen.events_are;
   written = seen.written;
 }
+
+concat-reverse : (lines : List (List ℕ)) → concat (reverse lines) ≡ text_of lines
+concat-reverse [] = refl
+concat-reverse (line ∷ lines) =
+    ap concat (reverse-append (line ∷ []) lines)
+    ∙ (concat-append (reverse lines) (line ∷ [])
+    ∙ (ap (λ (text : List ℕ). text ++ (line ++ [])) (concat-reverse lines) ∙ ap (λ (more : List ℕ). text_of lines ++ more) (append-nil line)))
 
 all_lines : (lines closing : List (List ℕ)) → concat (reverse lines ++ closing) ≡ text_of lines ++ concat closing
 all_lines lines closing = concat-append (reverse lines) closing ∙ ap (λ (text : List ℕ). text ++ concat closing) (concat-reverse lines)

@@ -207,7 +207,7 @@ fn run_over_view<O: Sink>(
     steps: u64,
     out: &mut O,
 ) -> Result<Status, Refusal>
-    requires own { stack_map view.now.entry ≡ map_of after.now.content }
+    requires own { stack_map view.now ≡ map_of after.now.content }
     requires no_bundle { All HasNoBundle after.now.content.funcs }
     ensures came { (content : ModuleContent) → IsRewrittenOf content after.now.content →
         Came result (Running content numbers.now plan.now steps)

@@ -14,7 +14,7 @@ returns-clause-seen g c = λ bare own.
     let old = g.O.Sink.written c.args.out.now in
     let new = g.O.Sink.written c.run_over.new.out in
     let sound : IsSound content = record { target = c.«module».ensures.target; bundles = bare; verified = c.«module».ensures.verified } in
-    IfOk-weaker c.run_over.result (λ (ran : Ran). IsRunOver content (stack_map c.args.map.now.entry) input plan bound ran old new)
+    IfOk-weaker c.run_over.result (λ (ran : Ran). IsRunOver content (stack_map c.args.map.now) input plan bound ran old new)
     (λ (ran : Ran). IsSeenRun content input (go plan) bound ran.end ran.func.0 ran.steps ran.events ran.lines old new)
-    (seen_over content sound input plan bound old new (stack_map c.args.map.now.entry) own)
+    (seen_over content sound input plan bound old new (stack_map c.args.map.now) own)
     (rw c.«module».ensures.value at c.run_over.ensures.ran)
