@@ -1,5 +1,5 @@
 -- The headline and what a yes of the verifier means, from the whole answer of a call.
-use Rattle.std.proofs.Common.{◌≡◌, ◌≤◌, ℕ, ◌⊎◌, inl, inr, List, [], ◌∷◌, ◌++◌, length, reverse, Bool, true, false, Option, Some, None, Ok, refl, sym, ap, subst, ◌∙◌, append-nil, Global}
+use Rattle.std.proofs.Common.{◌≡◌, ◌≤◌, ℕ, ◌⊎◌, inl, inr, List, [], ◌∷◌, ◌++◌, length, reverse, Bool, true, false, Option, Some, None, Result, Ok, refl, sym, ap, subst, ◌∙◌, append-nil, Global}
 use Rattle.std.specs.Prelude.{ℤ}
 use Rattle.std.specs.List.{concat}
 use Rattle.std.proofs.lemmas.List.{reverse-append}
@@ -11,7 +11,7 @@ use Rattle.ir_ast.specs.declared.modules.Form.TheVariants as text_forms
 use Rattle.ir_ast.specs.Modules.{ModuleContent}
 use Rattle.ir_lines.specs.Modules.{module_of}
 use Rattle.ir_lines.specs.Statements.{Line, lines_of}
-use Rattle.ir_reader.specs.Text.{Numbered, readings_in}
+use Rattle.ir_reader.specs.Text.{Fault, Numbered, readings_in}
 use Rattle.ir_printer.specs.Texts.{text_of}
 use Rattle.map_bytes.specs.Maps.{StackMap, map_bytes}
 use Rattle.stackmap_write.specs.ModuleMaps.{map_of}
@@ -332,15 +332,18 @@ StrayIsAsked-answer alloc words files out notes status answer is =
 
 -- ---- plans with the same `go` lines
 
-same_readings : (one other : List Numbered) → Ok one ≡ Ok other → one ≡ other
+abbrev read_as : List Numbered → Result (List Numbered) Fault
+read_as readings = Ok readings
+
+same_readings : (one other : List Numbered) → read_as one ≡ read_as other → one ≡ other
 same_readings one other is = cc
 
 same_lines : (one other : List ℕ) (lines other_lines : List Line) → one ≡ other → IsAccepted text_forms.Rewritten one lines → IsAccepted text_forms.Rewritten other other_lines → lines ≡ other_lines
 same_lines one other lines other_lines same first second =
     let readings = first.read.readings in
-    let read : readings_in text_forms.Rewritten one ≡ Ok readings = first.read.read in
-    let again : readings_in text_forms.Rewritten other ≡ Ok second.read.readings = second.read.read in
-    let both : Ok readings ≡ Ok second.read.readings = sym read ∙ (ap (readings_in text_forms.Rewritten) same ∙ again) in
+    let read : readings_in text_forms.Rewritten one ≡ read_as readings = first.read.read in
+    let again : readings_in text_forms.Rewritten other ≡ read_as second.read.readings = second.read.read in
+    let both : read_as readings ≡ read_as second.read.readings = sym read ∙ (ap (readings_in text_forms.Rewritten) same ∙ again) in
     first.read.are ∙ (ap lines_of (same_readings readings second.read.readings both) ∙ sym second.read.are)
 
 same_meant : (one other : ModuleContent) (input other_input : List ℤ) (go_line other_line : ℕ → Option ℕ) (bound other_bound : ℕ) (meant other_meant : Outcome)
