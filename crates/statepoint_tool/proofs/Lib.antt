@@ -12,3 +12,5 @@ pub mod RunLaws
 pub mod CauseLaws
 pub mod AnswerLaws
 pub mod CompleteLaws
+pub mod AcceptedLaws
+pub mod HeadlineLaws

@@ -10,3 +10,4 @@ pub mod Answers
 pub mod Causes
 pub mod Statuses
 pub mod Complete
+pub mod Headline

@@ -118,4 +118,3 @@ Says TooLong words files out notes =
     OverSome words files (λ given. (long : IsTooLong words given) × Gained notes (refusal_line (refused.Defined (cause.TooLong long.0))))
 Says WriteFault words files out notes =
     (SinkFailed out × Gained notes (refusal_line refused.WriteFault)) ⊎ NoteFailed words files out notes
-Says _ words files out notes = ⊥

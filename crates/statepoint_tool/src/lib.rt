@@ -4,6 +4,7 @@
 mod closing;
 mod engine;
 mod judging;
+mod laws;
 mod machine;
 mod maps;
 mod notes;
@@ -16,6 +17,7 @@ mod show;
 mod status;
 mod top;
 
+pub use laws::plans_are_free;
 pub use status::Status;
 pub use top::statepoint;
 pub use tool_words::FileName;

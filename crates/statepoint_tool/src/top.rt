@@ -4,6 +4,7 @@ ghost use Rattle.tool_io.specs.Counts.{NoneFell};
 ghost use Rattle.statepoint_tool.specs.Answers.{SinkFailed, IsAnswer, IsTold, Works, sink_seen};
 ghost use Rattle.statepoint_tool.specs.Causes.{CannotRead, EndsWith, HasSomeCheckFault, HasSomeInputFault, HasSomeMapFault, HasSomeModuleFault, HasSomePlanFault, IsTooLong, NoCommand};
 ghost use Rattle.statepoint_tool.specs.Complete.{IsComplete};
+ghost use Rattle.statepoint_tool.specs.Headline.{IsHeadline, RunsVerified, StrayIsAsked};
 ghost use Rattle.statepoint_tool.specs.Statuses.{Exactly, ReadFaultCounted, Says, Writes};
 ghost use Rattle.statepoint_tool.specs.Taken.{files_seen};
 ghost use Rattle.tool_words.specs.Words.{command_of};
@@ -44,6 +45,24 @@ pub fn statepoint<F: Files, O: Sink, E: Sink>(
     out: &mut O,
     notes: &mut E,
 ) -> Status
+    // The headline. For every module text that the profile accepts, every input, plan and bound, `run` writes what the source
+    // meaning prints on objects that never move, and ends with its return, trap or want of steps. This is also the address
+    // machine's run of the emitted module, whose frames are found through the emitted map bytes, under that plan; no moved-away
+    // address is read.
+    ensures headline { IsHeadline (map string_bytes words.now)
+        (files_seen (F.contents files.old) (F.faults files.old) (F.faults files.new))
+        (sink_seen (O.written out.old) (O.written out.new) (O.faults out.old) (O.faults out.new))
+        (sink_seen (E.written notes.old) (E.written notes.new) (E.faults notes.old) (E.faults notes.new))
+        result }
+    // What the verifier's yes means: `exec` of a module without a fault, over its own map, writes what the target meaning prints
+    // on objects that never move, whatever the plan moves; and only a run that is trusted, or over a given map, goes astray.
+    ensures verified_runs { RunsVerified (map string_bytes words.now)
+        (files_seen (F.contents files.old) (F.faults files.old) (F.faults files.new))
+        (sink_seen (O.written out.old) (O.written out.new) (O.faults out.old) (O.faults out.new))
+        (sink_seen (E.written notes.old) (E.written notes.new) (E.faults notes.old) (E.faults notes.new))
+        result }
+    ensures stray_asked { StrayIsAsked (map string_bytes words.now) result }
+
     // Told files without fault, and no fault counted: the whole text that is defined, the module's or the run's, with its
     // status and nothing said; or want of memory after a front of that text.
     ensures complete { IsComplete (map string_bytes words.now)
