@@ -102,6 +102,41 @@ put_uses marks table operand used old mid new are first second =
     subst (λ (u : Uses). Changed marks old new (λ (v : ℕ) (old : Bool). (names u.itself v || names u.base v) || old)) are
     (put_both marks (names used.itself) (names used.base) old mid new first second)
 
+-- ---- a line
+
+pub put_phi : (marks : List Bool) (t : Bool) (f : ℕ → Bool) (set : BTreeSet ℕ) → t ≡ true → Changed marks set set (λ (v : ℕ) (old : Bool). (not t && f v) || old)
+put_phi marks t f set is = record {
+  each = λ v pointer. sym (ap (λ (t' : Bool). (not t' && f v) || is_in set v) is);
+  marked = λ were. were;
+}
+
+pub put_other : (marks : List Bool) (t : Bool) (f : ℕ → Bool) (old new : BTreeSet ℕ) → t ≡ false → Changed marks old new (λ (v : ℕ) (old : Bool). f v || old)
+    → Changed marks old new (λ (v : ℕ) (old : Bool). (not t && f v) || old)
+put_other marks t f old new is changed = record {
+  each = λ v pointer. changed.each v pointer ∙ sym (ap (λ (t' : Bool). (not t' && f v) || is_in old v) is);
+  marked = changed.marked;
+}
+
+-- what a line gives is taken out, what it uses put in
+pub line_back : (marks : List Bool) (n f g : ℕ → Bool) (old taken own new : BTreeSet ℕ) → Changed marks old taken (λ (v : ℕ) (old : Bool). if n v then false else old)
+    → Changed marks taken own (λ (v : ℕ) (old : Bool). f v || old) → Changed marks own new (λ (v : ℕ) (old : Bool). g v || old)
+    → Changed marks old new (λ (v : ℕ) (old : Bool). (f v || g v) || (not (n v) && old))
+line_back marks n f g old taken own new first second third = record {
+  each = λ v pointer. third.each v pointer ∙ ap (λ (t : Bool). g v || t) (second.each v pointer ∙ ap (λ (t : Bool). f v || t) (first.each v pointer))
+      ∙ together (n v) (f v) (g v) (is_in old v);
+  marked = λ were. third.marked (second.marked (first.marked were));
+}
+  where
+    together : (n a b t : Bool) → (b || (a || (if n then false else t))) ≡ ((a || b) || (not n && t))
+    together true true true t = refl
+    together true true false t = refl
+    together true false true t = refl
+    together true false false t = refl
+    together false true true t = refl
+    together false true false t = refl
+    together false false true t = refl
+    together false false false t = refl
+
 -- ---- a list of what is in
 
 pub kept_more : (p : ℕ → Bool) (x : ℕ) (rest : List ℕ) (list all : List ValueId) → p x ≡ true → list ++ map valued (filter p (x ∷ rest)) ≡ all

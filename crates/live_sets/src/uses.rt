@@ -124,7 +124,23 @@ pub(crate) fn put_bundle(
     Ok(())
 }
 
-/// Goes back over a line: what it gives isn't live before it, and what it uses is. The entries of a phi are used elsewhere.
+// Puts in what the operands of a line use. The entries of a phi are used elsewhere.
+fn put_own(
+    marks: &[bool],
+    bases: &[Operand],
+    inst: &Inst,
+    set: &mut BTreeSet<u32>,
+) -> Result<(), Memory>
+    ensures { IfOk result (λ _. Changed marks.now set.old set.new (λ v old. (not (is_phi inst.now.op) && list_any (uses marks.now bases.now v) inst.now.operands) || old)) }
+{
+    if is_phi(inst.op()) {
+        return Ok(());
+    }
+    put_operands(marks, bases, inst.operands(), set)?;
+    Ok(())
+}
+
+/// Goes back over a line: what it gives isn't live before it, and what it uses is.
 pub(crate) fn go_back(
     marks: &[bool],
     bases: &[Operand],
@@ -135,10 +151,9 @@ pub(crate) fn go_back(
     ensures { IfOk result (λ _. Changed marks.now set.old set.new (λ v old. line_uses marks.now bases.now v inst.now || (not (names to v) && old))) }
 {
     take(marks, to, set);
-    if !is_phi(inst.op()) {
-        put_operands(marks, bases, inst.operands(), set)?;
-    }
-    put_bundle(marks, bases, inst.bundle(), set)
+    put_own(marks, bases, inst, set)?;
+    put_bundle(marks, bases, inst.bundle(), set)?;
+    Ok(())
 }
 
 /// Whether the operator is that of a phi.
