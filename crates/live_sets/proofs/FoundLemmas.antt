@@ -1,13 +1,12 @@
 -- Lists by place, a found place at a time.
-use Rattle.std.proofs.Common.{◌≡◌, ℕ, zero, suc, ◌+◌, ◌<◌, ◌≤◌, Bool, true, false, eqb, ◌&&◌, ◌||◌, ◌==◌, if◌then◌else◌, List, [], ◌∷◌, ◌++◌, length, take, get_or, refl, ap, sym, arith, inl, inr, Some, slice_get, ◌∙◌, append-nil}
+use Rattle.std.proofs.Common.{◌≡◌, ℕ, zero, suc, ◌+◌, ◌<◌, ◌≤◌, Bool, true, false, eqb, ◌&&◌, ◌||◌, if◌then◌else◌, List, [], ◌∷◌, ◌++◌, length, take, get_or, refl, ap, sym, arith, inl, inr, Some, slice_get, ◌∙◌, append-nil}
 use Rattle.std.specs.Global.{Vec}
-use Rattle.std.proofs.lemmas.Bool.{cases_Bool, cases_eq, eqb-true, ne_eqb, false≢true}
+use Rattle.std.proofs.lemmas.Bool.{cases_eq, eqb-true, ne_eqb, false≢true}
 use Rattle.std.proofs.lemmas.List.{take_all, take_more}
-use Rattle.std.proofs.lemmas.Option.{get_or_from_slice_get, slice_get_within, slice_get-get_or}
+use Rattle.std.proofs.lemmas.Option.{get_or_from_slice_get, slice_get_within}
 use Rattle.list_laws.proofs.Places.{get_taken}
 use Rattle.list_laws.proofs.Contents.{get_contained}
 use Rattle.sp_ids.specs.declared.ids.ValueId.{ValueId}
-use Rattle.graph_search.specs.Paths.{MarksReached}
 use Rattle.shared_search.specs.Lists.{ListsReached}
 use Rattle.rewriting_forms.specs.Numbered.{among}
 use Rattle.rewriting_forms.specs.Names.{is_many}

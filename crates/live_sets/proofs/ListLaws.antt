@@ -1,6 +1,6 @@
 -- The lists of a block's calls, from its end to its front.
 use Rattle.std.proofs.Common.{◌≡◌, ℕ, zero, suc, ◌+◌, ◌-◌, ◌<◌, Bool, true, false, not, eqb, leb, ◌&&◌, ◌||◌, if◌then◌else◌, List, [], ◌∷◌, ◌++◌, length, map, filter, take, drop, get_or, refl, ap, sym, arith, inl, inr, Some, None, Option, slice_get, ◌∙◌, append-nil, append_assoc}
-use Rattle.std.specs.Prelude.{is_some, slice_index_or, reverse}
+use Rattle.std.specs.Prelude.{is_some, reverse}
 use Rattle.std.specs.List.{list_any, range_with_len, flat_map, Contains}
 use Rattle.std.specs.Option.{option_map_or, option_map}
 use Rattle.std.specs.List.Sorted.{IsStrictlySortedBy}

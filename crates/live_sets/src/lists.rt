@@ -217,11 +217,7 @@ fn add_list(
 }
 
 // The pointers of a set but for one, in order.
-fn list_of(
-    alloc: Global,
-    set: &BTreeSet<u32>,
-    to: Option<ValueId>,
-) -> Result<Vec<ValueId>, Memory>
+fn list_of(alloc: Global, set: &BTreeSet<u32>, to: Option<ValueId>) -> Result<Vec<ValueId>, Memory>
     ensures ordered { IfOk result (λ _. IsStrictlySortedBy nat_cmp set.now.keys) }
     ensures list { IfOk result (λ list. list.items ≡ map valued (filter (λ v. not (names to v)) set.now.keys)) }
 {

@@ -41,7 +41,12 @@ fn base_in(marks: &[bool], bases: &[Operand], value: Option<ValueId>) -> Option<
     if !has_mark(marks, value) {
         return None;
     }
-    let base = value_in(bases.get(value.0 as usize).copied().unwrap_or(Operand::Null))?;
+    let base = value_in(
+        bases
+            .get(value.0 as usize)
+            .copied()
+            .unwrap_or(Operand::Null),
+    )?;
     if base.0 == value.0 {
         return None;
     }

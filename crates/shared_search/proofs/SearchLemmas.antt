@@ -1,7 +1,7 @@
 -- The search, a node at a time.
 use Rattle.std.proofs.Common.{◌≡◌, ◌∙◌, ℕ, zero, suc, ◌<◌, ◌≤◌, ◌+◌, ◌⊎◌, inl, inr, Bool, true, false, not, cond, List, [], ◌∷◌, ◌++◌, length, get_or, set, replicate, drop, refl, ap, sym, arith, Some, slice_get, length-append}
 use Rattle.std.specs.List.{All, count_by, Contains}
-use Rattle.std.proofs.lemmas.Bool.{false≢true, cases_eq}
+use Rattle.std.proofs.lemmas.Bool.{false≢true}
 use Rattle.std.proofs.lemmas.List.{length-set, length-replicate, drop_all}
 use Rattle.std.proofs.lemmas.List.Sums.{sum_by-set}
 use Rattle.std.proofs.lemmas.List.Elements.{Contains-push, Contains-push_cases, Contains-append_left}
@@ -9,7 +9,7 @@ use Rattle.std.proofs.lemmas.Option.{slice_get_within, slice_get-get_or, get_or_
 use Rattle.list_laws.proofs.Places.{cases_below, get_front, get_pushed, get_written, get_kept, get_set, get_filled, drop_at}
 use Rattle.list_laws.proofs.Contents.{all_contained, contains_none, contains_get, get_contained, contains_cons}
 use Rattle.graph_search.specs.Edges.{targets_of, Edge, AreInside}
-use Rattle.graph_search.specs.Paths.{ReachedFrom, at_start, along, Marked, MarksReached}
+use Rattle.graph_search.specs.Paths.{ReachedFrom, at_start, along, Marked}
 use Rattle.shared_search.specs.Lists.{ListsReached}
 use Rattle.shared_search.specs.Searches.{Finds, had_mark, had_none, AreListed, FindsAll, IsSearch}
 

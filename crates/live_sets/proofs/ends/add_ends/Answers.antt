@@ -1,4 +1,4 @@
-use Rattle.std.proofs.Common.{◌≡◌, ◌∙◌, ◌+◌, ◌++◌, ◌∷◌, [], if◌then◌else◌, ℕ, List, length, take, get_or, replicate, false, true, refl, ap, sym, arith, subst, append-nil}
+use Rattle.std.proofs.Common.{◌∙◌, ◌++◌, ◌∷◌, [], if◌then◌else◌, ℕ, List, length, take, get_or, replicate, false, true, refl, ap, sym, arith, subst, append-nil}
 use Rattle.std.proofs.lemmas.Bool.Decides.{nat_tests}
 use Rattle.std.proofs.lemmas.Option.{slice_get-get_or}
 use Rattle.rewriting_forms.specs.Numbered.{among}
@@ -19,7 +19,7 @@ reached-requires-clause-clear c =
     c.requires.clear ∙ ap (λ (n : ℕ). replicate n false) (omega (arith, all, long))
 
 pub loop-node-init : goal.loop-node-init
-loop-node-init c = record { whole = refl; each = λ b below. sym (append-nil (list_at c.args.ends.now.items b)); }
+loop-node-init c = record { whole = refl; each = λ b below. sym (append-nil (list_at c.args.ends.now.items b)) }
 
 pub loop-node-preserved : goal.loop-node-preserved
 loop-node-preserved c =

@@ -1,4 +1,4 @@
-use Rattle.std.proofs.Common.{◌≡◌, ◌∙◌, ◌+◌, ◌++◌, ◌&&◌, ◌∷◌, [], if◌then◌else◌, ℕ, Bool, List, length, take, get_or, replicate, false, true, refl, ap, sym, arith, subst, append-nil}
+use Rattle.std.proofs.Common.{◌∙◌, ◌+◌, ◌++◌, ◌&&◌, ◌∷◌, [], if◌then◌else◌, ℕ, Bool, List, length, take, get_or, replicate, false, refl, ap, sym, arith, subst, append-nil}
 use Rattle.std.proofs.lemmas.Bool.{true≢false}
 use Rattle.std.proofs.lemmas.Bool.Decides.{nat_tests}
 use Rattle.std.proofs.lemmas.Option.{slice_get-get_or}
@@ -34,7 +34,7 @@ loop-node-init c = record {
 }
 
 pub add_join-requires : goal.add_join-requires
-add_join-requires c = record { whole = c.loop-node.invariant.whole ∙ c.requires.whole ∙ sym (ap length c.as_slice.ensures.value); }
+add_join-requires c = record { whole = c.loop-node.invariant.whole ∙ c.requires.whole ∙ sym (ap length c.as_slice.ensures.value) }
 
 pub loop-node-preserved : goal.loop-node-preserved
 loop-node-preserved c =

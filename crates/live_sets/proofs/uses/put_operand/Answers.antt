@@ -1,6 +1,3 @@
-use Rattle.std.proofs.Common.{◌≡◌, ◌∙◌, ap, sym, subst}
-use Rattle.live_sets.specs.Uses.{names, value_named, base_named}
-use Rattle.live_sets.specs.declared.uses.Uses.{Uses}
 use Rattle.live_sets.proofs.SetLemmas.{put_uses}
 use Rattle.live_sets.proofs.uses.put_operand.Goals as goal
 

@@ -1,4 +1,4 @@
-use Rattle.std.proofs.Common.{◌∙◌, ap, arith, length, get_or, replicate, false}
+use Rattle.std.proofs.Common.{◌∙◌, ap, arith, get_or, replicate, false}
 use Rattle.std.proofs.lemmas.List.{length-set}
 use Rattle.std.proofs.lemmas.Option.{slice_get-get_or}
 use Rattle.shared_search.proofs.SearchLemmas.{left_more, none_left}

@@ -1,4 +1,4 @@
-use Rattle.std.proofs.Common.{◌≡◌, ◌∙◌, length, ap, sym, refl, false, arith, subst, List, Bool, ℕ, []}
+use Rattle.std.proofs.Common.{◌∙◌, length, ap, refl, false, arith, subst, List, ℕ}
 use Rattle.std.proofs.lemmas.List.{length-replicate}
 use Rattle.std.proofs.lemmas.Option.{slice_get_read, slice_get_within}
 use Rattle.shared_search.specs.Searches.{FindsAll}
