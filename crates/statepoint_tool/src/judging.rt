@@ -34,11 +34,7 @@ pub(crate) fn check<F: Files, O: Sink>(
 }
 
 // The rewritten module in the file of this name, which is verified.
-fn take_checked<F: Files>(
-    alloc: Global,
-    files: &mut F,
-    name: FileName,
-) -> Result<Verified, Refusal>
+fn take_checked<F: Files>(alloc: Global, files: &mut F, name: FileName) -> Result<Verified, Refusal>
     ensures read { Reads (files_seen (F.contents files.old) (F.faults files.old) (F.faults files.new)) name
         checked_phase (λ checked. checked) result }
     ensures kept { F.contents files.new ≡ F.contents files.old }

@@ -21,7 +21,6 @@ use crate::maps::map_of_module;
 use crate::phases::take;
 use crate::refusal::{Cause, Refusal};
 use crate::runner::{Executable, Runner};
-use tool_words::FileName;
 use crate::status::Status;
 use ir_machine::{Ran, RunFault, SureFault, run_any, run_verified};
 use map_bytes::MapFault;
@@ -30,6 +29,7 @@ use stackmap_view::MapView;
 use statepoint_verify::Verified;
 use std::alloc::Global;
 use tool_io::{Failed, Files, Sink};
+use tool_words::FileName;
 
 /// Runs this rewritten module over the stack map in the file of this name, or else over its own.
 pub(crate) fn run_on_machine<F: Files, O: Sink>(
@@ -113,7 +113,14 @@ fn run_over_bytes<O: Sink>(
     ensures out_counted { O.faults out.old ≤ O.faults out.new }
 {
     match run_bytes(alloc, module, bytes, numbers, plan, steps, out) {
-        Ok(ran) => match close(module.module(), ran.end, ran.func, ran.steps, ran.events, out) {
+        Ok(ran) => match close(
+            module.module(),
+            ran.end,
+            ran.func,
+            ran.steps,
+            ran.events,
+            out,
+        ) {
             Ok(status) => Ok(status),
             Err(Failed) => Err(Refusal::WriteFault),
         },
@@ -215,7 +222,14 @@ fn run_over_view<O: Sink>(
     ensures out_counted { O.faults out.old ≤ O.faults out.new }
 {
     match run_verified(alloc, after, view, numbers, plan, steps, out) {
-        Ok(ran) => match close(after.module(), ran.end, ran.func, ran.steps, ran.events, out) {
+        Ok(ran) => match close(
+            after.module(),
+            ran.end,
+            ran.func,
+            ran.steps,
+            ran.events,
+            out,
+        ) {
             Ok(status) => Ok(status),
             Err(Failed) => Err(Refusal::WriteFault),
         },

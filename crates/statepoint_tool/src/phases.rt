@@ -16,7 +16,6 @@ ghost use Rattle.statepoint_tool.specs.Taken.{files_seen};
 ghost use Rattle.statepoint_tool.specs.Work.{reading, module_phase, ReadingInput, ReadingPlan, Typing};
 
 use crate::refusal::{Cause, ModuleFault, PlanFault, Refusal};
-use tool_words::FileName;
 use ir_ast::{Form, Module};
 use ir_reader::{Raw, ReadFault, read, read_rewritten};
 use ir_types::{TypeFault, typed, typed_rewritten};
@@ -24,6 +23,7 @@ use move_plan::{InputFault, Plan, PlanFault as TextFault, read_input};
 use sp_ids::limits;
 use std::alloc::Global;
 use tool_io::{Files, TakeFault};
+use tool_words::FileName;
 
 /// The bytes of the file of this name.
 pub(crate) fn take<F: Files>(

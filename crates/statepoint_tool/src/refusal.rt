@@ -1,8 +1,8 @@
-use tool_words::FileName;
 use ir_types::Fault;
 use map_bytes::MapFault;
-use statepoint_verify::Fault as CheckFault;
 use sp_ids::Memory;
+use statepoint_verify::Fault as CheckFault;
+use tool_words::FileName;
 
 /// What is wrong with the text of a module.
 #[derive(Clone, Copy, Debug, PartialEq, Eq)]

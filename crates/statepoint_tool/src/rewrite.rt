@@ -14,7 +14,6 @@ ghost use Rattle.statepoint_tool.specs.Work.{MayGiveShown, Rewriting, after_rewr
 use crate::maps::{write_map_bytes, write_map_text};
 use crate::phases::take_module;
 use crate::refusal::{Cause, ModuleFault, Refusal};
-use tool_words::{FileName, Part};
 use crate::show::show_module;
 use crate::status::Status;
 use ir_ast::{Form, Module};
@@ -22,6 +21,7 @@ use sp_rewrite::RewriteFault;
 use statepoint_verify::Verified;
 use std::alloc::Global;
 use tool_io::{Files, Sink};
+use tool_words::{FileName, Part};
 
 /// Writes this of the rewritten module of the module in the file of this name.
 pub(crate) fn rewrite<F: Files, O: Sink>(

@@ -11,18 +11,18 @@ ghost use Rattle.statepoint_tool.specs.Work.{MayGiveAll, MayGiveFromInput, MayGi
 ghost use Rattle.statepoint_tool.specs.Runners.{CanRun, RunsAs, engine_of};
 
 use crate::closing::close;
+use crate::engine::Engine;
 use crate::machine::{run_on_machine, run_rewritten};
 use crate::phases::{take_input, take_module, take_plan};
-use crate::runner::{Runner, runner_of};
 use crate::refusal::Refusal;
-use crate::engine::Engine;
-use tool_words::{FileName, RunRequest};
+use crate::runner::{Runner, runner_of};
 use crate::status::Status;
 use ir_ast::Module;
 use ir_meaning::{RefFault, reference};
 use move_plan::Plan;
 use std::alloc::Global;
 use tool_io::{Files, Sink};
+use tool_words::{FileName, RunRequest};
 
 /// Does the run that is asked for.
 pub(crate) fn run<F: Files, O: Sink>(

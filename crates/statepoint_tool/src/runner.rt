@@ -57,7 +57,7 @@ pub(crate) enum Runner {
 pub(crate) fn runner_of(alloc: Global, engine: Engine, read: Module) -> Result<Runner, Refusal>
     requires of_form { IsModuleOf (form_of engine) read.content }
     requires no_bundle { All HasNoBundle read.content.funcs }
-    ensures judged { Agrees (λ (_ : declared.runner.Runner). read) result (judged engine read) }
+    ensures judged { Agrees (λ _. read) result (judged engine read) }
     ensures engine { IfOk result (λ runner. engine_of runner ≡ engine) }
     ensures runs { IfOk result (λ runner. RunsAs read.content runner) }
 {
@@ -71,7 +71,7 @@ pub(crate) fn runner_of(alloc: Global, engine: Engine, read: Module) -> Result<R
 fn rewriting_runner(alloc: Global, read: Module) -> Result<Runner, Refusal>
     requires source { IsSourceModule read.content }
     requires no_bundle { All HasNoBundle read.content.funcs }
-    ensures judged { Agrees (λ (_ : declared.runner.Runner). read) result (judged Engine.Rewriter read) }
+    ensures judged { Agrees (λ _. read) result (judged Engine.Rewriter read) }
     ensures engine { IfOk result (λ runner. engine_of runner ≡ Engine.Rewriter) }
     ensures runs { IfOk result (λ runner. RunsAs read.content runner) }
 {
@@ -87,7 +87,7 @@ fn machine_runner(
 ) -> Result<Runner, Refusal>
     requires target { IsTargetModule read.content }
     requires no_bundle { All HasNoBundle read.content.funcs }
-    ensures judged { Agrees (λ (_ : declared.runner.Runner). read) result (judged (Engine.Machine «map» trust) read) }
+    ensures judged { Agrees (λ _. read) result (judged (Engine.Machine «map» trust) read) }
     ensures engine { IfOk result (λ runner. engine_of runner ≡ Engine.Machine «map» trust) }
     ensures runs { IfOk result (λ runner. RunsAs read.content runner) }
 {
