@@ -1,5 +1,5 @@
 //! What runs for a module that is asked for: the module itself, or its rewritten module.
-ghost use Rattle.std.specs.Prelude.{◌≡◌, IfOk};
+ghost use Rattle.std.specs.Prelude.{◌≡◌, false, IfOk};
 ghost use Rattle.std.specs.List.{All};
 ghost use Rattle.ir_ast.specs.Bundles.{HasNoBundle};
 ghost use Rattle.ir_cfg.specs.SourceModules.{IsSourceModule};
@@ -92,11 +92,22 @@ fn machine_runner(
     ensures runs { IfOk result (λ runner. RunsAs read.content runner) }
 {
     if trust {
-        return Ok(Runner::Machine {
+        Ok(Runner::Machine {
             module: Executable::Trusted(read),
             map,
-        });
+        })
+    } else {
+        checked_runner(alloc, read, map)
     }
+}
+
+fn checked_runner(alloc: Global, read: Module, map: Option<FileName>) -> Result<Runner, Refusal>
+    requires target { IsTargetModule read.content }
+    requires no_bundle { All HasNoBundle read.content.funcs }
+    ensures judged { Agrees (λ _. read) result (judged (Engine.Machine «map» false) read) }
+    ensures engine { IfOk result (λ runner. engine_of runner ≡ Engine.Machine «map» false) }
+    ensures runs { IfOk result (λ runner. RunsAs read.content runner) }
+{
     let checked = verified(alloc, read)?;
     Ok(Runner::Machine {
         module: Executable::Checked(checked),

@@ -44,7 +44,7 @@ returns-clause-works g c =
     let files = files_seen (g.F.Files.contents c.args.files.now) (g.F.Files.faults c.args.files.now) after in
     let kept = c.in_ok-read.ensures.kept in
     let counted = c.in_ok-read.ensures.counted in
-    Works-given (Works-goes_on (λ (whole : LinedModule). after_module c.args.request.input c.args.request.plan engine whole.content c.args.request.steps)
+    Works-given (Works-goes_on {value = c.in_ok-runner.runner} (λ (whole : LinedModule). after_module c.args.request.input c.args.request.plan engine whole.content c.args.request.steps)
     (MayGiveFromInput files c.args.request.input c.args.request.plan engine)
     (λ given. MayGiveFromInput-earlier _ _ _ _ after kept counted c.args.request.input c.args.request.plan engine given)
     after c.run_module.ensures.counted
