@@ -19,5 +19,5 @@ mod top;
 
 pub use laws::plans_are_free;
 pub use status::Status;
-pub use top::statepoint;
 pub use tool_words::FileName;
+pub use top::statepoint;

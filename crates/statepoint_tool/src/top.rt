@@ -10,17 +10,17 @@ ghost use Rattle.statepoint_tool.specs.Taken.{files_seen};
 ghost use Rattle.tool_words.specs.Words.{command_of};
 ghost use Rattle.statepoint_tool.specs.Work.{MayGiveNamed, work as work_of};
 
-use crate::notes::put_note;
-use crate::refusal::{Cause, Refusal};
 use crate::engine::Engine;
 use crate::judging::check;
+use crate::notes::put_note;
+use crate::refusal::{Cause, Refusal};
 use crate::rewrite::rewrite;
 use crate::run::run;
 use crate::show::show;
 use crate::status::Status;
-use tool_words::{Command, WordsFault, command};
 use std::alloc::Global;
 use tool_io::{Failed, Files, Sink};
+use tool_words::{Command, WordsFault, command};
 
 /// Does what the words ask for, and says how it ended. The first word is the program's name.
 ///
@@ -193,17 +193,13 @@ fn work<F: Files, O: Sink>(
         Ok(Command::Check { module }) => check(alloc, module, files, out),
         Ok(Command::Source(request)) => run(alloc, Engine::Meaning, request, files, out),
         Ok(Command::Run(request)) => run(alloc, Engine::Rewriter, request, files, out),
-        Ok(Command::Exec {
-            request,
-            map,
-            trust,
-        }) => run(
-            alloc,
-            Engine::Machine { map, trust },
-            request,
-            files,
-            out,
-        ),
+        Ok(
+            Command::Exec {
+                request,
+                map,
+                trust,
+            },
+        ) => run(alloc, Engine::Machine { map, trust }, request, files, out),
         Err(WordsFault::Words) => Err(Refusal::Defined(Cause::Words)),
         Err(WordsFault::Memory) => Err(Refusal::Memory),
     }
