@@ -47,7 +47,7 @@ pub record IsItself (content whole : ModuleContent) : Type 0 where
 abbrev pub RunsAs : ModuleContent → Runner → Type 0
 RunsAs content (Meaning whole) = IsOwn content whole.content
 RunsAs content (Rewritten whole) = IsRewrittenOf content whole.content
-RunsAs content (Machine module map_file) = IsItself content (module_in module).content
+RunsAs content (Machine executable map_file) = IsItself content (module_in executable).content
 
 abbrev pub CanRun : Runner → Type 0
 CanRun runner = (content : ModuleContent) × RunsAs content runner
