@@ -24,16 +24,18 @@ use tool_words::{Command, WordsFault, command};
 
 /// Does what the words ask for, and says how it ended. The first word is the program's name.
 ///
-/// `show` writes the text of the module, `rewrite` that of the rewritten module, `maps` its stack map,
-/// as text or with `--raw` as bytes. `source` and `run` write the lines of the source meaning, over the numbers of the
-/// input and under the `go` lines of the plan, and then the line that closes the run. `check` writes `ok` where the verifier
-/// finds no fault in a rewritten module. `exec` writes the lines that the address machine prints, which runs a rewritten module
-/// under the moves and the `go` lines of the plan, over the module's own stack map or that in the file of `--map`, and then the
-/// closing line; without `--trust` the module is verified first.
+/// `show` writes the text of the module, `rewrite` that of the rewritten module, `maps` its stack map, as text or with `--raw` as
+/// bytes. `source` and `run` write the lines of the source meaning, over the numbers of the input and under the `go` lines of the
+/// plan, and then the line that closes the run: `source` runs the module by that meaning, `run` rewrites it and runs it on the
+/// address machine over its own stack map, under the moves of the plan too, which are never noticed. `check` writes `ok` where the
+/// verifier finds no fault in a rewritten module. `exec` writes the lines that the address machine prints, which runs a rewritten
+/// module under the moves and the `go` lines of the plan, over the module's own stack map or that in the file of `--map`, and then
+/// the closing line; without `--trust` the module is verified first.
 ///
-/// The work goes in this order: the words; the module is taken, read and typed; for `rewrite` and `maps` it is rewritten, for
-/// `check` and for `exec` without `--trust` verified; for `source`, `run` and `exec` the input is taken and read, then the plan, then the stack map where one is named, and the
-/// module runs. A run writes each line by one `put`, as it comes. A refusal puts one line on `notes`.
+/// The work goes in this order: the words; the module is taken, read and typed; for `rewrite`, `maps` and `run` it is rewritten, for
+/// `check` and for `exec` without `--trust` verified; for `source`, `run` and `exec` the input is taken and read, then the plan,
+/// then the stack map where one is named, and the module runs. A run writes each line by one `put`, as it comes. A refusal puts one
+/// line on `notes`.
 ///
 /// What the files gave is what is told of them, or anything where nothing is told; a file could not be
 /// read only where a fault was counted for its name. Each status comes exactly where its cause holds over
