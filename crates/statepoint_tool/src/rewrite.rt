@@ -18,7 +18,6 @@ use crate::show::show_module;
 use crate::status::Status;
 use ir_ast::{Form, Module};
 use sp_rewrite::RewriteFault;
-use statepoint_verify::Verified;
 use std::alloc::Global;
 use tool_io::{Files, Sink};
 
@@ -54,7 +53,7 @@ fn rewrite_module<O: Sink>(
     ensures out_counted { O.faults out.old ≤ O.faults out.new }
 {
     let after = rewritten(alloc, read)?;
-    write_part(alloc, after.module(), part, out)
+    write_part(alloc, &after, part, out)
 }
 
 fn write_part<O: Sink>(
@@ -78,7 +77,7 @@ fn write_part<O: Sink>(
 }
 
 // The rewritten module.
-fn rewritten(alloc: Global, read: Module) -> Result<Verified, Refusal>
+fn rewritten(alloc: Global, read: Module) -> Result<Module, Refusal>
     requires source { IsSourceModule read.content }
     requires no_bundle { All HasNoBundle read.content.funcs }
     ensures rewrites { Agrees (λ after. after.content) result (Rewriting read.content) }
