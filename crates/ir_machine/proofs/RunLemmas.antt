@@ -1,5 +1,5 @@
 -- A run by its steps, and what it has written.
-use Rattle.std.proofs.Common.{◌≡◌, ℕ, ℤ, suc, ◌+◌, ◌-◌, ◌^◌, min, List, [], ◌∷◌, ◌++◌, reverse, length, Option, Some, None, refl, sym, ap, ◌∙◌, arith}
+use Rattle.std.proofs.Common.{◌≡◌, ℕ, ℤ, suc, ◌+◌, ◌-◌, ◌^◌, min, List, [], ◌∷◌, ◌++◌, reverse, length, Option, Some, None, refl, sym, ap, ◌∙◌, subst, arith}
 use Rattle.std.specs.List.{concat}
 use Rattle.std.proofs.lemmas.List.{append-nil, reverse-append}
 use Rattle.std.proofs.lemmas.List.Folds.{concat-append}
@@ -14,14 +14,20 @@ use Rattle.object_meaning.specs.Runs.{Reaches}
 use Rattle.object_meaning.proofs.RunLaws.{reaches_more, ends_more}
 use Rattle.machine_meaning.specs.Machines.{Machine, Machinery}
 use Rattle.machine_meaning.specs.MachineSteps.{machine_step}
-use Rattle.machine_meaning.specs.MachineRuns.{machine_outcome, machine_proceeds, machine_opening}
+use Rattle.machine_meaning.specs.MachineRuns.{MachineOutcome, machine_outcome, machine_proceeds, machine_opening}
 use Rattle.machine_meaning.specs.TrapLines.{closing_of}
 use Rattle.machine_meaning.specs.Code.{machinery_of}
 use Rattle.ir_machine.specs.declared.executor.Did.{Did}
 use Rattle.ir_machine.specs.declared.executor.Did.TheVariants.{GoesOn, Prints, Ends as Finishes}
 use Rattle.ir_machine.specs.declared.run.Ran.{Ran}
 use Rattle.ir_machine.specs.Executors.{effect_of, told, without_words}
-use Rattle.ir_machine.specs.Answers.{IsRunOver, IsRunFrom, WritesFrontFrom, unprinted, Follows, ended_of, Wrote, WroteFront}
+use Rattle.move_plan.specs.Plans.{go}
+use Rattle.stackmap_write.specs.ModuleMaps.{map_of}
+use Rattle.moves_unseen.specs.Waits.{IsSound}
+use Rattle.runs_unseen.specs.Runs.{IsSeenRun}
+use Rattle.runs_unseen.proofs.MapLaws.{names_nothing}
+use Rattle.runs_unseen.proofs.SeenRuns.{answer_seen}
+use Rattle.ir_machine.specs.Answers.{ran_of, IsRunOver, IsRunFrom, WritesFrontFrom, unprinted, Follows, ended_of, Wrote, WroteFront}
 use Rattle.ir_machine.proofs.QuietLemmas.{closing_nothing, closing_untrapped}
 
 pub follows_start : (machinery : Machinery) (machine : Machine) (old : Option (List ℕ)) → Follows machinery (unprinted machine) machine 0 old old
@@ -180,3 +186,22 @@ run_is content map input plan bound old new ran run =
       untrapped = λ end. run.written ∙ ap (append_known old) (sym (printed_all run.last.lines (closing_of machinery ran.end run.last.state) (closing_untrapped machinery ran.end run.last.state end)));
       unnamed = λ bare. run.written ∙ ap (append_known old) (sym (printed_all run.last.lines (closing_of machinery ran.end run.last.state) (closing_nothing machinery ran.end run.last.state bare)));
     }
+
+-- ---- runs of verified modules over their own maps
+
+module _ (content : ModuleContent) (sound : IsSound content) (input : List ℤ) (plan : List PlanLine) (bound : ℕ) (old new : Option (List ℕ)) where
+  own_seen : (ran : Ran) (over : IsRunOver content (map_of content) input plan bound ran old new)
+      → IsSeenRun content input (go plan) bound over.outcome.end over.outcome.func over.outcome.steps over.outcome.events over.outcome.printed old new
+  own_seen ran over = answer_seen content sound input plan bound over.outcome over.gives old new (over.unnamed (names_nothing content))
+
+  seen_as : (ran : Ran) (outcome : MachineOutcome) → ran ≡ ran_of outcome
+      → IsSeenRun content input (go plan) bound outcome.end outcome.func outcome.steps outcome.events outcome.printed old new
+      → IsSeenRun content input (go plan) bound ran.end ran.func.0 ran.steps ran.events ran.lines old new
+  seen_as ran outcome is seen =
+      subst (λ (r : Ran). IsSeenRun content input (go plan) bound r.end r.func.0 r.steps r.events r.lines old new) (sym is) seen
+
+  pub seen_over : (map : StackMap) → map ≡ map_of content → (ran : Ran) → IsRunOver content map input plan bound ran old new
+      → IsSeenRun content input (go plan) bound ran.end ran.func.0 ran.steps ran.events ran.lines old new
+  seen_over map own ran over =
+      let mine : IsRunOver content (map_of content) input plan bound ran old new = subst (λ (m : StackMap). IsRunOver content m input plan bound ran old new) own over in
+      seen_as ran mine.outcome mine.answer (own_seen ran mine)

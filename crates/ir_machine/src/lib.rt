@@ -8,4 +8,4 @@ mod executor;
 mod lines;
 mod run;
 
-pub use run::{Ran, RunFault, run_any};
+pub use run::{Ran, RunFault, SureFault, run_any, run_verified};

@@ -1,12 +1,16 @@
 //! Runs of the machine.
 
 ghost use Rattle.std.specs.Prelude.{◌≡◌, ◌≤◌, ◌<◌, length, codes, IfOk, IfSome, OnErr, IsErrOf};
-ghost use Rattle.std.specs.List.{position};
+ghost use Rattle.std.specs.List.{All, position};
 ghost use Rattle.std.specs.Str.{bytes_eq};
 ghost use Rattle.tool_io.specs.Counts.{Rose};
 ghost use Rattle.map_bytes.specs.declared.rules.MapFault.{MapFault};
 ghost use Rattle.map_bytes.specs.Faults.{IsFirstFault};
+ghost use Rattle.ir_ast.specs.Bundles.{HasNoBundle};
+ghost use Rattle.move_plan.specs.Plans.{go};
+ghost use Rattle.runs_unseen.specs.Runs.{IsSeenRun};
 ghost use Rattle.stackmap_view.specs.Maps.{stack_map};
+ghost use Rattle.stackmap_write.specs.ModuleMaps.{map_of};
 ghost use Rattle.object_meaning.specs.Lines.{main_of};
 ghost use Rattle.object_meaning.specs.Effects.{printed_line};
 ghost use Rattle.machine_meaning.specs.MachineRuns.{machine_opening};
@@ -23,6 +27,7 @@ use move_plan::Plan;
 use moving_heap::Heap;
 use sp_ids::{End, FuncId, Memory, sign};
 use stackmap_view::{MapIndex, MapView};
+use statepoint_verify::Verified;
 use std::alloc::Global;
 use tool_io::{Failed, Sink};
 
@@ -49,8 +54,9 @@ pub enum RunFault {
 
 /// The same of a run over a map that is known to be one.
 #[derive(Clone, Copy, Debug, PartialEq, Eq)]
-pub(crate) enum SureFault {
+pub enum SureFault {
     Memory,
+    /// The sink counted a fault.
     Write,
 }
 
@@ -105,6 +111,29 @@ pub fn run_any<O: Sink>(
             Err(SureFault::Write) => Err(RunFault::Write),
         },
     }
+}
+
+/// Runs `@main` of a verified module over the map of this view, as [`run_any`] does over bytes. Over the module's own map the
+/// moves are never noticed: the run is the one on objects that never move, so it never ends in poison or a lost frame.
+///
+/// `Write` comes only where the sink counted a fault. After it, and after `Memory`, a front of what the run prints was written.
+pub fn run_verified<O: Sink>(
+    alloc: Global,
+    verified: &Verified,
+    map: &MapView<'_>,
+    input: &[i64],
+    plan: &Plan,
+    steps: u64,
+    out: &mut O,
+) -> Result<Ran, SureFault>
+    ensures ran { IfOk result (λ ran. IsRunOver verified.now.content (stack_map map.now) input.now plan.now steps ran (O.written out.old) (O.written out.new)) }
+    ensures seen { All HasNoBundle verified.now.content.funcs → stack_map map.now ≡ map_of verified.now.content
+        → IfOk result (λ ran. IsSeenRun verified.now.content input.now (go plan.now) steps ran.end ran.func.0 ran.steps ran.events ran.lines (O.written out.old) (O.written out.new)) }
+    ensures front { OnErr result (WritesFrontOver verified.now.content (stack_map map.now) input.now plan.now steps (O.written out.old) (O.written out.new)) }
+    ensures failed { IsErrOf result SureFault.Write → Rose (O.faults out.old) (O.faults out.new) }
+    ensures count { O.faults out.old ≤ O.faults out.new }
+{
+    run_over(alloc, verified.module(), *map, input, plan, steps, out)
 }
 
 // The run over the map of a view.

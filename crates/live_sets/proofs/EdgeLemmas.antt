@@ -24,7 +24,7 @@ same_block one other e = ap (λ (n : ℕ). let l : BlockId = record { 0 = n } in
 pub among_has : (xs : List ℕ) (x : ℕ) → Contains xs x → among x xs ≡ true
 among_has xs x has = let at = get_contained xs x has in any_at (λ (y : ℕ). eqb y x) xs at.0 x at.1 (eq-eqb x x refl)
 
-has_among : (xs : List ℕ) (x : ℕ) → among x xs ≡ true → Contains xs x
+pub has_among : (xs : List ℕ) (x : ℕ) → among x xs ≡ true → Contains xs x
 has_among xs x is = let at = any_found (λ (y : ℕ). eqb y x) xs is in contains_get xs at.0 x (at.2 ∙ ap Some (eqb_is at.1 x at.3))
   where
     eqb_is : (a b : ℕ) → eqb a b ≡ true → a ≡ b

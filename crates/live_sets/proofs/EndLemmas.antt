@@ -1,13 +1,11 @@
 -- The graph of places, row by row.
-use Rattle.std.proofs.Common.{◌≡◌, ℕ, zero, suc, ◌+◌, ◌-◌, ◌<◌, ◌≤◌, Bool, true, false, if◌then◌else◌, List, [], ◌∷◌, ◌++◌, length, map, get_or, replicate, ◌&&◌, ◌==◌, nat_lt, append-nil, inl, inr, refl, ap, sym, arith, Some, Option, slice_get, ◌∙◌}
+use Rattle.std.proofs.Common.{◌≡◌, ℕ, zero, suc, ◌+◌, ◌-◌, ◌<◌, ◌≤◌, Bool, true, false, if◌then◌else◌, List, [], ◌∷◌, ◌++◌, length, map, get_or, replicate, append-nil, refl, ap, sym, arith, Some, Option, slice_get, ◌∙◌}
 use Rattle.std.specs.Prelude.{unwrap_or}
 use Rattle.std.specs.List.{range_with_len}
 use Rattle.std.specs.Global.{Vec}
 use Rattle.std.proofs.lemmas.Option.{get_or_from_slice_get, unwrap_or-slice_get}
 use Rattle.std.proofs.lemmas.List.{length-append, length-map, length-replicate}
 use Rattle.std.proofs.lemmas.List.FromFn.{length-range_with_len}
-use Rattle.std.proofs.lemmas.Bool.{cases_eq, eq-eqb, ne_eqb}
-use Rattle.std.proofs.lemmas.Bool.Decides.{nat_tests}
 use Rattle.sp_ids.specs.declared.ids.ValueId.{ValueId}
 use Rattle.graph_search.specs.Edges.{targets_of}
 use Rattle.graph_search.specs.Paths.{ReachedFrom, at_start, along, MarksReached}
@@ -91,35 +89,6 @@ adds_none rows [] value ends none = record {
   whole = refl;
   each = λ block below. sym (ap (λ (t : Bool). list_at ends block ++ (if t then value ∷ [] else [])) (unmarked_at (length rows) block) ∙ append-nil (list_at ends block));
 }
-
--- one block more
-pub added_more : (marks : List Bool) (value : ValueId) (place b : ℕ) (old mid new : List ValueId)
-    → mid ≡ old ++ (if nat_lt b place && has_mark marks b then value ∷ [] else [])
-    → new ≡ mid ++ (if has_mark marks place && (place == b) then value ∷ [] else [])
-    → new ≡ old ++ (if nat_lt b (place + 1) && has_mark marks b then value ∷ [] else [])
-added_more marks value place b old mid new first second = elim (cases_eq place b) [
-  | inl e ↦
-      let low : nat_lt b place ≡ false = grind (arith, nat_tests) in
-      let high : nat_lt b (place + 1) ≡ true = grind (arith, nat_tests) in
-      let was : mid ≡ old = first ∙ ap (λ (t : Bool). old ++ (if t && has_mark marks b then value ∷ [] else [])) low ∙ append-nil old in
-      second ∙ ap (λ (xs : List ValueId). xs ++ (if has_mark marks place && (place == b) then value ∷ [] else [])) was
-      ∙ ap (λ (t : Bool). old ++ (if has_mark marks place && t then value ∷ [] else [])) (eq-eqb place b e)
-      ∙ ap (λ (t : Bool). old ++ (if t then value ∷ [] else [])) (and_comm (has_mark marks place) ∙ ap (has_mark marks) e)
-      ∙ sym (ap (λ (t : Bool). old ++ (if t && has_mark marks b then value ∷ [] else [])) high)
-  | inr ne ↦
-      let same : nat_lt b (place + 1) ≡ nat_lt b place = grind (arith, nat_tests) in
-      second ∙ ap (λ (t : Bool). mid ++ (if has_mark marks place && t then value ∷ [] else [])) (ne_eqb place b ne)
-      ∙ ap (λ (t : Bool). mid ++ (if t then value ∷ [] else [])) (and_none (has_mark marks place)) ∙ append-nil mid ∙ first
-      ∙ sym (ap (λ (t : Bool). old ++ (if t && has_mark marks b then value ∷ [] else [])) same)
-]
-  where
-    and_comm : (t : Bool) → (t && true) ≡ t
-    and_comm true = refl
-    and_comm false = refl
-
-    and_none : (t : Bool) → (t && false) ≡ false
-    and_none true = refl
-    and_none false = refl
 
 pub only_target : (t : Bool) (to number : ℕ) → number < length (if t then [] else to ∷ []) → slice_get (if t then [] else to ∷ []) number ≡ Some to
 only_target true to number below = absurd (omega arith)

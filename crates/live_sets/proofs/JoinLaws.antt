@@ -1,9 +1,7 @@
 -- The phis of each block, a pointer at a time.
-use Rattle.std.proofs.Common.{◌≡◌, ◌∙◌, ℕ, zero, suc, ◌+◌, ◌<◌, ◌≤◌, Bool, true, false, ◌&&◌, ◌==◌, nat_lt, if◌then◌else◌, List, [], ◌∷◌, ◌++◌, length, map, filter, take, get_or, replicate, refl, ap, sym, arith, inl, inr, Some, slice_get, append-nil}
+use Rattle.std.proofs.Common.{◌≡◌, ◌∙◌, ℕ, zero, suc, ◌+◌, ◌<◌, ◌≤◌, Bool, true, false, ◌&&◌, if◌then◌else◌, List, [], ◌∷◌, ◌++◌, length, map, filter, take, get_or, replicate, refl, ap, sym, arith, Some, slice_get, append-nil}
 use Rattle.std.specs.List.{range_with_len}
 use Rattle.std.specs.Global.{Vec}
-use Rattle.std.proofs.lemmas.Bool.{cases_eq, eq-eqb, ne_eqb}
-use Rattle.std.proofs.lemmas.Bool.Decides.{nat_tests}
 use Rattle.std.proofs.lemmas.List.{map-append, take_all}
 use Rattle.std.proofs.lemmas.List.Elements.{filter-append}
 use Rattle.std.proofs.lemmas.Option.{get_or_from_slice_get, slice_get_within}
@@ -23,35 +21,6 @@ use Rattle.live_sets.specs.Ends.{AreFronts}
 use Rattle.live_sets.specs.Joins.{AddsJoins}
 use Rattle.live_sets.proofs.EdgeLemmas.{among_has}
 use Rattle.live_sets.proofs.EndLemmas.{no_marks}
-
--- one block more
-pub joined_more : (test : ℕ → Bool) (value : ValueId) (place b : ℕ) (old mid new : List ValueId)
-    → mid ≡ old ++ (if nat_lt b place && test b then value ∷ [] else [])
-    → new ≡ mid ++ (if test place && (place == b) then value ∷ [] else [])
-    → new ≡ old ++ (if nat_lt b (place + 1) && test b then value ∷ [] else [])
-joined_more test value place b old mid new first second = elim (cases_eq place b) [
-  | inl e ↦
-      let low : nat_lt b place ≡ false = grind (arith, nat_tests) in
-      let high : nat_lt b (place + 1) ≡ true = grind (arith, nat_tests) in
-      let was : mid ≡ old = first ∙ ap (λ (t : Bool). old ++ (if t && test b then value ∷ [] else [])) low ∙ append-nil old in
-      second ∙ ap (λ (xs : List ValueId). xs ++ (if test place && (place == b) then value ∷ [] else [])) was
-      ∙ ap (λ (t : Bool). old ++ (if test place && t then value ∷ [] else [])) (eq-eqb place b e)
-      ∙ ap (λ (t : Bool). old ++ (if t then value ∷ [] else [])) (and_true (test place) ∙ ap test e)
-      ∙ sym (ap (λ (t : Bool). old ++ (if t && test b then value ∷ [] else [])) high)
-  | inr ne ↦
-      let same : nat_lt b (place + 1) ≡ nat_lt b place = grind (arith, nat_tests) in
-      second ∙ ap (λ (t : Bool). mid ++ (if test place && t then value ∷ [] else [])) (ne_eqb place b ne)
-      ∙ ap (λ (t : Bool). mid ++ (if t then value ∷ [] else [])) (and_none (test place)) ∙ append-nil mid ∙ first
-      ∙ sym (ap (λ (t : Bool). old ++ (if t && test b then value ∷ [] else [])) same)
-]
-  where
-    and_true : (t : Bool) → (t && true) ≡ t
-    and_true true = refl
-    and_true false = refl
-
-    and_none : (t : Bool) → (t && false) ≡ false
-    and_none true = refl
-    and_none false = refl
 
 -- nothing is added where the pointer isn't wanted
 pub joins_none : (rows fronts : List (List ℕ)) (count : ℕ) (starts : List ℕ) (value : ValueId) (marks : List Bool) (wanted : Bool) (joins : List (Vec ValueId))
@@ -76,26 +45,6 @@ unmarked_at (suc n) (suc node) = unmarked_at n node
 where_wanted : (wanted found live : Bool) → (wanted ≡ true → found ≡ live) → (wanted && found) ≡ (wanted && live)
 where_wanted true found live is = is refl
 where_wanted false found live is = refl
-
--- one block more of a pointer that is wanted
-pub block_more : (fronts : List (List ℕ)) (marks read : List Bool) (count place b : ℕ) (many : Bool) (value : ValueId) (old mid new : List ValueId)
-    → mid ≡ old ++ (if nat_lt b place && (is_many (get_or fronts b []) && has_mark marks (count + b)) then value ∷ [] else [])
-    → read ≡ marks → many ≡ is_many (get_or fronts place [])
-    → new ≡ mid ++ (if (many && has_mark read (count + place)) && (place == b) then value ∷ [] else [])
-    → new ≡ old ++ (if nat_lt b (place + 1) && (is_many (get_or fronts b []) && has_mark marks (count + b)) then value ∷ [] else [])
-block_more fronts marks read count place b many value old mid new first read_is many_is second =
-    joined_more (λ p. is_many (get_or fronts p []) && has_mark marks (count + p)) value place b old mid new first
-    (second ∙ ap (λ (ms : List Bool). mid ++ (if (many && has_mark ms (count + place)) && (place == b) then value ∷ [] else [])) read_is
-    ∙ ap (λ (t : Bool). mid ++ (if (t && has_mark marks (count + place)) && (place == b) then value ∷ [] else [])) many_is)
-
-pub all_blocks : (fronts : List (List ℕ)) (marks : List Bool) (count size b place : ℕ) (wanted : Bool) (value : ValueId) (old new : List ValueId)
-    → b < place → count ≡ size → wanted ≡ true
-    → new ≡ old ++ (if nat_lt b place && (is_many (get_or fronts b []) && has_mark marks (count + b)) then value ∷ [] else [])
-    → new ≡ old ++ (if is_many (get_or fronts b []) && (wanted && has_mark marks (size + b)) then value ∷ [] else [])
-all_blocks fronts marks count size b place wanted value old new within count_is wanted_is added =
-    let low : nat_lt b place ≡ true = grind (arith, nat_tests) in
-    added ∙ ap (λ (t : Bool). old ++ (if t && (is_many (get_or fronts b []) && has_mark marks (count + b)) then value ∷ [] else [])) low
-    ∙ rw (count_is, wanted_is) refl
 
 range_get : (from count k : ℕ) → k < count → slice_get (range_with_len from count) k ≡ Some (from + k)
 range_get from zero k below = absurd (omega arith)

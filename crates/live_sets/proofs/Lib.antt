@@ -3,6 +3,8 @@ pub mod ValueLemmas
 pub mod StartLemmas
 pub mod EndLemmas
 pub mod UseLemmas
+pub mod SetLemmas
+pub mod FoundLemmas
 pub mod Walks
 pub mod EdgeLemmas
 pub mod Reaches

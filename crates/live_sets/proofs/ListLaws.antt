@@ -1,8 +1,11 @@
 -- The lists of a block's calls, from its end to its front.
 use Rattle.std.proofs.Common.{◌≡◌, ℕ, zero, suc, ◌+◌, ◌-◌, ◌<◌, Bool, true, false, not, eqb, leb, ◌&&◌, ◌||◌, if◌then◌else◌, List, [], ◌∷◌, ◌++◌, length, map, filter, take, drop, get_or, refl, ap, sym, arith, inl, inr, Some, None, Option, slice_get, ◌∙◌, append-nil, append_assoc}
-use Rattle.std.specs.Prelude.{is_some, slice_index_or, reverse}
+use Rattle.std.specs.Prelude.{is_some, reverse}
 use Rattle.std.specs.List.{list_any, range_with_len, flat_map, Contains}
 use Rattle.std.specs.Option.{option_map_or, option_map}
+use Rattle.std.specs.List.Sorted.{IsStrictlySortedBy}
+use Rattle.std.specs.Ordering.{nat_cmp}
+use Rattle.std.specs.BTreeSet.{BTreeSet}
 use Rattle.std.specs.Global.{Vec}
 use Rattle.std.proofs.lemmas.Bool.{cases_Bool, true≢false, le-leb}
 use Rattle.std.proofs.lemmas.List.{map-append, reverse-append}
@@ -22,7 +25,7 @@ use Rattle.rewriting_forms.specs.Numbered.{among, lines_at, line_at, is_given, g
 use Rattle.rewriting_forms.specs.Liveness.{is_use, any_held, uses_here, live_lines, is_live, is_live_after, live_list, lists_from}
 use Rattle.rewriting_laws.proofs.NameLemmas.{line_is, among_filter, filter_among}
 use Rattle.live_sets.specs.Values.{has_mark, valued}
-use Rattle.live_sets.specs.Rows.{Changed, HasMarks}
+use Rattle.live_sets.specs.Sets.{is_in, AreMarked, Changed, HasMembers}
 use Rattle.live_sets.specs.Uses.{names, uses, line_uses}
 use Rattle.live_sets.specs.Starts.{first_of}
 use Rattle.live_sets.specs.Ends.{lives_at_end}
@@ -31,7 +34,7 @@ use Rattle.ir_ast.specs.Blocks.{BasicBlock}
 use Rattle.rewriting_laws.proofs.LiveLaws.{drop_all}
 use Rattle.live_sets.proofs.NumberLemmas.{get_read, after_push}
 use Rattle.live_sets.proofs.UseLemmas.{uses_same, among_mark, line_get, lines_length, same_test}
-use Rattle.live_sets.proofs.EndsLaws.{marked_below}
+use Rattle.live_sets.proofs.SetLemmas.{keys_are, filter_both}
 use Rattle.live_sets.proofs.EdgeLemmas.{among_has}
 
 any_same : {A : Type 0} (p q : A → Bool) (xs : List A) → ((x : A) → p x ≡ q x) → list_any p xs ≡ list_any q xs
@@ -47,15 +50,6 @@ filter_same p q (x ∷ xs) same =
     let here = same x (contains_first x xs) in
     let rest = filter_same p q xs (λ y has. same y (contains_later x y xs has)) in
     rw (here, rest) refl
-
-filter_map : (p : ValueId → Bool) (xs : List ℕ) → filter p (map valued xs) ≡ map valued (filter (λ (x : ℕ). p (valued x)) xs)
-filter_map p [] = refl
-filter_map p (x ∷ xs) = one_more (p (valued x)) refl (filter_map p xs)
-  where
-    one_more : (t : Bool) → p (valued x) ≡ t → filter p (map valued xs) ≡ map valued (filter (λ (x : ℕ). p (valued x)) xs)
-        → filter p (map valued (x ∷ xs)) ≡ map valued (filter (λ (x : ℕ). p (valued x)) (x ∷ xs))
-    one_more true is rest = rw is (ap (λ (ys : List ValueId). valued x ∷ ys) rest)
-    one_more false is rest = rw is rest
 
 pub named_given : (to : Option ℕ) (v : ℕ) → names (option_map valued to) v ≡ is_given to v
 named_given None v = refl
@@ -101,7 +95,7 @@ module _ (func : Function) (table : List Operand) (marks : List Bool) (right : m
         split (y ∷ xs) zero x is = let e : y ≡ x = cc in ap (λ (z : Line). z ∷ xs) e
         split (y ∷ xs) (suc k) x is = split xs k x is
 
-    -- the row one line further to the front
+    -- whether it is live one line further to the front
     pub row_back : (place : ℕ) (inst : Instruction) (to : Option ValueId) (v : ℕ) (old mid new : Bool) → slice_get (insts_in func b) place ≡ Some inst
         → to ≡ option_map valued (numbered (after_all (first_of func b) (take place (insts_in func b))) inst).to
         → old ≡ live_at (suc place) v → mid ≡ ((is_call inst.op && is_held marks table v inst) || old)
@@ -117,17 +111,19 @@ module _ (func : Function) (table : List Operand) (marks : List Bool) (right : m
         ∙ sym (ap (live_lines func table v (lives_at_end func table b v)) (lines_split place inst at))
 
     -- the list of a call
-    pub list_is_live : (place : ℕ) (inst : Instruction) (to : Option ValueId) (row : List Bool) → slice_get (insts_in func b) place ≡ Some inst
+    pub list_is_live : (place : ℕ) (inst : Instruction) (to : Option ValueId) (set : BTreeSet ℕ) → slice_get (insts_in func b) place ≡ Some inst
         → to ≡ option_map valued (numbered (after_all (first_of func b) (take place (insts_in func b))) inst).to
-        → ((v : ℕ) → has_mark marks v ≡ true → slice_index_or row v false ≡ (is_held marks table v inst || live_at (suc place) v))
-        → filter (λ (value : ValueId). slice_index_or row value.0 false && not (names to value.0)) (map valued (pointers func)) ≡ map valued (live_list func table b place)
-    list_is_live place inst to row at given marked =
-        filter_map (λ (value : ValueId). slice_index_or row value.0 false && not (names to value.0)) (pointers func)
-        ∙ ap (map valued) (filter_same (λ (v : ℕ). slice_index_or row v false && not (names to v)) (λ (v : ℕ). is_live_after func table b place v && not (gives (line_at func b place) v)) (pointers func)
+        → AreMarked marks set → IsStrictlySortedBy nat_cmp set.keys
+        → ((v : ℕ) → has_mark marks v ≡ true → is_in set v ≡ (is_held marks table v inst || live_at (suc place) v))
+        → map valued (filter (λ (v : ℕ). not (names to v)) set.keys) ≡ map valued (live_list func table b place)
+    list_is_live place inst to set at given are ordered marked =
+        ap (λ (keys : List ℕ). map valued (filter (λ (v : ℕ). not (names to v)) keys)) (keys_are func marks right set are ordered)
+        ∙ ap (map valued) (filter_both (is_in set) (λ (v : ℕ). not (names to v)) (pointers func)
+        ∙ filter_same (λ (v : ℕ). is_in set v && not (names to v)) (λ (v : ℕ). is_live_after func table b place v && not (gives (line_at func b place) v)) (pointers func)
         (λ v has. one v (sym (among_mark func marks right v) ∙ among_has (pointers func) v has)))
       where
         one : (v : ℕ) → has_mark marks v ≡ true
-            → (slice_index_or row v false && not (names to v)) ≡ (is_live_after func table b place v && not (gives (line_at func b place) v))
+            → (is_in set v && not (names to v)) ≡ (is_live_after func table b place v && not (gives (line_at func b place) v))
         one v pointer =
             let line = numbered (after_all (first_of func b) (take place (insts_in func b))) inst in
             let stands = line_get (first_of func b) (insts_in func b) place inst at in
@@ -184,26 +180,25 @@ module _ (func : Function) (table : List Operand) (marks : List Bool) (right : m
 
     -- ---- a place of the block
 
-    step_row : (p : ℕ) (inst : Instruction) (to : Option ValueId) (values : List ValueId) (row mid new : List Bool) (old now next : List (Vec ValueId)) → slice_get (insts_in func b) p ≡ Some inst
-        → to ≡ option_map valued (numbered (after_all (first_of func b) (take p (insts_in func b))) inst).to → length row ≡ length marks
-        → AtPlace func table marks b (suc p) row old now → AddsList marks table values inst to row mid now next
-        → Changed mid new (λ (v : ℕ) (old : Bool). line_uses marks table v inst || (not (names to v) && old))
-        → (v : ℕ) → has_mark marks v ≡ true → slice_index_or new v false ≡ live_at p v
-    step_row p inst to values row mid new old now next at given whole here added changed v pointer =
-        let below = marked_below func marks right v pointer in
-        row_back p inst to v (slice_index_or row v false) (slice_index_or mid v false) (slice_index_or new v false) at given (here.marked v pointer)
-        (added.row.each v (omega (arith, whole, below))) (changed.each v (let w = added.row.whole in omega (arith, w, whole, below)))
+    step_live : (p : ℕ) (inst : Instruction) (to : Option ValueId) (set mid new : BTreeSet ℕ) (old now next : List (Vec ValueId)) → slice_get (insts_in func b) p ≡ Some inst
+        → to ≡ option_map valued (numbered (after_all (first_of func b) (take p (insts_in func b))) inst).to
+        → AtPlace func table marks b (suc p) set old now → AddsList marks table inst to set mid now next
+        → Changed marks mid new (λ (v : ℕ) (old : Bool). line_uses marks table v inst || (not (names to v) && old))
+        → (v : ℕ) → has_mark marks v ≡ true → is_in new v ≡ live_at p v
+    step_live p inst to set mid new old now next at given here added changed v pointer =
+        row_back p inst to v (is_in set v) (is_in mid v) (is_in new v) at given (here.live v pointer) (added.set.each v pointer) (changed.each v pointer)
 
-    pub step : (p : ℕ) (inst : Instruction) (to : Option ValueId) (values : List ValueId) (row mid new : List Bool) (old now next : List (Vec ValueId)) → slice_get (insts_in func b) p ≡ Some inst
-        → to ≡ option_map valued (numbered (after_all (first_of func b) (take p (insts_in func b))) inst).to → length row ≡ length marks → values ≡ map valued (pointers func)
-        → AtPlace func table marks b (suc p) row old now → AddsList marks table values inst to row mid now next
-        → Changed mid new (λ (v : ℕ) (old : Bool). line_uses marks table v inst || (not (names to v) && old))
+    pub step : (p : ℕ) (inst : Instruction) (to : Option ValueId) (set mid new : BTreeSet ℕ) (old now next : List (Vec ValueId)) → slice_get (insts_in func b) p ≡ Some inst
+        → to ≡ option_map valued (numbered (after_all (first_of func b) (take p (insts_in func b))) inst).to
+        → AtPlace func table marks b (suc p) set old now → AddsList marks table inst to set mid now next
+        → Changed marks mid new (λ (v : ℕ) (old : Bool). line_uses marks table v inst || (not (names to v) && old))
         → AtPlace func table marks b p new old next
-    step p inst to values row mid new old now next at given whole all here added changed = record {
-      marked = step_row p inst to values row mid new old now next at given whole here added changed;
+    step p inst to set mid new old now next at given here added changed = record {
+      live = step_live p inst to set mid new old now next at given here added changed;
+      marked = changed.marked (added.set.marked here.marked);
       listed =
-          added.list ∙ ap (λ (xs : List (List ValueId)). xs ++ (if is_call inst.op then filter (λ (value : ValueId). slice_index_or mid value.0 false && not (names to value.0)) values ∷ [] else [])) here.listed
-          ∙ append_assoc (items_of old) behind (if is_call inst.op then filter (λ (value : ValueId). slice_index_or mid value.0 false && not (names to value.0)) values ∷ [] else [])
+          added.list ∙ ap (λ (xs : List (List ValueId)). xs ++ (if is_call inst.op then map valued (filter (λ (v : ℕ). not (names to v)) mid.keys) ∷ [] else [])) here.listed
+          ∙ append_assoc (items_of old) behind (if is_call inst.op then map valued (filter (λ (v : ℕ). not (names to v)) mid.keys) ∷ [] else [])
           ∙ ap (λ (xs : List (List ValueId)). items_of old ++ (behind ++ xs)) (one (is_call inst.op) refl)
           ∙ ap (λ (xs : List (List ValueId)). items_of old ++ xs) (sym (lists_back p inst at));
     }
@@ -212,29 +207,29 @@ module _ (func : Function) (table : List Operand) (marks : List Bool) (right : m
         behind = reverse (map (map valued) (lists_from func table b (suc p) (drop (suc p) lines)))
 
         one : (t : Bool) → is_call inst.op ≡ t
-            → (if is_call inst.op then filter (λ (value : ValueId). slice_index_or mid value.0 false && not (names to value.0)) values ∷ [] else [])
+            → (if is_call inst.op then map valued (filter (λ (v : ℕ). not (names to v)) mid.keys) ∷ [] else [])
             ≡ (if is_call inst.op then map valued (live_list func table b p) ∷ [] else [])
         one false not_one = rw not_one refl
         one true is =
-            let has : (v : ℕ) → has_mark marks v ≡ true → slice_index_or mid v false ≡ (is_held marks table v inst || live_at (suc p) v) =
-            λ v pointer. (let below = marked_below func marks right v pointer in
-            added.row.each v (omega (arith, whole, below))
-            ∙ ap (λ (t : Bool). (t && is_held marks table v inst) || slice_index_or row v false) is ∙ ap (λ (t : Bool). is_held marks table v inst || t) (here.marked v pointer)) in
-            let list = ap (filter (λ (value : ValueId). slice_index_or mid value.0 false && not (names to value.0))) all ∙ list_is_live p inst to mid at given has in
+            let has : (v : ℕ) → has_mark marks v ≡ true → is_in mid v ≡ (is_held marks table v inst || live_at (suc p) v) =
+            λ v pointer. (added.set.each v pointer
+            ∙ ap (λ (t : Bool). (t && is_held marks table v inst) || is_in set v) is ∙ ap (λ (t : Bool). is_held marks table v inst || t) (here.live v pointer)) in
+            let list = list_is_live p inst to mid at given (added.set.marked here.marked) (added.ordered is) has in
             rw is (ap (λ (xs : List ValueId). xs ∷ []) list)
 
-    pub begun : (values : List ValueId) (row : List Bool) (old : List (Vec ValueId)) → values ≡ map valued (filter (lives_at_end func table b) (pointers func))
-        → HasMarks (length marks) values row → AtPlace func table marks b (length (insts_in func b)) row old old
-    begun values row old are has =
+    pub begun : (values : List ValueId) (set : BTreeSet ℕ) (old : List (Vec ValueId)) → values ≡ map valued (filter (lives_at_end func table b) (pointers func))
+        → HasMembers marks values set → AtPlace func table marks b (length (insts_in func b)) set old old
+    begun values set old are has =
         let long : length lines ≡ length (insts_in func b) = lines_length (first_of func b) (insts_in func b) in
         record {
-          marked = λ v pointer.
-              has.each v (marked_below func marks right v pointer)
+          live = λ v pointer.
+              has.each v pointer
               ∙ ap (list_any (λ (value : ValueId). eqb value.0 v)) are ∙ any_valued v (filter (lives_at_end func table b) (pointers func))
               ∙ same_test (among v (filter (lives_at_end func table b) (pointers func))) (lives_at_end func table b v)
               (λ is. (among_filter (lives_at_end func table b) v (pointers func) is).1)
               (λ is. filter_among (lives_at_end func table b) v (pointers func) (among_mark func marks right v ∙ pointer) is)
               ∙ sym (ap (λ (n : ℕ). live_lines func table v (lives_at_end func table b v) (drop n lines)) (sym long) ∙ ap (live_lines func table v (lives_at_end func table b v)) (drop_all lines));
+          marked = has.marked;
           listed =
               sym (append-nil (items_of old))
               ∙ sym (ap (λ (xs : List (List ℕ)). items_of old ++ reverse (map (map valued) xs)) (ap (λ (n : ℕ). lists_from func table b n (drop n lines)) (sym long) ∙ lists_none));
@@ -244,8 +239,8 @@ module _ (func : Function) (table : List Operand) (marks : List Bool) (right : m
         any_valued v [] = refl
         any_valued v (x ∷ xs) = ap (λ (t : Bool). eqb x v || t) (any_valued v xs)
 
-    pub done : (place : ℕ) (row : List Bool) (old now : List (Vec ValueId)) → place ≡ 0 → AtPlace func table marks b place row old now → AddsBlock func table b old now
-    done place row old now at_front here = here.listed ∙ ap (λ (n : ℕ). items_of old ++ reverse (map (map valued) (lists_from func table b n (drop n lines)))) at_front
+    pub done : (place : ℕ) (set : BTreeSet ℕ) (old now : List (Vec ValueId)) → place ≡ 0 → AtPlace func table marks b place set old now → AddsBlock func table b old now
+    done place set old now at_front here = here.listed ∙ ap (λ (n : ℕ). items_of old ++ reverse (map (map valued) (lists_from func table b n (drop n lines)))) at_front
 
     pub nothing_added : (old : List (Vec ValueId)) → list_any (λ (inst : Instruction). is_call inst.op) (insts_in func b) ≡ false → AddsBlock func table b old old
     nothing_added old none =

@@ -1,5 +1,5 @@
 -- Where pointers are live, by walks backwards along edges.
-use Rattle.std.specs.Prelude.{◌≡◌, ℕ, ◌<◌, ◌+◌, ◌==◌, ◌&&◌, nat_le, nat_lt, Bool, if◌then◌else◌, List, [], ◌∷◌, ◌++◌, length, map, filter, slice_index_or}
+use Rattle.std.specs.Prelude.{◌≡◌, ℕ, ◌<◌, ◌+◌, ◌&&◌, nat_le, nat_lt, Bool, if◌then◌else◌, List, [], ◌∷◌, ◌++◌, length, map, filter, slice_index_or}
 use Rattle.std.specs.List.{list_any, range_with_len}
 use Rattle.std.specs.Global.{Vec}
 use Rattle.sp_ids.specs.declared.ids.ValueId.{ValueId}
@@ -34,9 +34,10 @@ AreFronts func fronts = fronts ≡ map (preds func) (range_with_len 0 (length fu
 
 -- ---- what is found
 
-pub record GrownAtIf (test : Bool) (old new : List (Vec ValueId)) (place : ℕ) (item : ValueId) : Type 0 where
+-- the lists of these places have an item more
+pub record GrownWhere (old new : List (Vec ValueId)) (test : ℕ → Bool) (item : ValueId) : Type 0 where
   pub whole : length new ≡ length old
-  pub each : (v : ℕ) → v < length old → list_at new v ≡ list_at old v ++ (if test && (place == v) then item ∷ [] else [])
+  pub each : (v : ℕ) → v < length old → list_at new v ≡ list_at old v ++ (if test v then item ∷ [] else [])
 
 -- the value is added to the lists of the ends that walks from the starts lead to
 pub record AddsEnds (rows : List (List ℕ)) (starts : List ℕ) (value : ValueId) (old new : List (Vec ValueId)) : Type 0 where

@@ -1,5 +1,5 @@
 pub mod Values
-pub mod Rows
+pub mod Sets
 pub mod Uses
 pub mod Starts
 pub mod Ends

@@ -1,4 +1,4 @@
-ghost use Rattle.std.specs.Prelude.{◌≡◌, ◌<◌, ◌≤◌, ◌+◌, ◌^◌, ◌++◌, [], ◌∷◌, if◌then◌else◌, length, map, filter, IfOk, slice_index_or, false};
+ghost use Rattle.std.specs.Prelude.{◌≡◌, ◌<◌, ◌≤◌, ◌+◌, ◌==◌, ◌^◌, ◌++◌, [], ◌∷◌, if◌then◌else◌, length, map, filter, replicate, IfOk, slice_index_or, false};
 ghost use Rattle.std.specs.List.{All};
 ghost use Rattle.ir_ast.specs.Formed.{IsFormed};
 ghost use Rattle.ir_cfg.specs.Graphs.{graph_of, preds_of};
@@ -9,12 +9,13 @@ ghost use Rattle.ir_ast.specs.Values.{value_types};
 ghost use Rattle.rewriting_forms.specs.Numbered.{pointers};
 ghost use Rattle.live_sets.specs.Values.{has_mark, valued};
 ghost use Rattle.live_sets.specs.Starts.{list_at, GrownAt, AreStarts};
-ghost use Rattle.live_sets.specs.Ends.{backward_rows, GrownAtIf, gives_in, numbers_of, AreFronts, AddsEnds, AreEnds};
+ghost use Rattle.live_sets.specs.Ends.{backward_rows, GrownWhere, gives_in, numbers_of, AreFronts, AddsEnds, AreEnds};
 
 use crate::starts::{add_to, empty_lists};
-use graph_search::{Edges, reached_from};
+use graph_search::Edges;
 use ir_ast::{Func, Operand};
 use ir_cfg::Cfg;
+use shared_search::reached;
 use sp_ids::{BlockId, Memory, ValueId};
 use std::alloc::Global;
 
@@ -95,10 +96,18 @@ pub(crate) fn ends(
         firsts,
         value: 0,
     };
+    let mut seen = vec![in alloc; false; places.node_count()]?;
     for value in values {
         let number = value.0 as usize;
         places.value = number;
-        add_ends(alloc, &places, *value, starts[number].as_slice(), &mut ends)?;
+        add_ends(
+            alloc,
+            &places,
+            *value,
+            starts[number].as_slice(),
+            &mut seen,
+            &mut ends,
+        )?;
     }
     Ok(ends)
 }
@@ -125,39 +134,37 @@ fn numbers(alloc: Global, blocks: &[BlockId]) -> Result<Vec<usize>, Memory>
     Ok(numbers)
 }
 
-// Adds a pointer to the lists of the blocks at whose ends it is live.
+// Adds a pointer to the lists of the blocks at whose ends it is live. The marks of places are clear before and behind.
 fn add_ends(
     alloc: Global,
     places: &Backward,
     value: ValueId,
     starts: &[usize],
+    seen: &mut Vec<bool>,
     ends: &mut Vec<Vec<ValueId>>,
 ) -> Result<(), Memory>
     requires inside { AreInside (backward_rows (numbers_of places.now.fronts.items) places.now.firsts.items places.now.value) starts.now }
+    requires clear { seen.old.items ≡ replicate (length places.now.fronts.items + length places.now.fronts.items) false }
     requires whole { length ends.old.items ≡ length places.now.fronts.items }
-    ensures { IfOk result (λ _. AddsEnds (backward_rows (numbers_of places.now.fronts.items) places.now.firsts.items places.now.value) starts.now value ends.old.items ends.new.items) }
+    ensures clear { IfOk result (λ _. seen.new.items ≡ seen.old.items) }
+    ensures added { IfOk result (λ _. AddsEnds (backward_rows (numbers_of places.now.fronts.items) places.now.firsts.items places.now.value) starts.now value ends.old.items ends.new.items) }
 {
     if starts.is_empty() {
         return Ok(());
     }
-    let marks = reached_from(alloc, places, starts)?;
-    for block in 0..ends.len() {
-        add_marked(marks.as_slice(), block, value, ends)?;
+    let found = reached(alloc, places, starts, seen)?;
+    for node in found.as_slice() {
+        add_end(*node, value, ends)?;
     }
     Ok(())
 }
 
-fn add_marked(
-    marks: &[bool],
-    block: usize,
-    value: ValueId,
-    ends: &mut Vec<Vec<ValueId>>,
-) -> Result<(), Memory>
-    requires { block < length ends.old.items }
-    ensures { IfOk result (λ _. GrownAtIf (has_mark marks.now block) ends.old.items ends.new.items block value) }
+// Adds a pointer to the list of a block, where the place is its end.
+fn add_end(place: usize, value: ValueId, ends: &mut Vec<Vec<ValueId>>) -> Result<(), Memory>
+    ensures { IfOk result (λ _. GrownWhere ends.old.items ends.new.items (λ b. place == b) value) }
 {
-    if marks.get(block).copied().unwrap_or(false) {
-        add_to(ends, block, value)?;
+    if place >= ends.len() {
+        return Ok(());
     }
-    Ok(())
+    add_to(ends, place, value)
 }

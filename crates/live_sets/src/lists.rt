@@ -1,5 +1,7 @@
 ghost use Rattle.std.specs.Prelude.{◌≡◌, ◌<◌, ◌≤◌, ◌+◌, ◌^◌, ◌++◌, [], ◌∷◌, ◌&&◌, ◌||◌, not, if◌then◌else◌, length, map, filter, take, IfOk, is_some, Some, slice_index_or, false, true};
 ghost use Rattle.std.specs.List.{list_any};
+ghost use Rattle.std.specs.List.Sorted.{IsStrictlySortedBy};
+ghost use Rattle.std.specs.Ordering.{nat_cmp};
 ghost use Rattle.std.specs.Option.{option_map};
 ghost use Rattle.ir_ast.specs.Formed.{IsFormed};
 ghost use Rattle.ir_ast.specs.Callees.{is_leaf};
@@ -10,7 +12,7 @@ ghost use Rattle.object_meaning.specs.Lines.{following, numbered};
 ghost use Rattle.rewriting_forms.specs.Numbered.{is_call, pointers, lines_at};
 ghost use Rattle.rewriting_forms.specs.Liveness.{lists_from, live_lists};
 ghost use Rattle.live_sets.specs.Values.{valued};
-ghost use Rattle.live_sets.specs.Rows.{Changed, HasMarks};
+ghost use Rattle.live_sets.specs.Sets.{Changed, HasMembers};
 ghost use Rattle.live_sets.specs.Uses.{names, uses};
 ghost use Rattle.live_sets.specs.Starts.{first_of, list_at};
 ghost use Rattle.live_sets.specs.Ends.{AreEnds, lives_at_end};
@@ -19,12 +21,13 @@ ghost use Rattle.live_sets.specs.Lists.{items_of, is_held, AddsList, AddsBlock};
 use crate::ends::ends;
 use crate::numbers::{after, first_numbers};
 use crate::starts::starts;
-use crate::uses::{go_back, mark_bundle, put};
+use crate::uses::{go_back, put, put_bundle};
 use crate::values::{marked, pointer_marks};
 use ir_ast::{BaseTable, Callee, Func, Inst, LiveTable, Op, Operand};
 use ir_cfg::Cfg;
 use sp_ids::{Memory, ValueId};
 use std::alloc::Global;
+use std::collections::BTreeSet;
 
 /// The pointers that are live across each call of a function that isn't a leaf, in text order: some path from behind the call
 /// reaches a use of the pointer, or of one derived from it, before a definition. Each list has arguments first and then results in
@@ -63,7 +66,6 @@ pub fn live(alloc: Global, func: &Func, cfg: &Cfg, bases: &BaseTable) -> Result<
             firsts[number],
             marks.as_slice(),
             table,
-            values.as_slice(),
             ends[number].as_slice(),
             &mut lists,
         )?;
@@ -80,14 +82,12 @@ fn add_block(
     first: usize,
     marks: &[bool],
     bases: &[Operand],
-    values: &[ValueId],
     ends: &[ValueId],
     lists: &mut Vec<Vec<ValueId>>,
 ) -> Result<(), Memory>
     requires number { number < length func.now.content.blocks }
     requires first { first ≡ first_of func.now.content number }
     requires marks { marks.now ≡ map is_pointer (value_types func.now.content) }
-    requires values { values.now ≡ map valued (pointers func.now.content) }
     requires ends { ends.now ≡ map valued (filter (lives_at_end func.now.content bases.now number) (pointers func.now.content)) }
     ensures { IfOk result (λ _. AddsBlock func.now.content bases.now number lists.old.items lists.new.items) }
 {
@@ -95,7 +95,7 @@ fn add_block(
     if !has_call(insts) {
         return Ok(());
     }
-    let mut row = row_of(alloc, marks.len(), ends)?;
+    let mut set = set_of(alloc, marks, ends)?;
     let mut next = after(first, insts);
     let mut place = insts.len();
     while place > 0 {
@@ -103,8 +103,8 @@ fn add_block(
         let inst = &insts[place];
         next = before(inst, next);
         let to = result_of(inst, next);
-        add_list(alloc, marks, bases, values, inst, to, &mut row, lists)?;
-        go_back(marks, bases, inst, to, &mut row);
+        add_list(alloc, marks, bases, inst, to, &mut set, lists)?;
+        go_back(marks, bases, inst, to, &mut set)?;
     }
     Ok(())
 }
@@ -164,16 +164,15 @@ fn is_leaf(callee: Callee) -> bool
     }
 }
 
-// A row with marks for these values.
-fn row_of(alloc: Global, count: usize, values: &[ValueId]) -> Result<Vec<bool>, Memory>
-    ensures whole { IfOk result (λ row. length row.items ≡ count) }
-    ensures marks { IfOk result (λ row. HasMarks count values.now row.items) }
+// The set of these pointers.
+fn set_of(alloc: Global, marks: &[bool], values: &[ValueId]) -> Result<BTreeSet<u32>, Memory>
+    ensures { IfOk result (λ set. HasMembers marks.now values.now set) }
 {
-    let mut row = vec![in alloc; false; count]?;
+    let mut set = BTreeSet::new(alloc);
     for value in values {
-        put(&mut row, Some(*value), true);
+        put(marks, Some(*value), &mut set)?;
     }
-    Ok(row)
+    Ok(set)
 }
 
 // The number of the first result from an instruction on, given the number behind it.
@@ -203,42 +202,33 @@ fn add_list(
     alloc: Global,
     marks: &[bool],
     bases: &[Operand],
-    values: &[ValueId],
     inst: &Inst,
     to: Option<ValueId>,
-    row: &mut Vec<bool>,
+    set: &mut BTreeSet<u32>,
     lists: &mut Vec<Vec<ValueId>>,
 ) -> Result<(), Memory>
-    ensures { IfOk result (λ _. AddsList marks.now bases.now values.now inst.now to row.old.items row.new.items lists.old.items lists.new.items) }
+    ensures { IfOk result (λ _. AddsList marks.now bases.now inst.now to set.old set.new lists.old.items lists.new.items) }
 {
     if is_call(inst.op()) {
-        mark_bundle(marks, bases, inst.bundle(), row);
-        lists.push(list_of(alloc, values, row.as_slice(), to)?)?;
+        put_bundle(marks, bases, inst.bundle(), set)?;
+        lists.push(list_of(alloc, set, to)?)?;
     }
     Ok(())
 }
 
-fn list_of(
-    alloc: Global,
-    values: &[ValueId],
-    row: &[bool],
-    to: Option<ValueId>,
-) -> Result<Vec<ValueId>, Memory>
-    ensures { IfOk result (λ list. list.items ≡ filter (λ value. slice_index_or row.now value.0 false && not (names to value.0)) values.now) }
+// The pointers of a set but for one, in order.
+fn list_of(alloc: Global, set: &BTreeSet<u32>, to: Option<ValueId>) -> Result<Vec<ValueId>, Memory>
+    ensures ordered { IfOk result (λ _. IsStrictlySortedBy nat_cmp set.now.keys) }
+    ensures list { IfOk result (λ list. list.items ≡ map valued (filter (λ v. not (names to v)) set.now.keys)) }
 {
     let mut list = Vec::new(alloc);
-    for value in values {
-        if is_marked(row, *value) && !is_named(to, *value) {
-            list.push(*value)?;
+    for number in set.iter() {
+        let value = ValueId(*number);
+        if !is_named(to, value) {
+            list.push(value)?;
         }
     }
     Ok(list)
-}
-
-fn is_marked(row: &[bool], value: ValueId) -> bool
-    ensures { result ≡ slice_index_or row.now value.0 false }
-{
-    row.get(value.0 as usize).copied().unwrap_or(false)
 }
 
 fn is_named(named: Option<ValueId>, value: ValueId) -> bool

@@ -1,6 +1,6 @@
 //! Where phis are inserted.
 
-ghost use Rattle.std.specs.Prelude.{◌≡◌, ◌<◌, ◌≤◌, ◌+◌, ◌++◌, ◌&&◌, [], ◌∷◌, if◌then◌else◌, length, map, slice_index_or, IfOk};
+ghost use Rattle.std.specs.Prelude.{◌≡◌, ◌<◌, ◌≤◌, ◌+◌, ◌++◌, ◌&&◌, ◌==◌, [], ◌∷◌, if◌then◌else◌, length, map, replicate, false, slice_index_or, IfOk};
 ghost use Rattle.ir_ast.specs.Types.{is_pointer};
 ghost use Rattle.ir_ast.specs.Values.{value_types};
 ghost use Rattle.object_meaning.specs.Lines.{registers_of};
@@ -11,16 +11,17 @@ ghost use Rattle.ir_cfg.specs.Graphs.{graph_of};
 ghost use Rattle.graph_search.specs.Edges.{AreInside};
 ghost use Rattle.rewriting_forms.specs.Names.{is_many};
 ghost use Rattle.live_sets.specs.Values.{has_mark, valued};
-ghost use Rattle.live_sets.specs.Ends.{backward_rows, numbers_of, GrownAtIf};
+ghost use Rattle.live_sets.specs.Ends.{backward_rows, numbers_of, GrownWhere};
 ghost use Rattle.live_sets.specs.Joins.{AreListed, AddsJoins, AreJoins};
 
 use crate::ends::{Backward, fronts};
 use crate::numbers::first_numbers;
 use crate::starts::{add_to, empty_lists, starts};
 use crate::values::{marked, pointer_marks};
-use graph_search::reached_from;
+use graph_search::Edges;
 use ir_ast::{Func, Operand};
 use ir_cfg::Cfg;
+use shared_search::reached;
 use sp_ids::{Memory, ValueId};
 use std::alloc::Global;
 
@@ -88,6 +89,7 @@ fn all_joins(
         firsts,
         value: 0,
     };
+    let mut seen = vec![in alloc; false; places.node_count()]?;
     for value in values {
         let number = value.0 as usize;
         places.value = number;
@@ -98,6 +100,7 @@ fn all_joins(
             *value,
             wanted,
             starts[number].as_slice(),
+            &mut seen,
             &mut joins,
         )?;
     }
@@ -110,18 +113,22 @@ fn is_listed(listed: &[bool], number: usize) -> bool
     listed.get(number).copied().unwrap_or(false)
 }
 
-// Adds a pointer, where it is wanted, to the lists of the joins at whose fronts it is live.
+// Adds a pointer, where it is wanted, to the lists of the joins at whose fronts it is live. The marks of places are clear before and
+// behind.
 fn add_joins(
     alloc: Global,
     places: &Backward,
     value: ValueId,
     wanted: bool,
     starts: &[usize],
+    seen: &mut Vec<bool>,
     joins: &mut Vec<Vec<ValueId>>,
 ) -> Result<(), Memory>
     requires inside { AreInside (backward_rows (numbers_of places.now.fronts.items) places.now.firsts.items places.now.value) starts.now }
+    requires clear { seen.old.items ≡ replicate (length places.now.fronts.items + length places.now.fronts.items) false }
     requires whole { length joins.old.items ≡ length places.now.fronts.items }
-    ensures { IfOk result (λ _. AddsJoins (backward_rows (numbers_of places.now.fronts.items) places.now.firsts.items places.now.value) (numbers_of places.now.fronts.items)
+    ensures clear { IfOk result (λ _. seen.new.items ≡ seen.old.items) }
+    ensures added { IfOk result (λ _. AddsJoins (backward_rows (numbers_of places.now.fronts.items) places.now.firsts.items places.now.value) (numbers_of places.now.fronts.items)
         (length joins.old.items) starts.now wanted value joins.old.items joins.new.items) }
 {
     if !wanted {
@@ -130,11 +137,9 @@ fn add_joins(
     if starts.is_empty() {
         return Ok(());
     }
-    let marks = reached_from(alloc, places, starts)?;
-    let count = joins.len();
-    for block in 0..count {
-        let many = is_many(places.fronts[block].as_slice());
-        add_join(marks.as_slice(), count + block, many, block, value, joins)?;
+    let found = reached(alloc, places, starts, seen)?;
+    for node in found.as_slice() {
+        add_join(places.fronts.as_slice(), *node, value, joins)?;
     }
     Ok(())
 }
@@ -145,19 +150,27 @@ fn is_many(blocks: &[usize]) -> bool
     blocks.len() > 1
 }
 
+// Adds a pointer to the list of a block, where the place is its front and two or more edges lead into it.
 fn add_join(
-    marks: &[bool],
-    node: usize,
-    many: bool,
-    block: usize,
+    fronts: &[Vec<usize>],
+    place: usize,
     value: ValueId,
     joins: &mut Vec<Vec<ValueId>>,
 ) -> Result<(), Memory>
-    requires { block < length joins.old.items }
-    ensures { IfOk result (λ _. GrownAtIf (many && has_mark marks.now node) joins.old.items joins.new.items block value) }
+    requires whole { length joins.old.items ≡ length fronts.now }
+    ensures { IfOk result (λ _. GrownWhere joins.old.items joins.new.items
+        (λ b. is_many (slice_index_or (numbers_of fronts.now) b []) && (place == (length joins.old.items + b))) value) }
 {
-    if many && marks.get(node).copied().unwrap_or(false) {
-        add_to(joins, block, value)?;
+    let count = joins.len();
+    if place < count {
+        return Ok(());
     }
-    Ok(())
+    let block = place - count;
+    if block >= count {
+        return Ok(());
+    }
+    if !is_many(fronts[block].as_slice()) {
+        return Ok(());
+    }
+    add_to(joins, block, value)
 }

@@ -1,11 +1,13 @@
-ghost use Rattle.std.specs.Prelude.{◌≡◌, ◌||◌, ◌&&◌, not, if◌then◌else◌};
+ghost use Rattle.std.specs.Prelude.{◌≡◌, ◌||◌, ◌&&◌, not, true, false, if◌then◌else◌, IfOk};
 ghost use Rattle.std.specs.List.{list_any};
 ghost use Rattle.ir_ast.specs.Faults.PhiEdges.{is_phi};
-ghost use Rattle.live_sets.specs.Rows.{Changed};
+ghost use Rattle.live_sets.specs.Values.{has_mark};
+ghost use Rattle.live_sets.specs.Sets.{Changed};
 ghost use Rattle.live_sets.specs.Uses.{value_named, base_named, uses_of, names, uses, line_uses};
 
 use ir_ast::{Inst, Op, Operand, Ty};
-use sp_ids::ValueId;
+use sp_ids::{Memory, ValueId};
+use std::collections::BTreeSet;
 
 /// The values that an operand uses: a value, and where it is a pointer that isn't its own base, this base.
 #[derive(Clone, Copy)]
@@ -36,80 +38,127 @@ fn base_in(marks: &[bool], bases: &[Operand], value: Option<ValueId>) -> Option<
     ensures { result ≡ base_named marks.now bases.now value }
 {
     let value = value?;
-    let place = value.0 as usize;
-    if !marks.get(place).copied().unwrap_or(false) {
+    if !has_mark(marks, value) {
         return None;
     }
-    let base = value_in(bases.get(place).copied().unwrap_or(Operand::Null))?;
+    let base = value_in(
+        bases
+            .get(value.0 as usize)
+            .copied()
+            .unwrap_or(Operand::Null),
+    )?;
     if base.0 == value.0 {
         return None;
     }
     Some(base)
 }
 
-/// Sets the mark of a value, where there is one.
-pub(crate) fn put(row: &mut Vec<bool>, value: Option<ValueId>, mark: bool)
-    ensures { Changed row.old.items row.new.items (λ v old. if names value v then mark else old) }
+/// Puts a value into a set of pointers, where it is one.
+pub(crate) fn put(
+    marks: &[bool],
+    value: Option<ValueId>,
+    set: &mut BTreeSet<u32>,
+) -> Result<(), Memory>
+    ensures { IfOk result (λ _. Changed marks.now set.old set.new (λ v old. if names value v then true else old)) }
 {
     if let Some(value) = value {
-        if (value.0 as usize) < row.len() {
-            row[value.0 as usize] = mark;
+        if has_mark(marks, value) {
+            set.insert(value.0)?;
         }
+    }
+    Ok(())
+}
+
+fn has_mark(marks: &[bool], value: ValueId) -> bool
+    ensures { result ≡ has_mark marks.now value.0 }
+{
+    marks.get(value.0 as usize).copied().unwrap_or(false)
+}
+
+// Takes a value out of a set of pointers.
+fn take(marks: &[bool], value: Option<ValueId>, set: &mut BTreeSet<u32>)
+    ensures { Changed marks.now set.old set.new (λ v old. if names value v then false else old) }
+{
+    if let Some(value) = value {
+        set.remove(&value.0);
     }
 }
 
-/// Marks what an operand uses.
-pub(crate) fn mark_operand(marks: &[bool], bases: &[Operand], operand: Operand, row: &mut Vec<bool>)
-    ensures { Changed row.old.items row.new.items (λ v old. uses marks.now bases.now v operand || old) }
+/// Puts in what an operand uses.
+pub(crate) fn put_operand(
+    marks: &[bool],
+    bases: &[Operand],
+    operand: Operand,
+    set: &mut BTreeSet<u32>,
+) -> Result<(), Memory>
+    ensures { IfOk result (λ _. Changed marks.now set.old set.new (λ v old. uses marks.now bases.now v operand || old)) }
 {
     let used = uses_of(marks, bases, operand);
-    put(row, used.itself, true);
-    put(row, used.base, true);
+    put(marks, used.itself, set)?;
+    put(marks, used.base, set)?;
+    Ok(())
 }
 
-/// Marks what these operands use.
-pub(crate) fn mark_operands(
+/// Puts in what these operands use.
+pub(crate) fn put_operands(
     marks: &[bool],
     bases: &[Operand],
     operands: &[Operand],
-    row: &mut Vec<bool>,
-)
-    ensures { Changed row.old.items row.new.items (λ v old. list_any (uses marks.now bases.now v) operands.now || old) }
+    set: &mut BTreeSet<u32>,
+) -> Result<(), Memory>
+    ensures { IfOk result (λ _. Changed marks.now set.old set.new (λ v old. list_any (uses marks.now bases.now v) operands.now || old)) }
 {
     for operand in operands {
-        mark_operand(marks, bases, *operand, row);
+        put_operand(marks, bases, *operand, set)?;
     }
+    Ok(())
 }
 
-/// Marks what the operands of a bundle use.
-pub(crate) fn mark_bundle(
+/// Puts in what the operands of a bundle use.
+pub(crate) fn put_bundle(
     marks: &[bool],
     bases: &[Operand],
     bundle: &[(Ty, Operand)],
-    row: &mut Vec<bool>,
-)
-    ensures { Changed row.old.items row.new.items (λ v old. list_any (λ entry. uses marks.now bases.now v entry.1) bundle.now || old) }
+    set: &mut BTreeSet<u32>,
+) -> Result<(), Memory>
+    ensures { IfOk result (λ _. Changed marks.now set.old set.new (λ v old. list_any (λ entry. uses marks.now bases.now v entry.1) bundle.now || old)) }
 {
     for (_, operand) in bundle {
-        mark_operand(marks, bases, *operand, row);
+        put_operand(marks, bases, *operand, set)?;
     }
+    Ok(())
 }
 
-/// Goes back over a line: what it gives isn't live before it, and what it uses is. The entries of a phi are used elsewhere.
+// Puts in what the operands of a line use. The entries of a phi are used elsewhere.
+fn put_own(
+    marks: &[bool],
+    bases: &[Operand],
+    inst: &Inst,
+    set: &mut BTreeSet<u32>,
+) -> Result<(), Memory>
+    ensures { IfOk result (λ _. Changed marks.now set.old set.new (λ v old. (not (is_phi inst.now.op) && list_any (uses marks.now bases.now v) inst.now.operands) || old)) }
+{
+    if is_phi(inst.op()) {
+        return Ok(());
+    }
+    put_operands(marks, bases, inst.operands(), set)?;
+    Ok(())
+}
+
+/// Goes back over a line: what it gives isn't live before it, and what it uses is.
 pub(crate) fn go_back(
     marks: &[bool],
     bases: &[Operand],
     inst: &Inst,
     to: Option<ValueId>,
-    row: &mut Vec<bool>,
-)
-    ensures { Changed row.old.items row.new.items (λ v old. line_uses marks.now bases.now v inst.now || (not (names to v) && old)) }
+    set: &mut BTreeSet<u32>,
+) -> Result<(), Memory>
+    ensures { IfOk result (λ _. Changed marks.now set.old set.new (λ v old. line_uses marks.now bases.now v inst.now || (not (names to v) && old))) }
 {
-    put(row, to, false);
-    if !is_phi(inst.op()) {
-        mark_operands(marks, bases, inst.operands(), row);
-    }
-    mark_bundle(marks, bases, inst.bundle(), row);
+    take(marks, to, set);
+    put_own(marks, bases, inst, set)?;
+    put_bundle(marks, bases, inst.bundle(), set)?;
+    Ok(())
 }
 
 /// Whether the operator is that of a phi.

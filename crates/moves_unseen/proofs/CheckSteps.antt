@@ -47,7 +47,7 @@ use Rattle.moves_unseen.proofs.ValueLaws.{same_number, value_at, word_at}
 
 -- ---- the traps of accesses
 
-data IsAccessTrap : Trap → Type 0 where
+pub data IsAccessTrap : Trap → Type 0 where
   null : IsAccessTrap Null
   bounds : IsAccessTrap Bounds
   kind : IsAccessTrap Kind
@@ -70,14 +70,14 @@ by_object layouts asked to (Some object) trap is =
     (eqb (kind_of (get_or (fields_in layouts object.layout) (to.offset / 8 % length (fields_in layouts object.layout)) I64)) (kind_of asked))
     (record { object = to.object; offset = to.offset; cell = to.offset / 8 }) trap (sym (within_is to (fields_in layouts object.layout) asked object.count) ∙ is)
 
-access_trap : (layouts : List ObjectLayout) (objects : List Object) (asked : Cell) (to : Pointer) (trap : Trap) → accessed layouts objects asked to ≡ Err trap → IsAccessTrap trap
+pub access_trap : (layouts : List ObjectLayout) (objects : List Object) (asked : Cell) (to : Pointer) (trap : Trap) → accessed layouts objects asked to ≡ Err trap → IsAccessTrap trap
 access_trap layouts objects asked to trap is =
     elim (none_or to.object) [
       | inl none ↦ subst IsAccessTrap (the_trap Null trap (accessed layouts objects asked to) (access_of_none layouts objects asked to none) is) null
       | inr some ↦ by_object layouts asked to (slice_get objects some.0) trap (sym (access_of_object layouts objects asked to some.0 (slice_get objects some.0) some.1 refl) ∙ is)
     ]
 
-denied_so : (machine : Machine) (trap : Trap) → IsAccessTrap trap → denied machine (deny_of trap) ≡ ends (Trapped trap) machine
+pub denied_so : (machine : Machine) (trap : Trap) → IsAccessTrap trap → denied machine (deny_of trap) ≡ ends (Trapped trap) machine
 denied_so machine _ null = refl
 denied_so machine _ bounds = refl
 denied_so machine _ kind = refl

@@ -309,6 +309,7 @@ module _ (content : ModuleContent) (target : IsTargetModule content) (map_given 
       running = running_there;
       below = related.below;
       tasks = related.tasks;
+      await = related.await;
     };
   })
 

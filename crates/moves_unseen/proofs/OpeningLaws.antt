@@ -1,9 +1,10 @@
 -- At the opening the machine is what it has of the target meaning's state.
-use Rattle.std.proofs.Common.{◌≡◌, ℕ, ℤ, zero, suc, ◌-◌, ◌&&◌, true, false, List, [], ◌∷◌, length, get_or, map, replicate, refl, sym, ap, ◌∙◌, arith, Option, Some}
+use Rattle.std.proofs.Common.{◌≡◌, ℕ, ℤ, zero, suc, ◌-◌, ◌&&◌, true, false, List, [], ◌∷◌, length, get_or, map, replicate, refl, sym, ap, ◌∙◌, arith, Option, Some, None}
 use Rattle.std.specs.Prelude.{slice_get, slice_index}
 use Rattle.std.specs.Option.{option_map_or}
 use Rattle.std.proofs.lemmas.Bool.{true≢false}
 use Rattle.std.proofs.lemmas.List.{length-replicate}
+use Rattle.std.proofs.lemmas.List.Elements.{All-cons, All-nil}
 use Rattle.ir_ast.specs.declared.funcs.Arg.{Arg}
 use Rattle.ir_ast.specs.declared.ops.Operand.{Operand}
 use Rattle.ir_ast.specs.declared.ops.Operand.TheVariants as operands
@@ -31,6 +32,7 @@ use Rattle.machine_meaning.specs.Code.{machinery_of, words_in}
 use Rattle.machine_meaning.specs.MachineRuns.{machine_opening}
 use Rattle.machine_meaning.specs.Machines.{Machinery}
 use Rattle.machine_meaning.specs.Relations.{word_in, IsPair}
+use Rattle.moves_unseen.specs.Awaits.{AreAwaiting}
 use Rattle.moves_unseen.specs.Frames.{AreWords, FrameWords, IsRunning}
 use Rattle.moves_unseen.specs.Objects.{AreHeld}
 use Rattle.moves_unseen.proofs.MainLaws.{main_found, register_for_each}
@@ -135,6 +137,13 @@ module _ (content : ModuleContent) (map_given : StackMap) (input : List ℤ) (pl
       running = running_is;
       below = tt;
       tasks = (tt, tt);
+      await = record {
+        below = tt;
+        tasks = All-cons (AreAwaiting None) [] [] tt (All-nil (AreAwaiting None));
+        place = refl;
+        runs = λ first. refl;
+        waits = λ frame more is. absurd cc;
+      };
     };
   }
 

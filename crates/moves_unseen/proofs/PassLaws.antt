@@ -62,5 +62,6 @@ module _ (content : ModuleContent) (machinery : Machinery) (state : State) (extr
           (put line.to datum state.running.registers) (put line.to word extra.running.words) state.objects are check select;
       below = related.below;
       tasks = related.tasks;
+      await = related.await;
     };
   }

@@ -141,6 +141,7 @@ module _ (content : ModuleContent) (machinery : Machinery) (setting : Setting) (
           running = follows.related.running;
           below = follows.related.below;
           tasks = follows.related.tasks;
+          await = follows.related.await;
         };
       })
 

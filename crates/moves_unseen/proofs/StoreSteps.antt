@@ -169,6 +169,7 @@ module _ (content : ModuleContent) (machinery : Machinery) (setting : Setting) (
           (λ to_given op managed gives_to. absurd (not_select line.inst.op op_is op));
       below = related.below;
       tasks = related.tasks;
+      await = related.await;
     };
   }
 

@@ -33,10 +33,13 @@ abbrev pub began : ℕ → List Frame → ℕ
 began func [] = func
 began func (frame ∷ below) = began frame.func below
 
--- all frames that wait, and the place of the running task, which is empty
-pub record TasksAwait (content : ModuleContent) (state : State) : Type 0 where
-  pub below : AreAwaiting (Some state.running.func) state.below
-  pub tasks : All (AreAwaiting None) state.tasks
-  pub place : slice_get state.tasks state.task ≡ Some []
-  pub runs : state.task ≡ 0 → began state.running.func state.below ≡ main_of content
-  pub waits : (frame : Frame) (below : List Frame) → slice_get state.tasks 0 ≡ Some (frame ∷ below) → began frame.func below ≡ main_of content
+-- all frames that wait, where a frame of this function runs above these; the place of the running task is empty
+pub record AllAwait (content : ModuleContent) (running : ℕ) (frames : List Frame) (task : ℕ) (all : List (List Frame)) : Type 0 where
+  pub below : AreAwaiting (Some running) frames
+  pub tasks : All (AreAwaiting None) all
+  pub place : slice_get all task ≡ Some []
+  pub runs : task ≡ 0 → began running frames ≡ main_of content
+  pub waits : (frame : Frame) (more : List Frame) → slice_get all 0 ≡ Some (frame ∷ more) → began frame.func more ≡ main_of content
+
+abbrev pub TasksAwait : ModuleContent → State → Type 0
+TasksAwait content state = AllAwait content state.running.func state.below state.task state.tasks

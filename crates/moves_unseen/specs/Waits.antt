@@ -1,6 +1,6 @@
 -- Frames that wait: how a running frame comes to wait at its statepoint, how it goes on behind the group, what a walk over the
 -- stack of a task makes of its frames, and the lines that wait. Each law is proved in a crate of its own.
-use Rattle.std.specs.Prelude.{◌≡◌, ⊤, ℕ, ◌<◌, true, false, List, [], ◌∷◌, ◌++◌, length, map, take, drop, Option, Some, slice_get, Ok}
+use Rattle.std.specs.Prelude.{◌≡◌, ⊤, ℕ, ◌<◌, true, false, List, [], ◌∷◌, ◌++◌, length, map, drop, Option, Some, Ok}
 use Rattle.std.specs.List.{All, AllZip, Contains}
 use Rattle.sp_ids.specs.declared.ids.FuncId.{FuncId}
 use Rattle.ir_ast.specs.declared.ops.Callee.{Callee}

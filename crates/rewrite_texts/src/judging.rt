@@ -59,7 +59,7 @@ fn outcome_of(alloc: Global, case: &Case, expected: &Expected) -> Outcome {
         Err(refused) => return Outcome::Judged(Verdict::NoSource(refused)),
     };
     match rewrite(alloc, source) {
-        Ok(made) => Outcome::Judged(judged(alloc, &made, &expected.text)),
+        Ok(made) => Outcome::Judged(judged(alloc, made.module(), &expected.text)),
         Err(fault) => Outcome::NotRewritten(fault),
     }
 }

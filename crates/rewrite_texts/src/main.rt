@@ -65,7 +65,7 @@ fn tell_text(rt: &HostRuntime, text: &[u8]) -> io::Result<End> {
     match source_of(rt.alloc(), text) {
         Ok(source) => match rewrite(rt.alloc(), source) {
             Ok(made) => {
-                println!(rt; "{} instructions", count_of(&made))?;
+                println!(rt; "{} instructions", count_of(made.module()))?;
                 Ok(End::Done)
             }
             Err(fault) => {

@@ -14,14 +14,15 @@ use ir_ast::{Form, Module};
 use ir_cfg::drop_unreachable;
 use poll_place::place;
 use rewrite_passes::{before_groups, with_groups};
+use statepoint_verify::Verified;
 use std::alloc::Global;
 
 /// The rewritten module of a source module: its unreached blocks are dropped, polls are placed, bases and checks put in, and each call
 /// that isn't of a leaf becomes a statepoint with its relocates (Garbage Collection Safepoints in LLVM, "PlaceSafepoints" and
 /// "RewriteStatepointsForGC"). With more than 4,194,304 relocates in all it is [`RewriteFault::TooManyRelocations`], which is decided
 /// before any statepoint is made; [`RewriteFault::Memory`] says nothing of the module. Each line has number 0. After a refusal the module
-/// is gone.
-pub fn rewrite(alloc: Global, source: Module) -> Result<Module, RewriteFault>
+/// is gone. That it has no fault of the verifier is a law, so the verifier doesn't run.
+pub fn rewrite(alloc: Global, source: Module) -> Result<Verified, RewriteFault>
     requires { IsSourceModule source.content }
     ensures rewritten { IfOk result (λ after. IsRewritten source.content after.content) }
     ensures target { IfOk result (λ after. IsTargetModule after.content) }
@@ -39,7 +40,8 @@ pub fn rewrite(alloc: Global, source: Module) -> Result<Module, RewriteFault>
         None => Err(RewriteFault::TooManyRelocations),
         Some(all) => {
             let after = with_groups(alloc, all)?;
-            Ok(Module::of(layouts, after, Form::Rewritten))
+            let target = Module::of(layouts, after, Form::Rewritten);
+            Ok(Verified::proved(target))
         }
     }
 }

@@ -109,7 +109,7 @@ none_left [] none = refl
 none_left (one ∷ records) none = absurd (omega arith)
 
 -- the records of a function and of those behind it
-split_by : (has : Bool) (start : ℕ) (func : Function) (laid : List FunctionLayout) (rest : List MapRecord) → nat_lt 0 (statepoints_of func) ≡ has
+pub split_by : (has : Bool) (start : ℕ) (func : Function) (laid : List FunctionLayout) (rest : List MapRecord) → nat_lt 0 (statepoints_of func) ≡ has
     → entries_of (map function_entry (cond has (laid_at start func ∷ filter (λ other. nat_lt 0 other.statepoints) laid) (filter (λ other. nat_lt 0 other.statepoints) laid)))
     (records_of func ++ rest)
     ≡ map (entry_of (function_entry (laid_at start func))) (records_of func) ++ entries_of (function_entries laid) rest

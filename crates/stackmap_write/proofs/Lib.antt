@@ -7,3 +7,4 @@ pub mod PlaceFitLaws
 pub mod GroupLaws
 pub mod FitLaws
 pub mod AddressLaws
+pub mod SizeLemmas

@@ -1,3 +1,4 @@
 pub mod ModuleMaps
 pub mod Writing
 pub mod TargetMaps
+pub mod Sizes

@@ -37,8 +37,8 @@ fn put_header(bytes: &mut Vec<u8>, functions: u32, records: u32) -> Result<(), M
     Ok(())
 }
 
-// How many functions have a statepoint.
-fn entry_count(layouts: &Layouts) -> u32
+/// How many functions have a statepoint.
+pub(crate) fn entry_count(layouts: &Layouts) -> u32
     requires { length layouts.now < 2 ^ 32 }
     ensures { result ≡ length (entries_of layouts.now) }
 {

@@ -5,5 +5,6 @@ mod fields;
 mod heads;
 mod maps;
 mod records;
+mod sizes;
 
 pub use maps::{addresses_rise, target_has_map, write};

@@ -11,6 +11,7 @@ ghost use Rattle.stackmap_write.specs.TargetMaps.{AddressesRise, EachHasMap};
 
 use crate::heads::put_heads;
 use crate::records::put_records;
+use crate::sizes::map_size;
 use frame_slots::Layouts;
 use ir_ast::Module;
 use sp_ids::Memory;
@@ -35,7 +36,7 @@ fn write_fitting(alloc: Global, module: &Module, layouts: &Layouts) -> Result<Ve
     ensures { IfOk result (λ bytes. bytes.items ≡ map_bytes (map_of «module».now.content)) }
 {
     let funcs = module.funcs();
-    let mut bytes = Vec::new(alloc);
+    let mut bytes = Vec::with_capacity(alloc, map_size(module, layouts))?;
     put_heads(&mut bytes, layouts)?;
     for func in funcs {
         put_records(&mut bytes, func)?;

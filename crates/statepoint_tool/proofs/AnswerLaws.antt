@@ -4,13 +4,13 @@ use Rattle.sp_ids.specs.declared.ends.End.{End}
 use Rattle.sp_ids.specs.declared.ends.End.TheVariants as ended_by
 use Rattle.ir_ast.specs.declared.modules.Form.TheVariants as text_forms
 use Rattle.statepoint_tool.specs.Answers.{SinkSeen, Gained, SinkFailed, Came, IsBegun, IsTold, IsSaidInPart, IsAnswer}
-use Rattle.statepoint_tool.specs.Causes.{CannotRead, Ends, by_showing, by_rewriting, by_running, by_executing, module_run}
+use Rattle.statepoint_tool.specs.Causes.{CannotRead, Ends, by_showing, by_checking, by_rewriting, by_running, by_executing, module_run}
 use Rattle.statepoint_tool.specs.Notes.{refusal_line, status_of_cause}
 use Rattle.statepoint_tool.specs.Statuses.{CauseOf, Exactly, IsDue, NoteFailed, ReadFaultCounted, Says, Writes, WritesFront, Yields, status_of_step}
 use Rattle.statepoint_tool.specs.Steps.{Step, Go, Stop}
 use Rattle.statepoint_tool.specs.Taken.{FilesSeen}
-use Rattle.statepoint_tool.specs.Words.{command_of}
-use Rattle.statepoint_tool.specs.Work.{Output, Given, MayGiveNamed, content_of, shown, written_of, output_of, executed, work}
+use Rattle.tool_words.specs.Words.{command_of}
+use Rattle.statepoint_tool.specs.Work.{Output, Given, MayGiveNamed, content_of, shown, passed, written_of, output_of, executed, work}
 use Rattle.statepoint_tool.specs.Closings.{status_of_end}
 use Rattle.statepoint_tool.specs.declared.refusal.Cause.{Cause}
 use Rattle.statepoint_tool.specs.declared.refusal.Cause.TheVariants as cause
@@ -91,13 +91,6 @@ module _ (words : List (List ℕ)) (files : FilesSeen) (out notes : SinkSeen) (s
         | inr yields ↦ absurd (not_yielding ending.ReadFault (λ clash. cc) (λ clash. cc) is yields)
       ]
 
-  -- a status without a cause never comes
-  pub never-answer : (wanted : Status) → wanted ≢ ending.WantOfMemory → wanted ≢ ending.WriteFault → ((given : Given) → CauseOf wanted words given → ⊥) → status ≢ wanted
-  never-answer wanted no_memory no_write none is = elim step_of_answer [
-    | inl of ↦ none answer.works.given (cause_of_answer wanted is of)
-    | inr yields ↦ not_yielding wanted no_memory no_write is yields
-  ]
-
   -- the status of a failed sink comes only where a sink failed
   pub write_fault-answer : status ≡ ending.WriteFault → SinkFailed out ⊎ SinkFailed notes
   write_fault-answer is = elim step_of_answer [
@@ -126,6 +119,8 @@ module _ (words : List (List ℕ)) (files : FilesSeen) (out notes : SinkSeen) (g
   writes_output : (output : Output) → Ends words given output → Gained out output.text → Writes output.status words files out
   writes_output _ (by_showing shows) written =
       record { given = given; may = may; holds = ((shown (content_of text_forms.Source shows.lines), by_showing shows, refl), written) }
+  writes_output _ (by_checking checks) written =
+      record { given = given; may = may; holds = ((passed, by_checking checks, refl), written) }
   writes_output _ (by_rewriting rewrites) written =
       record { given = given; may = may; holds = ((written_of rewrites.reads.asks.part rewrites.after, by_rewriting rewrites, refl), written) }
   writes_output _ (by_running runs outcome gives) written =
@@ -141,6 +136,7 @@ module _ (words : List (List ℕ)) (files : FilesSeen) (out notes : SinkSeen) (g
   writes_nothing (cause.Input line) unwritten = unwritten
   writes_nothing (cause.Plan fault) unwritten = unwritten
   writes_nothing (cause.Map fault) unwritten = unwritten
+  writes_nothing (cause.Check fault) unwritten = unwritten
 
   writes_begun : IsBegun (λ output. work words given (Go output)) out → WritesFront words files out
   writes_begun begun =
@@ -175,6 +171,7 @@ module _ (words : List (List ℕ)) (files : FilesSeen) (out notes : SinkSeen) (g
 
   says_output : (output : Output) → Ends words given output → Gained notes [] → Says output.status words files out notes
   says_output _ (by_showing shows) silent = silent
+  says_output _ (by_checking checks) silent = silent
   says_output _ (by_rewriting rewrites) silent = silent
   says_output _ (by_running runs outcome gives) silent = says_nothing outcome.end silent
   says_output _ (by_executing runs outcome gives) silent = says_nothing outcome.end silent
@@ -187,6 +184,7 @@ module _ (words : List (List ℕ)) (files : FilesSeen) (out notes : SinkSeen) (g
   says_line (cause.Input number) explains line = record { given = given; may = may; holds = ((number, explains), line) }
   says_line (cause.Plan fault) explains line = record { given = given; may = may; holds = ((fault, explains), line) }
   says_line (cause.Map fault) explains line = record { given = given; may = may; holds = ((fault, explains), line) }
+  says_line (cause.Check fault) explains line = record { given = given; may = may; holds = ((fault, explains), line) }
 
   says_cut_off : (refusal : Refusal) (status : Status) → IsDue refusal words given out → IsSaidInPart refusal status notes → Says status words files out notes
   says_cut_off refusal status due part =

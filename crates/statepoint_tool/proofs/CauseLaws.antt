@@ -1,5 +1,5 @@
 -- Each status of the work comes exactly by its cause.
-use Rattle.std.proofs.Common.{◌≡◌, ℕ, List, Option, Some, None, refl, sym, ap, subst}
+use Rattle.std.proofs.Common.{◌≡◌, ℕ, Bool, true, false, List, Option, Some, None, refl, sym, ap, subst}
 use Rattle.std.specs.Prelude.{ℤ}
 use Rattle.sp_ids.specs.declared.ends.End.{End}
 use Rattle.sp_ids.specs.declared.ends.End.TheVariants as ended
@@ -7,31 +7,36 @@ use Rattle.ir_ast.specs.declared.modules.Form.{Form as TextForm}
 use Rattle.ir_ast.specs.declared.modules.Form.TheVariants as text_forms
 use Rattle.ir_ast.specs.Modules.{ModuleContent, LinedModule}
 use Rattle.ir_lines.specs.Modules.{module_of}
+use Rattle.ir_lines.specs.Statements.{Line}
+use Rattle.statepoint_verify.specs.declared.faults.Fault.{Fault as CheckFault}
 use Rattle.move_plan.specs.declared.plan_lines.PlanLine.{PlanLine}
 use Rattle.map_bytes.specs.Maps.{StackMap}
+use Rattle.pair_facts.specs.Faults.{IsVerified, IsLeastFault as IsLeastCheckFault}
 use Rattle.stackmap_write.specs.ModuleMaps.{map_of}
 use Rattle.tool_io.specs.Counts.{Rose}
-use Rattle.statepoint_tool.specs.Causes.{AsksToShow, AsksToRewrite, IsAskedFor, by_source, by_run, by_exec, AsksForRun, ReadsToRewrite, ReadsModule, ReadsInput, ReadsPlan, Runs, Executes, ReadsForMap, engine_asked, module_run, steps_asked, Ends, by_showing, by_rewriting, by_running, by_executing, EndsWith, NoCommand, NamesModule, to_show, to_rewrite, to_run, HasModuleFault, in_text, too_many, HasSomeModuleFault, HasSomeInputFault, HasSomePlanFault, HasSomeMapFault, FileGives, module_gives, input_gives, plan_gives, map_gives, CannotRead, IsTooLong, StopsBy}
+use Rattle.statepoint_tool.specs.Causes.{IsAccepted, AsksToShow, AsksToCheck, AsksToRewrite, IsAskedFor, by_source, by_run, by_exec, AsksForRun, ReadsToRewrite, ReadsModule, ReadsInput, ReadsPlan, Runs, Executes, ReadsForMap, IsTrusted, Checks, engine_asked, module_run, steps_asked, Ends, by_showing, by_checking, by_rewriting, by_running, by_executing, EndsWith, NoCommand, NamesModule, to_show, to_check, to_rewrite, to_run, NamesJudged, to_judge, to_run_judged, HasCheckFault, HasSomeCheckFault, NamesSource, to_write, to_run_rewritten, RunsSource, HasModuleFault, in_text, too_many, HasSomeModuleFault, HasSomeInputFault, HasSomePlanFault, HasSomeMapFault, FileGives, module_gives, input_gives, plan_gives, map_gives, CannotRead, IsTooLong, StopsBy}
+use Rattle.sp_rewrite.specs.Relocates.{HasManyRelocates}
 use Rattle.statepoint_tool.specs.Statuses.{CauseOf, status_of_step}
 use Rattle.statepoint_tool.specs.Steps.{Step, Go, Stop, Then, goes_on, stops}
 use Rattle.statepoint_tool.specs.Taken.{Taken, Bytes, Longer, Faulty, FilesSeen, MayGive, file_phase}
-use Rattle.statepoint_tool.specs.Words.{command_of}
-use Rattle.statepoint_tool.specs.Work.{Output, Given, MayGiveMap, MayGiveAll, MayGiveNamed, form_of, map_phase, ReadingMap, no_map, Executing, executes, executed, run_phase, content_of, shown, written_of, module_phase, Rewriting, rewritten, too_many as has_too_many, after_rewriting, rewrite_phase, ReadingInput, has_numbers, no_input, ReadingPlan, planned, no_plan, show_phase, after_input, after_module, Running, run_work, comes, output_of, command_work, work}
+use Rattle.tool_words.specs.Words.{command_of}
+use Rattle.statepoint_tool.specs.Work.{Output, Given, MayGiveMap, MayGiveAll, MayGiveNamed, form_of, map_phase, ReadingMap, no_map, Executing, executes, executed, run_phase, content_of, shown, passed, written_of, module_phase, Judging, verified, said_no, judged, checked_phase, run_module_phase, after_check, check_work, Rewriting, rewritten, too_many as has_too_many, after_rewriting, rewrite_phase, ReadingInput, has_numbers, no_input, ReadingPlan, planned, no_plan, show_phase, after_input, after_module, Running, run_work, comes, output_of, command_work, work}
 use Rattle.statepoint_tool.specs.Closings.{status_of_end}
 use Rattle.statepoint_tool.specs.declared.refusal.Cause.{Cause}
 use Rattle.statepoint_tool.specs.declared.refusal.Cause.TheVariants as cause
 use Rattle.statepoint_tool.specs.declared.refusal.ModuleFault.{ModuleFault}
 use Rattle.statepoint_tool.specs.declared.refusal.ModuleFault.TheVariants.{TooManyRelocations}
-use Rattle.statepoint_tool.specs.declared.request.Engine.{Engine}
-use Rattle.statepoint_tool.specs.declared.request.Engine.TheVariants.{Meaning, Machine}
-use Rattle.statepoint_tool.specs.declared.request.RunRequest.{RunRequest}
-use Rattle.statepoint_tool.specs.declared.request.Command.{Command}
-use Rattle.statepoint_tool.specs.declared.request.Command.TheVariants.{Show, Rewrite, Source, Run, Exec}
+use Rattle.statepoint_tool.specs.declared.engine.Engine.{Engine}
+use Rattle.statepoint_tool.specs.declared.engine.Engine.TheVariants.{Meaning, Rewriter, Machine}
+use Rattle.tool_words.specs.declared.request.RunRequest.{RunRequest}
+use Rattle.tool_words.specs.declared.request.Command.{Command}
+use Rattle.tool_words.specs.declared.request.Command.TheVariants.{Show, Rewrite, Check, Source, Run, Exec}
 use Rattle.statepoint_tool.specs.declared.status.Status.{Status}
-use Rattle.statepoint_tool.specs.declared.status.Status.TheVariants.{ModuleRefused, WordsRefused, ReadFault, PlanRefused, InputRefused, MapRefused, TooLong}
+use Rattle.statepoint_tool.specs.declared.status.Status.TheVariants.{ModuleRefused, WordsRefused, ReadFault, PlanRefused, InputRefused, MapRefused, CheckSaidNo, TooLong}
 use Rattle.statepoint_tool.proofs.RewriteLaws.{Once-rewrite_phase}
 use Rattle.statepoint_tool.proofs.InputLaws.{Once-ReadingInput, Once-ReadingPlan, input-gives, input-refused, plan-gives, plan-refused}
 use Rattle.statepoint_tool.proofs.RunLaws.{Once-Running}
+use Rattle.statepoint_tool.proofs.JudgeLaws.{Once-checked_phase, Once-run_module_phase, passes, says_no, large, trusted_of, as-trusted, file-stops}
 use Rattle.statepoint_tool.proofs.MachineLaws.{Once-Executing, Once-ReadingMap, map-refused}
 use Rattle.statepoint_tool.proofs.StepLaws.{Once, stop_in, same-value, not_both, Once-comes_to, Once-Then, Once-file_phase}
 use Rattle.statepoint_tool.proofs.TextLaws.{Accepts, accepts, StopsByText, refuses, as-accepted, as-refused, Once-module_phase}
@@ -45,7 +50,8 @@ Once-map_phase content (Some name) taken = Once-file_phase name ReadingMap Once-
 Once-run_phase : (engine : Engine) (content : ModuleContent) (numbers : List ℤ) (lines : List PlanLine) (steps : ℕ) (taken : Taken) →
     Once (run_phase engine content numbers lines steps taken)
 Once-run_phase Meaning content numbers lines steps taken = Once-Running content numbers lines steps
-Once-run_phase (Machine map_file) content numbers lines steps taken =
+Once-run_phase Rewriter content numbers lines steps taken = Once-Running content numbers lines steps
+Once-run_phase (Machine map_file trust) content numbers lines steps taken =
     Once-Then (map_phase content map_file taken) (Executing content numbers lines steps) (Once-map_phase content map_file taken)
     (Once-Executing content numbers lines steps)
 
@@ -63,9 +69,9 @@ Once-after_module input plan engine content steps given =
 
 Once-run_work : (engine : Engine) (request : RunRequest) (given : Given) → Once (run_work engine request given)
 Once-run_work engine request given =
-    Once-Then (file_phase request.code (module_phase (form_of engine)) given.module_file)
+    Once-Then (file_phase request.code (run_module_phase engine) given.module_file)
     (λ (whole : LinedModule). after_module request.input request.plan engine whole.content request.steps (given.input, (given.plan, given.map_file)))
-    (Once-file_phase request.code (module_phase (form_of engine)) (Once-module_phase (form_of engine)) given.module_file)
+    (Once-file_phase request.code (run_module_phase engine) (Once-run_module_phase engine) given.module_file)
     (λ (whole : LinedModule). Once-after_module request.input request.plan engine whole.content request.steps (given.input, (given.plan, given.map_file)))
 
 Once-command : (command : Option Command) (given : Given) → Once (command_work command given)
@@ -76,9 +82,12 @@ Once-command (Some (Show module_file)) given =
 Once-command (Some (Rewrite module_file part)) given =
     Once-Then (file_phase module_file (module_phase text_forms.Source) given.module_file) (rewrite_phase part)
     (Once-file_phase module_file (module_phase text_forms.Source) (Once-module_phase text_forms.Source) given.module_file) (Once-rewrite_phase part)
+Once-command (Some (Check module_file)) given =
+    Once-Then (file_phase module_file checked_phase given.module_file) after_check
+    (Once-file_phase module_file checked_phase Once-checked_phase given.module_file) (λ (whole : LinedModule). Once-comes_to (Go passed))
 Once-command (Some (Source request)) given = Once-run_work Meaning request given
-Once-command (Some (Run request)) given = Once-run_work Meaning request given
-Once-command (Some (Exec request map_file)) given = Once-run_work (Machine map_file) request given
+Once-command (Some (Run request)) given = Once-run_work Rewriter request given
+Once-command (Some (Exec request map_file trust)) given = Once-run_work (Machine map_file trust) request given
 
 pub Once-work : (words : List (List ℕ)) (given : Given) → Once (work words given)
 Once-work words given = Once-command (command_of words) given
@@ -121,6 +130,58 @@ module _ (words : List (List ℕ)) (given : Given) where
   show_explains asks Faulty is _ (goes_on whole step first rest) = absurd (not_both whole (cause.ReadFault asks.module_file) first)
   show_explains asks Faulty is _ (stops reason first) = stop-at reason (cause.ReadFault asks.module_file) first (module_gives text_forms.Source asks.module_file (to_show asks) is)
 
+  -- checking
+
+  said_no_stops : (name text : List ℕ) → NamesJudged words name → given.module_file ≡ Bytes text → (whole : LinedModule) → Accepts text_forms.Rewritten text whole → (reason : Cause)
+      → Judging whole (Stop reason) → Explains (Stop reason) words given
+  said_no_stops name text names taken whole accepted reason judging =
+      let told = says_no whole reason judging in
+      stop-at {A = Output} reason (cause.Check told.fault) (ap Stop told.is)
+      (record {
+        name = name;
+        names = names;
+        text = text;
+        taken = taken;
+        lines = accepted.lines;
+        accepted = accepted.accepted;
+        least = subst (λ (w : LinedModule). IsLeastCheckFault w told.fault.line told.fault.code) accepted.is told.least;
+      })
+
+  checks_text : (asks : AsksToCheck words) (text : List ℕ) → given.module_file ≡ Bytes text → (whole : LinedModule) → Accepts text_forms.Rewritten text whole → IsVerified whole.content
+      → Explains (Go passed) words given
+  checks_text asks text taken whole accepted none =
+      by_checking (record {
+        asks = asks;
+        text = text;
+        taken = taken;
+        lines = accepted.lines;
+        accepted = accepted.accepted;
+        verified = subst (λ (w : LinedModule). IsVerified w.content) accepted.is none;
+      })
+
+  checked_goes : (asks : AsksToCheck words) (text : List ℕ) → given.module_file ≡ Bytes text → (after : LinedModule) (step : Step LinedModule) → step ≡ Go after → checked_phase text step
+      → Explains (Go passed) words given
+  checked_goes asks text taken after _ is (goes_on whole step first judging) =
+      checks_text asks text taken whole (accepts text_forms.Rewritten text whole first) (passes whole after (subst (Judging whole) is judging)).verified
+  checked_goes asks text taken after _ is (stops reason first) = absurd (not_both after reason (sym is))
+
+  checked_stops : (asks : AsksToCheck words) (text : List ℕ) → given.module_file ≡ Bytes text → (reason : Cause) (step : Step LinedModule) → step ≡ Stop reason → checked_phase text step
+      → Explains (Stop reason) words given
+  checked_stops asks text taken reason _ is (goes_on whole step first judging) =
+      said_no_stops asks.module_file text (to_judge asks) taken whole (accepts text_forms.Rewritten text whole first) reason (subst (Judging whole) is judging)
+  checked_stops asks text taken reason _ is (stops own first) =
+      stop-at {A = LinedModule} reason own (sym is) (stops_text text_forms.Rewritten asks.module_file text own (to_check asks) taken (refuses text_forms.Rewritten text own first))
+
+  check_explains : (asks : AsksToCheck words) (taken : Taken) → given.module_file ≡ taken → (step : Step Output) →
+      Then (file_phase asks.module_file checked_phase taken) after_check step → Explains step words given
+  check_explains asks (Bytes text) is _ (goes_on after step first rest) =
+      explains-at step (Go passed) rest (checked_goes asks text is after (Go after) refl first)
+  check_explains asks (Bytes text) is _ (stops reason first) = checked_stops asks text is reason (Stop reason) refl first
+  check_explains asks Longer is _ (goes_on whole step first rest) = absurd (not_both whole (cause.TooLong asks.module_file) first)
+  check_explains asks Longer is _ (stops reason first) = stop-at reason (cause.TooLong asks.module_file) first (module_gives text_forms.Rewritten asks.module_file (to_check asks) is)
+  check_explains asks Faulty is _ (goes_on whole step first rest) = absurd (not_both whole (cause.ReadFault asks.module_file) first)
+  check_explains asks Faulty is _ (stops reason first) = stop-at reason (cause.ReadFault asks.module_file) first (module_gives text_forms.Rewritten asks.module_file (to_check asks) is)
+
   -- rewriting
 
   rewrites_output : (reads : ReadsToRewrite words given) (step : Step ModuleContent) (after : ModuleContent) → step ≡ Go after
@@ -134,7 +195,16 @@ module _ (words : List (List ℕ)) (given : Given) where
       → Rewriting (content_of text_forms.Source reads.lines) step → Explains (Stop reason) words given
   rewriting_stops reads _ reason is (rewritten own own_is few) = absurd (not_both own reason is)
   rewriting_stops reads _ reason is (has_too_many many) =
-      stop-at reason (cause.Module TooManyRelocations) (sym is) (too_many reads many)
+      stop-at reason (cause.Module TooManyRelocations) (sym is)
+      (too_many (record {
+        name = reads.asks.module_file;
+        names = to_write reads.asks;
+        text = reads.text;
+        taken = reads.taken;
+        lines = reads.lines;
+        accepted = reads.accepted;
+        many = many;
+      }))
 
   rewriting_explains : (reads : ReadsToRewrite words given) (step : Step Output) → Then (Rewriting (content_of text_forms.Source reads.lines)) (after_rewriting reads.asks.part) step → Explains step words given
   rewriting_explains reads _ (goes_on after step first rest) =
@@ -175,18 +245,19 @@ module _ (words : List (List ℕ)) (given : Given) where
   map_stops reads Longer is reason first = stop-at reason (cause.TooLong reads.map_file) first (map_gives reads is)
   map_stops reads Faulty is reason first = stop-at reason (cause.ReadFault reads.map_file) first (map_gives reads is)
 
-  no_map_stops : (reads : ReadsPlan words given) (map_file : Option (List ℕ)) → engine_asked reads ≡ Machine map_file → (reason : Cause) →
+  no_map_stops : (reads : ReadsPlan words given) (map_file : Option (List ℕ)) (trust : Bool) → engine_asked reads ≡ Machine map_file trust → (reason : Cause) →
       map_phase (module_run reads) map_file given.map_file (Stop reason) → Explains (Stop reason) words given
-  no_map_stops reads None engine reason first = absurd (not_both (map_of (module_run reads)) reason (sym first))
-  no_map_stops reads (Some name) engine reason first =
-      map_stops (record { reads = reads; map_file = name; engine = engine }) given.map_file refl reason first
+  no_map_stops reads None trust engine reason first = absurd (not_both (map_of (module_run reads)) reason (sym first))
+  no_map_stops reads (Some name) trust engine reason first =
+      map_stops (record { reads = reads; map_file = name; trust = trust; engine = engine }) given.map_file refl reason first
 
   phase_explains : (reads : ReadsPlan words given) (engine : Engine) → engine_asked reads ≡ engine → (step : Step Output) →
       run_phase engine (module_run reads) reads.reads.numbers reads.plan (steps_asked reads) given.map_file step → Explains step words given
-  phase_explains reads Meaning is step due = running_explains (record { reads = reads; engine = is }) step due
-  phase_explains reads (Machine map_file) is _ (goes_on map step first rest) =
-      executing_explains (record { reads = reads; map_file = map_file; engine = is; map = map; takes = first }) step rest
-  phase_explains reads (Machine map_file) is _ (stops reason first) = no_map_stops reads map_file is reason first
+  phase_explains reads Meaning is step due = running_explains (record { reads = reads; engine = subst RunsSource (sym is) tt }) step due
+  phase_explains reads Rewriter is step due = running_explains (record { reads = reads; engine = subst RunsSource (sym is) tt }) step due
+  phase_explains reads (Machine map_file trust) is _ (goes_on map step first rest) =
+      executing_explains (record { reads = reads; map_file = map_file; trust = trust; engine = is; map = map; takes = first }) step rest
+  phase_explains reads (Machine map_file trust) is _ (stops reason first) = no_map_stops reads map_file trust is reason first
 
   plan_explains : (reads : ReadsInput words given) (plan : Taken) → given.plan ≡ plan → (step : Step Output) →
       after_input reads.accepts.asks.request.plan reads.accepts.asks.engine (content_of (form_of reads.accepts.asks.engine) reads.accepts.lines) reads.numbers reads.accepts.asks.request.steps
@@ -218,18 +289,61 @@ module _ (words : List (List ℕ)) (given : Given) where
   input_explains accepted Faulty is _ (goes_on value step first rest) = absurd (not_both value (cause.ReadFault accepted.asks.request.input) first)
   input_explains accepted Faulty is _ (stops reason first) = stop-at reason (cause.ReadFault accepted.asks.request.input) first (input_gives accepted is)
 
-  runs_text : (asks : AsksForRun words) (text : List ℕ) → given.module_file ≡ Bytes text → (whole : LinedModule) → Accepts (form_of asks.engine) text whole → (step : Step Output) →
+  runs_text : (asks : AsksForRun words) (text : List ℕ) → given.module_file ≡ Bytes text → (whole : LinedModule) → Accepts (form_of asks.engine) text whole → IsTrusted asks.engine whole.content
+      → (step : Step Output) →
       after_module asks.request.input asks.request.plan asks.engine whole.content asks.request.steps (given.input, (given.plan, given.map_file)) step → Explains step words given
-  runs_text asks text taken whole accepted step rest =
-      input_explains (record { asks = asks; text = text; taken = taken; lines = accepted.lines; accepted = accepted.accepted })
+  runs_text asks text taken whole accepted trusted step rest =
+      input_explains (record {
+        asks = asks;
+        text = text;
+        taken = taken;
+        lines = accepted.lines;
+        accepted = accepted.accepted;
+        trusted = subst (λ (w : LinedModule). IsTrusted asks.engine w.content) accepted.is trusted;
+      })
       given.input refl step
       (subst (λ (w : LinedModule). after_module asks.request.input asks.request.plan asks.engine w.content asks.request.steps (given.input, (given.plan, given.map_file)) step) accepted.is rest)
 
+  run_goes : (asks : AsksForRun words) (text : List ℕ) → given.module_file ≡ Bytes text → (after : LinedModule) (came : Step LinedModule) → came ≡ Go after → run_module_phase asks.engine text came
+      → (step : Step Output) →
+      after_module asks.request.input asks.request.plan asks.engine after.content asks.request.steps (given.input, (given.plan, given.map_file)) step → Explains step words given
+  run_goes asks text taken after _ is (goes_on whole came first judging) step rest =
+      let found = trusted_of asks.engine whole after (subst (judged asks.engine whole) is judging) in
+      runs_text asks text taken whole (accepts (form_of asks.engine) text whole first) found.trusted step
+      (subst (λ (w : LinedModule). after_module asks.request.input asks.request.plan asks.engine w.content asks.request.steps (given.input, (given.plan, given.map_file)) step) found.is rest)
+  run_goes asks text taken after _ is (stops reason first) step rest = absurd (not_both after reason (sym is))
+
+  judged_stops : (engine : Engine) (request : RunRequest) → IsAskedFor words engine request → (text : List ℕ) → given.module_file ≡ Bytes text → (whole : LinedModule) → Accepts (form_of engine) text whole
+      → (reason : Cause) → judged engine whole (Stop reason) → Explains (Stop reason) words given
+  judged_stops _ _ (by_source request is) text taken whole accepted reason stopped = absurd (not_both whole reason (sym stopped))
+  judged_stops _ _ (by_run request is) text taken whole accepted reason stopped =
+      let found = large whole reason (Stop reason) refl stopped in
+      stop-at {A = Output} reason (cause.Module TooManyRelocations) (ap Stop found.is)
+      (too_many (record {
+        name = request.code;
+        names = to_run_rewritten request is;
+        text = text;
+        taken = taken;
+        lines = accepted.lines;
+        accepted = accepted.accepted;
+        many = subst (λ (w : LinedModule). HasManyRelocates w.content) accepted.is found.many;
+      }))
+  judged_stops _ _ (by_exec request map_file true is) text taken whole accepted reason stopped = absurd (not_both whole reason (sym stopped))
+  judged_stops _ _ (by_exec request map_file false is) text taken whole accepted reason stopped =
+      said_no_stops request.code text (to_run_judged request map_file is) taken whole accepted reason stopped
+
+  run_stops : (asks : AsksForRun words) (text : List ℕ) → given.module_file ≡ Bytes text → (reason : Cause) (came : Step LinedModule) → came ≡ Stop reason → run_module_phase asks.engine text came
+      → Explains (Stop reason) words given
+  run_stops asks text taken reason _ is (goes_on whole came first judging) =
+      judged_stops asks.engine asks.request asks.asked text taken whole (accepts (form_of asks.engine) text whole first) reason (subst (judged asks.engine whole) is judging)
+  run_stops asks text taken reason _ is (stops own first) =
+      stop-at {A = LinedModule} reason own (sym is) (stops_text (form_of asks.engine) asks.request.code text own (to_run asks) taken (refuses (form_of asks.engine) text own first))
+
   run_explains : (asks : AsksForRun words) (taken : Taken) → given.module_file ≡ taken → (step : Step Output) →
-      Then (file_phase asks.request.code (module_phase (form_of asks.engine)) taken)
+      Then (file_phase asks.request.code (run_module_phase asks.engine) taken)
       (λ (whole : LinedModule). after_module asks.request.input asks.request.plan asks.engine whole.content asks.request.steps (given.input, (given.plan, given.map_file))) step → Explains step words given
-  run_explains asks (Bytes text) is _ (goes_on whole step first rest) = runs_text asks text is whole (accepts (form_of asks.engine) text whole first) step rest
-  run_explains asks (Bytes text) is _ (stops reason first) = stops_text (form_of asks.engine) asks.request.code text reason (to_run asks) is (refuses (form_of asks.engine) text reason first)
+  run_explains asks (Bytes text) is _ (goes_on whole step first rest) = run_goes asks text is whole (Go whole) refl first step rest
+  run_explains asks (Bytes text) is _ (stops reason first) = run_stops asks text is reason (Stop reason) refl first
   run_explains asks Longer is _ (goes_on whole step first rest) = absurd (not_both whole (cause.TooLong asks.request.code) first)
   run_explains asks Longer is _ (stops reason first) = stop-at reason (cause.TooLong asks.request.code) first (module_gives (form_of asks.engine) asks.request.code (to_run asks) is)
   run_explains asks Faulty is _ (goes_on whole step first rest) = absurd (not_both whole (cause.ReadFault asks.request.code) first)
@@ -239,10 +353,11 @@ module _ (words : List (List ℕ)) (given : Given) where
   command_explains None is step due = explains-at step (Stop cause.Words) due is
   command_explains (Some (Show module_file)) is step due = show_explains (record { module_file = module_file; command = is }) given.module_file refl step due
   command_explains (Some (Rewrite module_file part)) is step due = rewrite_explains (record { module_file = module_file; part = part; command = is }) given.module_file refl step due
+  command_explains (Some (Check module_file)) is step due = check_explains (record { module_file = module_file; command = is }) given.module_file refl step due
   command_explains (Some (Source request)) is step due = run_explains (record { engine = Meaning; request = request; asked = by_source request is }) given.module_file refl step due
-  command_explains (Some (Run request)) is step due = run_explains (record { engine = Meaning; request = request; asked = by_run request is }) given.module_file refl step due
-  command_explains (Some (Exec request map_file)) is step due =
-      run_explains (record { engine = Machine map_file; request = request; asked = by_exec request map_file is }) given.module_file refl step due
+  command_explains (Some (Run request)) is step due = run_explains (record { engine = Rewriter; request = request; asked = by_run request is }) given.module_file refl step due
+  command_explains (Some (Exec request map_file trust)) is step due =
+      run_explains (record { engine = Machine map_file trust; request = request; asked = by_exec request map_file trust is }) given.module_file refl step due
 
   -- each step of the work has its cause
   pub Explains-work : (step : Step Output) → work words given step → Explains step words given
@@ -257,6 +372,7 @@ module _ (words : List (List ℕ)) (given : Given) where
 
   cause_of_output : (output : Output) → Ends words given output → CauseOf output.status words given
   cause_of_output _ (by_showing shows) = (shown (content_of text_forms.Source shows.lines), by_showing shows, refl)
+  cause_of_output _ (by_checking checks) = (passed, by_checking checks, refl)
   cause_of_output _ (by_rewriting rewrites) = (written_of rewrites.reads.asks.part rewrites.after, by_rewriting rewrites, refl)
   cause_of_output _ (by_running runs outcome gives) =
       cause_at_end (output_of (module_run runs.reads) outcome) outcome.end refl (by_running runs outcome gives)
@@ -273,6 +389,7 @@ module _ (words : List (List ℕ)) (given : Given) where
   CauseOf-explained (Stop (cause.Input line)) explained = (line, explained)
   CauseOf-explained (Stop (cause.Plan fault)) explained = (fault, explained)
   CauseOf-explained (Stop (cause.Map fault)) explained = (fault, explained)
+  CauseOf-explained (Stop (cause.Check fault)) explained = (fault, explained)
 
   -- ---- and each cause its step
 
@@ -282,7 +399,7 @@ module _ (words : List (List ℕ)) (given : Given) where
   commanded_as : (engine : Engine) (request : RunRequest) (step : Step Output) → IsAskedFor words engine request → run_work engine request given step → work words given step
   commanded_as _ _ step (by_source request is) due = commanded (Some (Source request)) step is due
   commanded_as _ _ step (by_run request is) due = commanded (Some (Run request)) step is due
-  commanded_as _ _ step (by_exec request map_file is) due = commanded (Some (Exec request map_file)) step is due
+  commanded_as _ _ step (by_exec request map_file trust is) due = commanded (Some (Exec request map_file trust)) step is due
 
   commanded_run : (asks : AsksForRun words) (step : Step Output) → run_work asks.engine asks.request given step → work words given step
   commanded_run asks step due = commanded_as asks.engine asks.request step asks.asked due
@@ -294,8 +411,9 @@ module _ (words : List (List ℕ)) (given : Given) where
       let form = form_of accepted.asks.engine in
       commanded_run accepted.asks step
       (goes_on (module_of form accepted.lines) step
-      (subst (λ (taken : Taken). file_phase accepted.asks.request.code (module_phase form) taken (Go (module_of form accepted.lines))) (sym accepted.taken)
-      (as-accepted form accepted.text accepted.lines accepted.accepted))
+      (subst (λ (taken : Taken). file_phase accepted.asks.request.code (run_module_phase accepted.asks.engine) taken (Go (module_of form accepted.lines))) (sym accepted.taken)
+      (goes_on (module_of form accepted.lines) (Go (module_of form accepted.lines)) (as-accepted form accepted.text accepted.lines accepted.accepted)
+      (as-trusted accepted.asks.engine (module_of form accepted.lines) accepted.trusted)))
       rest)
 
   with_source : (reads : ReadsToRewrite words given) (step : Step Output) → Then (Rewriting (content_of text_forms.Source reads.lines)) (after_rewriting reads.asks.part) step → work words given step
@@ -331,6 +449,12 @@ module _ (words : List (List ℕ)) (given : Given) where
       with_plan reads step
       (subst (λ (e : Engine). run_phase e (module_run reads) reads.reads.numbers reads.plan (steps_asked reads) given.map_file step) (sym is) due)
 
+  runs_phase : (engine : Engine) → RunsSource engine → (content : ModuleContent) (numbers : List ℤ) (lines : List PlanLine) (steps : ℕ) (step : Step Output)
+      → Running content numbers lines steps step → run_phase engine content numbers lines steps given.map_file step
+  runs_phase Meaning runs content numbers lines steps step due = due
+  runs_phase Rewriter runs content numbers lines steps step due = due
+  runs_phase (Machine map_file trust) runs content numbers lines steps step due = absurd runs
+
   -- the work of a run is the source meaning, or the machine's run
   pub work-ends : (output : Output) → Ends words given output → work words given (Go output)
   work-ends _ (by_showing shows) =
@@ -339,14 +463,23 @@ module _ (words : List (List ℕ)) (given : Given) where
       (subst (λ (taken : Taken). file_phase shows.asks.module_file (module_phase text_forms.Source) taken (Go (module_of text_forms.Source shows.lines))) (sym shows.taken)
       (as-accepted text_forms.Source shows.text shows.lines shows.accepted))
       refl)
+  work-ends _ (by_checking checks) =
+      let whole = module_of text_forms.Rewritten checks.lines in
+      commanded (Some (Check checks.asks.module_file)) (Go passed) checks.asks.command
+      (goes_on whole (Go passed)
+      (subst (λ (taken : Taken). file_phase checks.asks.module_file checked_phase taken (Go whole)) (sym checks.taken)
+      (goes_on whole (Go whole) (as-accepted text_forms.Rewritten checks.text checks.lines checks.accepted) (verified checks.verified)))
+      refl)
   work-ends _ (by_rewriting rewrites) =
       let output = written_of rewrites.reads.asks.part rewrites.after in
       with_source rewrites.reads (Go output) (goes_on rewrites.after (Go output) (rewritten rewrites.after rewrites.is rewrites.few) refl)
   work-ends _ (by_running runs outcome gives) =
-      phase_by runs.reads Meaning (Go (output_of (module_run runs.reads) outcome)) runs.engine (comes outcome gives)
+      with_plan runs.reads (Go (output_of (module_run runs.reads) outcome))
+      (runs_phase (engine_asked runs.reads) runs.engine (module_run runs.reads) runs.reads.reads.numbers runs.reads.plan (steps_asked runs.reads)
+      (Go (output_of (module_run runs.reads) outcome)) (comes outcome gives))
   work-ends _ (by_executing runs outcome gives) =
       let output = executed (module_run runs.reads) outcome gives.last.lines in
-      phase_by runs.reads (Machine runs.map_file) (Go output) runs.engine (goes_on runs.map (Go output) runs.takes (executes outcome gives))
+      phase_by runs.reads (Machine runs.map_file runs.trust) (Go output) runs.engine (goes_on runs.map (Go output) runs.takes (executes outcome gives))
 
   -- the work comes to a step of this status
   abbrev pub ComesWith : Status → Type 0
@@ -362,18 +495,54 @@ module _ (words : List (List ℕ)) (given : Given) where
       work words given (Stop reason)
   module_stops _ _ reason (to_show asks) stopped = commanded (Some (Show asks.module_file)) (Stop reason) asks.command (stops reason stopped)
   module_stops _ _ reason (to_rewrite asks) stopped = commanded (Some (Rewrite asks.module_file asks.part)) (Stop reason) asks.command (stops reason stopped)
-  module_stops _ _ reason (to_run asks) stopped = commanded_run asks (Stop reason) (stops reason stopped)
+  module_stops _ _ reason (to_check asks) stopped =
+      commanded (Some (Check asks.module_file)) (Stop reason) asks.command
+      (stops reason (file-stops asks.module_file (module_phase text_forms.Rewritten) Judging given.module_file reason stopped))
+  module_stops _ _ reason (to_run asks) stopped =
+      commanded_run asks (Stop reason)
+      (stops reason (file-stops asks.request.code (module_phase (form_of asks.engine)) (judged asks.engine) given.module_file reason stopped))
+
+  large_stops : (name text : List ℕ) → NamesSource words name → given.module_file ≡ Bytes text → (lines : List Line) → IsAccepted text_forms.Source text lines
+      → HasManyRelocates (content_of text_forms.Source lines) → work words given (Stop (cause.Module TooManyRelocations))
+  large_stops _ text (to_write asks) taken lines accepted many =
+      let reason = cause.Module TooManyRelocations in
+      with_source (record { asks = asks; text = text; taken = taken; lines = lines; accepted = accepted }) (Stop reason) (stops reason (has_too_many many))
+  large_stops _ text (to_run_rewritten request is) taken lines accepted many =
+      let reason = cause.Module TooManyRelocations in
+      let whole = module_of text_forms.Source lines in
+      commanded (Some (Run request)) (Stop reason) is
+      (stops reason (subst (λ (t : Taken). file_phase request.code (run_module_phase Rewriter) t (Stop reason)) (sym taken)
+      (goes_on whole (Stop reason) (as-accepted text_forms.Source text lines accepted) (stops reason (has_too_many many)))))
 
   stops-HasModuleFault : (fault : ModuleFault) → HasModuleFault words given fault → work words given (Stop (cause.Module fault))
   stops-HasModuleFault _ (in_text fault has) =
       let reason = cause.Module fault in
       module_stops has.form has.name reason has.names
       (subst (λ (t : Taken). file_phase has.name (module_phase has.form) t (Stop reason)) (sym has.taken) (as-refused has.form has.text fault has.has))
-  stops-HasModuleFault _ (too_many reads many) =
-      let reason = cause.Module TooManyRelocations in with_source reads (Stop reason) (stops reason (has_too_many many))
+  stops-HasModuleFault _ (too_many large) = large_stops large.name large.text large.names large.taken large.lines large.accepted large.many
 
   pub comes-HasSomeModuleFault : HasSomeModuleFault words given → ComesWith ModuleRefused
   comes-HasSomeModuleFault has = (Stop (cause.Module has.0), stops-HasModuleFault has.0 has.1, refl)
+
+  judge_stops : (name text : List ℕ) → NamesJudged words name → given.module_file ≡ Bytes text → (lines : List Line) → IsAccepted text_forms.Rewritten text lines → (fault : CheckFault)
+      → IsLeastCheckFault (module_of text_forms.Rewritten lines) fault.line fault.code → work words given (Stop (cause.Check fault))
+  judge_stops _ text (to_judge asks) taken lines accepted fault least =
+      let reason = cause.Check fault in
+      let whole = module_of text_forms.Rewritten lines in
+      commanded (Some (Check asks.module_file)) (Stop reason) asks.command
+      (stops reason (subst (λ (t : Taken). file_phase asks.module_file checked_phase t (Stop reason)) (sym taken)
+      (goes_on whole (Stop reason) (as-accepted text_forms.Rewritten text lines accepted) (said_no fault least))))
+  judge_stops _ text (to_run_judged request map_file is) taken lines accepted fault least =
+      let reason = cause.Check fault in
+      let whole = module_of text_forms.Rewritten lines in
+      commanded (Some (Exec request map_file false)) (Stop reason) is
+      (stops reason (subst (λ (t : Taken). file_phase request.code (run_module_phase (Machine map_file false)) t (Stop reason)) (sym taken)
+      (goes_on whole (Stop reason) (as-accepted text_forms.Rewritten text lines accepted) (said_no fault least))))
+
+  pub comes-HasSomeCheckFault : HasSomeCheckFault words given → ComesWith CheckSaidNo
+  comes-HasSomeCheckFault has =
+      let fault = has.1 in
+      (Stop (cause.Check has.0), judge_stops fault.name fault.text fault.names fault.taken fault.lines fault.accepted has.0 fault.least, refl)
 
   pub comes-HasSomeInputFault : HasSomeInputFault words given → ComesWith InputRefused
   comes-HasSomeInputFault has =
@@ -399,7 +568,7 @@ module _ (words : List (List ℕ)) (given : Given) where
 
   -- where the stack map stops the work
   map_phase_stops : (reads : ReadsForMap words given) (reason : Cause) → file_phase reads.map_file ReadingMap given.map_file (Stop reason) → work words given (Stop reason)
-  map_phase_stops reads reason stopped = phase_by reads.reads (Machine (Some reads.map_file)) (Stop reason) reads.engine (stops reason stopped)
+  map_phase_stops reads reason stopped = phase_by reads.reads (Machine (Some reads.map_file) reads.trust) (Stop reason) reads.engine (stops reason stopped)
 
   pub comes-HasSomeMapFault : HasSomeMapFault words given → ComesWith MapRefused
   comes-HasSomeMapFault has =
@@ -440,7 +609,7 @@ module _ (words : List (List ℕ)) (given : Given) (files : FilesSeen) (may : Ma
   may_as : (engine : Engine) (request : RunRequest) → IsAskedFor words engine request → MayGiveAll files engine request given
   may_as _ _ (by_source request is) = subst (λ (command : Option Command). MayGiveNamed files command given) is may
   may_as _ _ (by_run request is) = subst (λ (command : Option Command). MayGiveNamed files command given) is may
-  may_as _ _ (by_exec request map_file is) = subst (λ (command : Option Command). MayGiveNamed files command given) is may
+  may_as _ _ (by_exec request map_file trust is) = subst (λ (command : Option Command). MayGiveNamed files command given) is may
 
   may_of_run : (asks : AsksForRun words) → MayGiveAll files asks.engine asks.request given
   may_of_run asks = may_as asks.engine asks.request asks.asked
@@ -448,6 +617,7 @@ module _ (words : List (List ℕ)) (given : Given) (files : FilesSeen) (may : Ma
   may_of_module : (form : TextForm) (name : List ℕ) → NamesModule words form name → MayGive files name given.module_file
   may_of_module _ _ (to_show asks) = subst (λ (command : Option Command). MayGiveNamed files command given) asks.command may
   may_of_module _ _ (to_rewrite asks) = subst (λ (command : Option Command). MayGiveNamed files command given) asks.command may
+  may_of_module _ _ (to_check asks) = subst (λ (command : Option Command). MayGiveNamed files command given) asks.command may
   may_of_module _ _ (to_run asks) = (may_of_run asks).0
 
   rose_at : (name : List ℕ) (taken : Taken) → taken ≡ Faulty → MayGive files name taken → Rose (files.faults_before name) (files.faults_after name)

@@ -1,9 +1,9 @@
-pub mod StepBounds
 pub mod GivenLaws
 pub mod StepLaws
 pub mod TextLaws
 pub mod InputLaws
 pub mod ReadsLaws
+pub mod JudgeLaws
 pub mod WorksLaws
 pub mod NamedLaws
 pub mod RewriteLaws
@@ -12,3 +12,5 @@ pub mod RunLaws
 pub mod CauseLaws
 pub mod AnswerLaws
 pub mod CompleteLaws
+pub mod AcceptedLaws
+pub mod HeadlineLaws

@@ -1,5 +1,5 @@
 -- Runs on the machine, as a phase of the work.
-use Rattle.std.proofs.Common.{◌≡◌, ℕ, List, ◌++◌, Option, refl, sym, ap, ◌∙◌, append_assoc}
+use Rattle.std.proofs.Common.{◌≡◌, ℕ, List, [], ◌++◌, Option, Some, None, Result, refl, sym, ap, ◌∙◌, append_assoc}
 use Rattle.std.specs.Prelude.{ℤ}
 use Rattle.ir_ast.specs.Modules.{ModuleContent}
 use Rattle.map_bytes.specs.Maps.{StackMap, IsMapOf}
@@ -18,12 +18,19 @@ use Rattle.ir_machine.specs.declared.run.Ran.{Ran}
 use Rattle.ir_machine.specs.Answers.{IsRun, WritesFront}
 use Rattle.tool_io.specs.Sink.{append_known, AppendsFront}
 use Rattle.tool_io.proofs.AppendLaws.{append_known-then, AppendsFront-front, AppendsFront-same, AppendsFront-second}
-use Rattle.statepoint_tool.specs.Answers.{IsBegun, IsDone, SinkSeen, sink_seen}
+use Rattle.stackmap_write.specs.ModuleMaps.{map_of}
+use Rattle.statepoint_tool.specs.Answers.{Came, IsBegun, IsDone, SinkSeen, sink_seen, Works}
 use Rattle.statepoint_tool.specs.Closings.{closing_line, status_of_end}
 use Rattle.statepoint_tool.specs.Steps.{Step, Go, Stop, Then, goes_on, stops, comes_to}
-use Rattle.statepoint_tool.specs.Work.{Executing, executes, executed, Output, ReadingMap, has_map, no_map}
+use Rattle.statepoint_tool.specs.Runners.{engine_of}
+use Rattle.statepoint_tool.specs.Taken.{Bytes, FilesSeen, MayGive, file_phase}
+use Rattle.statepoint_tool.specs.Work.{MayGiveMap, run_phase, Executing, executes, executed, Output, ReadingMap, has_map, no_map}
 use Rattle.statepoint_tool.specs.declared.refusal.Cause.{Cause}
 use Rattle.statepoint_tool.specs.declared.refusal.Cause.TheVariants.{Map}
+use Rattle.statepoint_tool.specs.declared.refusal.Refusal.{Refusal}
+use Rattle.statepoint_tool.specs.declared.runner.Executable.{Executable}
+use Rattle.statepoint_tool.specs.declared.runner.Executable.TheVariants.{Trusted, Checked}
+use Rattle.statepoint_tool.specs.declared.runner.Runner.TheVariants.{Machine}
 use Rattle.statepoint_tool.specs.declared.status.Status.{Status}
 use Rattle.statepoint_tool.proofs.StepLaws.{Once, stop_in, not_both}
 
@@ -125,3 +132,17 @@ module _ (content : ModuleContent) (bytes : List ℕ) (input : List ℤ) (plan :
         AppendsFront-second old (text_of_lines run.over.gives.last.lines) run.over.written
         (AppendsFront-same front (closing_of content run.over.outcome) (sym closes));
   }
+
+-- ---- a module on the machine, over its own stack map or over that in a file
+
+module _ (content : ModuleContent) (input : List ℤ) (plan : List PlanLine) (steps : ℕ) (files : FilesSeen) (result : Result Status Refusal) (out : SinkSeen) where
+  pub over_own : (executable : Executable) → Came result (Then (comes_to (Go (map_of content))) (Executing content input plan steps)) out
+      → Works (MayGiveMap files (engine_of (Machine executable None))) (run_phase (engine_of (Machine executable None)) content input plan steps) result out
+  over_own (Trusted whole) came = record { given = Bytes []; may = tt; came = came }
+  over_own (Checked whole) came = record { given = Bytes []; may = tt; came = came }
+
+  pub over_file : (executable : Executable) (name : List ℕ)
+      → Works (MayGive files name) (λ given. Then (file_phase name ReadingMap given) (Executing content input plan steps)) result out
+      → Works (MayGiveMap files (engine_of (Machine executable (Some name)))) (run_phase (engine_of (Machine executable (Some name))) content input plan steps) result out
+  over_file (Trusted whole) name works = works
+  over_file (Checked whole) name works = works

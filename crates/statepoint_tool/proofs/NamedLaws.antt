@@ -4,15 +4,15 @@ use Rattle.tool_io.proofs.AppendLaws.{append_known-nil}
 use Rattle.statepoint_tool.specs.Answers.{Works, sink_seen}
 use Rattle.statepoint_tool.specs.Steps.{Step, Stop}
 use Rattle.statepoint_tool.specs.Taken.{FilesSeen, Bytes}
-use Rattle.statepoint_tool.specs.Words.{command_of}
+use Rattle.tool_words.specs.Words.{command_of}
 use Rattle.statepoint_tool.specs.Work.{Output, Given, MayGiveAll, MayGiveNamed, command_work, work}
 use Rattle.statepoint_tool.specs.declared.refusal.Cause.TheVariants.{Words}
 use Rattle.statepoint_tool.specs.declared.refusal.Refusal.TheVariants.{Defined, Memory}
-use Rattle.statepoint_tool.specs.declared.request.Engine.{Engine}
-use Rattle.statepoint_tool.specs.declared.request.Engine.TheVariants.{Meaning, Machine}
-use Rattle.statepoint_tool.specs.declared.request.RunRequest.{RunRequest}
-use Rattle.statepoint_tool.specs.declared.request.Command.{Command}
-use Rattle.statepoint_tool.specs.declared.request.Command.TheVariants.{Show, Rewrite, Source, Run, Exec}
+use Rattle.statepoint_tool.specs.declared.engine.Engine.{Engine}
+use Rattle.statepoint_tool.specs.declared.engine.Engine.TheVariants.{Meaning, Rewriter, Machine}
+use Rattle.tool_words.specs.declared.request.RunRequest.{RunRequest}
+use Rattle.tool_words.specs.declared.request.Command.{Command}
+use Rattle.tool_words.specs.declared.request.Command.TheVariants.{Show, Rewrite, Check, Source, Run, Exec}
 use Rattle.statepoint_tool.proofs.GivenLaws.{as_told, MayGive-as_told, map_as_told, MayGiveFromInput-as_told}
 
 -- what told files give
@@ -30,9 +30,11 @@ all_as_told files (Some (Show module_file)) =
     record { module_file = as_told files module_file; input = Bytes []; plan = Bytes []; map_file = Bytes [] }
 all_as_told files (Some (Rewrite module_file part)) =
     record { module_file = as_told files module_file; input = Bytes []; plan = Bytes []; map_file = Bytes [] }
+all_as_told files (Some (Check module_file)) =
+    record { module_file = as_told files module_file; input = Bytes []; plan = Bytes []; map_file = Bytes [] }
 all_as_told files (Some (Source request)) = run_as_told files Meaning request
-all_as_told files (Some (Run request)) = run_as_told files Meaning request
-all_as_told files (Some (Exec request map_file)) = run_as_told files (Machine map_file) request
+all_as_told files (Some (Run request)) = run_as_told files Rewriter request
+all_as_told files (Some (Exec request map_file trust)) = run_as_told files (Machine map_file trust) request
 
 MayGiveAll-as_told : (files : FilesSeen) (engine : Engine) (request : RunRequest) → MayGiveAll files engine request (run_as_told files engine request)
 MayGiveAll-as_told files engine request =
@@ -42,9 +44,10 @@ pub MayGiveNamed-as_told : (files : FilesSeen) (command : Option Command) → Ma
 MayGiveNamed-as_told files None = tt
 MayGiveNamed-as_told files (Some (Show module_file)) = MayGive-as_told files module_file
 MayGiveNamed-as_told files (Some (Rewrite module_file part)) = MayGive-as_told files module_file
+MayGiveNamed-as_told files (Some (Check module_file)) = MayGive-as_told files module_file
 MayGiveNamed-as_told files (Some (Source request)) = MayGiveAll-as_told files Meaning request
-MayGiveNamed-as_told files (Some (Run request)) = MayGiveAll-as_told files Meaning request
-MayGiveNamed-as_told files (Some (Exec request map_file)) = MayGiveAll-as_told files (Machine map_file) request
+MayGiveNamed-as_told files (Some (Run request)) = MayGiveAll-as_told files Rewriter request
+MayGiveNamed-as_told files (Some (Exec request map_file trust)) = MayGiveAll-as_told files (Machine map_file trust) request
 
 -- want of memory before anything was written
 pub Works-memory : (files : FilesSeen) (command : Option Command) (phases : Given → Step Output → Type 0) (old : Option (List ℕ)) (faults : ℕ) →

@@ -5,7 +5,7 @@ use Rattle.sp_rewrite.specs.Relocates.{HasFewRelocates, HasManyRelocates, reloca
 use Rattle.sp_rewrite.proofs.RewrittenLaws.{one_reached, rewriting_is_one}
 use Rattle.statepoint_tool.specs.Steps.{Go}
 use Rattle.statepoint_tool.specs.Work.{Rewriting, rewritten, too_many, after_rewriting, rewrite_phase, written_of}
-use Rattle.statepoint_tool.specs.declared.request.Part.{Part}
+use Rattle.tool_words.specs.declared.request.Part.{Part}
 use Rattle.statepoint_tool.proofs.StepLaws.{Once, Once-comes_to, Once-Then}
 
 -- a module doesn't have few and many

@@ -48,6 +48,12 @@ Came-like phase other (Err Memory) out like (inl unwritten) = inl unwritten
 Came-like phase other (Err Memory) out like (inr begun) =
     inr (record { output = begun.output; defined = like (Go begun.output) begun.defined; front = begun.front })
 
+-- what a refusal agrees with asks for no value
+pub Agrees-refuses : {A B C : Type 0} (phase : Step A → Type 0) (view : B → A) (other : C → A) (refusal : Refusal) → Agrees view (Err refusal) phase → Agrees other (Err refusal) phase
+Agrees-refuses phase view other (Defined cause) agrees = agrees
+Agrees-refuses phase view other WriteFault agrees = agrees
+Agrees-refuses phase view other Memory agrees = tt
+
 -- where a phase refuses, so does the phase that it begins
 pub Agrees-stops : {A B C D : Type 0} (phase : Step A → Type 0) (view : B → A) (refusal : Refusal) (rest : A → Step C → Type 0) (last : D → C) →
     Agrees view (Err refusal) phase → Agrees last (Err refusal) (Then phase rest)

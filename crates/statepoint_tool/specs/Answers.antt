@@ -5,7 +5,7 @@ use Rattle.tool_io.specs.Sink.{AppendsFront, append_known}
 use Rattle.statepoint_tool.specs.Steps.{Step, Go, Stop}
 use Rattle.statepoint_tool.specs.Taken.{Taken, FilesSeen, MayGive, file_phase}
 use Rattle.statepoint_tool.specs.Notes.{refusal_line, status_of_refusal}
-use Rattle.statepoint_tool.specs.Words.{command_of}
+use Rattle.tool_words.specs.Words.{command_of}
 use Rattle.statepoint_tool.specs.Work.{Output, MayGiveNamed, work}
 use Rattle.statepoint_tool.specs.declared.refusal.Cause.{Cause}
 use Rattle.statepoint_tool.specs.declared.refusal.Refusal.{Refusal}

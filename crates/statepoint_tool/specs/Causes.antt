@@ -1,12 +1,15 @@
 -- What brings each status about, over what the files gave.
-use Rattle.std.specs.Prelude.{◌≡◌, ℕ, ℤ, List, Option, Some, None, Ok, Err}
+use Rattle.std.specs.Prelude.{◌≡◌, ⊤, ℕ, ℤ, Bool, true, false, List, Option, Some, None, Ok, Err}
 use Rattle.ir_reader.specs.Text.{Numbered, syntax_fault, limit_fault, readings_in}
 use Rattle.ir_lines.specs.declared.faults.Fault.{Fault as TypeFault}
 use Rattle.ir_lines.specs.Statements.{Line, lines_of}
 use Rattle.ir_types.specs.FaultSet.{HasNoFault, IsLeastFault}
 use Rattle.ir_ast.specs.declared.modules.Form.{Form as TextForm}
 use Rattle.ir_ast.specs.declared.modules.Form.TheVariants as text_forms
-use Rattle.ir_ast.specs.Modules.{ModuleContent}
+use Rattle.ir_ast.specs.Modules.{ModuleContent, LinedModule}
+use Rattle.ir_lines.specs.Modules.{module_of}
+use Rattle.pair_facts.specs.Faults.{IsVerified, IsLeastFault as IsLeastCheckFault}
+use Rattle.statepoint_verify.specs.declared.faults.Fault.{Fault as CheckFault}
 use Rattle.sp_rewrite.specs.Relocates.{HasFewRelocates, HasManyRelocates}
 use Rattle.sp_rewrite.specs.Statements.{IsRewritten}
 use Rattle.move_plan.specs.declared.plan_lines.PlanLine.{PlanLine}
@@ -22,18 +25,18 @@ use Rattle.object_meaning.specs.SourceRuns.{SourceGives}
 use Rattle.statepoint_tool.specs.PlanFaults.{IsLeastPlanFault}
 use Rattle.statepoint_tool.specs.Steps.{Go}
 use Rattle.statepoint_tool.specs.Taken.{Taken, Bytes, Longer, Faulty}
-use Rattle.statepoint_tool.specs.Words.{command_of}
-use Rattle.statepoint_tool.specs.Work.{Given, Output, content_of, shown, written_of, output_of, form_of, map_phase, executed}
+use Rattle.tool_words.specs.Words.{command_of}
+use Rattle.statepoint_tool.specs.Work.{Given, Output, content_of, shown, passed, written_of, output_of, form_of, map_phase, executed}
 use Rattle.statepoint_tool.specs.declared.refusal.Cause.{Cause}
 use Rattle.statepoint_tool.specs.declared.refusal.Cause.TheVariants as cause
 use Rattle.statepoint_tool.specs.declared.refusal.ModuleFault.{ModuleFault}
 use Rattle.statepoint_tool.specs.declared.refusal.ModuleFault.TheVariants.{Syntax, Limit, Typed, TooManyRelocations}
 use Rattle.statepoint_tool.specs.declared.refusal.PlanFault.{PlanFault}
-use Rattle.statepoint_tool.specs.declared.request.Part.{Part}
-use Rattle.statepoint_tool.specs.declared.request.Engine.{Engine}
-use Rattle.statepoint_tool.specs.declared.request.Engine.TheVariants.{Meaning, Machine}
-use Rattle.statepoint_tool.specs.declared.request.RunRequest.{RunRequest}
-use Rattle.statepoint_tool.specs.declared.request.Command.TheVariants.{Show, Rewrite, Source, Run, Exec}
+use Rattle.tool_words.specs.declared.request.Part.{Part}
+use Rattle.statepoint_tool.specs.declared.engine.Engine.{Engine}
+use Rattle.statepoint_tool.specs.declared.engine.Engine.TheVariants.{Meaning, Rewriter, Machine}
+use Rattle.tool_words.specs.declared.request.RunRequest.{RunRequest}
+use Rattle.tool_words.specs.declared.request.Command.TheVariants.{Show, Rewrite, Check, Source, Run, Exec}
 use Rattle.statepoint_tool.specs.declared.status.Status.{Status}
 
 -- ---- texts of modules
@@ -69,12 +72,17 @@ pub record AsksToRewrite (words : List (List ℕ)) : Type 0 where
   pub part : Part
   pub command : command_of words ≡ Some (Rewrite module_file part)
 
--- the words ask for this run: of a source module, by its meaning, or of a rewritten one, on the machine
+-- the words ask to check the module of this file
+pub record AsksToCheck (words : List (List ℕ)) : Type 0 where
+  pub module_file : List ℕ
+  pub command : command_of words ≡ Some (Check module_file)
+
+-- the words ask for this run: of a source module, by its meaning or rewritten, or of a rewritten one, on the machine
 pub data IsAskedFor (words : List (List ℕ)) : Engine → RunRequest → Type 0 where
   by_source : (request : RunRequest) → command_of words ≡ Some (Source request) → IsAskedFor words Meaning request
-  by_run : (request : RunRequest) → command_of words ≡ Some (Run request) → IsAskedFor words Meaning request
-  by_exec : (request : RunRequest) (map_file : Option (List ℕ)) → command_of words ≡ Some (Exec request map_file)
-      → IsAskedFor words (Machine map_file) request
+  by_run : (request : RunRequest) → command_of words ≡ Some (Run request) → IsAskedFor words Rewriter request
+  by_exec : (request : RunRequest) (map_file : Option (List ℕ)) (trust : Bool) → command_of words ≡ Some (Exec request map_file trust)
+      → IsAskedFor words (Machine map_file trust) request
 
 pub record AsksForRun (words : List (List ℕ)) : Type 0 where
   pub engine : Engine
@@ -104,13 +112,30 @@ pub record Rewrites (words : List (List ℕ)) (given : Given) : Type 0 where
   pub is : IsRewritten (content_of text_forms.Source reads.lines) after
   pub few : HasFewRelocates (content_of text_forms.Source reads.lines)
 
--- the module to be run is accepted
+-- the module to be checked is accepted, and has no fault of the verifier
+pub record Checks (words : List (List ℕ)) (given : Given) : Type 0 where
+  pub asks : AsksToCheck words
+  pub text : List ℕ
+  pub taken : given.module_file ≡ Bytes text
+  pub lines : List Line
+  pub accepted : IsAccepted text_forms.Rewritten text lines
+  pub verified : IsVerified (content_of text_forms.Rewritten lines)
+
+-- a module that is to be rewritten has few relocates, and a rewritten one that isn't trusted has no fault of the verifier
+abbrev pub IsTrusted : Engine → ModuleContent → Type 0
+IsTrusted Meaning content = ⊤
+IsTrusted Rewriter content = HasFewRelocates content
+IsTrusted (Machine map_file true) content = ⊤
+IsTrusted (Machine map_file false) content = IsVerified content
+
+-- the module to be run is accepted, and trusted or verified
 pub record ReadsModule (words : List (List ℕ)) (given : Given) : Type 0 where
   pub asks : AsksForRun words
   pub text : List ℕ
   pub taken : given.module_file ≡ Bytes text
   pub lines : List Line
   pub accepted : IsAccepted (form_of asks.engine) text lines
+  pub trusted : IsTrusted asks.engine (content_of (form_of asks.engine) lines)
 
 -- and the input's text has no fault, and these numbers
 pub record ReadsInput (words : List (List ℕ)) (given : Given) : Type 0 where
@@ -140,10 +165,16 @@ engine_asked reads = reads.reads.accepts.asks.engine
 abbrev pub steps_asked : {words : List (List ℕ)} {given : Given} → ReadsPlan words given → ℕ
 steps_asked reads = reads.reads.accepts.asks.request.steps
 
--- the module runs by its meaning
+-- what `source` and `run` write is the source meaning
+abbrev pub RunsSource : Engine → Type 0
+RunsSource Meaning = ⊤
+RunsSource Rewriter = ⊤
+RunsSource (Machine map_file trust) = ⊥
+
+-- a source module runs
 pub record Runs (words : List (List ℕ)) (given : Given) : Type 0 where
   pub reads : ReadsPlan words given
-  pub engine : engine_asked reads ≡ Meaning
+  pub engine : RunsSource (engine_asked reads)
 
 -- its run over that input and under that plan gives this
 abbrev pub RunGives : {words : List (List ℕ)} {given : Given} → Runs words given → Outcome → Type 0
@@ -154,7 +185,8 @@ RunGives runs outcome =
 pub record Executes (words : List (List ℕ)) (given : Given) : Type 0 where
   pub reads : ReadsPlan words given
   pub map_file : Option (List ℕ)
-  pub engine : engine_asked reads ≡ Machine map_file
+  pub trust : Bool
+  pub engine : engine_asked reads ≡ Machine map_file trust
   pub map : StackMap
   pub takes : map_phase (module_run reads) map_file given.map_file (Go map)
 
@@ -165,10 +197,11 @@ MachineRunGives runs outcome =
 
 -- ---- the causes
 
--- the work comes to its end, with this output: a module is shown, or its rewritten module or the stack map of that is, or
+-- the work comes to its end, with this output: a module is shown, or checked, or its rewritten module or the stack map of that is, or
 -- it runs, and so ends by the source meaning or as the machine does
 pub data Ends (words : List (List ℕ)) (given : Given) : Output → Type 0 where
   by_showing : (shows : Shows words given) → Ends words given (shown (content_of text_forms.Source shows.lines))
+  by_checking : (checks : Checks words given) → Ends words given passed
   by_rewriting : (rewrites : Rewrites words given) → Ends words given (written_of rewrites.reads.asks.part rewrites.after)
   by_running : (runs : Runs words given) (outcome : Outcome) → RunGives runs outcome → Ends words given (output_of (module_run runs.reads) outcome)
   by_executing : (runs : Executes words given) (outcome : MachineOutcome) (gives : MachineRunGives runs outcome)
@@ -184,6 +217,7 @@ NoCommand words given = command_of words ≡ None
 pub data NamesModule (words : List (List ℕ)) : TextForm → List ℕ → Type 0 where
   to_show : (asks : AsksToShow words) → NamesModule words text_forms.Source asks.module_file
   to_rewrite : (asks : AsksToRewrite words) → NamesModule words text_forms.Source asks.module_file
+  to_check : (asks : AsksToCheck words) → NamesModule words text_forms.Rewritten asks.module_file
   to_run : (asks : AsksForRun words) → NamesModule words (form_of asks.engine) asks.request.code
 
 -- the text of the module that the words name has this fault, its first
@@ -195,13 +229,46 @@ pub record TextHasFault (words : List (List ℕ)) (given : Given) (fault : Modul
   pub taken : given.module_file ≡ Bytes text
   pub has : HasTextFault form text fault
 
--- the module has this fault: its text does, or it is accepted and, rewritten, would have too many relocates
+-- the words name this file as that of a module to be rewritten: to be written, or run
+pub data NamesSource (words : List (List ℕ)) : List ℕ → Type 0 where
+  to_write : (asks : AsksToRewrite words) → NamesSource words asks.module_file
+  to_run_rewritten : (request : RunRequest) → command_of words ≡ Some (Run request) → NamesSource words request.code
+
+-- the module is accepted and, rewritten, would have too many relocates
+pub record IsTooLarge (words : List (List ℕ)) (given : Given) : Type 0 where
+  pub name : List ℕ
+  pub names : NamesSource words name
+  pub text : List ℕ
+  pub taken : given.module_file ≡ Bytes text
+  pub lines : List Line
+  pub accepted : IsAccepted text_forms.Source text lines
+  pub many : HasManyRelocates (content_of text_forms.Source lines)
+
+-- the module has this fault: its text does, or it is too large
 pub data HasModuleFault (words : List (List ℕ)) (given : Given) : ModuleFault → Type 0 where
   in_text : (fault : ModuleFault) → TextHasFault words given fault → HasModuleFault words given fault
-  too_many : (reads : ReadsToRewrite words given) → HasManyRelocates (content_of text_forms.Source reads.lines) → HasModuleFault words given TooManyRelocations
+  too_many : IsTooLarge words given → HasModuleFault words given TooManyRelocations
 
 abbrev pub HasSomeModuleFault : List (List ℕ) → Given → Type 0
 HasSomeModuleFault words given = (fault : ModuleFault) × HasModuleFault words given fault
+
+-- the words name this file as that of a module to be verified: that of `check`, or of a run that isn't trusted
+pub data NamesJudged (words : List (List ℕ)) : List ℕ → Type 0 where
+  to_judge : (asks : AsksToCheck words) → NamesJudged words asks.module_file
+  to_run_judged : (request : RunRequest) (map_file : Option (List ℕ)) → command_of words ≡ Some (Exec request map_file false) → NamesJudged words request.code
+
+-- the module is accepted, and this is the least fault that the verifier tells
+pub record HasCheckFault (words : List (List ℕ)) (given : Given) (fault : CheckFault) : Type 0 where
+  pub name : List ℕ
+  pub names : NamesJudged words name
+  pub text : List ℕ
+  pub taken : given.module_file ≡ Bytes text
+  pub lines : List Line
+  pub accepted : IsAccepted text_forms.Rewritten text lines
+  pub least : IsLeastCheckFault (module_of text_forms.Rewritten lines) fault.line fault.code
+
+abbrev pub HasSomeCheckFault : List (List ℕ) → Given → Type 0
+HasSomeCheckFault words given = (fault : CheckFault) × HasCheckFault words given fault
 
 -- the module is accepted, and this is the first line of the input's text with a fault
 pub record HasInputFault (words : List (List ℕ)) (given : Given) (line : ℕ) : Type 0 where
@@ -227,7 +294,8 @@ HasSomePlanFault words given = (fault : PlanFault) × HasPlanFault words given f
 pub record ReadsForMap (words : List (List ℕ)) (given : Given) : Type 0 where
   pub reads : ReadsPlan words given
   pub map_file : List ℕ
-  pub engine : engine_asked reads ≡ Machine (Some map_file)
+  pub trust : Bool
+  pub engine : engine_asked reads ≡ Machine (Some map_file) trust
 
 -- the plan is read too, and this is the first fault of the stack map's bytes
 pub record HasMapFault (words : List (List ℕ)) (given : Given) (fault : MapFault) : Type 0 where
@@ -261,3 +329,4 @@ StopsBy (cause.Module fault) words given = HasModuleFault words given fault
 StopsBy (cause.Input line) words given = HasInputFault words given line
 StopsBy (cause.Plan fault) words given = HasPlanFault words given fault
 StopsBy (cause.Map fault) words given = HasMapFault words given fault
+StopsBy (cause.Check fault) words given = HasCheckFault words given fault

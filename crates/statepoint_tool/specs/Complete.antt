@@ -5,14 +5,14 @@ use Rattle.statepoint_tool.specs.Answers.{SinkSeen, Gained, GainedFront, SinkFai
 use Rattle.statepoint_tool.specs.Causes.{Ends}
 use Rattle.statepoint_tool.specs.Notes.{refusal_line}
 use Rattle.statepoint_tool.specs.Taken.{Taken, Bytes, FilesSeen}
-use Rattle.statepoint_tool.specs.Words.{command_of}
+use Rattle.tool_words.specs.Words.{command_of}
 use Rattle.statepoint_tool.specs.Work.{Output, Given}
 use Rattle.statepoint_tool.specs.declared.refusal.Refusal.TheVariants.{Memory}
-use Rattle.statepoint_tool.specs.declared.request.Engine.{Engine}
-use Rattle.statepoint_tool.specs.declared.request.Engine.TheVariants.{Meaning, Machine}
-use Rattle.statepoint_tool.specs.declared.request.RunRequest.{RunRequest}
-use Rattle.statepoint_tool.specs.declared.request.Command.{Command}
-use Rattle.statepoint_tool.specs.declared.request.Command.TheVariants.{Show, Rewrite, Source, Run, Exec}
+use Rattle.statepoint_tool.specs.declared.engine.Engine.{Engine}
+use Rattle.statepoint_tool.specs.declared.engine.Engine.TheVariants.{Meaning, Rewriter, Machine}
+use Rattle.tool_words.specs.declared.request.RunRequest.{RunRequest}
+use Rattle.tool_words.specs.declared.request.Command.{Command}
+use Rattle.tool_words.specs.declared.request.Command.TheVariants.{Show, Rewrite, Check, Source, Run, Exec}
 use Rattle.statepoint_tool.specs.declared.status.Status.{Status}
 use Rattle.statepoint_tool.specs.declared.status.Status.TheVariants.{WantOfMemory, WriteFault}
 
@@ -27,8 +27,9 @@ pub record IsTold (files : FilesSeen) (name : List ℕ) (given : Taken) : Type 0
 -- each file that the command names is told
 abbrev pub MapIsTold : FilesSeen → Engine → Taken → Type 0
 MapIsTold files Meaning given = ⊤
-MapIsTold files (Machine None) given = ⊤
-MapIsTold files (Machine (Some name)) given = IsTold files name given
+MapIsTold files Rewriter given = ⊤
+MapIsTold files (Machine None trust) given = ⊤
+MapIsTold files (Machine (Some name) trust) given = IsTold files name given
 
 abbrev pub RunIsTold : FilesSeen → Engine → RunRequest → Given → Type 0
 RunIsTold files engine request given =
@@ -39,9 +40,10 @@ abbrev pub AllTold : FilesSeen → Option Command → Given → Type 0
 AllTold files None given = ⊤
 AllTold files (Some (Show module_file)) given = IsTold files module_file given.module_file
 AllTold files (Some (Rewrite module_file part)) given = IsTold files module_file given.module_file
+AllTold files (Some (Check module_file)) given = IsTold files module_file given.module_file
 AllTold files (Some (Source request)) given = RunIsTold files Meaning request given
-AllTold files (Some (Run request)) given = RunIsTold files Meaning request given
-AllTold files (Some (Exec request map_file)) given = RunIsTold files (Machine map_file) request given
+AllTold files (Some (Run request)) given = RunIsTold files Rewriter request given
+AllTold files (Some (Exec request map_file trust)) given = RunIsTold files (Machine map_file trust) request given
 
 -- the defined output with the defined status, and nothing said
 pub record IsWhole (output : Output) (status : Status) (out notes : SinkSeen) : Type 0 where

@@ -1,12 +1,13 @@
 pub mod Status
-pub mod Words
 pub mod Steps
 pub mod Taken
 pub mod Closings
 pub mod PlanFaults
+pub mod Runners
 pub mod Work
 pub mod Notes
 pub mod Answers
 pub mod Causes
 pub mod Statuses
 pub mod Complete
+pub mod Headline

@@ -4,7 +4,7 @@ use Rattle.map_bytes.specs.Codes.{rule_code}
 use Rattle.tool_report.specs.declared.notes.Note.TheVariants as note
 use Rattle.tool_report.specs.Notes.{note_text, read_fault_line, too_long_line}
 use Rattle.statepoint_tool.specs.declared.refusal.Cause.{Cause}
-use Rattle.statepoint_tool.specs.declared.refusal.Cause.TheVariants.{Words, ReadFault, TooLong, Module, Input, Plan, Map}
+use Rattle.statepoint_tool.specs.declared.refusal.Cause.TheVariants.{Words, ReadFault, TooLong, Module, Input, Plan, Map, Check}
 use Rattle.statepoint_tool.specs.declared.refusal.ModuleFault.{ModuleFault}
 use Rattle.statepoint_tool.specs.declared.refusal.PlanFault.{PlanFault}
 use Rattle.statepoint_tool.specs.declared.refusal.ModuleFault.TheVariants.{Syntax, Limit, Typed, TooManyRelocations}
@@ -34,6 +34,7 @@ cause_line (Module fault) = module_fault_line fault
 cause_line (Input line) = note_text (note.Input line)
 cause_line (Plan fault) = plan_fault_line fault
 cause_line (Map fault) = note_text (note.Map fault.at (rule_code fault.rule))
+cause_line (Check fault) = note_text (note.Check fault.line fault.code)
 
 abbrev pub refusal_line : Refusal → List ℕ
 refusal_line (Defined cause) = cause_line cause
@@ -48,6 +49,7 @@ status_of_cause (Module _) = status.ModuleRefused
 status_of_cause (Input _) = status.InputRefused
 status_of_cause (Plan _) = status.PlanRefused
 status_of_cause (Map _) = status.MapRefused
+status_of_cause (Check _) = status.CheckSaidNo
 
 abbrev pub status_of_refusal : Refusal → Status
 status_of_refusal (Defined cause) = status_of_cause cause

@@ -2,17 +2,17 @@
 use Rattle.std.specs.Prelude.{◌≡◌, ℕ, ⊤, ◌⊎◌, List, []}
 use Rattle.tool_io.specs.Counts.{Rose}
 use Rattle.statepoint_tool.specs.Answers.{SinkSeen, Gained, GainedFront, SinkFailed, IsBegun}
-use Rattle.statepoint_tool.specs.Causes.{Ends, EndsWith, NoCommand, HasSomeModuleFault, HasSomeInputFault, HasSomePlanFault, HasSomeMapFault, CannotRead, IsTooLong, StopsBy}
+use Rattle.statepoint_tool.specs.Causes.{Ends, EndsWith, NoCommand, HasSomeModuleFault, HasSomeInputFault, HasSomePlanFault, HasSomeMapFault, HasSomeCheckFault, CannotRead, IsTooLong, StopsBy}
 use Rattle.statepoint_tool.specs.Notes.{refusal_line, status_of_cause}
 use Rattle.statepoint_tool.specs.Steps.{Step, Go, Stop}
 use Rattle.statepoint_tool.specs.Taken.{FilesSeen}
-use Rattle.statepoint_tool.specs.Words.{command_of}
+use Rattle.tool_words.specs.Words.{command_of}
 use Rattle.statepoint_tool.specs.Work.{Output, Given, MayGiveNamed}
 use Rattle.statepoint_tool.specs.declared.refusal.Cause.TheVariants as cause
 use Rattle.statepoint_tool.specs.declared.refusal.Refusal.{Refusal}
 use Rattle.statepoint_tool.specs.declared.refusal.Refusal.TheVariants as refused
 use Rattle.statepoint_tool.specs.declared.status.Status.{Status}
-use Rattle.statepoint_tool.specs.declared.status.Status.TheVariants.{Done, ModuleRefused, WordsRefused, ReadFault, WriteFault, WantOfMemory, Trapped, OutOfSteps, PlanRefused, InputRefused, MapRefused, TooLong, Stray}
+use Rattle.statepoint_tool.specs.declared.status.Status.TheVariants.{Done, ModuleRefused, WordsRefused, ReadFault, WriteFault, WantOfMemory, Trapped, OutOfSteps, PlanRefused, InputRefused, MapRefused, CheckSaidNo, TooLong, Stray}
 
 -- the status that a step of the work defines
 abbrev pub status_of_step : Step Output → Status
@@ -74,6 +74,7 @@ CauseOf InputRefused = HasSomeInputFault
 CauseOf PlanRefused = HasSomePlanFault
 CauseOf MapRefused = HasSomeMapFault
 CauseOf TooLong = IsTooLong
+CauseOf CheckSaidNo = HasSomeCheckFault
 CauseOf _ = λ words given. ⊥
 
 -- nothing was written, or a front of what the work writes
@@ -109,10 +110,11 @@ Says PlanRefused words files out notes =
     OverSome words files (λ given. (has : HasSomePlanFault words given) × Gained notes (refusal_line (refused.Defined (cause.Plan has.0))))
 Says MapRefused words files out notes =
     OverSome words files (λ given. (has : HasSomeMapFault words given) × Gained notes (refusal_line (refused.Defined (cause.Map has.0))))
+Says CheckSaidNo words files out notes =
+    OverSome words files (λ given. (has : HasSomeCheckFault words given) × Gained notes (refusal_line (refused.Defined (cause.Check has.0))))
 Says ReadFault words files out notes =
     OverSome words files (λ given. (cannot : CannotRead words given) × Gained notes (refusal_line (refused.Defined (cause.ReadFault cannot.0))))
 Says TooLong words files out notes =
     OverSome words files (λ given. (long : IsTooLong words given) × Gained notes (refusal_line (refused.Defined (cause.TooLong long.0))))
 Says WriteFault words files out notes =
     (SinkFailed out × Gained notes (refusal_line refused.WriteFault)) ⊎ NoteFailed words files out notes
-Says _ words files out notes = ⊥

@@ -1,7 +1,7 @@
--- The order of work: the words; then the module is taken, read and typed; to show it, its text is written; to rewrite
--- it, that of its rewritten module, or that one's stack map; to run it, the input is taken and read, then the plan, and it
+-- The order of work: the words; then the module is taken, read and typed; to show it, its text is written; to check it, it is
+-- verified; to rewrite it, that of its rewritten module, or that one's stack map; to run it, the input is taken and read, then the plan, and it
 -- runs by the source meaning, or, a rewritten module, on the address machine over a stack map, its own or one that is taken.
-use Rattle.std.specs.Prelude.{ℕ, ℤ, ⊤, List, ◌++◌, Option, Some, None, Result, Ok, Err}
+use Rattle.std.specs.Prelude.{ℕ, ℤ, ⊤, true, false, codes, List, ◌++◌, Option, Some, None, Result, Ok, Err}
 use Rattle.ir_ast.specs.declared.modules.Form.{Form as TextForm}
 use Rattle.ir_ast.specs.declared.modules.Form.TheVariants as text_forms
 use Rattle.ir_ast.specs.Modules.{ModuleContent, LinedModule}
@@ -11,6 +11,8 @@ use Rattle.ir_lines.specs.Statements.{Line, lines_of}
 use Rattle.ir_types.specs.FaultSet.{HasNoFault, IsLeastFault}
 use Rattle.ir_lines.specs.Modules.{module_of}
 use Rattle.ir_printer.specs.Texts.{text_of}
+use Rattle.pair_facts.specs.Faults.{IsVerified, IsLeastFault as IsLeastCheckFault}
+use Rattle.statepoint_verify.specs.declared.faults.Fault.{Fault as CheckFault}
 use Rattle.map_bytes.specs.Maps.{StackMap, map_bytes, IsMapOf}
 use Rattle.map_bytes.specs.Faults.{IsFirstFault}
 use Rattle.map_bytes.specs.declared.rules.MapFault.{MapFault}
@@ -30,17 +32,17 @@ use Rattle.statepoint_tool.specs.Closings.{closing_line, status_of_end}
 use Rattle.statepoint_tool.specs.PlanFaults.{IsLeastPlanFault}
 use Rattle.statepoint_tool.specs.Steps.{Step, Go, Stop, comes_to, Then}
 use Rattle.statepoint_tool.specs.Taken.{Taken, FilesSeen, MayGive, file_phase}
-use Rattle.statepoint_tool.specs.Words.{command_of}
-use Rattle.statepoint_tool.specs.declared.refusal.Cause.TheVariants.{Words, Module, Input, Plan, Map}
+use Rattle.tool_words.specs.Words.{command_of}
+use Rattle.statepoint_tool.specs.declared.refusal.Cause.TheVariants.{Words, Module, Input, Plan, Map, Check as CheckSays}
 use Rattle.statepoint_tool.specs.declared.refusal.ModuleFault.TheVariants.{Syntax, Limit, Typed, TooManyRelocations}
 use Rattle.statepoint_tool.specs.declared.refusal.PlanFault.{PlanFault}
-use Rattle.statepoint_tool.specs.declared.request.Part.{Part}
-use Rattle.statepoint_tool.specs.declared.request.Part.TheVariants.{Text, MapText, MapBytes}
-use Rattle.statepoint_tool.specs.declared.request.Engine.{Engine}
-use Rattle.statepoint_tool.specs.declared.request.Engine.TheVariants.{Meaning, Machine}
-use Rattle.statepoint_tool.specs.declared.request.RunRequest.{RunRequest}
-use Rattle.statepoint_tool.specs.declared.request.Command.{Command}
-use Rattle.statepoint_tool.specs.declared.request.Command.TheVariants.{Show, Rewrite, Source, Run, Exec}
+use Rattle.tool_words.specs.declared.request.Part.{Part}
+use Rattle.tool_words.specs.declared.request.Part.TheVariants.{Text, MapText, MapBytes}
+use Rattle.statepoint_tool.specs.declared.engine.Engine.{Engine}
+use Rattle.statepoint_tool.specs.declared.engine.Engine.TheVariants.{Meaning, Rewriter, Machine}
+use Rattle.tool_words.specs.declared.request.RunRequest.{RunRequest}
+use Rattle.tool_words.specs.declared.request.Command.{Command}
+use Rattle.tool_words.specs.declared.request.Command.TheVariants.{Show, Rewrite, Check, Source, Run, Exec}
 use Rattle.statepoint_tool.specs.declared.status.Status.{Status}
 use Rattle.statepoint_tool.specs.declared.status.Status.TheVariants.{Done}
 
@@ -63,8 +65,9 @@ MayGiveShown files module_file given = MayGive files module_file given.module_fi
 -- a stack map is taken for a run on the machine that names one
 abbrev pub MayGiveMap : FilesSeen → Engine → Taken → Type 0
 MayGiveMap files Meaning given = ⊤
-MayGiveMap files (Machine None) given = ⊤
-MayGiveMap files (Machine (Some name)) given = MayGive files name given
+MayGiveMap files Rewriter given = ⊤
+MayGiveMap files (Machine None trust) given = ⊤
+MayGiveMap files (Machine (Some name) trust) given = MayGive files name given
 
 -- what a run takes behind its input, and behind its module
 abbrev pub MayGiveFromPlan : FilesSeen → (plan : List ℕ) → Engine → Taken × Taken → Type 0
@@ -98,6 +101,33 @@ pub data Typing (form : TextForm) (lines : List Line) : Step LinedModule → Typ
 abbrev pub module_phase : TextForm → List ℕ → Step LinedModule → Type 0
 module_phase form text = Then (reading form text) (Typing form)
 
+-- verifying a rewritten module: it has no fault of the verifier, or this is the least
+pub data Judging (whole : LinedModule) : Step LinedModule → Type 0 where
+  verified : IsVerified whole.content → Judging whole (Go whole)
+  said_no : (fault : CheckFault) → IsLeastCheckFault whole fault.line fault.code → Judging whole (Stop (CheckSays fault))
+
+-- rewriting a module: its rewritten module, or that this would have too many relocates
+pub data Rewriting (content : ModuleContent) : Step ModuleContent → Type 0 where
+  rewritten : (after : ModuleContent) → IsRewritten content after → HasFewRelocates content → Rewriting content (Go after)
+  too_many : HasManyRelocates content → Rewriting content (Stop (Module TooManyRelocations))
+
+-- the form of the modules that an engine runs
+abbrev pub form_of : Engine → TextForm
+form_of Meaning = text_forms.Source
+form_of Rewriter = text_forms.Source
+form_of (Machine map_file trust) = text_forms.Rewritten
+
+-- before a module runs: one that is to be rewritten has no more relocates than may be, and a rewritten one that isn't trusted is
+-- verified
+abbrev pub judged : Engine → LinedModule → Step LinedModule → Type 0
+judged Meaning whole = comes_to (Go whole)
+judged Rewriter whole = Then (Rewriting whole.content) (λ after. comes_to (Go whole))
+judged (Machine map_file true) whole = comes_to (Go whole)
+judged (Machine map_file false) whole = Judging whole
+
+abbrev pub run_module_phase : Engine → List ℕ → Step LinedModule → Type 0
+run_module_phase engine text = Then (module_phase (form_of engine) text) (judged engine)
+
 -- reading an input: the numbers of its text, or the first line that is neither blank nor a number, or holds the first
 -- number too many
 pub data ReadingInput (text : List ℕ) : Step (List ℤ) → Type 0 where
@@ -116,12 +146,7 @@ shown content = record { text = text_of content; status = Done }
 abbrev pub show_phase : LinedModule → Step Output → Type 0
 show_phase whole = comes_to (Go (shown whole.content))
 
--- rewriting a module: its rewritten module, or that this would have too many relocates
-pub data Rewriting (content : ModuleContent) : Step ModuleContent → Type 0 where
-  rewritten : (after : ModuleContent) → IsRewritten content after → HasFewRelocates content → Rewriting content (Go after)
-  too_many : HasManyRelocates content → Rewriting content (Stop (Module TooManyRelocations))
-
--- of which this is written, its text, or its stack map as text or as bytes
+-- of a rewritten module this is written, its text, or its stack map as text or as bytes
 abbrev pub text_of_part : Part → ModuleContent → List ℕ
 text_of_part Text content = text_of content
 text_of_part MapText content = text_of_map (map_of content)
@@ -135,6 +160,16 @@ after_rewriting part after = comes_to (Go (written_of part after))
 
 abbrev pub rewrite_phase : Part → LinedModule → Step Output → Type 0
 rewrite_phase part whole = Then (Rewriting whole.content) (after_rewriting part)
+
+-- checking a module writes that it has no fault
+abbrev pub passed : Output
+passed = record { text = codes "ok\n"; status = Done }
+
+abbrev pub checked_phase : List ℕ → Step LinedModule → Type 0
+checked_phase text = Then (module_phase text_forms.Rewritten text) Judging
+
+abbrev pub after_check : LinedModule → Step Output → Type 0
+after_check whole = comes_to (Go passed)
 
 -- what a run writes that gives this outcome, and the status that it ends with
 abbrev pub output_of : ModuleContent → Outcome → Output
@@ -170,19 +205,21 @@ pub data Executing (content : ModuleContent) (input : List ℤ) (plan : List Pla
   executes : (outcome : MachineOutcome) (gives : MachineGives content map input plan steps outcome)
       → Executing content input plan steps map (Go (executed content outcome gives.last.lines))
 
--- a source module runs by its meaning, a rewritten one on the machine
-abbrev pub form_of : Engine → TextForm
-form_of Meaning = text_forms.Source
-form_of (Machine map_file) = text_forms.Rewritten
-
+-- a source module runs by its meaning, a rewritten one on the machine. What `run` writes is the source meaning too: the run of
+-- the rewritten module on the machine is the same
 abbrev pub run_phase : Engine → ModuleContent → List ℤ → List PlanLine → ℕ → Taken → Step Output → Type 0
 run_phase Meaning content numbers lines steps given = Running content numbers lines steps
-run_phase (Machine map_file) content numbers lines steps given =
+run_phase Rewriter content numbers lines steps given = Running content numbers lines steps
+run_phase (Machine map_file trust) content numbers lines steps given =
     Then (map_phase content map_file given) (Executing content numbers lines steps)
 
 -- the order of work of `show`
 abbrev pub show_work : List ℕ → Given → Step Output → Type 0
 show_work module_file given = Then (file_phase module_file (module_phase text_forms.Source) given.module_file) show_phase
+
+-- the order of work of `check`
+abbrev pub check_work : List ℕ → Given → Step Output → Type 0
+check_work module_file given = Then (file_phase module_file checked_phase given.module_file) after_check
 
 -- the order of work of `rewrite` and of `maps`
 abbrev pub rewrite_work : Part → List ℕ → Given → Step Output → Type 0
@@ -199,7 +236,7 @@ after_module input plan engine content steps given =
 
 abbrev pub run_work : Engine → RunRequest → Given → Step Output → Type 0
 run_work engine request given =
-    Then (file_phase request.code (module_phase (form_of engine)) given.module_file)
+    Then (file_phase request.code (run_module_phase engine) given.module_file)
     (λ (whole : LinedModule).
     after_module request.input request.plan engine whole.content request.steps (given.input, (given.plan, given.map_file)))
 
@@ -208,9 +245,10 @@ abbrev pub command_work : Option Command → Given → Step Output → Type 0
 command_work None given = comes_to (Stop Words)
 command_work (Some (Show module_file)) given = show_work module_file given
 command_work (Some (Rewrite module_file part)) given = rewrite_work part module_file given
+command_work (Some (Check module_file)) given = check_work module_file given
 command_work (Some (Source request)) given = run_work Meaning request given
-command_work (Some (Run request)) given = run_work Meaning request given
-command_work (Some (Exec request map_file)) given = run_work (Machine map_file) request given
+command_work (Some (Run request)) given = run_work Rewriter request given
+command_work (Some (Exec request map_file trust)) given = run_work (Machine map_file trust) request given
 
 abbrev pub work : List (List ℕ) → Given → Step Output → Type 0
 work words given = command_work (command_of words) given
@@ -220,6 +258,7 @@ abbrev pub MayGiveNamed : FilesSeen → Option Command → Given → Type 0
 MayGiveNamed files None given = ⊤
 MayGiveNamed files (Some (Show module_file)) given = MayGiveShown files module_file given
 MayGiveNamed files (Some (Rewrite module_file part)) given = MayGiveShown files module_file given
+MayGiveNamed files (Some (Check module_file)) given = MayGiveShown files module_file given
 MayGiveNamed files (Some (Source request)) given = MayGiveAll files Meaning request given
-MayGiveNamed files (Some (Run request)) given = MayGiveAll files Meaning request given
-MayGiveNamed files (Some (Exec request map_file)) given = MayGiveAll files (Machine map_file) request given
+MayGiveNamed files (Some (Run request)) given = MayGiveAll files Rewriter request given
+MayGiveNamed files (Some (Exec request map_file trust)) given = MayGiveAll files (Machine map_file trust) request given

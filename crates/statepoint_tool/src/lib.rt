@@ -2,19 +2,22 @@
 #![tactic(auto)]
 
 mod closing;
+mod engine;
+mod judging;
+mod laws;
 mod machine;
 mod maps;
 mod notes;
 mod phases;
 mod refusal;
-mod request;
 mod rewrite;
 mod run;
+mod runner;
 mod show;
 mod status;
 mod top;
-mod words;
 
-pub use request::FileName;
+pub use laws::plans_are_free;
 pub use status::Status;
+pub use tool_words::FileName;
 pub use top::statepoint;

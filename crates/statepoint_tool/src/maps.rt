@@ -9,7 +9,6 @@ ghost use Rattle.statepoint_tool.specs.Answers.{Came, sink_seen};
 ghost use Rattle.statepoint_tool.specs.Work.{after_rewriting};
 
 use crate::refusal::Refusal;
-use crate::request::Part;
 use crate::status::Status;
 use frame_slots::Layouts;
 use ir_ast::Module;
@@ -19,6 +18,7 @@ use stackmap_write::write;
 use std::alloc::Global;
 use tool_io::{Failed, Sink};
 use tool_report::map_text;
+use tool_words::Part;
 
 /// Writes the stack map of this rewritten module as text.
 pub(crate) fn write_map_text<O: Sink>(

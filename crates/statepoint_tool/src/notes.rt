@@ -44,6 +44,10 @@ fn note_of_cause(cause: &Cause) -> Note<'_>
             at: fault.at,
             code: fault.rule.code(),
         },
+        Cause::Check(fault) => Note::Check {
+            line: fault.line,
+            code: fault.code,
+        },
     }
 }
 
@@ -115,6 +119,7 @@ impl Cause {
             Cause::Input { .. } => Status::InputRefused,
             Cause::Plan(_) => Status::PlanRefused,
             Cause::Map(_) => Status::MapRefused,
+            Cause::Check(_) => Status::CheckSaidNo,
         }
     }
 }

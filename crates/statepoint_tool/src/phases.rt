@@ -16,7 +16,6 @@ ghost use Rattle.statepoint_tool.specs.Taken.{files_seen};
 ghost use Rattle.statepoint_tool.specs.Work.{reading, module_phase, ReadingInput, ReadingPlan, Typing};
 
 use crate::refusal::{Cause, ModuleFault, PlanFault, Refusal};
-use crate::request::FileName;
 use ir_ast::{Form, Module};
 use ir_reader::{Raw, ReadFault, read, read_rewritten};
 use ir_types::{TypeFault, typed, typed_rewritten};
@@ -24,6 +23,7 @@ use move_plan::{InputFault, Plan, PlanFault as TextFault, read_input};
 use sp_ids::limits;
 use std::alloc::Global;
 use tool_io::{Files, TakeFault};
+use tool_words::FileName;
 
 /// The bytes of the file of this name.
 pub(crate) fn take<F: Files>(
@@ -153,7 +153,8 @@ fn type_as(alloc: Global, form: Form, raw: Raw) -> Result<Module, TypeFault>
     }
 }
 
-fn module_in(alloc: Global, form: Form, text: &[u8]) -> Result<Module, Refusal>
+/// The module of this form that a text stands for.
+pub(crate) fn module_in(alloc: Global, form: Form, text: &[u8]) -> Result<Module, Refusal>
     requires { length text.now ≤ 16777216 }
     ensures read { Agrees (λ read. read) result (module_phase form text.now) }
     ensures formed { IfOk result (λ read. IsFormedModule read.content) }

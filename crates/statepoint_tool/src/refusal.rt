@@ -1,7 +1,8 @@
-use crate::request::FileName;
 use ir_types::Fault;
 use map_bytes::MapFault;
 use sp_ids::Memory;
+use statepoint_verify::Fault as CheckFault;
+use tool_words::FileName;
 
 /// What is wrong with the text of a module.
 #[derive(Clone, Copy, Debug, PartialEq, Eq)]
@@ -44,6 +45,8 @@ pub(crate) enum Cause {
     Plan(PlanFault),
     /// The first fault of the bytes of a stack map.
     Map(MapFault),
+    /// The least fault that the verifier tells.
+    Check(CheckFault),
 }
 
 /// Why the work did not come to its end.

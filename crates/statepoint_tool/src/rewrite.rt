@@ -5,6 +5,7 @@ ghost use Rattle.ir_ast.specs.Bundles.{HasNoBundle};
 ghost use Rattle.ir_ast.specs.Formed.{IsFormedModule};
 ghost use Rattle.ir_cfg.specs.SourceModules.{IsSourceModule};
 ghost use Rattle.ir_cfg.specs.TargetModules.{IsTargetModule};
+ghost use Rattle.sp_rewrite.specs.Statements.{IsRewritten};
 ghost use Rattle.tool_io.specs.Counts.{NoneFell};
 ghost use Rattle.statepoint_tool.specs.Answers.{Agrees, Came, Works, sink_seen};
 ghost use Rattle.statepoint_tool.specs.Taken.{files_seen};
@@ -13,13 +14,14 @@ ghost use Rattle.statepoint_tool.specs.Work.{MayGiveShown, Rewriting, after_rewr
 use crate::maps::{write_map_bytes, write_map_text};
 use crate::phases::take_module;
 use crate::refusal::{Cause, ModuleFault, Refusal};
-use crate::request::{FileName, Part};
 use crate::show::show_module;
 use crate::status::Status;
 use ir_ast::{Form, Module};
 use sp_rewrite::RewriteFault;
+use statepoint_verify::Verified;
 use std::alloc::Global;
 use tool_io::{Files, Sink};
+use tool_words::{FileName, Part};
 
 /// Writes this of the rewritten module of the module in the file of this name.
 pub(crate) fn rewrite<F: Files, O: Sink>(
@@ -53,7 +55,7 @@ fn rewrite_module<O: Sink>(
     ensures out_counted { O.faults out.old ≤ O.faults out.new }
 {
     let after = rewritten(alloc, read)?;
-    write_part(alloc, &after, part, out)
+    write_part(alloc, after.module(), part, out)
 }
 
 fn write_part<O: Sink>(
@@ -76,11 +78,12 @@ fn write_part<O: Sink>(
     }
 }
 
-// The rewritten module.
-fn rewritten(alloc: Global, read: Module) -> Result<Module, Refusal>
+/// The rewritten module.
+pub(crate) fn rewritten(alloc: Global, read: Module) -> Result<Verified, Refusal>
     requires source { IsSourceModule read.content }
     requires no_bundle { All HasNoBundle read.content.funcs }
     ensures rewrites { Agrees (λ after. after.content) result (Rewriting read.content) }
+    ensures is { IfOk result (λ after. IsRewritten read.content after.content) }
     ensures formed { IfOk result (λ after. IsFormedModule after.content) }
     ensures target { IfOk result (λ after. IsTargetModule after.content) }
     ensures no_bundle { IfOk result (λ after. All HasNoBundle after.content.funcs) }

@@ -1,26 +1,28 @@
-//! The commands `source`, `run` and `exec`: the module, the input and the plan are taken in this order, then the module runs.
+//! The commands `source`, `run` and `exec`: the module, the input and the plan are taken in this order, then it runs, or its
+//! rewritten module does.
 ghost use Rattle.std.specs.Prelude.{◌≡◌, ◌≤◌, ℕ, IfOk, OnErr, IsErrOf};
-ghost use Rattle.std.specs.List.{All};
-ghost use Rattle.ir_ast.specs.Bundles.{HasNoBundle};
+ghost use Rattle.ir_ast.specs.Modules.{ModuleContent};
 ghost use Rattle.ir_cfg.specs.SourceModules.{IsSourceModule};
-ghost use Rattle.ir_cfg.specs.TypedModules.{IsModuleOf};
 ghost use Rattle.tool_io.specs.Counts.{NoneFell, Rose};
 ghost use Rattle.statepoint_tool.specs.Answers.{Came, IsBegun, IsDone, Works, sink_seen};
 ghost use Rattle.statepoint_tool.specs.Steps.{Go};
 ghost use Rattle.statepoint_tool.specs.Taken.{files_seen};
-ghost use Rattle.statepoint_tool.specs.Work.{MayGiveAll, MayGiveFromInput, MayGiveFromPlan, MayGiveMap, Running, after_input, after_module, form_of, run_phase, run_work};
+ghost use Rattle.statepoint_tool.specs.Work.{MayGiveAll, MayGiveFromInput, MayGiveFromPlan, MayGiveMap, Running, after_input, after_module, run_phase, run_work};
+ghost use Rattle.statepoint_tool.specs.Runners.{CanRun, RunsAs, engine_of};
 
 use crate::closing::close;
-use crate::machine::run_on_machine;
+use crate::engine::Engine;
+use crate::machine::{run_on_machine, run_rewritten};
 use crate::phases::{take_input, take_module, take_plan};
 use crate::refusal::Refusal;
-use crate::request::{Engine, FileName, RunRequest};
+use crate::runner::{Runner, runner_of};
 use crate::status::Status;
 use ir_ast::Module;
 use ir_meaning::{RefFault, reference};
 use move_plan::Plan;
 use std::alloc::Global;
 use tool_io::{Files, Sink};
+use tool_words::{FileName, RunRequest};
 
 /// Does the run that is asked for.
 pub(crate) fn run<F: Files, O: Sink>(
@@ -44,81 +46,80 @@ pub(crate) fn run<F: Files, O: Sink>(
         steps,
     } = request;
     let read = take_module(alloc, engine.form(), files, code)?;
-    run_module(alloc, &read, engine, input, plan, steps, files, out)
+    let runner = runner_of(alloc, engine, read)?;
+    run_module(alloc, runner, input, plan, steps, files, out)
 }
 
-// What is left once the module is read.
+// What is left once it is known what runs.
 fn run_module<F: Files, O: Sink>(
     alloc: Global,
-    read: &Module,
-    engine: Engine,
+    runner: Runner,
     input: FileName,
     plan: FileName,
     steps: u64,
     files: &mut F,
     out: &mut O,
 ) -> Result<Status, Refusal>
-    requires of_form { IsModuleOf (form_of engine) read.now.content }
-    requires no_bundle { All HasNoBundle read.now.content.funcs }
-    ensures works { Works (MayGiveFromInput (files_seen (F.contents files.old) (F.faults files.old) (F.faults files.new)) input plan engine)
-        (after_module input plan engine read.now.content steps) result
+    requires { CanRun runner }
+    ensures works { (content : ModuleContent) → RunsAs content runner →
+        Works (MayGiveFromInput (files_seen (F.contents files.old) (F.faults files.old) (F.faults files.new)) input plan (engine_of runner))
+        (after_module input plan (engine_of runner) content steps) result
         (sink_seen (O.written out.old) (O.written out.new) (O.faults out.old) (O.faults out.new)) }
     ensures kept { F.contents files.new ≡ F.contents files.old }
     ensures counted { NoneFell (F.faults files.old) (F.faults files.new) }
     ensures out_counted { O.faults out.old ≤ O.faults out.new }
 {
     let numbers = take_input(alloc, files, input)?;
-    run_with_input(alloc, read, engine, &numbers, plan, steps, files, out)
+    run_with_input(alloc, runner, &numbers, plan, steps, files, out)
 }
 
 // What is left once the input is read.
 fn run_with_input<F: Files, O: Sink>(
     alloc: Global,
-    read: &Module,
-    engine: Engine,
+    runner: Runner,
     numbers: &[i64],
     plan: FileName,
     steps: u64,
     files: &mut F,
     out: &mut O,
 ) -> Result<Status, Refusal>
-    requires of_form { IsModuleOf (form_of engine) read.now.content }
-    requires no_bundle { All HasNoBundle read.now.content.funcs }
-    ensures works { Works (MayGiveFromPlan (files_seen (F.contents files.old) (F.faults files.old) (F.faults files.new)) plan engine)
-        (after_input plan engine read.now.content numbers.now steps) result
+    requires { CanRun runner }
+    ensures works { (content : ModuleContent) → RunsAs content runner →
+        Works (MayGiveFromPlan (files_seen (F.contents files.old) (F.faults files.old) (F.faults files.new)) plan (engine_of runner))
+        (after_input plan (engine_of runner) content numbers.now steps) result
         (sink_seen (O.written out.old) (O.written out.new) (O.faults out.old) (O.faults out.new)) }
     ensures kept { F.contents files.new ≡ F.contents files.old }
     ensures counted { NoneFell (F.faults files.old) (F.faults files.new) }
     ensures out_counted { O.faults out.old ≤ O.faults out.new }
 {
     let lines = take_plan(alloc, files, plan)?;
-    run_under_plan(alloc, read, engine, numbers, &lines, steps, files, out)
+    run_under_plan(alloc, runner, numbers, &lines, steps, files, out)
 }
 
 // What is left once the plan is read.
 fn run_under_plan<F: Files, O: Sink>(
     alloc: Global,
-    read: &Module,
-    engine: Engine,
+    runner: Runner,
     numbers: &[i64],
     plan: &Plan,
     steps: u64,
     files: &mut F,
     out: &mut O,
 ) -> Result<Status, Refusal>
-    requires of_form { IsModuleOf (form_of engine) read.now.content }
-    requires no_bundle { All HasNoBundle read.now.content.funcs }
-    ensures works { Works (MayGiveMap (files_seen (F.contents files.old) (F.faults files.old) (F.faults files.new)) engine)
-        (run_phase engine read.now.content numbers.now plan.now steps) result
+    requires { CanRun runner }
+    ensures works { (content : ModuleContent) → RunsAs content runner →
+        Works (MayGiveMap (files_seen (F.contents files.old) (F.faults files.old) (F.faults files.new)) (engine_of runner))
+        (run_phase (engine_of runner) content numbers.now plan.now steps) result
         (sink_seen (O.written out.old) (O.written out.new) (O.faults out.old) (O.faults out.new)) }
     ensures kept { F.contents files.new ≡ F.contents files.old }
     ensures counted { NoneFell (F.faults files.old) (F.faults files.new) }
     ensures out_counted { O.faults out.old ≤ O.faults out.new }
 {
-    match engine {
-        Engine::Meaning => run_by_meaning(alloc, read, numbers, plan, steps, out),
-        Engine::Machine { map } => {
-            run_on_machine(alloc, read, map, numbers, plan, steps, files, out)
+    match runner {
+        Runner::Meaning(read) => run_by_meaning(alloc, &read, numbers, plan, steps, out),
+        Runner::Rewritten(after) => run_rewritten(alloc, &after, numbers, plan, steps, out),
+        Runner::Machine { module, map } => {
+            run_on_machine(alloc, &module, map, numbers, plan, steps, files, out)
         }
     }
 }

@@ -8,12 +8,12 @@ ghost use Rattle.statepoint_tool.specs.Work.{MayGiveShown, show_phase, show_work
 
 use crate::phases::take_module;
 use crate::refusal::Refusal;
-use crate::request::FileName;
 use crate::status::Status;
 use ir_ast::{Form, Module};
 use ir_printer::print;
 use std::alloc::Global;
 use tool_io::{Failed, Files, Sink};
+use tool_words::FileName;
 
 /// Writes the text of the module in the file of this name.
 pub(crate) fn show<F: Files, O: Sink>(

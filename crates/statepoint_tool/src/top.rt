@@ -1,35 +1,38 @@
 //! The top call.
-ghost use Rattle.std.specs.Prelude.{◌≡◌, ◌≢◌, ◌≤◌, ◌⊎◌, ℕ, List, map, string_bytes};
+ghost use Rattle.std.specs.Prelude.{◌≡◌, ◌≤◌, ◌⊎◌, ℕ, List, map, string_bytes};
 ghost use Rattle.tool_io.specs.Counts.{NoneFell};
 ghost use Rattle.statepoint_tool.specs.Answers.{SinkFailed, IsAnswer, IsTold, Works, sink_seen};
-ghost use Rattle.statepoint_tool.specs.Causes.{CannotRead, EndsWith, HasSomeInputFault, HasSomeMapFault, HasSomeModuleFault, HasSomePlanFault, IsTooLong, NoCommand};
+ghost use Rattle.statepoint_tool.specs.Causes.{CannotRead, EndsWith, HasSomeCheckFault, HasSomeInputFault, HasSomeMapFault, HasSomeModuleFault, HasSomePlanFault, IsTooLong, NoCommand};
 ghost use Rattle.statepoint_tool.specs.Complete.{IsComplete};
+ghost use Rattle.statepoint_tool.specs.Headline.{IsHeadline, RunsVerified, StrayIsAsked};
 ghost use Rattle.statepoint_tool.specs.Statuses.{Exactly, ReadFaultCounted, Says, Writes};
 ghost use Rattle.statepoint_tool.specs.Taken.{files_seen};
-ghost use Rattle.statepoint_tool.specs.Words.{command_of};
+ghost use Rattle.tool_words.specs.Words.{command_of};
 ghost use Rattle.statepoint_tool.specs.Work.{MayGiveNamed, work as work_of};
 
+use crate::engine::Engine;
+use crate::judging::check;
 use crate::notes::put_note;
 use crate::refusal::{Cause, Refusal};
-use crate::request::{Command, Engine};
 use crate::rewrite::rewrite;
 use crate::run::run;
 use crate::show::show;
 use crate::status::Status;
-use crate::words::{WordsFault, command};
 use std::alloc::Global;
 use tool_io::{Failed, Files, Sink};
+use tool_words::{Command, WordsFault, command};
 
 /// Does what the words ask for, and says how it ended. The first word is the program's name.
 ///
 /// `show` writes the text of the module, `rewrite` that of the rewritten module, `maps` its stack map,
 /// as text or with `--raw` as bytes. `source` and `run` write the lines of the source meaning, over the numbers of the
-/// input and under the `go` lines of the plan, and then the line that closes the run. `exec` with `--trust` writes the lines
-/// that the address machine prints, which runs a rewritten module as it is under the moves and the `go` lines of the plan,
-/// over the module's own stack map or that in the file of `--map`, and then the closing line.
+/// input and under the `go` lines of the plan, and then the line that closes the run. `check` writes `ok` where the verifier
+/// finds no fault in a rewritten module. `exec` writes the lines that the address machine prints, which runs a rewritten module
+/// under the moves and the `go` lines of the plan, over the module's own stack map or that in the file of `--map`, and then the
+/// closing line; without `--trust` the module is verified first.
 ///
-/// The work goes in this order: the words; the module is taken, read and typed; for `rewrite` and `maps` it is rewritten;
-/// for `source`, `run` and `exec` the input is taken and read, then the plan, then the stack map where one is named, and the
+/// The work goes in this order: the words; the module is taken, read and typed; for `rewrite` and `maps` it is rewritten, for
+/// `check` and for `exec` without `--trust` verified; for `source`, `run` and `exec` the input is taken and read, then the plan, then the stack map where one is named, and the
 /// module runs. A run writes each line by one `put`, as it comes. A refusal puts one line on `notes`.
 ///
 /// What the files gave is what is told of them, or anything where nothing is told; a file could not be
@@ -42,6 +45,24 @@ pub fn statepoint<F: Files, O: Sink, E: Sink>(
     out: &mut O,
     notes: &mut E,
 ) -> Status
+    // The headline. For every module text that the profile accepts, every input, plan and bound, `run` writes what the source
+    // meaning prints on objects that never move, and ends with its return, trap or want of steps. This is also the address
+    // machine's run of the emitted module, whose frames are found through the emitted map bytes, under that plan; no moved-away
+    // address is read.
+    ensures headline { IsHeadline (map string_bytes words.now)
+        (files_seen (F.contents files.old) (F.faults files.old) (F.faults files.new))
+        (sink_seen (O.written out.old) (O.written out.new) (O.faults out.old) (O.faults out.new))
+        (sink_seen (E.written notes.old) (E.written notes.new) (E.faults notes.old) (E.faults notes.new))
+        result }
+    // What the verifier's yes means: `exec` of a module without a fault, over its own map, writes what the target meaning prints
+    // on objects that never move, whatever the plan moves; and only a run that is trusted, or over a given map, goes astray.
+    ensures verified_runs { RunsVerified (map string_bytes words.now)
+        (files_seen (F.contents files.old) (F.faults files.old) (F.faults files.new))
+        (sink_seen (O.written out.old) (O.written out.new) (O.faults out.old) (O.faults out.new))
+        (sink_seen (E.written notes.old) (E.written notes.new) (E.faults notes.old) (E.faults notes.new))
+        result }
+    ensures stray_asked { StrayIsAsked (map string_bytes words.now) result }
+
     // Told files without fault, and no fault counted: the whole text that is defined, the module's or the run's, with its
     // status and nothing said; or want of memory after a front of that text.
     ensures complete { IsComplete (map string_bytes words.now)
@@ -96,6 +117,11 @@ pub fn statepoint<F: Files, O: Sink, E: Sink>(
         (sink_seen (O.written out.old) (O.written out.new) (O.faults out.old) (O.faults out.new))
         (sink_seen (E.written notes.old) (E.written notes.new) (E.faults notes.old) (E.faults notes.new))
         result Status.MapRefused HasSomeMapFault }
+    ensures said_no { Exactly (map string_bytes words.now)
+        (files_seen (F.contents files.old) (F.faults files.old) (F.faults files.new))
+        (sink_seen (O.written out.old) (O.written out.new) (O.faults out.old) (O.faults out.new))
+        (sink_seen (E.written notes.old) (E.written notes.new) (E.faults notes.old) (E.faults notes.new))
+        result Status.CheckSaidNo HasSomeCheckFault }
     ensures too_long { Exactly (map string_bytes words.now)
         (files_seen (F.contents files.old) (F.faults files.old) (F.faults files.new))
         (sink_seen (O.written out.old) (O.written out.new) (O.faults out.old) (O.faults out.new))
@@ -111,7 +137,6 @@ pub fn statepoint<F: Files, O: Sink, E: Sink>(
     ensures write_fault_counted { result ≡ Status.WriteFault →
         SinkFailed (sink_seen (O.written out.old) (O.written out.new) (O.faults out.old) (O.faults out.new)) ⊎
         SinkFailed (sink_seen (E.written notes.old) (E.written notes.new) (E.faults notes.old) (E.faults notes.new)) }
-    ensures never_said_no { result ≢ Status.CheckSaidNo }
 
     // What the call leaves.
     ensures writes { Writes result (map string_bytes words.now)
@@ -165,15 +190,16 @@ fn work<F: Files, O: Sink>(
     match command(alloc, words) {
         Ok(Command::Show { module }) => show(alloc, module, files, out),
         Ok(Command::Rewrite { module, part }) => rewrite(alloc, module, part, files, out),
+        Ok(Command::Check { module }) => check(alloc, module, files, out),
         Ok(Command::Source(request)) => run(alloc, Engine::Meaning, request, files, out),
-        Ok(Command::Run(request)) => run(alloc, Engine::Meaning, request, files, out),
-        Ok(Command::Exec { request, map }) => run(
-            alloc,
-            Engine::Machine { map },
-            request,
-            files,
-            out,
-        ),
+        Ok(Command::Run(request)) => run(alloc, Engine::Rewriter, request, files, out),
+        Ok(
+            Command::Exec {
+                request,
+                map,
+                trust,
+            },
+        ) => run(alloc, Engine::Machine { map, trust }, request, files, out),
         Err(WordsFault::Words) => Err(Refusal::Defined(Cause::Words)),
         Err(WordsFault::Memory) => Err(Refusal::Memory),
     }

@@ -1,9 +1,11 @@
-use Rattle.std.proofs.Common.{◌≡◌, ◌∙◌, ap, sym, arith, length, get_or}
+use Rattle.std.proofs.Common.{◌≡◌, ◌∙◌, ℕ, ap, sym, arith, length, get_or, replicate, false}
 use Rattle.std.proofs.lemmas.List.{length-map}
 use Rattle.rewriting_forms.specs.Numbered.{pointers}
 use Rattle.live_sets.specs.Values.{valued}
 use Rattle.live_sets.specs.Starts.{starts_of, list_at}
+use Rattle.live_sets.specs.Ends.{numbers_of}
 use Rattle.live_sets.proofs.StartLemmas.{list_is}
+use Rattle.live_sets.proofs.EndLemmas.{rows_length, numbers_length}
 use Rattle.live_sets.proofs.Reaches.{all_inside, marks_are}
 use Rattle.live_sets.proofs.EndsLaws.{fronts_count, empty_at, value_at, pointer_marked, marked_below, ends_more, ends_all}
 use Rattle.live_sets.proofs.ends.ends.Goals as goal
@@ -12,6 +14,8 @@ pub loop-value-init : goal.loop-value-init
 loop-value-init c = record {
   fronts = c.in_ok-fronts.ensures;
   firsts = c.requires.firsts;
+  clear = (let all = rows_length (numbers_of c.in_ok-fronts.fronts.items) c.args.firsts.items 0 in let long = numbers_length c.in_ok-fronts.fronts.items in
+      c.in_ok-seen.ensures.items_if_clones_equal (λ y is. is) ∙ ap (λ (n : ℕ). replicate n false) (omega (arith, all, long, c.node_count.ensures)));
   whole = (let n = fronts_count c.args.func.now.content c.in_ok-fronts.fronts.items c.in_ok-fronts.ensures in omega (arith, n, c.in_ok-ends.ensures.whole, c.len.ensures));
   each = λ b below. empty_at c.in_ok-ends.ends.items b c.in_ok-ends.ensures.empty;
 }
@@ -49,11 +53,12 @@ loop-value-preserved c =
     let below = marked_below func c.args.marks.now c.requires.marks value.0 marked in
     let list : c.as_slice.result.now ≡ starts_of func c.args.marks.now c.args.bases.now value.0 =
     c.as_slice.ensures.value ∙ sym (list_is c.args.starts.now value.0 c.index-starts-number.result (omega (arith, below, c.requires.starts.whole)) c.index-starts-number.is) ∙ c.requires.starts.each value.0 below in
-    let adds = c.in_ok-add_ends.ensures in
+    let adds = c.in_ok-add_ends.ensures.added in
     let search = rw (list, c.loop-value.invariant.fronts, c.loop-value.invariant.firsts) at adds.reached in
     record {
       fronts = c.loop-value.invariant.fronts;
       firsts = c.loop-value.invariant.firsts;
+      clear = c.in_ok-add_ends.ensures.clear ∙ c.loop-value.invariant.clear;
       whole = adds.whole ∙ c.loop-value.invariant.whole;
       each = λ b inside. ends_more func c.args.bases.now b i value (list_at c.loop-value.ends.items b) (list_at c.add_ends.new.ends.items b) adds.marks at (c.loop-value.invariant.each b inside)
           (marks_are func c.args.bases.now c.args.marks.now c.requires.marks c.requires.formed.phis value.0 marked adds.marks b search inside)

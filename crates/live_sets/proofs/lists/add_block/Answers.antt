@@ -40,9 +40,8 @@ loop-place-init c =
     record {
       within = omega arith;
       next = c.after-next.ensures ∙ sym (ap (after_all c.args.first) (taken_whole c.insts-insts.result.now));
-      whole = c.in_ok-row.ensures.whole;
-      at = subst (λ (is : List Instruction). AtPlace func c.args.bases.now c.args.marks.now c.args.number (length is) c.in_ok-row.row.items c.args.lists.now.items c.args.lists.now.items) insts
-          (begun func c.args.bases.now c.args.marks.now c.requires.marks c.args.number c.args.ends.now c.in_ok-row.row.items c.args.lists.now.items c.requires.ends c.in_ok-row.ensures.marks);
+      at = subst (λ (is : List Instruction). AtPlace func c.args.bases.now c.args.marks.now c.args.number (length is) c.in_ok-set.set c.args.lists.now.items c.args.lists.now.items) insts
+          (begun func c.args.bases.now c.args.marks.now c.requires.marks c.args.number c.args.ends.now c.in_ok-set.set c.args.lists.now.items c.requires.ends c.in_ok-set.ensures);
     }
 
 pub before-next-requires : goal.before-next-requires
@@ -94,17 +93,16 @@ loop-place-preserved c =
     number ∙ ap (λ (n : ℕ). after_all n (take p insts)) c.requires.first ∙ ap (λ (is : List Instruction). after_all (first_of func b) (take p is)) (sym same) in
     let given : c.result_of-to.result ≡ option_map valued (numbered (after_all (first_of func b) (take p (insts_in func b))) inst).to =
     c.result_of-to.ensures ∙ ap (λ (n : ℕ). option_map valued (numbered n inst).to) number_is in
-    let here : AtPlace func bases marks b (suc p) c.loop-place.row.items c.args.lists.now.items c.loop-place.lists.items =
-    subst (λ (n : ℕ). AtPlace func bases marks b n c.loop-place.row.items c.args.lists.now.items c.loop-place.lists.items) (sym place_is) c.loop-place.invariant.at in
+    let here : AtPlace func bases marks b (suc p) c.loop-place.set c.args.lists.now.items c.loop-place.lists.items =
+    subst (λ (n : ℕ). AtPlace func bases marks b n c.loop-place.set c.args.lists.now.items c.loop-place.lists.items) (sym place_is) c.loop-place.invariant.at in
     record {
       within = omega (arith, place_is, c.loop-place.invariant.within);
       next = number;
-      whole = c.go_back.ensures.whole ∙ c.in_ok-add_list.ensures.row.whole ∙ c.loop-place.invariant.whole;
-      at = step func bases marks c.requires.marks b p inst c.result_of-to.result c.args.values.now c.loop-place.row.items c.add_list.new.row.items c.go_back.new.row.items
-          c.args.lists.now.items c.loop-place.lists.items c.add_list.new.lists.items in_func given c.loop-place.invariant.whole c.requires.values here c.in_ok-add_list.ensures c.go_back.ensures;
+      at = step func bases marks c.requires.marks b p inst c.result_of-to.result c.loop-place.set c.add_list.new.set c.go_back.new.set
+          c.args.lists.now.items c.loop-place.lists.items c.add_list.new.lists.items in_func given here c.in_ok-add_list.ensures c.in_ok-go_back.ensures;
     }
 
 pub returns : goal.returns
 returns c =
-    done c.args.func.now.content c.args.bases.now c.args.marks.now c.requires.marks c.args.number c.loop-place.place c.loop-place.row.items c.args.lists.now.items c.loop-place.lists.items
+    done c.args.func.now.content c.args.bases.now c.args.marks.now c.requires.marks c.args.number c.loop-place.place c.loop-place.set c.args.lists.now.items c.loop-place.lists.items
     (omega (arith, c.loop-place-test.false)) c.loop-place.invariant.at

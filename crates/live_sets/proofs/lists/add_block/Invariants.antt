@@ -7,8 +7,7 @@ abbrev pub invariant-loop-place : goal.invariant-loop-place
 invariant-loop-place l = record {
   within : l.place ≤ length l.insts;
   next : l.next ≡ after_all l.fn.first (take l.place l.insts);
-  whole : length l.row.items ≡ length l.marks;
-  at : AtPlace l.func.content l.bases l.marks l.fn.number l.place l.row.items l.initial.lists.items l.lists.items;
+  at : AtPlace l.func.content l.bases l.marks l.fn.number l.place l.set l.initial.lists.items l.lists.items;
 }
 
 abbrev pub decreases-loop-place : goal.decreases-loop-place

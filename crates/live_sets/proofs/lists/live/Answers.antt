@@ -41,16 +41,12 @@ add_block-requires-clause-first c =
     (ap (λ (ns : List ℕ). slice_get ns n) (sym c.in_ok-firsts.ensures)
     ∙ get_read c.in_ok-firsts.firsts.items n c.index.result.now (omega (arith, long, c.loop-number.invariant.within, c.loop-number-test.true)) c.index.ensures))
 
-pub add_block-requires-clause-values : goal.add_block-requires-clause-values
-add_block-requires-clause-values c =
-    c.as_slice-in-loop-number-2.ensures.value ∙ c.in_ok-values.ensures ∙ values_are c.args.func.now.content c.as_slice.result.now (c.as_slice.ensures.value ∙ c.in_ok-marks.ensures)
-
 pub add_block-requires-clause-ends : goal.add_block-requires-clause-ends
 add_block-requires-clause-ends c =
     let func = c.args.func.now.content in
     let n = c.loop-number.number - 1 in
     let below : n < length func.blocks = omega (arith, c.loop-number.invariant.within, c.loop-number-test.true) in
-    c.as_slice-in-loop-number-3.ensures.value
+    c.as_slice-in-loop-number-2.ensures.value
     ∙ sym (list_is c.in_ok-ends.ends.items n c.index-in-loop-number.result.now (let w = c.in_ok-ends.ensures.whole in omega (arith, w, below)) c.index-in-loop-number.ensures)
     ∙ c.in_ok-ends.ensures.each n below
 

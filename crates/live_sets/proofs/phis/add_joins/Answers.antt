@@ -1,40 +1,62 @@
-use Rattle.std.proofs.Common.{◌∙◌, ◌≡◌, ◌<◌, ℕ, true, false, sym, ap, List, [], length, replicate, arith}
+use Rattle.std.proofs.Common.{◌∙◌, ◌+◌, ◌++◌, ◌&&◌, ◌∷◌, [], if◌then◌else◌, ℕ, Bool, List, length, take, get_or, replicate, false, refl, ap, sym, arith, subst, append-nil}
 use Rattle.std.proofs.lemmas.Bool.{true≢false}
 use Rattle.std.proofs.lemmas.Bool.Decides.{nat_tests}
+use Rattle.std.proofs.lemmas.Option.{slice_get-get_or}
+use Rattle.rewriting_forms.specs.Numbered.{among}
 use Rattle.rewriting_forms.specs.Names.{is_many}
-use Rattle.live_sets.specs.Ends.{backward_rows, numbers_of}
-use Rattle.live_sets.proofs.EndLemmas.{numbers_get, no_marks}
-use Rattle.live_sets.proofs.JoinLaws.{block_more, joins_none, none_wanted, none_marked, all_blocks}
+use Rattle.live_sets.specs.Starts.{list_at}
+use Rattle.live_sets.specs.Ends.{numbers_of}
+use Rattle.live_sets.proofs.EndLemmas.{rows_length, numbers_length}
+use Rattle.live_sets.proofs.FoundLemmas.{StandsOnce, found_more, joins_found, join_grown}
+use Rattle.live_sets.proofs.JoinLaws.{joins_none, none_wanted, none_marked, both_false}
 use Rattle.live_sets.proofs.phis.add_joins.Goals as goal
 
-pub returns-then-not-wanted : goal.returns-then-not-wanted
-returns-then-not-wanted c =
+pub returns-then-not-wanted-clause-added : goal.returns-then-not-wanted-clause-added
+returns-then-not-wanted-clause-added c =
     joins_none _ _ _ _ c.args.value [] c.args.wanted c.args.joins.now.items (none_wanted c.args.wanted) (λ is. absurd (true≢false (sym is ∙ c.if-not-wanted.true)))
 
-pub returns-then-is_empty : goal.returns-then-is_empty
-returns-then-is_empty c =
+pub returns-then-is_empty-clause-added : goal.returns-then-is_empty-clause-added
+returns-then-is_empty-clause-added c =
     none_marked _ _ _ c.args.starts.now c.args.value c.args.wanted c.args.joins.now.items (grind (arith, nat_tests, c.is_empty.ensures, c.if-is_empty.true))
 
-pub loop-block-preserved : goal.loop-block-preserved
-loop-block-preserved c =
+pub reached-requires-clause-clear : goal.reached-requires-clause-clear
+reached-requires-clause-clear c =
+    let places = c.args.places.now in
+    let all = rows_length (numbers_of places.fronts.items) places.firsts.items places.value in
+    let long = numbers_length places.fronts.items in
+    c.requires.clear ∙ ap (λ (n : ℕ). replicate n false) (omega (arith, all, long))
+
+pub loop-node-init : goal.loop-node-init
+loop-node-init c = record {
+  whole = refl;
+  each = λ b below. sym (ap (λ (t : Bool). list_at c.args.joins.now.items b ++ (if t then c.args.value ∷ [] else [])) (both_false (is_many (get_or (numbers_of c.args.places.now.fronts.items) b [])))
+      ∙ append-nil (list_at c.args.joins.now.items b));
+}
+
+pub add_join-requires : goal.add_join-requires
+add_join-requires c = record { whole = c.loop-node.invariant.whole ∙ c.requires.whole ∙ sym (ap length c.as_slice.ensures.value) }
+
+pub loop-node-preserved : goal.loop-node-preserved
+loop-node-preserved c =
+    let items = c.as_slice-node-items.result.now in
+    let i = c.loop-node.node-index in
+    let once = subst StandsOnce (sym c.as_slice-node-items.ensures.value) c.in_ok-found.ensures.found.once in
     let fronts = c.args.places.now.fronts.items in
-    let block = c.loop-block.block in
-    let below : block < length fronts = omega (arith, c.loop-block-test.true, c.len-count.ensures, c.requires.whole) in
-    let row = numbers_get fronts block c.index.result.now below c.index.ensures in
-    let many = c.is_many-many.ensures ∙ ap is_many (c.as_slice.ensures.value ∙ sym row) in
-    let within : block < length c.loop-block.joins.items = omega (arith, c.loop-block-test.true, c.len-count.ensures, c.loop-block.invariant.whole) in
     record {
-      whole = c.in_ok-add_join.ensures.whole ∙ c.loop-block.invariant.whole;
-      each = λ b inside. block_more (numbers_of fronts) c.in_ok-marks.marks.items _ c.len-count.result block b c.is_many-many.result c.args.value _ _ _
-          (c.loop-block.invariant.each b inside) c.as_slice-in-loop-block.ensures.value many
-          (c.in_ok-add_join.ensures.each b (let w = c.loop-block.invariant.whole in omega (arith, w, inside)));
+      whole = c.in_ok-add_join.ensures.whole ∙ c.loop-node.invariant.whole;
+      each = λ b below. found_more (is_many (get_or (numbers_of fronts) b [])) c.args.value items i (get_or items i 0) (length c.args.joins.now.items + b) _ _ _
+          once (slice_get-get_or items i 0 c.loop-node-test.true) (c.loop-node.invariant.each b below)
+          (join_grown fronts c.as_slice.result.now (get_or items i 0) (length c.args.joins.now.items) (length c.loop-node.joins.items) b c.args.value _ _ c.as_slice.ensures.value c.loop-node.invariant.whole
+          (c.in_ok-add_join.ensures.each b (let w = c.loop-node.invariant.whole in omega (arith, w, below))));
     }
 
-pub returns : goal.returns
-returns c = record {
-  marks = c.in_ok-marks.marks.items;
-  reached = λ is. c.in_ok-marks.ensures.marks;
-  whole = c.loop-block.invariant.whole;
-  each = λ b below. all_blocks (numbers_of c.args.places.now.fronts.items) c.in_ok-marks.marks.items c.len-count.result (length c.args.joins.now.items) b c.loop-block.block c.args.wanted c.args.value _ _
-      (omega (arith, below, c.loop-block-test.false, c.len-count.ensures)) (omega (arith, c.len-count.ensures)) c.if-not-wanted.false (c.loop-block.invariant.each b below);
-}
+pub returns-clause-added : goal.returns-clause-added
+returns-clause-added c =
+    let i = c.loop-node.node-index in
+    let long = ap length c.as_slice-node-items.ensures.value in
+    joins_found _ (numbers_of c.args.places.now.fronts.items) (length c.args.joins.now.items) c.args.starts.now c.in_ok-found.found.items c.args.wanted c.args.value c.args.joins.now.items c.loop-node.joins.items i
+    c.in_ok-found.ensures.found (omega (arith, long, c.loop-node-test.false)) c.if-not-wanted.false c.loop-node.invariant.whole
+    (λ b below. c.loop-node.invariant.each b below
+    ∙ ap (λ (xs : List ℕ). list_at c.args.joins.now.items b
+    ++ (if is_many (get_or (numbers_of c.args.places.now.fronts.items) b []) && among (length c.args.joins.now.items + b) (take i xs) then c.args.value ∷ [] else []))
+    c.as_slice-node-items.ensures.value)

@@ -1,11 +1,12 @@
-use Rattle.std.proofs.Common.{◌≡◌, ◌<◌, ◌≤◌, map, ap, subst, ◌∙◌}
+use Rattle.std.proofs.Common.{◌≡◌, ◌<◌, ◌≤◌, map, sym, ap, subst, ◌∙◌}
 use Rattle.std.specs.Prelude.{IfNone, IfSome, sum}
 use Rattle.ir_ast.specs.Funcs.{content_of}
-use Rattle.ir_ast.specs.Modules.{ModuleContent}
+use Rattle.ir_ast.specs.Modules.{LinedModule, ModuleContent}
 use Rattle.ir_ast.specs.declared.modules.Form.TheVariants.{Rewritten}
 use Rattle.ir_cfg.proofs.TypedLemmas.{formed_module}
 use Rattle.poll_place.proofs.PlacedLemmas.{all_under}
 use Rattle.rewrite_passes.specs.Before.{CanBeMade, made_of, relocates_of}
+use Rattle.sp_rewrite.specs.Statements.{IsRewritten}
 use Rattle.sp_rewrite.proofs.BareLaws.{no_bundle}
 use Rattle.sp_rewrite.proofs.CallLaws.{can_have_groups, few_relocates, is_rewritten, many_relocates}
 use Rattle.sp_rewrite.proofs.MakingLaws.{functions_are_ready}
@@ -28,23 +29,47 @@ with_groups-requires c =
     let made_are = subst (λ made. IfSome made (λ all. all.items ≡ map made_of funcs)) c.in-Some.is c.in_ok-before_groups.ensures.made in
     can_have_groups c.args.source.content c.in_ok-reached.reached.content c.in_ok-reached.ensures.drops c.requires funcs c.in-Some.all.items placed_are made_are
 
+pub proved-requires-clause-target : goal.proved-requires-clause-target
+proved-requires-clause-target c =
+    let funcs = map content_of c.into_parts-layouts.result.1.items in
+    let placed_are = c.into_parts-layouts.ensures.funcs ∙ ap (λ (now : ModuleContent). now.funcs) c.in_ok-with_polls.ensures.placed in
+    let layouts_are = c.into_parts-layouts.ensures.layouts ∙ ap (λ (now : ModuleContent). now.layouts) c.in_ok-with_polls.ensures.placed in
+    let made_are = subst (λ made. IfSome made (λ all. all.items ≡ map made_of funcs)) c.in-Some.is c.in_ok-before_groups.ensures.made in
+    let made : IsRewritten c.args.source.content c.of-target.result.content =
+    is_rewritten c.args.source.content c.in_ok-reached.reached.content c.in_ok-reached.ensures.drops funcs (map content_of c.in_ok-after-in-Some.after.items) c.in-Some.all.items c.into_parts-layouts.result.0.items
+    c.of-target.result.content placed_are made_are c.in_ok-after-in-Some.ensures.content layouts_are c.of-target.ensures.content in
+    laws.rewriting_is_target c.args.source.content c.of-target.result.content c.requires made
+
+pub proved-requires-clause-verified : goal.proved-requires-clause-verified
+proved-requires-clause-verified c =
+    let funcs = map content_of c.into_parts-layouts.result.1.items in
+    let placed_are = c.into_parts-layouts.ensures.funcs ∙ ap (λ (now : ModuleContent). now.funcs) c.in_ok-with_polls.ensures.placed in
+    let layouts_are = c.into_parts-layouts.ensures.layouts ∙ ap (λ (now : ModuleContent). now.layouts) c.in_ok-with_polls.ensures.placed in
+    let made_are = subst (λ made. IfSome made (λ all. all.items ≡ map made_of funcs)) c.in-Some.is c.in_ok-before_groups.ensures.made in
+    let made : IsRewritten c.args.source.content c.of-target.result.content =
+    is_rewritten c.args.source.content c.in_ok-reached.reached.content c.in_ok-reached.ensures.drops funcs (map content_of c.in_ok-after-in-Some.after.items) c.in-Some.all.items c.into_parts-layouts.result.0.items
+    c.of-target.result.content placed_are made_are c.in_ok-after-in-Some.ensures.content layouts_are c.of-target.ensures.content in
+    laws.rewriting_is_verified c.args.source.content c.of-target.result.content c.requires made
+
 pub returns-in_ok-after-in-Some-clause-rewritten : goal.returns-in_ok-after-in-Some-clause-rewritten
 returns-in_ok-after-in-Some-clause-rewritten c =
     let funcs = map content_of c.into_parts-layouts.result.1.items in
     let placed_are = c.into_parts-layouts.ensures.funcs ∙ ap (λ (now : ModuleContent). now.funcs) c.in_ok-with_polls.ensures.placed in
     let layouts_are = c.into_parts-layouts.ensures.layouts ∙ ap (λ (now : ModuleContent). now.layouts) c.in_ok-with_polls.ensures.placed in
     let made_are = subst (λ made. IfSome made (λ all. all.items ≡ map made_of funcs)) c.in-Some.is c.in_ok-before_groups.ensures.made in
+    let made : IsRewritten c.args.source.content c.of-target.result.content =
     is_rewritten c.args.source.content c.in_ok-reached.reached.content c.in_ok-reached.ensures.drops funcs (map content_of c.in_ok-after-in-Some.after.items) c.in-Some.all.items c.into_parts-layouts.result.0.items
-    c.of.result.content placed_are made_are c.in_ok-after-in-Some.ensures.content layouts_are c.of.ensures.content
+    c.of-target.result.content placed_are made_are c.in_ok-after-in-Some.ensures.content layouts_are c.of-target.ensures.content in
+    subst (λ (after : LinedModule). IsRewritten c.args.source.content after.content) (sym c.proved.ensures) made
 
 pub returns-in_ok-after-in-Some-clause-target : goal.returns-in_ok-after-in-Some-clause-target
-returns-in_ok-after-in-Some-clause-target c = laws.rewriting_is_target c.args.source.content c.of.result.content c.requires (returns-in_ok-after-in-Some-clause-rewritten c)
+returns-in_ok-after-in-Some-clause-target c = laws.rewriting_is_target c.args.source.content c.proved.result.content c.requires (returns-in_ok-after-in-Some-clause-rewritten c)
 
 pub returns-in_ok-after-in-Some-clause-verified : goal.returns-in_ok-after-in-Some-clause-verified
-returns-in_ok-after-in-Some-clause-verified c = laws.rewriting_is_verified c.args.source.content c.of.result.content c.requires (returns-in_ok-after-in-Some-clause-rewritten c)
+returns-in_ok-after-in-Some-clause-verified c = laws.rewriting_is_verified c.args.source.content c.proved.result.content c.requires (returns-in_ok-after-in-Some-clause-rewritten c)
 
 pub returns-in_ok-after-in-Some-clause-formed : goal.returns-in_ok-after-in-Some-clause-formed
-returns-in_ok-after-in-Some-clause-formed c = formed_module Rewritten c.of.result.content (returns-in_ok-after-in-Some-clause-target c).typed
+returns-in_ok-after-in-Some-clause-formed c = formed_module Rewritten c.proved.result.content (returns-in_ok-after-in-Some-clause-target c).typed
 
 pub returns-in_ok-after-in-Some-clause-few : goal.returns-in_ok-after-in-Some-clause-few
 returns-in_ok-after-in-Some-clause-few c =
@@ -61,4 +86,4 @@ returns-in-None-clause-many c = λ _.
     many_relocates c.args.source.content c.in_ok-reached.reached.content c.in_ok-reached.ensures.drops funcs placed_are many
 
 pub returns-in_ok-after-in-Some-clause-no_bundle : goal.returns-in_ok-after-in-Some-clause-no_bundle
-returns-in_ok-after-in-Some-clause-no_bundle c = no_bundle c.args.source.content c.of.result.content (returns-in_ok-after-in-Some-clause-rewritten c)
+returns-in_ok-after-in-Some-clause-no_bundle c = no_bundle c.args.source.content c.proved.result.content (returns-in_ok-after-in-Some-clause-rewritten c)

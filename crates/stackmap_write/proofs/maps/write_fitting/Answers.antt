@@ -35,5 +35,5 @@ pub returns : goal.returns
 returns c =
     let contents = c.args.module.now.content.funcs in
     let over : length contents ≤ c.loop-func.func-index = omega (arith, c.loop-func-test.false, ap length c.funcs-funcs.ensures.content, length-map c.funcs-funcs.result.now content_of) in
-    written c.args.module.now.content c.args.layouts.now _ _ _ c.requires.of_module c.requires.fits.counted c.new-bytes.ensures.items c.in_ok-put_heads.ensures
+    written c.args.module.now.content c.args.layouts.now _ _ _ c.requires.of_module c.requires.fits.counted c.in_ok-bytes.ensures.items c.in_ok-put_heads.ensures
     (at_end _ _ contents c.loop-func.func-index over c.loop-func.invariant.0)

@@ -2,10 +2,35 @@ use Rattle.std.proofs.Common.{map, string_bytes}
 use Rattle.statepoint_tool.specs.Answers.{sink_seen}
 use Rattle.statepoint_tool.specs.Taken.{files_seen}
 use Rattle.statepoint_tool.specs.declared.status.Status.TheVariants as status
-use Rattle.statepoint_tool.proofs.AnswerLaws.{Exactly-answer, ReadFaultCounted-answer, Says-answer, Writes-answer, never-answer, write_fault-answer}
-use Rattle.statepoint_tool.proofs.CauseLaws.{comes-CannotRead, comes-EndsWith, comes-HasSomeInputFault, comes-HasSomeMapFault, comes-HasSomeModuleFault, comes-HasSomePlanFault, comes-IsTooLong, comes-NoCommand}
+use Rattle.statepoint_tool.proofs.AnswerLaws.{Exactly-answer, ReadFaultCounted-answer, Says-answer, Writes-answer, write_fault-answer}
+use Rattle.statepoint_tool.proofs.CauseLaws.{comes-CannotRead, comes-EndsWith, comes-HasSomeCheckFault, comes-HasSomeInputFault, comes-HasSomeMapFault, comes-HasSomeModuleFault, comes-HasSomePlanFault, comes-IsTooLong, comes-NoCommand}
 use Rattle.statepoint_tool.proofs.CompleteLaws.{IsComplete-answer}
+use Rattle.statepoint_tool.proofs.HeadlineLaws.{IsHeadline-answer, RunsVerified-answer, StrayIsAsked-answer}
 use Rattle.statepoint_tool.proofs.top.statepoint.Goals as goal
+
+pub returns-clause-headline : goal.returns-clause-headline
+returns-clause-headline g c =
+    let words = map string_bytes c.args.words.now in
+    let files = files_seen (g.F.Files.contents c.args.files.now) (g.F.Files.faults c.args.files.now) (g.F.Files.faults c.answer.new.files) in
+    let out = sink_seen (g.O.Sink.written c.args.out.now) (g.O.Sink.written c.answer.new.out) (g.O.Sink.faults c.args.out.now) (g.O.Sink.faults c.answer.new.out) in
+    let notes = sink_seen (g.E.Sink.written c.args.notes.now) (g.E.Sink.written c.answer.new.notes) (g.E.Sink.faults c.args.notes.now) (g.E.Sink.faults c.answer.new.notes) in
+    IsHeadline-answer words files out notes c.answer.result c.answer.ensures.answer
+
+pub returns-clause-verified_runs : goal.returns-clause-verified_runs
+returns-clause-verified_runs g c =
+    let words = map string_bytes c.args.words.now in
+    let files = files_seen (g.F.Files.contents c.args.files.now) (g.F.Files.faults c.args.files.now) (g.F.Files.faults c.answer.new.files) in
+    let out = sink_seen (g.O.Sink.written c.args.out.now) (g.O.Sink.written c.answer.new.out) (g.O.Sink.faults c.args.out.now) (g.O.Sink.faults c.answer.new.out) in
+    let notes = sink_seen (g.E.Sink.written c.args.notes.now) (g.E.Sink.written c.answer.new.notes) (g.E.Sink.faults c.args.notes.now) (g.E.Sink.faults c.answer.new.notes) in
+    RunsVerified-answer c.args.alloc words files out notes c.answer.result c.answer.ensures.answer
+
+pub returns-clause-stray_asked : goal.returns-clause-stray_asked
+returns-clause-stray_asked g c =
+    let words = map string_bytes c.args.words.now in
+    let files = files_seen (g.F.Files.contents c.args.files.now) (g.F.Files.faults c.args.files.now) (g.F.Files.faults c.answer.new.files) in
+    let out = sink_seen (g.O.Sink.written c.args.out.now) (g.O.Sink.written c.answer.new.out) (g.O.Sink.faults c.args.out.now) (g.O.Sink.faults c.answer.new.out) in
+    let notes = sink_seen (g.E.Sink.written c.args.notes.now) (g.E.Sink.written c.answer.new.notes) (g.E.Sink.faults c.args.notes.now) (g.E.Sink.faults c.answer.new.notes) in
+    StrayIsAsked-answer c.args.alloc words files out notes c.answer.result c.answer.ensures.answer
 
 pub returns-clause-complete : goal.returns-clause-complete
 returns-clause-complete g c =
@@ -103,13 +128,13 @@ returns-clause-write_fault_counted g c =
     let notes = sink_seen (g.E.Sink.written c.args.notes.now) (g.E.Sink.written c.answer.new.notes) (g.E.Sink.faults c.args.notes.now) (g.E.Sink.faults c.answer.new.notes) in
     write_fault-answer words files out notes c.answer.result c.answer.ensures.answer
 
-pub returns-clause-never_said_no : goal.returns-clause-never_said_no
-returns-clause-never_said_no g c =
+pub returns-clause-said_no : goal.returns-clause-said_no
+returns-clause-said_no g c =
     let words = map string_bytes c.args.words.now in
     let files = files_seen (g.F.Files.contents c.args.files.now) (g.F.Files.faults c.args.files.now) (g.F.Files.faults c.answer.new.files) in
     let out = sink_seen (g.O.Sink.written c.args.out.now) (g.O.Sink.written c.answer.new.out) (g.O.Sink.faults c.args.out.now) (g.O.Sink.faults c.answer.new.out) in
     let notes = sink_seen (g.E.Sink.written c.args.notes.now) (g.E.Sink.written c.answer.new.notes) (g.E.Sink.faults c.args.notes.now) (g.E.Sink.faults c.answer.new.notes) in
-    never-answer words files out notes c.answer.result c.answer.ensures.answer status.CheckSaidNo (λ clash. cc) (λ clash. cc) (λ given none. none)
+    Exactly-answer words files out notes c.answer.result c.answer.ensures.answer status.CheckSaidNo (λ clash. cc) (λ clash. cc) (comes-HasSomeCheckFault words)
 
 pub returns-clause-map_refused : goal.returns-clause-map_refused
 returns-clause-map_refused g c =

@@ -1,6 +1,6 @@
 use Rattle.std.proofs.Common.{map, string_bytes}
 use Rattle.statepoint_tool.specs.Taken.{files_seen}
-use Rattle.statepoint_tool.specs.Words.{command_of}
+use Rattle.tool_words.specs.Words.{command_of}
 use Rattle.statepoint_tool.specs.Work.{work as work_of}
 use Rattle.statepoint_tool.proofs.NamedLaws.{Works-memory, Works-no_command}
 use Rattle.statepoint_tool.proofs.top.work.Goals as goal

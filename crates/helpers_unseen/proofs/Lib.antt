@@ -1,0 +1,3 @@
+pub mod SkipLaws
+pub mod GoingOn
+pub mod HelperSteps

@@ -1,0 +1,105 @@
+//! What runs for a module that is asked for: the module itself, or its rewritten module.
+ghost use Rattle.std.specs.Prelude.{◌≡◌, IfOk};
+ghost use Rattle.std.specs.List.{All};
+ghost use Rattle.ir_ast.specs.Bundles.{HasNoBundle};
+ghost use Rattle.ir_cfg.specs.SourceModules.{IsSourceModule};
+ghost use Rattle.ir_cfg.specs.TargetModules.{IsTargetModule};
+ghost use Rattle.ir_cfg.specs.TypedModules.{IsModuleOf};
+ghost use Rattle.statepoint_tool.specs.Answers.{Agrees};
+ghost use Rattle.statepoint_tool.specs.Runners.{RunsAs, engine_of, module_in};
+ghost use Rattle.statepoint_tool.specs.Work.{form_of, judged};
+
+use crate::engine::Engine;
+use crate::judging::verified;
+use crate::refusal::Refusal;
+use crate::rewrite::rewritten;
+use ir_ast::Module;
+use statepoint_verify::Verified;
+use std::alloc::Global;
+use tool_words::FileName;
+
+/// A rewritten module that runs on the machine.
+#[derive(Debug, Drop)]
+pub(crate) enum Executable {
+    /// As it is.
+    Trusted(Module),
+    Checked(Verified),
+}
+
+impl Executable {
+    /// The module.
+    pub(crate) fn module(&self) -> &Module
+        ensures { result.now ≡ module_in self.now }
+    {
+        match self {
+            Executable::Trusted(module) => module,
+            Executable::Checked(verified) => verified.module(),
+        }
+    }
+}
+
+/// What runs.
+#[derive(Debug, Drop)]
+pub(crate) enum Runner {
+    /// A source module, by its meaning.
+    Meaning(Module),
+    /// The rewritten module of a source module, on the machine over its own stack map.
+    Rewritten(Verified),
+    /// A rewritten module on the machine, over the stack map in the file of this name, or else over its own.
+    Machine {
+        module: Executable,
+        map: Option<FileName>,
+    },
+}
+
+/// What this engine runs for a module: a rewritten one that isn't trusted is verified, and a source module is rewritten where
+/// the engine is the machine.
+pub(crate) fn runner_of(alloc: Global, engine: Engine, read: Module) -> Result<Runner, Refusal>
+    requires of_form { IsModuleOf (form_of engine) read.content }
+    requires no_bundle { All HasNoBundle read.content.funcs }
+    ensures judged { Agrees (λ _. read) result (judged engine read) }
+    ensures engine { IfOk result (λ runner. engine_of runner ≡ engine) }
+    ensures runs { IfOk result (λ runner. RunsAs read.content runner) }
+{
+    match engine {
+        Engine::Meaning => Ok(Runner::Meaning(read)),
+        Engine::Rewriter => rewriting_runner(alloc, read),
+        Engine::Machine { map, trust } => machine_runner(alloc, read, map, trust),
+    }
+}
+
+fn rewriting_runner(alloc: Global, read: Module) -> Result<Runner, Refusal>
+    requires source { IsSourceModule read.content }
+    requires no_bundle { All HasNoBundle read.content.funcs }
+    ensures judged { Agrees (λ _. read) result (judged Engine.Rewriter read) }
+    ensures engine { IfOk result (λ runner. engine_of runner ≡ Engine.Rewriter) }
+    ensures runs { IfOk result (λ runner. RunsAs read.content runner) }
+{
+    let after = rewritten(alloc, read)?;
+    Ok(Runner::Rewritten(after))
+}
+
+fn machine_runner(
+    alloc: Global,
+    read: Module,
+    map: Option<FileName>,
+    trust: bool,
+) -> Result<Runner, Refusal>
+    requires target { IsTargetModule read.content }
+    requires no_bundle { All HasNoBundle read.content.funcs }
+    ensures judged { Agrees (λ _. read) result (judged (Engine.Machine «map» trust) read) }
+    ensures engine { IfOk result (λ runner. engine_of runner ≡ Engine.Machine «map» trust) }
+    ensures runs { IfOk result (λ runner. RunsAs read.content runner) }
+{
+    if trust {
+        return Ok(Runner::Machine {
+            module: Executable::Trusted(read),
+            map,
+        });
+    }
+    let checked = verified(alloc, read)?;
+    Ok(Runner::Machine {
+        module: Executable::Checked(checked),
+        map,
+    })
+}
