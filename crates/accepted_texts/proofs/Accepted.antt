@@ -8,7 +8,7 @@ use Rattle.ir_ast.specs.declared.modules.Form.{Form}
 use Rattle.ir_ast.specs.declared.modules.Form.TheVariants.{Source}
 use Rattle.ir_ast.specs.Bundles.{HasNoBundle}
 use Rattle.ir_ast.specs.Funcs.{Function}
-use Rattle.ir_ast.specs.Modules.{LinedModule, line_at}
+use Rattle.ir_ast.specs.Modules.{line_at}
 use Rattle.ir_cfg.specs.DefiniteUses.{Meets, Uses, UsesAreDefinite}
 use Rattle.ir_cfg.specs.Graphs.{graph_of}
 use Rattle.ir_cfg.specs.Paths.{Path}

@@ -1,5 +1,5 @@
 -- What a statepoint's line says of the type of its callee is no longer than the line.
-use Rattle.std.proofs.Common.{◌≡◌, ◌∙◌, ℕ, zero, suc, ◌<◌, ◌≤◌, refl, sym, ap, subst, Bool, true, false, List, [], ◌∷◌, length, Option, Some, None, arith}
+use Rattle.std.proofs.Common.{◌≡◌, ℕ, zero, suc, ◌≤◌, ap, Bool, true, false, List, [], ◌∷◌, length, Option, Some, None, arith}
 use Rattle.std.specs.Prelude.{codes, if◌then◌else◌}
 use Rattle.sp_text.specs.Tokens.{Tok}
 use Rattle.line_tokens.specs.Marks.{begins, is_mark, is_word, stands}

@@ -1,5 +1,5 @@
 -- The readings of a text are those of a reader.
-use Rattle.std.proofs.Common.{◌≡◌, ◌∙◌, ℕ, ◌≤◌, refl, sym, ap, subst, Bool, true, false, not, List, [], ◌∷◌, map, length, Ok, Global, arith}
+use Rattle.std.proofs.Common.{◌≡◌, ◌∙◌, ℕ, ◌≤◌, refl, sym, ap, subst, true, false, List, [], ◌∷◌, map, length, Ok, arith}
 use Rattle.sp_text.specs.Lines.{lines_of as text_lines}
 use Rattle.sp_text.specs.Tokens.{tokens}
 use Rattle.sp_text.proofs.Spelled.{length-tokens}
@@ -8,7 +8,7 @@ use Rattle.ir_ast.specs.declared.modules.Form.TheVariants.{Rewritten, Source}
 use Rattle.ir_lines.specs.Statements.{Line, lines_of}
 use Rattle.ir_lines.specs.Views.{seen_line, seen_lines}
 use Rattle.ir_reader.specs.Limits.{said_fits}
-use Rattle.ir_reader.specs.Raws.{IsRead, Readings, seen_numbered}
+use Rattle.ir_reader.specs.Raws.{IsRead, seen_numbered}
 use Rattle.ir_reader.specs.Text.{Numbered, opening, readings_in}
 use Rattle.ir_reader.specs.declared.raw.NumberedReading.{NumberedReading}
 use Rattle.ir_reader.specs.declared.states.State.{State}
@@ -19,7 +19,7 @@ use Rattle.line_forms.specs.declared.forms.Form.TheVariants as forms
 use Rattle.line_forms.specs.declared.readings.Reading.TheVariants as readings
 use Rattle.module_laws.proofs.Runs.{IsOwn, Runs, readings-run}
 use Rattle.accepted_texts.specs.Statements.{Needs}
-use Rattle.accepted_texts.proofs.Saying.{Readable, is_statepoint, lent, line_is_read}
+use Rattle.accepted_texts.proofs.Saying.{Readable, lent, line_is_read}
 use Rattle.accepted_texts.proofs.ShortLines.{text_is_short}
 use Rattle.accepted_texts.proofs.Statepoints.{statepoint_is_read}
 use Rattle.accepted_texts.proofs.Kept.{AllKept, IsKept, LineIsKept, readings_kept}

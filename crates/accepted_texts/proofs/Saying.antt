@@ -14,7 +14,7 @@ use Rattle.line_parts.specs.declared.readings.Argument.{Argument}
 use Rattle.line_parts.specs.declared.readings.Passed.{Passed}
 use Rattle.line_parts.specs.declared.readings.Passed.TheVariants as all_passed
 use Rattle.line_parts.specs.declared.readings.Entry.{Entry}
-use Rattle.line_parts.specs.Gives.{Found, after, one_at}
+use Rattle.line_parts.specs.Gives.{Found, after}
 use Rattle.line_parts.specs.Parts.{Val, local, number, truth, null}
 use Rattle.line_parts.specs.Lists.{Named, Given, given, function}
 use Rattle.line_parts.specs.Seen.{seen_value, seen_argument, seen_passed, seen_entry}

@@ -1,14 +1,13 @@
 -- The line of a statepoint is a reading, whose vectors some allocator has.
 use denote.RawPtr.{null_ptr}
-use Rattle.std.proofs.Common.{◌≡◌, ◌∙◌, ℕ, ◌<◌, ◌≤◌, ◌^◌, refl, sym, ap, subst, Bool, true, false, ◌&&◌, List, [], ◌∷◌, ◌++◌, map, length, Option, Some, None, Vec, Global, arith}
+use Rattle.std.proofs.Common.{◌≡◌, ◌∙◌, ℕ, ◌<◌, ◌≤◌, ◌^◌, refl, ap, subst, Bool, true, false, ◌&&◌, List, [], ◌∷◌, ◌++◌, map, length, Some, Vec, Global, arith}
 use Rattle.std.specs.Prelude.{nat_le}
 use Rattle.std.specs.List.{list_all}
 use Rattle.std.proofs.lemmas.Bool.{leb-true}
 use Rattle.std.proofs.lemmas.List.{length-map}
 use Rattle.sp_text.specs.Tokens.{Tok}
-use Rattle.line_tokens.specs.declared.words.Dropped.TheVariants as drops
 use Rattle.line_parts.specs.Drops.{past_all}
-use Rattle.line_parts.specs.Gives.{Found, after, one_at}
+use Rattle.line_parts.specs.Gives.{Found, after}
 use Rattle.line_parts.specs.Parts.{Val}
 use Rattle.line_parts.specs.Seen.{seen_passed, seen_value}
 use Rattle.line_parts.proofs.Dropping.{past_all-le}
@@ -16,7 +15,7 @@ use Rattle.group_parts.specs.Seen.{seen_guarded}
 use Rattle.group_parts.specs.Statepoints.{Guarded, guarded_at, live_at}
 use Rattle.group_parts.specs.declared.readings.StatepointCall.{StatepointCall}
 use Rattle.line_forms.specs.Forms.{slots}
-use Rattle.line_forms.specs.Seen.{Said, of_form, seen}
+use Rattle.line_forms.specs.Seen.{of_form}
 use Rattle.line_forms.specs.Slots.{Item, Slot, part, parse, says, says_nothing, blank, m, w, g, dropped, a_local, a_statepoint_type, a_guarded, a_live}
 use Rattle.line_forms.specs.Slots as items
 use Rattle.line_forms.specs.declared.forms.Form.TheVariants as forms

@@ -1,37 +1,38 @@
--- What is proved of the texts that the rewriting gives.
-use Rattle.std.specs.Prelude.{◌≡◌, ◌≤◌, ℕ, List, Some, length}
+-- What is proved of the texts of rewritten modules.
+use Rattle.std.specs.Prelude.{◌≡◌, ◌≤◌, ℕ, List, Ok, length}
 use Rattle.std.specs.List.{All}
+use Rattle.ir_ast.specs.declared.modules.Form.TheVariants.{Rewritten, Source}
 use Rattle.ir_ast.specs.Bundles.{HasNoBundle}
 use Rattle.ir_ast.specs.Modules.{LinedModule, ModuleContent}
 use Rattle.ir_cfg.specs.SourceModules.{IsSourceModule}
+use Rattle.ir_lines.specs.Modules.{module_of}
+use Rattle.ir_lines.specs.Statements.{lines_of}
 use Rattle.ir_printer.specs.Texts.{text_of}
+use Rattle.ir_reader.specs.Text.{Numbered, readings_in}
+use Rattle.ir_types.specs.FaultSet.{HasNoFault}
 use Rattle.pair_facts.specs.Faults.{IsVerified}
 use Rattle.sp_rewrite.specs.Statements.{IsRewritten}
 use Rattle.statepoint_verify.specs.Verdicts.{IsRefusal}
 use Rattle.statepoint_verify.specs.declared.faults.VerifyFault.{VerifyFault}
 use Rattle.statepoint_verify.specs.declared.faults.VerifyFault.TheVariants.{Memory}
-use Rattle.statepoint_tool.specs.Causes.{Ends}
-use Rattle.statepoint_tool.specs.Taken.{FilesSeen}
-use Rattle.statepoint_tool.specs.Words.{command_of}
-use Rattle.statepoint_tool.specs.Work.{Given, MayGiveNamed, Output}
-use Rattle.statepoint_tool.specs.declared.request.Command.TheVariants.{Rewrite}
-use Rattle.statepoint_tool.specs.declared.request.Part.TheVariants.{Text}
-use Rattle.rewritten_checks.specs.Checks.{Passes}
+
+-- the text has readings in the rewritten form, these no fault, and the module that they stand for none of the verifier
+pub record Passes (text : List ℕ) : Type 0 where
+  pub readings : List Numbered
+  pub reads : readings_in Rewritten text ≡ Ok readings
+  pub no_fault : HasNoFault Rewritten (lines_of readings)
+  pub verified : IsVerified (module_of Rewritten (lines_of readings)).content
 
 -- the text of the rewritten module of a source module without bundles passes, where it is within the file limit
 abbrev pub RewrittenTextsPass : Type 0
 RewrittenTextsPass = (content after : ModuleContent) → IsSourceModule content → All HasNoBundle content.funcs → IsRewritten content after
     → length (text_of after) ≤ 16777216 → Passes (text_of after)
 
--- the words ask for the text of the rewritten module of a file
-pub record AsksForText (words : List (List ℕ)) : Type 0 where
-  pub module_file : List ℕ
-  pub command : command_of words ≡ Some (Rewrite module_file Text)
-
--- what `rewrite` writes passes, where it is within the file limit
-abbrev pub WrittenTextsPass : Type 0
-WrittenTextsPass = (words : List (List ℕ)) (files : FilesSeen) (given : Given) (output : Output) → AsksForText words
-    → MayGiveNamed files (command_of words) given → Ends words given output → length output.text ≤ 16777216 → Passes output.text
+-- so text to text: that of the rewritten module of an accepted source text
+abbrev pub AcceptedTextsPass : Type 0
+AcceptedTextsPass = (text : List ℕ) (readings : List Numbered) (after : ModuleContent) → length text ≤ 16777216
+    → readings_in Source text ≡ Ok readings → HasNoFault Source (lines_of readings) → IsRewritten (module_of Source (lines_of readings)).content after
+    → length (text_of after) ≤ 16777216 → Passes (text_of after)
 
 -- what the verifier answers of a module without a fault, if it refuses it
 abbrev pub VerifierRefusesNone : Type 0

@@ -1,16 +1,16 @@
-//! The law that what the rewriting gives is what the verifier passes, text to text. No code.
+//! The law that what the rewriting gives passes the verifier, text to text. No code.
 #![tactic(auto)]
 
-ghost use Rattle.rewritten_checks.specs.Statements.{RewrittenTextsPass, VerifierRefusesNone, WrittenTextsPass};
+ghost use Rattle.rewritten_checks.specs.Statements.{AcceptedTextsPass, RewrittenTextsPass, VerifierRefusesNone};
 
 /// The text of the rewritten module of a source module, read back, has no fault of any kind.
 pub fn rewritten_texts_pass()
     ensures { RewrittenTextsPass }
 {}
 
-/// So has what the command `rewrite` writes.
-pub fn written_texts_pass()
-    ensures { WrittenTextsPass }
+/// So has what is written of the rewritten module of an accepted text.
+pub fn accepted_texts_pass()
+    ensures { AcceptedTextsPass }
 {}
 
 /// The verifier refuses a module without a fault only for want of memory.
