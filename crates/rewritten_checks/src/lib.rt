@@ -1,6 +1,7 @@
 //! The law that what the rewriting gives passes the verifier, text to text. No code.
 #![tactic(auto)]
 
+ghost use Rattle.rewritten_checks.specs.Commands.{WrittenTextsAreOk};
 ghost use Rattle.rewritten_checks.specs.Statements.{AcceptedTextsPass, RewrittenTextsPass, VerifierRefusesNone};
 
 /// The text of the rewritten module of a source module, read back, has no fault of any kind.
@@ -16,4 +17,9 @@ pub fn accepted_texts_pass()
 /// The verifier refuses a module without a fault only for want of memory.
 pub fn verifier_refuses_none()
     ensures { VerifierRefusesNone }
+{}
+
+/// Whatever the command `rewrite` writes, the command `check` says `ok` of, where it isn't longer than a file may be.
+pub fn written_texts_are_ok()
+    ensures { WrittenTextsAreOk }
 {}
