@@ -20,7 +20,6 @@ use Rattle.statepoint_tool.specs.Causes.{Ends, IsAccepted, IsAskedFor, Rewrites,
 use Rattle.statepoint_tool.specs.Steps.{Go, goes_on}
 use Rattle.statepoint_tool.specs.Taken.{Bytes, FilesSeen, MayGive, Taken, file_phase}
 use Rattle.statepoint_tool.specs.Work.{Given, MayGiveNamed, MayGiveShown, check_work, checked_phase, content_of, passed, text_of_part, verified}
-use Rattle.statepoint_tool.specs.declared.engine.Engine.{Engine}
 use Rattle.statepoint_tool.proofs.TextLaws.{as-accepted}
 use Rattle.rewritten_checks.specs.Commands.{AsksForText, WrittenTextsAreOk}
 use Rattle.rewritten_checks.specs.Statements.{Passes}
@@ -48,7 +47,7 @@ module _ (words : List (List ℕ)) (asks : AsksForText words) where
   not_asked : (other : Command) → Some other ≡ Some (Rewrite asks.module_file Text) → other ≡ Rewrite asks.module_file Text
   not_asked other same = cc
 
-  no_run : (engine : Engine) (request : RunRequest) → IsAskedFor words engine request → ⊥
+  no_run : (engine : _) (request : RunRequest) → IsAskedFor words engine request → ⊥
   no_run _ _ (by_source request command) = (let bad : SourceRun request ≡ Rewrite asks.module_file Text = not_asked (SourceRun request) (sym command ∙ asks.command) in cc)
   no_run _ _ (by_run request command) = (let bad : Run request ≡ Rewrite asks.module_file Text = not_asked (Run request) (sym command ∙ asks.command) in cc)
   no_run _ _ (by_exec request map_file trust command) =
