@@ -60,6 +60,7 @@ waits_more content stands new frame held waiting = record {
           base_is = one.base_is ∙ sym (addr_before stands new _ (subst (λ (n : ℕ). n ≤ length stands) (sym one.same) one.heap.object));
         };
   };
+  bundle = waiting.bundle;
 }
 
 pub zip_each : {A B : Type 0} (R Q : A → B → Type 0) (xs : List A) (ys : List B) → ((x : A) (y : B) → R x y → Q x y) → AllZip R xs ys → AllZip Q xs ys

@@ -3,18 +3,13 @@ use Rattle.std.proofs.Common.{◌≡◌, ℕ, zero, suc, ◌≤◌, List, [], �
 use Rattle.std.specs.Prelude.{slice_get}
 use Rattle.std.specs.List.{filter}
 use Rattle.std.proofs.lemmas.List.{append-nil, append_assoc, drop-append-le, length-append, length-drop, length-map}
-use Rattle.list_laws.proofs.Contents.{all_at}
 use Rattle.ir_ast.specs.declared.ops.Callee.{Callee}
 use Rattle.ir_ast.specs.declared.ops.Op.TheVariants.{Statepoint}
 use Rattle.ir_ast.specs.declared.ops.Operand.{Operand}
 use Rattle.ir_ast.specs.declared.types.Ty.{Ty}
-use Rattle.ir_ast.specs.Bundles.{HasNoBundle}
-use Rattle.ir_ast.specs.Funcs.{instructions_of}
-use Rattle.ir_ast.specs.Insts.{Instruction}
 use Rattle.ir_ast.specs.Modules.{ModuleContent}
 use Rattle.ir_ast.specs.Objects.{number}
 use Rattle.frame_forms.specs.FrameSizes.{is_named_integer}
-use Rattle.ir_cfg.specs.DefiniteUses.{text_place}
 use Rattle.object_meaning.specs.Lines.{Line}
 use Rattle.object_meaning.specs.Registers.{value, number_in}
 use Rattle.object_meaning.specs.States.{State}
@@ -27,7 +22,7 @@ use Rattle.moves_unseen.specs.States.{Extra, machine_of, return_below, stack_of,
 use Rattle.moves_unseen.specs.Waits.{IsSound, spilled_words}
 use Rattle.moves_unseen.proofs.StandLaws.{line_here}
 use Rattle.frames_spilled.proofs.RoomLaws.{entries_fit}
-use Rattle.frames_spilled.proofs.TextLaws.{line_in_text}
+use Rattle.frames_spilled.proofs.TextLaws.{no_bundle}
 
 entry_words : (words : List ℕ) (count : ℕ) (operands : List Operand)
     → map (λ (operand : Operand). number_in (value (map number words) operand)) (drop count (map worded_operand operands)) ≡ map (word_in words) (drop count operands)
@@ -58,17 +53,14 @@ module _ (content : ModuleContent) (sound : IsSound content) (machinery : Machin
   here : slice_get (lines_at running.func state.running.block) running.place ≡ Some line
   here = line_here content state.running running.func running.place running.pairs running.at line rest is
 
-  no_bundle : line.inst.bundle ≡ []
-  no_bundle =
-      all_at (λ (inst : Instruction). inst.bundle ≡ []) (instructions_of running.func.blocks) (text_place running.func state.running.block running.place) line.inst
-      (all_at HasNoBundle content.funcs state.running.func running.func sound.bundles running.at.defined)
-      (line_in_text running.func state.running.block running.place line here)
+  bare : line.inst.bundle ≡ []
+  bare = no_bundle content sound.bundles state.running.func running.func running.at.defined state.running.block running.place line here
 
   kept_are : kept_words machine.state (worded line).inst (length types) ≡ map (word_in extra.running.words) entries
   kept_are =
       ap (λ (bundle : List (Ty × Operand)).
       map (λ (operand : Operand). number_in (value (map number extra.running.words) operand)) (drop (length types) (map worded_operand line.inst.operands))
-      ++ map (bundle_word machine.state) (filter (λ entry. is_named_integer entry.0 entry.1) bundle)) no_bundle
+      ++ map (bundle_word machine.state) (filter (λ entry. is_named_integer entry.0 entry.1) bundle)) bare
       ∙ (append-nil (map (λ (operand : Operand). number_in (value (map number extra.running.words) operand)) (drop (length types) (map worded_operand line.inst.operands)))
       ∙ entry_words extra.running.words (length types) line.inst.operands)
 

@@ -31,6 +31,7 @@ use Rattle.moves_unseen.proofs.VerifiedLaws.{pair_stands}
 use Rattle.frames_spilled.proofs.GroupSlots.{IsPairOf, entry_pointer, entry_word, pair_in_group}
 use Rattle.frames_spilled.proofs.RoomLaws.{entries_fit}
 use Rattle.frames_spilled.proofs.SpillLaws.{length_over}
+use Rattle.frames_spilled.proofs.TextLaws.{no_bundle, nothing_kept}
 
 module _ (content : ModuleContent) (sound : IsSound content) (objects : List Object) (stands : List Stand) (frame : Frame) (held : FrameWords)
     (running : IsRunning content objects stands frame held) (line : Line) (rest : List Line) (is : frame.rest ≡ line ∷ rest)
@@ -127,4 +128,5 @@ module _ (content : ModuleContent) (sound : IsSound content) (objects : List Obj
     numbers = running.words.numbers;
     room = room;
     slots = subst (λ (given : List Operand). AreSlots stands (map (λ (entry : Operand). pointer_in (value frame.registers entry)) given) slots (group_pairs lines running.place)) (sym entries_are) slots_hold;
+    bundle = nothing_kept frame.registers line.inst slots (no_bundle content sound.bundles frame.func running.func running.at.defined frame.block running.place line here);
   }

@@ -1,6 +1,6 @@
 -- A frame of the target meaning and its words in the machine. Nothing is asked of a pointer without a pair.
-use Rattle.std.specs.Prelude.{◌≡◌, ℕ, true, false, if◌then◌else◌, List, [], ◌∷◌, length, drop, map, Some, slice_get, slice_index, slice_index_or, Ok}
-use Rattle.std.specs.List.{flat_map}
+use Rattle.std.specs.Prelude.{◌≡◌, ℕ, ◌+◌, true, false, if◌then◌else◌, List, [], ◌∷◌, length, drop, map, Some, slice_get, slice_index, slice_index_or, Ok}
+use Rattle.std.specs.List.{filter, flat_map}
 use Rattle.ir_ast.specs.declared.types.Ty.{Ty}
 use Rattle.ir_ast.specs.declared.ops.Callee.TheVariants.{Check}
 use Rattle.ir_ast.specs.declared.ops.Operand.{Operand}
@@ -9,14 +9,16 @@ use Rattle.ir_ast.specs.Layouts.{ObjectLayout}
 use Rattle.ir_ast.specs.Types.{is_pointer}
 use Rattle.ir_ast.specs.Values.{value_types}
 use Rattle.ir_ast.specs.Funcs.{Function}
+use Rattle.ir_ast.specs.Insts.{Instruction}
 use Rattle.ir_ast.specs.Modules.{ModuleContent}
 use Rattle.ir_ast.specs.Objects.{Datum, Object}
 use Rattle.ir_ast.specs.Faults.GroupShape.{entries_of, is_statepoint}
 use Rattle.moving_heap.specs.declared.stands.Stand.{Stand}
 use Rattle.frame_walk.specs.Maps.{Pair}
-use Rattle.frame_forms.specs.FrameSizes.{frame_words}
+use Rattle.frame_forms.specs.FrameSizes.{frame_words, is_named_integer}
 use Rattle.object_meaning.specs.Accesses.{Place, accessed, cell_named}
 use Rattle.object_meaning.specs.Lines.{Line}
+use Rattle.object_meaning.specs.Numbers.{width_of, sign_extended}
 use Rattle.object_meaning.specs.Registers.{nothing, value, operand, is_set, number_in, pointer_in}
 use Rattle.object_meaning.specs.States.{Frame}
 use Rattle.pair_facts.specs.declared.bases.Base.TheVariants.{Named}
@@ -91,6 +93,13 @@ relocated_pair line = if is_relocate line.inst.op then record { base = base_inde
 abbrev pub group_pairs : List Line → ℕ → List Pair
 group_pairs lines head = flat_map relocated_pair (group_in lines head)
 
+-- the integers that the bundle of a call names, sign-extended, lie behind its live entries, so that the slots show what the
+-- frame keeps of its bundle: a pointer of a bundle is an entry of a pair, and a literal has no slot
+abbrev pub AreKept : List Datum → Instruction → List ℕ → Type 0
+AreKept registers call slots = (place : ℕ) (entry : Ty × Operand)
+    → slice_get (filter (λ entry. is_named_integer entry.0 entry.1) call.bundle) place ≡ Some entry
+    → slice_index slots (length (entries_of call) + place) ≡ sign_extended (width_of entry.0) 64 (number_in (value registers entry.1))
+
 -- a frame that waits stands at its statepoint, whose live entries are in its slots: each pair of its group has there the words
 -- of the base entry and of the derived entry. Its registers hold what they held
 pub record IsWaiting (content : ModuleContent) (stands : List Stand) (frame : Frame) (held : FrameWords) : Type 0 where
@@ -107,3 +116,4 @@ pub record IsWaiting (content : ModuleContent) (stands : List Stand) (frame : Fr
   pub room : length held.slots ≡ frame_words func
   pub slots : AreSlots stands (map (λ entry. pointer_in (value frame.registers entry)) (entries_of call.inst)) held.slots
       (group_pairs (lines_at func frame.block) place)
+  pub bundle : AreKept frame.registers call.inst held.slots

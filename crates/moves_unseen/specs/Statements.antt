@@ -1,4 +1,4 @@
--- What is proved of moves, and the law of whole runs, which is open.
+-- What is proved of moves, and the law of whole runs.
 use Rattle.std.specs.Prelude.{◌≡◌, ℕ, ℤ, ◌+◌, ◌==◌, ◌&&◌, nat_lt, true, false, List, [], ◌∷◌, ◌++◌, map, slice_get, Option, Some, None, Ok}
 use Rattle.std.specs.List.{All, sum_by}
 use Rattle.ir_ast.specs.declared.cells.Cell.{Cell}
@@ -239,7 +239,7 @@ abbrev pub LiteralsHaveNoPairs : Type 0
 LiteralsHaveNoPairs = (func : Function) (block place : ℕ) (pairs : Pairs) → At func block place pairs → (literal : ℕ)
     → ((base : Base) → pairs (Int literal) base ≡ false) × ((operand : Operand) → pairs operand (Named (Int literal)) ≡ false)
 
--- ---- open
+-- ---- whole runs
 
 -- the machine's run gives what the target meaning's gives: the same lines, end, function, steps, events and accesses, and
 -- objects whose cells are held

@@ -42,7 +42,7 @@ use Rattle.moves_unseen.specs.Waits.{IsSound}
 use Rattle.moves_unseen.proofs.StandLaws.{line_is}
 use Rattle.records_found.proofs.SlotLaws.{IsInFrame, all_in_frame}
 use Rattle.frames_spilled.proofs.GroupSlots.{IsPairOf, entry_pointer, pair_in_group, pair_of}
-use Rattle.frames_spilled.proofs.TextLaws.{line_in_text}
+use Rattle.frames_spilled.proofs.TextLaws.{line_in_text, no_bundle, nothing_kept}
 
 -- ---- the pairs of a group
 
@@ -197,4 +197,7 @@ module _ (content : ModuleContent) (sound : IsSound content) (stands : List Stan
         subst (λ (next : List Stand). AreSlots next entries (after_slots (group_moves stands moves_given flip)) pairs) (sym (group_places stands moves_given flip settled some))
         (subst (λ (made : List Moved). AreSlots (moved stands (group_targets stands moves_given flip)) entries (after_slots made) pairs) (sym (group_is stands moves_given flip some).1)
         (slots_after stands (group_targets stands moves_given flip) entries held.slots pairs settled closed waiting.slots));
+    bundle =
+        nothing_kept frame.registers waiting.call.inst (after_slots (group_moves stands moves_given flip))
+        (no_bundle content sound.bundles frame.func func waiting.at.defined frame.block waiting.place waiting.call waiting.is);
   }
