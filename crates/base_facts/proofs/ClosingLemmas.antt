@@ -30,7 +30,7 @@ use Rattle.base_facts.specs.Facts.{operand_in, base_in, fact_at, holds, maybe_ho
 use Rattle.base_facts.specs.Settled.{IsDefined}
 use Rattle.base_facts.specs.Steps.{step_holds, step_for}
 use Rattle.base_facts.specs.Asked.{IsReached, MissesFact, IsFact, Grows, IsAsked, MissedBy, HasFailed, Answered, HasAsked}
-use Rattle.base_facts.specs.Closing.{HoldingBelow, HoldsAlong, Follows, from_front, from_definition, HasClosed, AskedAlong, AskedBefore, ClosedBelow, AllClosed, CanAsk, CanStep, Stepped, HasStepped}
+use Rattle.base_facts.specs.Closing.{HoldingBelow, HoldsAlong, Follows, from_front, from_definition, from_source, HasClosed, AskedAlong, AskedBefore, ClosedBelow, AllClosed, CanAsk, CanStep, Stepped, HasStepped}
 use Rattle.base_facts.proofs.SettleLemmas.{start_front}
 use Rattle.base_facts.proofs.StepLemmas.{fact_holds, definition_holds, IsAt, AllFacts, fact_stands_at, step_at, step_outside, is_asking}
 use Rattle.base_facts.proofs.AskedLemmas.{grows_not, grows_more}
@@ -335,6 +335,8 @@ follows_grows func old new number fact grows (from_front place entry edges) = fr
     (λ from edge front arrives holding. edges from edge front arrives (λ n one is asks block. holding n one (grows.facts n one is) (grows.asks n number asks) block))
 follows_grows func old new number fact grows (from_definition follows) = from_definition
     (λ front sound holding. follows front sound (λ n one is asks block low. holding n one (grows.facts n one is) (grows.asks n number asks) block low))
+follows_grows func old new number fact grows (from_source source place is holds) = from_source source place is
+    (λ front arrives holding. holds front arrives (λ n one there asks block. holding n one (grows.facts n one there) (grows.asks n number asks) block))
 
 pub closed_more : (func : Function) (number : ℕ) (fact : Fact) (old mid new : Asked) → IsFact mid number fact → ClosedBelow func number old mid → HasClosed func number fact mid new
     → ClosedBelow func (number + 1) old new

@@ -26,11 +26,13 @@ use Rattle.base_facts.specs.declared.search.Asked.{Asked}
 use Rattle.base_facts.specs.Facts.{operand_in, base_in, fact_at, holds, maybe_holds}
 use Rattle.base_facts.specs.Settled.{IsSettled, SettlesBy}
 use Rattle.base_facts.specs.Asked.{IsReached, MissesFact, IsFact, rows_of, Asks, Grows, IsAsked, IsNumbered}
-use Rattle.base_facts.specs.Closing.{HoldingBelow, HoldsAlong, Follows, from_front, from_definition, IsClosed}
+use Rattle.base_facts.specs.Closing.{Holding, HoldingBelow, HoldsAlong, Follows, from_front, from_definition, from_source, IsClosed}
+use Rattle.base_facts.specs.Sources.{IsSource}
 use Rattle.base_facts.specs.Answers.{IsAnswered}
 use Rattle.base_facts.specs.Found.{ask_holds, IsFound, HasFound, IsFoundFact, HasFoundFact, told_by, AreFound}
 use Rattle.base_facts.proofs.StepLemmas.{fact_holds, IsAt, fact_stands_at}
 use Rattle.base_facts.proofs.AskedLemmas.{grows_not}
+use Rattle.base_facts.proofs.SourceLemmas.{Passes, passes_start, passes_more, passes_holds}
 use Rattle.base_facts.proofs.ClosingLemmas.{front_holds, one_fact, pair_along, arrives_reached}
 
 -- ---- the graph of askers
@@ -96,34 +98,86 @@ FrontHolds func asked block front = (number : ℕ) (fact : Fact) → IsFact aske
 asker_unmarked : (asked : Asked) (number asker : ℕ) → Unmarked asked asker → Asks asked number asker → Unmarked asked number
 asker_unmarked asked number asker unmarked asks reached = unmarked (along number asker reached (edge_of_asks asked number asker asks))
 
-levels : (func : Function) (asked : Asked) (block : ℕ) (front : Pairs) → IsSound front → ((number : ℕ) (fact : Fact) → IsFact asked number fact → IsClosed func asked number fact)
-    → FrontHolds func asked block front → (fuel number : ℕ) (fact : Fact) → fact.place < fuel → IsFact asked number fact → fact.block ≡ block → Unmarked asked number
+-- what those are that a source decides
+abbrev AtSource : Function → Asked → ℕ → Fact → ℕ → Type 0
+AtSource func asked number fact source = (front : Pairs) → Arrives func source front → Holding func asked number source front
+    → pairs_at_end (lines_at func source) front (operand_in fact.pointer) (base_in fact.base) ≡ true
+
+abbrev SourcedHolds : Function → Asked → ℕ → Pairs → Type 0
+SourcedHolds func asked block front = (number : ℕ) (fact : Fact) → IsFact asked number fact → fact.block ≡ block → Unmarked asked number
+    → (source : ℕ) → fact.place ≡ phi_count (lines_at func fact.block) → IsSource func fact source → AtSource func asked number fact source
     → holds func front fact ≡ true
-levels func asked block front sound closed frontal zero number fact low is own unmarked = absurd (omega arith)
-levels func asked block front sound closed frontal (suc fuel) number fact low is own unmarked =
+
+levels : (func : Function) (asked : Asked) (block : ℕ) (front : Pairs) → IsSound front → ((number : ℕ) (fact : Fact) → IsFact asked number fact → IsClosed func asked number fact)
+    → FrontHolds func asked block front → SourcedHolds func asked block front → (fuel number : ℕ) (fact : Fact) → fact.place < fuel → IsFact asked number fact → fact.block ≡ block
+    → Unmarked asked number → holds func front fact ≡ true
+levels func asked block front sound closed frontal sourced zero number fact low is own unmarked = absurd (omega arith)
+levels func asked block front sound closed frontal sourced (suc fuel) number fact low is own unmarked =
     by (closed number fact is (λ failing. unmarked (at_start number failing)))
-    (λ m other there asks beside below. levels func asked block front sound closed frontal fuel m other (omega arith) there (beside ∙ own) (asker_unmarked asked m number unmarked asks))
+    (λ m other there asks beside below. levels func asked block front sound closed frontal sourced fuel m other (omega arith) there (beside ∙ own) (asker_unmarked asked m number unmarked asks))
   where
     by : Follows func asked number fact → HoldingBelow func asked number fact.block fact.place front → holds func front fact ≡ true
     by (from_front place entry edges) holding = frontal number fact is own unmarked place entry edges
     by (from_definition follows) holding = follows front sound holding
+    by (from_source source place source_is at_source) holding = sourced number fact is own unmarked source place source_is at_source
+
+-- on a path to a block the unmarked facts hold there, and those that a source decides hold on the way from it
+record HoldsAt (func : Function) (asked : Asked) (block : ℕ) (front : Pairs) : Type 0 where
+  holding : (number : ℕ) (fact : Fact) → IsFact asked number fact → fact.block ≡ block → Unmarked asked number → holds func front fact ≡ true
+  passing : (number : ℕ) (fact : Fact) → Unmarked asked number → (source : ℕ) (is : IsSource func fact source) → AtSource func asked number fact source
+      → Passes func fact source is block front
+
+-- a fact that a source decides, at its own block
+sourced_holds : (func : Function) (asked : Asked) (block : ℕ) (front : Pairs)
+    → ((number : ℕ) (fact : Fact) → Unmarked asked number → (source : ℕ) (is : IsSource func fact source) → AtSource func asked number fact source → Passes func fact source is block front)
+    → SourcedHolds func asked block front
+sourced_holds func asked block front passing number fact is own unmarked source place source_is at_source =
+    front_holds func fact front place
+    ∙ passes_holds func fact source source_is front
+    (subst (λ (b : ℕ). Passes func fact source source_is b front) (sym own) (passing number fact unmarked source source_is at_source))
+
+-- an edge more
+hold_behind : (func : Function) (asked : Asked) (from to : ℕ) (front : Pairs) → ((number : ℕ) (fact : Fact) → IsFact asked number fact → IsClosed func asked number fact)
+    → Arrives func from front → Edge (graph_of func) from to → HoldsAt func asked from front
+    → HoldsAt func asked to (on_edge from (phis_in (lines_at func to)) (pairs_at_end (lines_at func from) front))
+hold_behind func asked from to front closed arrives edge was = record {
+  holding = λ number fact is own unmarked.
+      levels func asked to _ (arrives_sound func to _ (went from to front arrives edge)) closed
+      (λ n one there beside free place entry edges.
+      let own_edge : Edge (graph_of func) from one.block = subst (Edge (graph_of func) from) (sym beside) edge in
+      let along_holds : pair_along func one from front ≡ true = edges from own_edge front arrives
+      (λ m other stands asks same. was.holding m other stands same (asker_unmarked asked m n free asks)) in
+      front_holds func one _ place
+      ∙ ap (λ (b : ℕ). on_edge from (phis_in (lines_at func b)) (pairs_at_end (lines_at func from) front) (operand_in one.pointer) (base_in one.base)) (sym beside)
+      ∙ along_holds)
+      (sourced_holds func asked to _ passing)
+      (suc fact.place) number fact (omega arith) is own unmarked;
+  passing = passing;
+}
+  where
+    passing : (number : ℕ) (fact : Fact) → Unmarked asked number → (source : ℕ) (is : IsSource func fact source) → AtSource func asked number fact source
+        → Passes func fact source is to (on_edge from (phis_in (lines_at func to)) (pairs_at_end (lines_at func from) front))
+    passing number fact unmarked source is at_source =
+        passes_more func fact source is from to front arrives edge (was.passing number fact unmarked source is at_source)
+        (λ same. subst (λ (b : ℕ). pairs_at_end (lines_at func b) front (operand_in fact.pointer) (base_in fact.base) ≡ true) (sym same)
+        (at_source front (subst (λ (b : ℕ). Arrives func b front) same arrives)
+        (λ m other stands asks block_is. was.holding m other stands (block_is ∙ sym same) (asker_unmarked asked m number unmarked asks))))
+
+all_hold : (func : Function) (asked : Asked) (block : ℕ) (front : Pairs) → ((number : ℕ) (fact : Fact) → IsFact asked number fact → IsClosed func asked number fact)
+    → Arrives func block front → HoldsAt func asked block front
+all_hold func asked _ _ closed start = record {
+  holding = λ number fact is own unmarked.
+      levels func asked 0 (at_entry func) (arrives_sound func 0 (at_entry func) start) closed
+      (λ n one there beside free place entry edges. front_holds func one (at_entry func) place ∙ entry beside)
+      (sourced_holds func asked 0 (at_entry func) (λ n one free source is at_source. passes_start func one source is))
+      (suc fact.place) number fact (omega arith) is own unmarked;
+  passing = λ number fact unmarked source is at_source. passes_start func fact source is;
+}
+all_hold func asked _ _ closed (went from to front arrives edge) = hold_behind func asked from to front closed arrives edge (all_hold func asked from front closed arrives)
 
 pub unmarked_holds : (func : Function) (asked : Asked) (block : ℕ) (front : Pairs) → ((number : ℕ) (fact : Fact) → IsFact asked number fact → IsClosed func asked number fact)
     → Arrives func block front → (number : ℕ) (fact : Fact) → IsFact asked number fact → fact.block ≡ block → Unmarked asked number → holds func front fact ≡ true
-unmarked_holds func asked _ _ closed start number fact is own unmarked =
-    levels func asked 0 (at_entry func) (arrives_sound func 0 (at_entry func) start) closed
-    (λ n one there beside free place entry edges. front_holds func one (at_entry func) place ∙ entry beside)
-    (suc fact.place) number fact (omega arith) is own unmarked
-unmarked_holds func asked _ _ closed (went from to front arrives edge) number fact is own unmarked =
-    levels func asked to _ (arrives_sound func to _ (went from to front arrives edge)) closed
-    (λ n one there beside free place entry edges.
-    let own_edge : Edge (graph_of func) from one.block = subst (Edge (graph_of func) from) (sym beside) edge in
-    let along_holds : pair_along func one from front ≡ true = edges from own_edge front arrives
-    (λ m other stands asks same. unmarked_holds func asked from front closed arrives m other stands same (asker_unmarked asked m n free asks)) in
-    front_holds func one _ place
-    ∙ ap (λ (b : ℕ). on_edge from (phis_in (lines_at func b)) (pairs_at_end (lines_at func from) front) (operand_in one.pointer) (base_in one.base)) (sym beside)
-    ∙ along_holds)
-    (suc fact.place) number fact (omega arith) is own unmarked
+unmarked_holds func asked block front closed arrives number fact is own unmarked = (all_hold func asked block front closed arrives).holding number fact is own unmarked
 
 -- ---- answers
 

@@ -4,4 +4,5 @@ pub mod PredLemmas
 pub mod EdgeLemmas
 pub mod AskedLemmas
 pub mod ClosingLemmas
+pub mod SourceLemmas
 pub mod FinalLemmas

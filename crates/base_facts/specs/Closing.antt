@@ -15,6 +15,7 @@ use Rattle.base_facts.specs.declared.steps.Step.{Step}
 use Rattle.base_facts.specs.declared.steps.Step.TheVariants.{Known, One, Two}
 use Rattle.base_facts.specs.Facts.{operand_in, base_in, holds}
 use Rattle.fact_tables.specs.Tables.{IsPlace}
+use Rattle.base_facts.specs.Sources.{IsSource}
 use Rattle.base_facts.specs.Asked.{IsReached, MissesFact, IsFact, Asks, Grows, IsAsked, MissedBy, Answered}
 
 -- the facts for which a fact asks in a block hold on a path
@@ -37,6 +38,10 @@ pub data Follows (func : Function) (asked : Asked) (number : ℕ) (fact : Fact) 
       → ((from : ℕ) → Edge (graph_of func) from fact.block → HoldsAlong func asked number fact from)
       → Follows func asked number fact
   from_definition : ((front : Pairs) → IsSound front → HoldingBelow func asked number fact.block fact.place front → holds func front fact ≡ true)
+      → Follows func asked number fact
+  from_source : (block : ℕ) → fact.place ≡ phi_count (lines_at func fact.block) → IsSource func fact block
+      → ((front : Pairs) → Arrives func block front → Holding func asked number block front
+      → pairs_at_end (lines_at func block) front (operand_in fact.pointer) (base_in fact.base) ≡ true)
       → Follows func asked number fact
 
 -- unless it fails

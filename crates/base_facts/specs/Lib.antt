@@ -7,3 +7,4 @@ pub mod Asked
 pub mod Closing
 pub mod Answers
 pub mod Found
+pub mod Sources

@@ -18,6 +18,7 @@ use fact_tables::tables::{Tables, tables_of};
 use ir_ast::{Func, Operand};
 use ir_cfg::Cfg;
 use pair_facts::Base;
+use since_statepoint::Since;
 use sp_ids::{BlockId, Memory};
 use std::alloc::Global;
 use std::marker::Model;
@@ -99,7 +100,8 @@ fn answers(alloc: Global, func: &Func, cfg: &Cfg, asks: &[Ask]) -> Result<Vec<bo
     for ask in asks {
         found.push(find(alloc, func, cfg, &tables, &mut asked, *ask)?)?;
     }
-    close(alloc, func, cfg, &tables, &mut asked)?;
+    let since = Since::of(alloc, func, cfg, &tables)?;
+    close(alloc, func, cfg, &tables, &since, &mut asked)?;
     let marks = missed(alloc, &asked)?;
     told(alloc, &found, &marks)
 }

@@ -1,19 +1,25 @@
-ghost use Rattle.std.specs.Prelude.{◌≡◌, ◌<◌, length, IfOk, slice_get};
+ghost use Rattle.std.specs.Prelude.{◌≡◌, ◌<◌, true, length, IfOk, slice_get};
 ghost use Rattle.ir_cfg.specs.Graphs.{graph_of, Edge};
 ghost use Rattle.object_meaning.specs.Jumps.{phi_count};
 ghost use Rattle.pair_facts.specs.Lines.{lines_at};
+ghost use Rattle.pair_facts.specs.Pairs.{at_entry};
 ghost use Rattle.fact_tables.specs.Tables.{AreTables};
+ghost use Rattle.since_statepoint.specs.Splits.{IsSince};
+ghost use Rattle.base_facts.specs.Facts.{operand_in, base_in};
 ghost use Rattle.base_facts.specs.Settled.{IsDefined};
 ghost use Rattle.base_facts.specs.Asked.{IsReached, IsAsked, IsFact};
+ghost use Rattle.base_facts.specs.Sources.{IsSource};
 ghost use Rattle.base_facts.specs.Closing.{AskedAlong, HasClosed, AllClosed, CanStep, HasStepped};
 
 use crate::edges::{along_edge, holds_at_entry};
 use crate::facts::{Fact, Pointer};
 use crate::search::{Asked, ask, fail};
+use crate::sources::{Source, source_of};
 use crate::steps::{Step, step_of};
 use fact_tables::tables::{Tables, front_of};
 use ir_ast::Func;
 use ir_cfg::Cfg;
+use since_statepoint::Since;
 use sp_ids::{BlockId, Memory};
 use std::alloc::Global;
 
@@ -23,9 +29,11 @@ pub(crate) fn close(
     func: &Func,
     cfg: &Cfg,
     tables: &Tables,
+    since: &Since,
     asked: &mut Asked,
 ) -> Result<(), Memory>
     requires tables { AreTables func.now.content tables.now }
+    requires since { IsSince func.now.content since.now }
     requires edges { cfg.now ≡ graph_of func.now.content }
     requires asked { IsAsked func.now.content asked.old }
     ensures { IfOk result (λ _. AllClosed func.now.content asked.old asked.new) }
@@ -33,7 +41,7 @@ pub(crate) fn close(
     for number in 0..usize::MAX {
         match fact_of(asked, number) {
             None => return Ok(()),
-            Some(fact) => expand(alloc, func, cfg, tables, asked, number, fact)?,
+            Some(fact) => expand(alloc, func, cfg, tables, since, asked, number, fact)?,
         }
     }
     Err(Memory)
@@ -50,25 +58,58 @@ fn expand(
     func: &Func,
     cfg: &Cfg,
     tables: &Tables,
+    since: &Since,
     asked: &mut Asked,
     number: usize,
     fact: Fact,
 ) -> Result<(), Memory>
     requires tables { AreTables func.now.content tables.now }
+    requires since { IsSince func.now.content since.now }
     requires edges { cfg.now ≡ graph_of func.now.content }
     requires asked { IsAsked func.now.content asked.old }
     requires stands { IsFact asked.old number fact }
     ensures { IfOk result (λ _. HasClosed func.now.content number fact asked.old asked.new) }
 {
     if fact.place == front_of(func, tables, fact.block) {
-        expand_front(alloc, func, cfg, tables, asked, number, fact)
+        expand_front(alloc, func, cfg, tables, since, asked, number, fact)
     } else {
         expand_definition(alloc, func, tables, asked, number, fact)
     }
 }
 
-// A fact behind the phis of a block asks for what it is at the end of each block before.
+// A fact behind the phis of a block asks for what it is at the end of the block where it was given last, or of each block
+// before.
 fn expand_front(
+    alloc: Global,
+    func: &Func,
+    cfg: &Cfg,
+    tables: &Tables,
+    since: &Since,
+    asked: &mut Asked,
+    number: usize,
+    fact: Fact,
+) -> Result<(), Memory>
+    requires tables { AreTables func.now.content tables.now }
+    requires since { IsSince func.now.content since.now }
+    requires edges { cfg.now ≡ graph_of func.now.content }
+    requires block { fact.block < length func.now.content.blocks }
+    requires asked { IsAsked func.now.content asked.old }
+    requires stands { IsFact asked.old number fact }
+    requires front { fact.place ≡ phi_count (lines_at func.now.content fact.block) }
+    ensures { IfOk result (λ _. HasClosed func.now.content number fact asked.old asked.new) }
+{
+    if fact.block == 0 && !holds_at_entry(func, fact) {
+        return fail(func, asked, number);
+    }
+    match source_of(func, cfg, tables, since, fact) {
+        Source::Edges => ask_edges(alloc, func, cfg, tables, asked, number, fact),
+        Source::Nowhere => fail(func, asked, number),
+        Source::Behind(block) => ask_behind(alloc, func, tables, asked, number, fact, block),
+    }
+}
+
+// The fact asks for what it is at the end of each block before.
+fn ask_edges(
     alloc: Global,
     func: &Func,
     cfg: &Cfg,
@@ -83,11 +124,9 @@ fn expand_front(
     requires asked { IsAsked func.now.content asked.old }
     requires stands { IsFact asked.old number fact }
     requires front { fact.place ≡ phi_count (lines_at func.now.content fact.block) }
+    requires entry { fact.block ≡ 0 → at_entry func.now.content (operand_in fact.pointer) (base_in fact.base) ≡ true }
     ensures { IfOk result (λ _. HasClosed func.now.content number fact asked.old asked.new) }
 {
-    if fact.block == 0 && !holds_at_entry(func, fact) {
-        return fail(func, asked, number);
-    }
     for pred in cfg.preds(block_id(func, fact.block)) {
         ask_if_reached(alloc, func, cfg, tables, asked, number, fact, *pred)?;
     }
@@ -151,6 +190,33 @@ fn ask_along(
         Some(other) => ask(alloc, func, tables, asked, number, other),
         None => fail(func, asked, number),
     }
+}
+
+// The fact asks for what it is at the end of a block.
+fn ask_behind(
+    alloc: Global,
+    func: &Func,
+    tables: &Tables,
+    asked: &mut Asked,
+    number: usize,
+    fact: Fact,
+    block: usize,
+) -> Result<(), Memory>
+    requires tables { AreTables func.now.content tables.now }
+    requires asked { IsAsked func.now.content asked.old }
+    requires stands { IsFact asked.old number fact }
+    requires front { fact.place ≡ phi_count (lines_at func.now.content fact.block) }
+    requires source { IsSource func.now.content fact block }
+    ensures { IfOk result (λ _. HasClosed func.now.content number fact asked.old asked.new) }
+{
+    let place = count_insts(func, block_id(func, block));
+    let other = Fact {
+        block,
+        place,
+        pointer: fact.pointer,
+        base: fact.base,
+    };
+    ask(alloc, func, tables, asked, number, other)
 }
 
 fn count_insts(func: &Func, block: BlockId) -> usize

@@ -9,6 +9,7 @@ mod members;
 mod missed;
 mod search;
 mod settle;
+mod sources;
 mod steps;
 
 pub use asks::{Ask, Facts};

@@ -1,7 +1,8 @@
 //! Whole calls of the tool, as the lines of the file `cases` give them.
 //!
-//! A line has the file of the module, what is to fail, ` |` and the words. The files in memory are `m.ll`, which is
-//! the module, and `in` and `plan`, which are empty; where there is no file of the module, there is none of the three.
+//! A line has the file of the module, what is set, ` |` and the words. The files in memory are `m.ll`, which is the
+//! module, `in`, which is empty, `plan`, which is the file of `plan=FILE` or else empty, and that of `map=FILE`, if it is
+//! set, as `map`; where there is no file of the module, there is none of them.
 //! `take=N` lets the call N of `take` fail; `put=N` and `note=N` the call N of `put` on the output and on the notes,
 //! after the first `adds=M` bytes of its piece.
 
@@ -14,7 +15,7 @@ use std::alloc::{AllocError, Global};
 use tool_io::{DiskFiles, Files, MemFiles, MemSink};
 
 // More than any case writes.
-const ROOM: usize = 1_000;
+const ROOM: usize = 2_000;
 
 pub(crate) fn show(rt: &HostRuntime) -> Result<()> {
     let alloc = rt.alloc();
@@ -52,13 +53,25 @@ fn listed(alloc: Global, words: &str) -> Result<Vec<String>, AllocError> {
     Ok(list)
 }
 
-// The number that is set under this name.
-fn number(setting: &str, name: &str) -> Option<u64> {
+// What is set under this name.
+fn set<'a>(setting: &'a str, name: &str) -> Option<&'a str> {
     setting
         .split_whitespace()
-        .find_map(|word| word.strip_prefix(name))?
-        .parse()
-        .ok()
+        .find_map(|word| word.strip_prefix(name))
+}
+
+// The number that is set under this name.
+fn number(setting: &str, name: &str) -> Option<u64> {
+    set(setting, name)?.parse().ok()
+}
+
+// The bytes of the file that is set under this name, or none.
+fn set_bytes(rt: &HostRuntime, setting: &str, name: &str) -> Result<Vec<u8>> {
+    let alloc = rt.alloc();
+    match set(setting, name) {
+        Some(file) => Ok(DiskFiles::new(rt).take(alloc, file, FILE_BYTES)?),
+        None => Ok(Vec::new(alloc)),
+    }
 }
 
 fn held(rt: &HostRuntime, setting: &str) -> Result<MemFiles> {
@@ -68,7 +81,10 @@ fn held(rt: &HostRuntime, setting: &str) -> Result<MemFiles> {
     if let Ok(text) = DiskFiles::new(rt).take(alloc, name, FILE_BYTES) {
         files.add("m.ll", &text)?;
         files.add("in", b"")?;
-        files.add("plan", b"")?;
+        files.add("plan", &set_bytes(rt, setting, "plan=")?)?;
+        if set(setting, "map=").is_some() {
+            files.add("map", &set_bytes(rt, setting, "map=")?)?;
+        }
     }
     if let Some(call) = number(setting, "take=") {
         files.fail_take(call)?;

@@ -2,7 +2,7 @@
 use Rattle.std.specs.Prelude.{◌≡◌, ℕ, ◌%◌, ◌^◌, Bool, true, false, ◌||◌, if◌then◌else◌, List, [], ◌∷◌, ◌++◌, Option, unwrap_or, slice_get, Result, Ok, Err}
 use Rattle.sp_ids.specs.declared.ends.Trap.{Trap}
 use Rattle.ir_ast.specs.declared.types.Ty.{Ty}
-use Rattle.ir_ast.specs.declared.types.Ty.TheVariants.{Int as Integer, Ptr}
+use Rattle.ir_ast.specs.declared.types.Ty.TheVariants.{Void, Int as Integer, Ptr, Token}
 use Rattle.ir_ast.specs.declared.ops.Pred.{Pred}
 use Rattle.ir_ast.specs.declared.ops.Op.{Op}
 use Rattle.ir_ast.specs.declared.ops.Op.TheVariants.{Add, Sub, Mul, Udiv, Sdiv, Urem, Srem, And, Or, Xor, Shl, Lshr, Ashr, Icmp, Trunc, Zext, Sext, Select, Gep, Load, Store}
@@ -49,7 +49,9 @@ is_straight _ = false
 
 abbrev pub comparison : Pred → Ty → Action
 comparison pred Ptr = actions.ComparePointers pred
-comparison pred ty = actions.Compare pred
+comparison pred Void = actions.Compare pred
+comparison pred (Integer width) = actions.Compare pred
+comparison pred Token = actions.Compare pred
 
 -- what a line with this operator and type does
 abbrev pub action_of : List ObjectLayout → Op → Ty → Action

@@ -18,7 +18,7 @@ pub fn width_of(ty: &Ty) -> u32
 {
     match ty {
         Ty::Int(width) => (*width).min(64).max(1),
-        _ => 64,
+        Ty::Void | Ty::Ptr | Ty::Token => 64,
     }
 }
 

@@ -1,8 +1,12 @@
 pub mod StepLemmas
 pub mod AccessLemmas
+pub mod DeniedLemmas
 pub mod TaskLemmas
 pub mod CallLemmas
 pub mod EventLemmas
 pub mod OpeningLemmas
 pub mod QuietLemmas
+pub mod TraceLemmas
+pub mod WriteLemmas
 pub mod RunLemmas
+pub mod ComputeLemmas

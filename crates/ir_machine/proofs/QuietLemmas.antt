@@ -1,12 +1,12 @@
 -- A stack shows nothing where no record of the map has "deopt" locations.
-use Rattle.std.proofs.Common.{◌≡◌, ℕ, zero, suc, ◌+◌, ◌-◌, ◌==◌, if◌then◌else◌, Bool, true, false, List, [], ◌∷◌, ◌++◌, map, take, drop, length, slice_index, Option, Some, None, refl, ap, ◌∙◌}
+use Rattle.std.proofs.Common.{◌≡◌, ℕ, zero, suc, ◌+◌, ◌==◌, if◌then◌else◌, Bool, true, false, List, [], ◌++◌, map, take, drop, length, slice_index, Option, Some, None, refl, ap, ◌∙◌}
 use Rattle.sp_ids.specs.declared.ends.End.{End}
 use Rattle.sp_ids.specs.declared.ends.End.TheVariants.{Trap}
 use Rattle.moving_heap.specs.declared.stands.Stand.{Stand}
 use Rattle.frame_walk.specs.Maps.{FrameEntry, pairs_in}
 use Rattle.frame_walk.specs.Walks.{frame_words}
 use Rattle.machine_meaning.specs.Machines.{Machine, Machinery}
-use Rattle.machine_meaning.specs.TrapLines.{deopt_places, pair_places, is_readable, frame_line, values_of, shown_place, lines_with, lines_at, lines_from, closing_of}
+use Rattle.machine_meaning.specs.TrapLines.{deopt_places, pair_places, is_readable, frame_line, shown_place, lines_with, lines_at, lines_from, closing_of}
 use Rattle.ir_machine.specs.Answers.{IsUntrapped}
 
 -- what a map may have at each return address

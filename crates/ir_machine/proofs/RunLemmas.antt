@@ -1,116 +1,69 @@
 -- A run by its steps, and what it has written.
-use Rattle.std.proofs.Common.{◌≡◌, ℕ, ℤ, suc, ◌+◌, ◌-◌, ◌^◌, min, List, [], ◌∷◌, ◌++◌, reverse, length, Option, Some, None, refl, sym, ap, ◌∙◌, subst, arith}
+use Rattle.std.proofs.Common.{◌≡◌, ℕ, ℤ, suc, ◌+◌, ◌-◌, ◌^◌, min, Bool, false, List, [], ◌∷◌, ◌++◌, length, Option, Some, None, refl, sym, ap, ◌∙◌, subst, arith, inl, inr}
 use Rattle.std.specs.List.{concat}
-use Rattle.std.proofs.lemmas.List.{append-nil, reverse-append}
 use Rattle.std.proofs.lemmas.List.Folds.{concat-append}
 use Rattle.tool_io.specs.Sink.{append_known, AppendsFront}
-use Rattle.tool_io.proofs.AppendLaws.{append_known-nil, append_known-then, AppendsFront-second, AppendsFront-all, AppendsFront-same, AppendsFront-nothing}
+use Rattle.tool_io.proofs.AppendLaws.{append_known-nil, append_known-then, AppendsFront-all, AppendsFront-first, AppendsFront-nothing, AppendsFront-same, AppendsFront-second}
 use Rattle.sp_ids.specs.declared.ends.End.{End}
+use Rattle.sp_ids.specs.declared.ends.End.TheVariants as stops
 use Rattle.ir_ast.specs.Modules.{ModuleContent}
 use Rattle.map_bytes.specs.Maps.{StackMap}
 use Rattle.move_plan.specs.declared.plan_lines.PlanLine.{PlanLine}
-use Rattle.object_meaning.specs.Effects.{Effect, goes_on, prints, ends, Progress, after, printed_line, text_of, line_count}
-use Rattle.object_meaning.specs.Runs.{Reaches}
-use Rattle.object_meaning.proofs.RunLaws.{reaches_more, ends_more}
+use Rattle.moving_heap.specs.declared.stands.Stand.{Stand}
+use Rattle.moving_heap.specs.Settled.{AreSettled}
+use Rattle.object_meaning.specs.Effects.{Effect, goes_on, prints, ends, Progress, after, printed_line, line_count}
+use Rattle.object_meaning.specs.Outcomes.{whole_text}
+use Rattle.object_meaning.specs.Runs.{Ends, Go, Next, advance, goes}
+use Rattle.object_meaning.specs.Texts.{function_name}
+use Rattle.object_meaning.specs.Traces.{done_at}
+use Rattle.object_meaning.proofs.RunLaws.{goes_more}
+use Rattle.machine_meaning.specs.Code.{machinery_of}
 use Rattle.machine_meaning.specs.Machines.{Machine, Machinery}
 use Rattle.machine_meaning.specs.MachineSteps.{machine_step}
-use Rattle.machine_meaning.specs.MachineRuns.{MachineOutcome, machine_outcome, machine_proceeds, machine_opening}
+use Rattle.machine_meaning.specs.MachineRuns.{MachineOutcome, MachineGives, machine_outcome, machine_proceeds, machine_opening}
 use Rattle.machine_meaning.specs.TrapLines.{closing_of}
-use Rattle.machine_meaning.specs.Code.{machinery_of}
+use Rattle.machine_meaning.proofs.SettledLaws.{IsSoundAfter, step_sound}
+use Rattle.machine_ends.proofs.EndLaws.{each_run_ends}
+use Rattle.stackmap_write.specs.ModuleMaps.{map_of}
+use Rattle.moves_unseen.specs.Waits.{IsSound}
+use Rattle.runs_unseen.proofs.MapLaws.{names_nothing}
+use Rattle.runs_unseen.proofs.SeenRuns.{seen_here}
+use Rattle.tool_report.specs.Closings.{closing_line}
+use Rattle.run_texts.specs.RunTexts.{RunWrites, RunWritesQuiet, end_lines, lines_from, no_frames, printed_by, run_lines, step_lines}
+use Rattle.run_texts.proofs.TextLaws.{bare_texts, traced_last, written_first}
+use Rattle.run_traces.specs.declared.happenings.Happening.{Happening}
 use Rattle.ir_machine.specs.declared.executor.Did.{Did}
 use Rattle.ir_machine.specs.declared.executor.Did.TheVariants.{GoesOn, Prints, Ends as Finishes}
 use Rattle.ir_machine.specs.declared.run.Ran.{Ran}
+use Rattle.ir_machine.specs.declared.run.Shows.{Shows}
 use Rattle.ir_machine.specs.Executors.{effect_of, told, without_words}
-use Rattle.move_plan.specs.Plans.{go}
-use Rattle.stackmap_write.specs.ModuleMaps.{map_of}
-use Rattle.moves_unseen.specs.Waits.{IsSound}
-use Rattle.runs_unseen.specs.Runs.{IsSeenRun}
-use Rattle.runs_unseen.proofs.MapLaws.{names_nothing}
-use Rattle.runs_unseen.proofs.SeenRuns.{answer_seen}
-use Rattle.ir_machine.specs.Answers.{ran_of, IsRunOver, IsRunFrom, WritesFrontFrom, unprinted, Follows, ended_of, Wrote, WroteFront}
+use Rattle.ir_machine.specs.Traces.{StepForeseen, did_lose, is_lost, shown_lines}
+use Rattle.ir_machine.specs.Answers.{BeginsText, BeginsWhole, Follows, IsRunFrom, IsRunOver, IsRunUnseen, WritesFrontFrom, WritesFrontOver, counted_by, ended_of, printed_of, quiet_lines, step_text, unprinted}
 use Rattle.ir_machine.proofs.QuietLemmas.{closing_nothing, closing_untrapped}
 
-pub follows_start : (machinery : Machinery) (machine : Machine) (old : Option (List ℕ)) → Follows machinery (unprinted machine) machine 0 old old
-follows_start machinery machine old = record {
+pub follows_start : (machinery : Machinery) (trace : Bool) (machine : Machine) (old : Option (List ℕ)) → AreSettled machine.heap.stands → Follows machinery trace (unprinted machine) machine 0 old old
+follows_start machinery trace machine old settled = record {
   lines = [];
   reached = record { after = 0; by = refl };
   counted = refl;
   written = sym (append_known-nil old);
+  settled = settled;
 }
 
-counted_more : (length count more : ℕ) → count ≡ min length (2 ^ 64 - 1) → more ≡ min (count + 1) (2 ^ 64 - 1) → more ≡ min (suc length) (2 ^ 64 - 1)
-counted_more length count more one two = omega arith
+counted_more : (length count : ℕ) → count ≡ min length (2 ^ 64 - 1) → min (count + 1) (2 ^ 64 - 1) ≡ min (suc length) (2 ^ 64 - 1)
+counted_more length count one = omega arith
 
-module _ (machinery : Machinery) (start : Progress Machine) (machine next : Machine) (count : ℕ) (old now new : Option (List ℕ)) (follows : Follows machinery start machine count old now) where
-  pub follows_front : WritesFrontFrom machinery start old now
-  follows_front = record {
-    now = record { state = machine; lines = follows.lines };
-    reached = follows.reached;
-    front = AppendsFront-all old now (text_of follows.lines) follows.written;
-  }
+-- ---- what a step did
 
-  follows_on : goes_on next ≡ machine_step machinery machine → Follows machinery start next count old now
-  unfolding machine_proceeds
-  follows_on e = record {
-    lines = follows.lines;
-    reached = reaches_more (machine_proceeds machinery) start (record { state = machine; lines = follows.lines }) (record { state = next; lines = follows.lines })
-        follows.reached (ap (after follows.lines) (sym e));
-    counted = follows.counted;
-    written = follows.written;
-  }
+told_on : (next : Machine) (effect : Effect Machine) → goes_on next ≡ told effect → goes_on next ≡ effect
+told_on next (goes_on other) e = e
+told_on next (prints word other) e = e
+told_on next (ends end other) e = cc
 
-  -- the run has printed one more line, and it was written
-  reaches_printed : (word : ℕ) → prints word next ≡ machine_step machinery machine
-      → Reaches {E = End} (machine_proceeds machinery) start (record { state = next; lines = printed_line word ∷ follows.lines })
-  unfolding machine_proceeds
-  reaches_printed word e =
-      reaches_more (machine_proceeds machinery) start (record { state = machine; lines = follows.lines })
-      (record { state = next; lines = printed_line word ∷ follows.lines }) follows.reached (ap (after follows.lines) (sym e))
-
-  follows_printed : (word more : ℕ) → prints word next ≡ machine_step machinery machine
-      → more ≡ min (count + 1) (2 ^ 64 - 1) → new ≡ append_known now (printed_line word) → Follows machinery start next more old new
-  follows_printed word more e counts added = record {
-    lines = printed_line word ∷ follows.lines;
-    reached = reaches_printed word e;
-    counted = counted_more (length follows.lines) count more follows.counted counts;
-    written = append_known-then old now new (text_of follows.lines) (printed_line word) follows.written added;
-  }
-
-  front_printed : (word : ℕ) → prints word next ≡ machine_step machinery machine → AppendsFront now new (printed_line word) → WritesFrontFrom machinery start old new
-  front_printed word e front = record {
-    now = record { state = next; lines = printed_line word ∷ follows.lines };
-    reached = reaches_printed word e;
-    front = AppendsFront-second old (text_of follows.lines) follows.written front;
-  }
-
-  -- a step that isn't the last
-  told_on : (effect : Effect Machine) → goes_on next ≡ told effect → goes_on next ≡ effect
-  told_on (goes_on other) e = e
-  told_on (prints word other) e = e
-  told_on (ends end other) e = cc
-
-  told_prints : (word : ℕ) (effect : Effect Machine) → prints word next ≡ told effect → prints word next ≡ effect
-  told_prints word (goes_on other) e = e
-  told_prints word (prints other_word other) e = e
-  told_prints word (ends end other) e = cc
-
-  pub follows_more : (did : Did) (more : ℕ) → told (effect_of did next) ≡ told (machine_step machinery machine) → ended_of did ≡ None → Wrote did count more now new
-      → Follows machinery start next more old new
-  follows_more GoesOn more e goes wrote = rw (wrote.0, wrote.1) (follows_on (told_on (machine_step machinery machine) e))
-  follows_more (Prints word) more e goes wrote = follows_printed word more (told_prints word (machine_step machinery machine) e) wrote.0 wrote.1
-  follows_more (Finishes end) more e goes wrote = cc
-
-  pub front_more : (did : Did) → told (effect_of did next) ≡ told (machine_step machinery machine) → ended_of did ≡ None → WroteFront did now new
-      → WritesFrontFrom machinery start old new
-  front_more GoesOn e goes wrote = record {
-    now = record { state = machine; lines = follows.lines };
-    reached = follows.reached;
-    front = AppendsFront-same (AppendsFront-second old (text_of follows.lines) follows.written wrote) (text_of follows.lines) (sym (append-nil (text_of follows.lines)));
-  }
-  front_more (Prints word) e goes wrote = front_printed word (told_prints word (machine_step machinery machine) e) wrote
-  front_more (Finishes end) e goes wrote = cc
-
--- ---- the last step
+told_prints : (next : Machine) (word : ℕ) (effect : Effect Machine) → prints word next ≡ told effect → prints word next ≡ effect
+told_prints next word (goes_on other) e = e
+told_prints next word (prints other_word other) e = e
+told_prints next word (ends end other) e = cc
 
 pub record LikeEnd (end : End) (now last : Machine) (effect : Effect Machine) : Type 0 where
   pub is : ends end last ≡ effect
@@ -127,33 +80,188 @@ told_end end now (ends over other) e =
     let same : end ≡ over = cc in
     record { last = other; like = record { is = ap (λ (one : End). ends one other) same; same = cc } }
 
-pub end_more : (machinery : Machinery) (start : Progress Machine) (machine new : Machine) (did : Did) (end : End) (count : ℕ) (ran : Ran) (old now : Option (List ℕ))
-    → Follows machinery start machine count old now → told (effect_of did new) ≡ told (machine_step machinery machine) → ended_of did ≡ Some end
-    → ran ≡ record { end = end; func = record { 0 = new.state.running.func }; steps = new.state.steps; events = new.state.events; lines = count }
-    → IsRunFrom machinery start ran old now
-unfolding machine_proceeds
-end_more machinery start machine new GoesOn end count ran old now follows e ended is = cc
-end_more machinery start machine new (Prints word) end count ran old now follows e ended is = cc
-end_more machinery start machine new (Finishes over) end count ran old now follows e ended is =
-    let same : over ≡ end = cc in
-    let like = told_end over new (machine_step machinery machine) e in
-    let ends_so : ends end like.last ≡ machine_step machinery machine = ap (λ (how : End). ends how like.last) (sym same) ∙ like.like.is in
-    let states = ap (λ (m : Machine). m.state) like.like.same in
-    rw is (record {
+lost_end : (end : End) (machine : Machine) → is_lost (ends end machine) ≡ did_lose (Finishes end)
+lost_end (stops.Return number) machine = refl
+lost_end (stops.Trap trap) machine = refl
+lost_end stops.OutOfSteps machine = refl
+lost_end stops.Poison machine = refl
+lost_end stops.LostFrame machine = refl
+
+lost_same : (did : Did) (next : Machine) (effect : Effect Machine) → told (effect_of did next) ≡ told effect → is_lost effect ≡ did_lose did
+lost_same GoesOn next effect e = ap is_lost (sym (told_on next effect e))
+lost_same (Prints word) next effect e = ap is_lost (sym (told_prints next word effect e))
+lost_same (Finishes end) next effect e = let like = told_end end next effect e in ap is_lost (sym like.like.is) ∙ lost_end end like.last
+
+printed_same : (did : Did) (next : Machine) (effect : Effect Machine) → told (effect_of did next) ≡ told effect → printed_by effect ≡ printed_of did
+printed_same GoesOn next effect e = ap printed_by (sym (told_on next effect e))
+printed_same (Prints word) next effect e = ap printed_by (sym (told_prints next word effect e))
+printed_same (Finishes end) next effect e = ap printed_by (sym (told_end end next effect e).like.is)
+
+settled_after : (next : Machine) (effect : Effect Machine) → goes_on next ≡ effect → IsSoundAfter effect → AreSettled next.heap.stands
+settled_after next effect e sound = subst IsSoundAfter (sym e) sound
+
+settled_printed : (next : Machine) (word : ℕ) (effect : Effect Machine) → prints word next ≡ effect → IsSoundAfter effect → AreSettled next.heap.stands
+settled_printed next word effect e sound = subst IsSoundAfter (sym e) sound
+
+pub settled_end : (next : Machine) (did : Did) (end : End) (machinery : Machinery) (machine : Machine) → AreSettled machine.heap.stands → told (effect_of did next) ≡ told (machine_step machinery machine)
+    → ended_of did ≡ Some end → AreSettled next.heap.stands
+settled_end next GoesOn end machinery machine settled e is = cc
+settled_end next (Prints word) end machinery machine settled e is = cc
+settled_end next (Finishes over) end machinery machine settled e is =
+    let like = told_end over next (machine_step machinery machine) e in
+    let sound : AreSettled like.last.heap.stands = subst IsSoundAfter (sym like.like.is) (step_sound machinery machine settled) in
+    subst (λ (m : Machine). AreSettled m.heap.stands) (sym like.like.same) sound
+
+-- ---- a step further
+
+module _ (content : ModuleContent) (machinery : Machinery) (shows : Shows) (start : Progress Machine) (machine later next : Machine) (count : ℕ) (old now : Option (List ℕ))
+    (follows : Follows machinery shows.trace start machine count old now) where
+  abbrev written_so_far : List (List ℕ)
+  written_so_far = lines_from machinery shows.trace follows.reached.after (Go start)
+
+  -- where the run stands after one more step
+  one_step : goes (machine_proceeds machinery) (suc follows.reached.after) (Go start) ≡ after follows.lines (machine_step machinery machine)
+  unfolding machine_proceeds
+  one_step = goes_more (machine_proceeds machinery) follows.reached.after (Go start) ∙ ap (advance (machine_proceeds machinery)) follows.reached.by
+
+  pub follows_front : WritesFrontFrom content machinery shows start old now
+  follows_front = inl (record { steps = follows.reached.after; front = AppendsFront-all old now (concat written_so_far) follows.written })
+
+  module _ (event : Bool) (one : Happening) (did : Did) (foreseen : StepForeseen machinery shows.trace machine event one) (same : machine_step machinery later ≡ machine_step machinery machine)
+      (does : told (effect_of did next) ≡ told (machine_step machinery later)) where
+    done : told (effect_of did next) ≡ told (machine_step machinery machine)
+    done = does ∙ ap told same
+
+    step_is : step_lines machinery shows.trace machine ≡ shown_lines event (did_lose did) one ++ printed_of did
+    step_is =
+        ap (λ front. front ++ printed_by (machine_step machinery machine)) (foreseen ∙ ap (λ lost. shown_lines event lost one) (lost_same did next (machine_step machinery machine) done))
+        ∙ ap (λ rest. shown_lines event (did_lose did) one ++ rest) (printed_same did next (machine_step machinery machine) done)
+
+    lines_next : lines_from machinery shows.trace (suc follows.reached.after) (Go start) ≡ written_so_far ++ (shown_lines event (did_lose did) one ++ printed_of did)
+    lines_next =
+        traced_last (λ progress. step_lines machinery shows.trace progress.state) (machine_proceeds machinery) follows.reached.after (Go start)
+        ∙ ap (λ (state : Next End (Progress Machine)). written_so_far ++ done_at (λ progress. step_lines machinery shows.trace progress.state) state) follows.reached.by
+        ∙ ap (λ lines. written_so_far ++ lines) step_is
+
+    text_next : concat (lines_from machinery shows.trace (suc follows.reached.after) (Go start)) ≡ concat written_so_far ++ step_text event one did
+    text_next = ap concat lines_next ∙ concat-append written_so_far (shown_lines event (did_lose did) one ++ printed_of did)
+
+    pub step_front : (new : Option (List ℕ)) → AppendsFront now new (step_text event one did) → WritesFrontFrom content machinery shows start old new
+    step_front new front = inl (record {
+      steps = suc follows.reached.after;
+      front = AppendsFront-same (AppendsFront-second old (concat written_so_far) follows.written front) (concat (lines_from machinery shows.trace (suc follows.reached.after) (Go start))) text_next;
+    })
+
+    module _ (mid : Option (List ℕ)) (added : mid ≡ append_known now (step_text event one did)) where
+      written_next : mid ≡ append_known old (concat (lines_from machinery shows.trace (suc follows.reached.after) (Go start)))
+      written_next = append_known-then old now mid (concat written_so_far) (step_text event one did) follows.written added ∙ ap (append_known old) (sym text_next)
+
+      goes_so : goes_on next ≡ machine_step machinery machine → Follows machinery shows.trace start next count old mid
+      goes_so e = record {
+        lines = follows.lines;
+        reached = record { after = suc follows.reached.after; by = one_step ∙ ap (after follows.lines) (sym e) };
+        counted = follows.counted;
+        written = written_next;
+        settled = settled_after next (machine_step machinery machine) e (step_sound machinery machine follows.settled);
+      }
+
+      prints_so : (word : ℕ) → prints word next ≡ machine_step machinery machine → Follows machinery shows.trace start next (min (count + 1) (2 ^ 64 - 1)) old mid
+      prints_so word e = record {
+        lines = printed_line word ∷ follows.lines;
+        reached = record { after = suc follows.reached.after; by = one_step ∙ ap (after follows.lines) (sym e) };
+        counted = counted_more (length follows.lines) count follows.counted;
+        written = written_next;
+        settled = settled_printed next word (machine_step machinery machine) e (step_sound machinery machine follows.settled);
+      }
+
+  -- a step that isn't the last
+  pub follows_more : (event : Bool) (one : Happening) (did : Did) → StepForeseen machinery shows.trace machine event one → machine_step machinery later ≡ machine_step machinery machine
+      → told (effect_of did next) ≡ told (machine_step machinery later) → ended_of did ≡ None → (mid : Option (List ℕ)) → mid ≡ append_known now (step_text event one did)
+      → Follows machinery shows.trace start next (counted_by did count) old mid
+  follows_more event one GoesOn foreseen same does goes mid added =
+      goes_so event one GoesOn foreseen same does mid added (told_on next (machine_step machinery machine) (does ∙ ap told same))
+  follows_more event one (Prints word) foreseen same does goes mid added =
+      prints_so event one (Prints word) foreseen same does mid added word (told_prints next word (machine_step machinery machine) (does ∙ ap told same))
+  follows_more event one (Finishes end) foreseen same does goes mid added = cc
+
+  -- the last one
+  module _ (event : Bool) (one : Happening) (over end : End) (foreseen : StepForeseen machinery shows.trace machine event one) (same : machine_step machinery later ≡ machine_step machinery machine)
+      (does : told (effect_of (Finishes over) next) ≡ told (machine_step machinery later)) (is : over ≡ end) (mid new : Option (List ℕ)) (added : mid ≡ append_known now (step_text event one (Finishes over))) where
+    abbrev like : EndsLike over next (machine_step machinery machine)
+    like = told_end over next (machine_step machinery machine) (does ∙ ap told same)
+
+    abbrev ends_so : Ends (machine_proceeds machinery) start end (record { state = like.last; lines = follows.lines })
+    ends_so = record {
+      within = suc follows.reached.after;
+      by = one_step ∙ ap (after follows.lines) (sym (ap (λ (how : End). ends how like.last) (sym is) ∙ like.like.is));
+    }
+
+    quiet_is : concat (quiet_lines content machinery shows (suc follows.reached.after) start end like.last)
+        ≡ concat (lines_from machinery shows.trace (suc follows.reached.after) (Go start)) ++ concat (end_lines content shows.places end next)
+    quiet_is =
+        concat-append (lines_from machinery shows.trace (suc follows.reached.after) (Go start)) (end_lines content shows.places end like.last)
+        ∙ ap (λ (m : Machine). concat (lines_from machinery shows.trace (suc follows.reached.after) (Go start)) ++ concat (end_lines content shows.places end m)) (sym like.like.same)
+
+    before : mid ≡ append_known old (concat (lines_from machinery shows.trace (suc follows.reached.after) (Go start)))
+    before = written_next event one (Finishes over) foreseen same does mid added
+
+    ended : new ≡ append_known mid (concat (end_lines content shows.places end next)) → (ran : Ran)
+        → ran ≡ record { end = end; func = record { 0 = next.state.running.func }; steps = next.state.steps; events = next.state.events; lines = count }
+        → IsRunFrom content machinery shows start ran old new
+    ended closed ran ran_is = rw ran_is (record {
       last = record { state = like.last; lines = follows.lines };
-      run = ends_more (machine_proceeds machinery) start (record { state = machine; lines = follows.lines }) end (record { state = like.last; lines = follows.lines })
-          follows.reached (ap (after follows.lines) (sym ends_so));
+      run = ends_so;
       func = ap (λ (m : Machine). m.state.running.func) like.like.same;
       steps = ap (λ (m : Machine). m.state.steps) like.like.same;
       events = ap (λ (m : Machine). m.state.events) like.like.same;
       lines = follows.counted;
-      written = follows.written;
+      written = append_known-then old mid new (concat (lines_from machinery shows.trace (suc follows.reached.after) (Go start))) (concat (end_lines content shows.places end next)) before closed
+          ∙ ap (append_known old) (sym quiet_is);
     })
 
+    closing_front : AppendsFront mid new (concat (end_lines content shows.places end next)) → WritesFrontFrom content machinery shows start old new
+    closing_front front = inr (record {
+      end = end;
+      last = record { state = like.last; lines = follows.lines };
+      run = ends_so;
+      front = AppendsFront-same (AppendsFront-second old (concat (lines_from machinery shows.trace (suc follows.reached.after) (Go start))) before front)
+          (concat (quiet_lines content machinery shows (suc follows.reached.after) start end like.last)) quiet_is;
+    })
+
+  module _ (event : Bool) (one : Happening) (end : End) where
+    finishing : (did : Did) → ended_of did ≡ Some end → (P : Did → Type 0) → ((over : End) → over ≡ end → P (Finishes over)) → P did
+    finishing GoesOn is P case = cc
+    finishing (Prints word) is P case = cc
+    finishing (Finishes over) is P case = case over cc
+
+    pub end_more : (did : Did) → StepForeseen machinery shows.trace machine event one → machine_step machinery later ≡ machine_step machinery machine
+        → told (effect_of did next) ≡ told (machine_step machinery later) → ended_of did ≡ Some end → (mid new : Option (List ℕ)) → mid ≡ append_known now (step_text event one did)
+        → new ≡ append_known mid (concat (end_lines content shows.places end next)) → (ran : Ran)
+        → ran ≡ record { end = end; func = record { 0 = next.state.running.func }; steps = next.state.steps; events = next.state.events; lines = count }
+        → IsRunFrom content machinery shows start ran old new
+    end_more did foreseen same does is mid new added closed ran ran_is =
+        finishing did is (λ d. told (effect_of d next) ≡ told (machine_step machinery later) → mid ≡ append_known now (step_text event one d) → IsRunFrom content machinery shows start ran old new)
+        (λ over over_is does added. ended event one over end foreseen same does over_is mid new added closed ran ran_is) does added
+
+    pub end_front : (did : Did) → StepForeseen machinery shows.trace machine event one → machine_step machinery later ≡ machine_step machinery machine
+        → told (effect_of did next) ≡ told (machine_step machinery later) → ended_of did ≡ Some end → (mid new : Option (List ℕ)) → mid ≡ append_known now (step_text event one did)
+        → AppendsFront mid new (concat (end_lines content shows.places end next)) → WritesFrontFrom content machinery shows start old new
+    end_front did foreseen same does is mid new added front =
+        finishing did is (λ d. told (effect_of d next) ≡ told (machine_step machinery later) → mid ≡ append_known now (step_text event one d) → WritesFrontFrom content machinery shows start old new)
+        (λ over over_is does added. closing_front event one over end foreseen same does over_is mid new added front) does added
+
+-- no object has been made
+pub none_settled : (stands : List Stand) → stands ≡ [] → AreSettled stands
+none_settled stands none = rw none (record {
+  each = λ k d l. absurd (omega arith);
+  within = omega arith;
+  numbered = record { at = λ k d l. absurd (omega arith) };
+  apart = refl;
+})
+
 -- nothing was written
-pub front_none : (machinery : Machinery) (start : Progress Machine) (old : Option (List ℕ)) → WritesFrontFrom machinery start old old
-front_none machinery start old =
-    record { now = start; reached = record { after = 0; by = refl }; front = AppendsFront-nothing old (text_of start.lines) }
+pub front_none : (content : ModuleContent) (machinery : Machinery) (shows : Shows) (start : Progress Machine) (old : Option (List ℕ)) → WritesFrontFrom content machinery shows start old old
+front_none content machinery shows start old = inl (record { steps = 0; front = AppendsFront-nothing old [] })
 
 -- ---- what the run gives
 
@@ -165,43 +273,90 @@ ran_same ran func steps events lines one two three four =
     ∙ (ap (λ (e : ℕ). record ran { func = record { 0 = func }; steps = steps; events = e }) three
     ∙ ap (λ (l : ℕ). record ran { func = record { 0 = func }; steps = steps; events = events; lines = l }) four))
 
-concat-reverse : (lines : List (List ℕ)) → concat (reverse lines) ≡ text_of lines
-concat-reverse [] = refl
-concat-reverse (line ∷ lines) =
-    ap concat (reverse-append (line ∷ []) lines) ∙ (concat-append (reverse lines) (line ∷ []) ∙ (ap (λ text. text ++ (line ++ [])) (concat-reverse lines) ∙ ap (λ more. text_of lines ++ more) (append-nil line)))
+module _ (content : ModuleContent) (map : StackMap) (input : List ℤ) (plan : List PlanLine) (bound : ℕ) (shows : Shows) where
+  abbrev machinery : Machinery
+  machinery = machinery_of content map plan bound
 
-printed_all : (lines shown : List (List ℕ)) → shown ≡ [] → concat (reverse lines ++ shown) ≡ text_of lines
-printed_all lines shown none = ap (λ more. concat (reverse lines ++ more)) none ∙ (ap concat (append-nil (reverse lines)) ∙ concat-reverse lines)
+  module _ (outcome : MachineOutcome) (gives : MachineGives content map input plan bound outcome) where
+    abbrev quiet_text : List ℕ
+    quiet_text = concat (run_lines content machinery shows.places shows.trace input gives.run.within [] outcome.end gives.last.state)
 
-pub run_is : (content : ModuleContent) (map : StackMap) (input : List ℤ) (plan : List PlanLine) (bound : ℕ) (old new : Option (List ℕ)) (ran : Ran)
-    → IsRunFrom (machinery_of content map plan bound) (machine_opening (machinery_of content map plan bound) input) ran old new
-    → IsRunOver content map input plan bound ran old new
-run_is content map input plan bound old new ran run =
-    let machinery = machinery_of content map plan bound in
-    record {
-      outcome = machine_outcome machinery input run.run.within ran.end run.last;
-      gives = record { last = run.last; run = run.run; is = refl };
-      answer = ran_same ran run.last.state.state.running.func run.last.state.state.steps run.last.state.state.events (line_count run.last.lines) run.func run.steps run.events run.lines;
-      written = run.written;
-      untrapped = λ end. run.written ∙ ap (append_known old) (sym (printed_all run.last.lines (closing_of machinery ran.end run.last.state) (closing_untrapped machinery ran.end run.last.state end)));
-      unnamed = λ bare. run.written ∙ ap (append_known old) (sym (printed_all run.last.lines (closing_of machinery ran.end run.last.state) (closing_nothing machinery ran.end run.last.state bare)));
+    writes_quiet : RunWritesQuiet content map input plan bound shows.places shows.trace outcome quiet_text
+    writes_quiet = record { gives = gives; is = refl }
+
+    writes_whole : closing_of machinery outcome.end gives.last.state ≡ [] → RunWrites content map input plan bound shows.places shows.trace outcome quiet_text
+    writes_whole none = record {
+      gives = gives;
+      is = ap (λ (shown : List (List ℕ)). concat (run_lines content machinery shows.places shows.trace input gives.run.within shown outcome.end gives.last.state)) (sym none);
     }
+
+  pub run_is : (old new : Option (List ℕ)) (ran : Ran) → IsRunFrom content machinery shows (machine_opening machinery input) ran old new → IsRunOver content map input plan bound shows ran old new
+  run_is old new ran run =
+      let outcome = machine_outcome machinery input run.run.within ran.end run.last in
+      let gives : MachineGives content map input plan bound outcome = record { last = run.last; run = run.run; is = refl } in
+      record {
+        outcome = outcome;
+        text = quiet_text outcome gives;
+        writes = writes_quiet outcome gives;
+        answer = ran_same ran run.last.state.state.running.func run.last.state.state.steps run.last.state.state.events (line_count run.last.lines) run.func run.steps run.events run.lines;
+        written = run.written;
+        untrapped = λ end. writes_whole outcome gives (closing_untrapped machinery ran.end run.last.state end);
+        unnamed = λ bare. writes_whole outcome gives (closing_nothing machinery ran.end run.last.state bare);
+      }
+
+  front_of : (old new : Option (List ℕ)) (outcome : MachineOutcome) (gives : MachineGives content map input plan bound outcome) → AppendsFront old new (quiet_text outcome gives)
+      → WritesFrontOver content map input plan bound shows old new
+  front_of old new outcome gives front = record {
+    outcome = outcome;
+    text = quiet_text outcome gives;
+    writes = writes_quiet outcome gives;
+    front = front;
+    untrapped = λ end. writes_whole outcome gives (closing_untrapped machinery outcome.end gives.last.state end);
+    unnamed = λ bare. writes_whole outcome gives (closing_nothing machinery outcome.end gives.last.state bare);
+  }
+
+  begun_front : (old new : Option (List ℕ)) → BeginsText machinery shows.trace (machine_opening machinery input) old new → WritesFrontOver content map input plan bound shows old new
+  begun_front old new begun =
+      let given = each_run_ends machinery input in
+      let first = written_first no_frames content map input plan bound shows.places shows.trace given.outcome (quiet_text given.outcome given.gives) (writes_quiet given.outcome given.gives) begun.steps in
+      front_of old new given.outcome given.gives (AppendsFront-same (AppendsFront-first begun.front first.more) (quiet_text given.outcome given.gives) first.is)
+
+  whole_front : (old new : Option (List ℕ)) → BeginsWhole content machinery shows (machine_opening machinery input) old new → WritesFrontOver content map input plan bound shows old new
+  whole_front old new begun =
+      front_of old new (machine_outcome machinery input begun.run.within begun.end begun.last) (record { last = begun.last; run = begun.run; is = refl }) begun.front
+
+  pub front_is : (old new : Option (List ℕ)) → WritesFrontFrom content machinery shows (machine_opening machinery input) old new → WritesFrontOver content map input plan bound shows old new
+  front_is old new (inl begun) = begun_front old new begun
+  front_is old new (inr begun) = whole_front old new begun
 
 -- ---- runs of verified modules over their own maps
 
-module _ (content : ModuleContent) (sound : IsSound content) (input : List ℤ) (plan : List PlanLine) (bound : ℕ) (old new : Option (List ℕ)) where
-  own_seen : (ran : Ran) (over : IsRunOver content (map_of content) input plan bound ran old new)
-      → IsSeenRun content input (go plan) bound over.outcome.end over.outcome.func over.outcome.steps over.outcome.events over.outcome.printed old new
-  own_seen ran over = answer_seen content sound input plan bound over.outcome over.gives old new (over.unnamed (names_nothing content))
+module _ (content : ModuleContent) (sound : IsSound content) (input : List ℤ) (plan : List PlanLine) (bound : ℕ) (shows : Shows) (old new : Option (List ℕ)) where
+  own_seen : (ran : Ran) → IsRunOver content (map_of content) input plan bound shows ran old new → IsRunUnseen content input plan bound shows ran old new
+  own_seen ran over =
+      let writes = over.unnamed (names_nothing content) in
+      let machine = over.outcome in
+      let like = seen_here content sound input plan bound machine writes.gives in
+      let outcome = like.outcome in
+      record {
+        outcome = outcome;
+        gives = like.gives;
+        machine = machine;
+        seen = like.seen;
+        answer = over.answer;
+        text = over.text;
+        writes = writes;
+        written = over.written;
+        bare = λ no_places no_trace.
+            bare_texts content (map_of content) input plan bound machine over.text
+            (subst (λ (trace : Bool). RunWrites content (map_of content) input plan bound false trace machine over.text) no_trace
+            (subst (λ (places : Bool). RunWrites content (map_of content) input plan bound places shows.trace machine over.text) no_places writes))
+            ∙ ap (λ lines. concat lines ++ closing_line machine.end (function_name content machine.func) machine.steps machine.events) like.seen.lines
+            ∙ ap (λ (end : End). whole_text outcome ++ closing_line end (function_name content machine.func) machine.steps machine.events) like.seen.end
+            ∙ ap (λ func. whole_text outcome ++ closing_line outcome.end (function_name content func) machine.steps machine.events) like.seen.func
+            ∙ ap (λ steps. whole_text outcome ++ closing_line outcome.end (function_name content outcome.func) steps machine.events) like.seen.steps
+            ∙ ap (λ events. whole_text outcome ++ closing_line outcome.end (function_name content outcome.func) outcome.steps events) like.seen.events;
+      }
 
-  seen_as : (ran : Ran) (outcome : MachineOutcome) → ran ≡ ran_of outcome
-      → IsSeenRun content input (go plan) bound outcome.end outcome.func outcome.steps outcome.events outcome.printed old new
-      → IsSeenRun content input (go plan) bound ran.end ran.func.0 ran.steps ran.events ran.lines old new
-  seen_as ran outcome is seen =
-      subst (λ (r : Ran). IsSeenRun content input (go plan) bound r.end r.func.0 r.steps r.events r.lines old new) (sym is) seen
-
-  pub seen_over : (map : StackMap) → map ≡ map_of content → (ran : Ran) → IsRunOver content map input plan bound ran old new
-      → IsSeenRun content input (go plan) bound ran.end ran.func.0 ran.steps ran.events ran.lines old new
-  seen_over map own ran over =
-      let mine : IsRunOver content (map_of content) input plan bound ran old new = subst (λ (m : StackMap). IsRunOver content m input plan bound ran old new) own over in
-      seen_as ran mine.outcome mine.answer (own_seen ran mine)
+  pub seen_over : (map : StackMap) → map ≡ map_of content → (ran : Ran) → IsRunOver content map input plan bound shows ran old new → IsRunUnseen content input plan bound shows ran old new
+  seen_over map own ran over = own_seen ran (subst (λ (m : StackMap). IsRunOver content m input plan bound shows ran old new) own over)

@@ -21,7 +21,7 @@ use Rattle.object_meaning.specs.States.{State, Setting}
 use Rattle.object_meaning.specs.Steps.{settled}
 use Rattle.machine_meaning.specs.Machines.{Machine, Machinery, lifted}
 use Rattle.machine_meaning.specs.MachineSteps.{machine_acts}
-use Rattle.machine_frames.specs.Frames.{is_plain}
+use Rattle.machine_frames.specs.Decoding.{is_plain}
 use Rattle.ir_machine.specs.declared.executor.Executor.{Executor}
 use Rattle.ir_machine.specs.declared.executor.Did.{Did}
 use Rattle.ir_machine.specs.Executors.{DoesSo, told}
@@ -34,7 +34,7 @@ does_as now result one other same does = subst (λ (effect : Effect Machine). If
 pub does_told : (now : Executor) (result : Result Did Memory) (one other : Effect Machine) → told one ≡ told other → IfOk result (DoesSo one now) → IfOk result (DoesSo other now)
 does_told now result one other same does = IfOk-weaker result (DoesSo one now) (DoesSo other now) (λ did d. d ∙ same) does
 
-plain_acts : (machinery : Machinery) (machine : Machine) (line : Line) (rest : List Line) (op : Op) → is_plain op ≡ true
+pub plain_acts : (machinery : Machinery) (machine : Machine) (line : Line) (rest : List Line) (op : Op) → is_plain op ≡ true
     → machine_acts machinery machine line rest op
     ≡ lifted machine (settled machine.state line rest (computed [] op line.inst.ty
     (operand machine.state.running.registers line.inst.operands 0) (operand machine.state.running.registers line.inst.operands 1) (operand machine.state.running.registers line.inst.operands 2)))

@@ -1,20 +1,35 @@
 -- What a run of the machine answers.
-use Rattle.std.specs.Prelude.{◌≡◌, ℕ, ◌+◌, ◌-◌, ◌^◌, min, ℤ, List, [], Option, Some, None}
+use Rattle.std.specs.Prelude.{◌≡◌, ℕ, ◌+◌, ◌-◌, ◌^◌, min, ℤ, Bool, false, List, [], ◌∷◌, ◌++◌, Option, Some, None, ◌⊎◌}
 use Rattle.std.specs.List.{concat}
 use Rattle.tool_io.specs.Sink.{append_known, AppendsFront}
 use Rattle.sp_ids.specs.declared.ends.End.{End}
 use Rattle.sp_ids.specs.declared.ends.End.TheVariants.{Trap}
 use Rattle.ir_ast.specs.Modules.{ModuleContent}
 use Rattle.move_plan.specs.declared.plan_lines.PlanLine.{PlanLine}
+use Rattle.move_plan.specs.Plans.{go}
 use Rattle.map_bytes.specs.Maps.{StackMap, IsMapOf}
+use Rattle.moving_heap.specs.Settled.{AreSettled}
+use Rattle.stackmap_write.specs.ModuleMaps.{map_of}
 use Rattle.frame_walk.specs.Maps.{FrameEntry, found_in}
-use Rattle.object_meaning.specs.Runs.{Ends, Reaches}
-use Rattle.object_meaning.specs.Effects.{Progress, line_count, printed_line, text_of}
+use Rattle.object_meaning.specs.Runs.{Ends, Go, Reaches}
+use Rattle.object_meaning.specs.Effects.{Progress, line_count, printed_line}
+use Rattle.object_meaning.specs.Outcomes.{Outcome, whole_text}
+use Rattle.object_meaning.specs.TargetRuns.{TargetGives}
+use Rattle.object_meaning.specs.Texts.{function_name}
 use Rattle.machine_meaning.specs.Machines.{Machine, Machinery}
-use Rattle.machine_meaning.specs.MachineRuns.{MachineOutcome, MachineGives, machine_proceeds, machine_opening}
+use Rattle.machine_meaning.specs.MachineRuns.{MachineOutcome, machine_proceeds}
 use Rattle.machine_meaning.specs.TrapLines.{deopt_places}
-use Rattle.machine_meaning.specs.Code.{machinery_of}
+use Rattle.moves_unseen.specs.Statements.{IsSeen}
+use Rattle.tool_report.specs.Closings.{closing_line}
+use Rattle.run_texts.specs.RunTexts.{RunWrites, RunWritesQuiet, end_lines, lines_from}
+use Rattle.run_traces.specs.declared.happenings.Happening.{Happening}
+use Rattle.ir_machine.specs.Traces.{did_lose, shown_lines}
 use Rattle.ir_machine.specs.declared.run.Ran.{Ran}
+use Rattle.ir_machine.specs.declared.run.Shows.{Shows}
+use Rattle.ir_machine.specs.declared.run.SureFault.{SureFault}
+use Rattle.ir_machine.specs.declared.run.SureFault.TheVariants as faults
+use Rattle.run_traces.specs.declared.writing.Stopped.{Stopped}
+use Rattle.run_traces.specs.declared.writing.Stopped.TheVariants as stops
 use Rattle.ir_machine.specs.declared.executor.Did.{Did}
 use Rattle.ir_machine.specs.declared.executor.Did.TheVariants.{Prints, Ends as Finishes}
 
@@ -36,69 +51,117 @@ abbrev pub IsUntrapped : End → Type 0
 IsUntrapped (Trap trap) = ⊥
 IsUntrapped end = Unit {0}
 
--- the answer is that of the machine's run over a map, and what its steps print was written; at a trap without what the
--- waiting frames show. Where they show nothing, that is the whole output
-pub record IsRunOver (content : ModuleContent) (map : StackMap) (input : List ℤ) (plan : List PlanLine) (bound : ℕ) (ran : Ran) (old new : Option (List ℕ)) : Type 0 where
+-- the answer is that of the machine's run over a map, and its text was written, with places and trace or without; at a trap without
+-- what the waiting frames show. Where they show nothing, that is the whole text
+pub record IsRunOver (content : ModuleContent) (map : StackMap) (input : List ℤ) (plan : List PlanLine) (bound : ℕ) (shows : Shows) (ran : Ran) (old new : Option (List ℕ)) : Type 0 where
   pub outcome : MachineOutcome
-  pub gives : MachineGives content map input plan bound outcome
+  pub text : List ℕ
+  pub writes : RunWritesQuiet content map input plan bound shows.places shows.trace outcome text
   pub answer : ran ≡ ran_of outcome
-  pub written : new ≡ append_known old (text_of gives.last.lines)
-  pub untrapped : IsUntrapped ran.end → new ≡ append_known old (concat outcome.lines)
-  pub unnamed : NamesNothing map → new ≡ append_known old (concat outcome.lines)
+  pub written : new ≡ append_known old text
+  pub untrapped : IsUntrapped ran.end → RunWrites content map input plan bound shows.places shows.trace outcome text
+  pub unnamed : NamesNothing map → RunWrites content map input plan bound shows.places shows.trace outcome text
 
 -- the same of the map that these bytes are
-pub record IsRun (content : ModuleContent) (bytes : List ℕ) (input : List ℤ) (plan : List PlanLine) (bound : ℕ) (ran : Ran) (old new : Option (List ℕ)) : Type 0 where
+pub record IsRun (content : ModuleContent) (bytes : List ℕ) (input : List ℤ) (plan : List PlanLine) (bound : ℕ) (shows : Shows) (ran : Ran) (old new : Option (List ℕ)) : Type 0 where
   pub map : StackMap
   pub is_map : IsMapOf bytes map
-  pub over : IsRunOver content map input plan bound ran old new
+  pub over : IsRunOver content map input plan bound shows ran old new
 
--- the same of a run from a state on
-pub record IsRunFrom (machinery : Machinery) (start : Progress Machine) (ran : Ran) (old new : Option (List ℕ)) : Type 0 where
+-- a sink grew by a front of the text of the machine's run over a map
+pub record WritesFrontOver (content : ModuleContent) (map : StackMap) (input : List ℤ) (plan : List PlanLine) (bound : ℕ) (shows : Shows) (old new : Option (List ℕ)) : Type 0 where
+  pub outcome : MachineOutcome
+  pub text : List ℕ
+  pub writes : RunWritesQuiet content map input plan bound shows.places shows.trace outcome text
+  pub front : AppendsFront old new text
+  pub untrapped : IsUntrapped outcome.end → RunWrites content map input plan bound shows.places shows.trace outcome text
+  pub unnamed : NamesNothing map → RunWrites content map input plan bound shows.places shows.trace outcome text
+
+-- and over the map that these bytes are
+pub record WritesFront (content : ModuleContent) (bytes : List ℕ) (input : List ℤ) (plan : List PlanLine) (bound : ℕ) (shows : Shows) (old new : Option (List ℕ)) : Type 0 where
+  pub map : StackMap
+  pub is_map : IsMapOf bytes map
+  pub front : WritesFrontOver content map input plan bound shows old new
+
+-- a run of a verified module over its own map: what the target meaning gives on objects that never move, the machine gives, and its
+-- whole text was written; where nothing else is shown, this is the meaning's lines and the line that closes the run
+pub record IsRunUnseen (content : ModuleContent) (input : List ℤ) (plan : List PlanLine) (bound : ℕ) (shows : Shows) (ran : Ran) (old new : Option (List ℕ)) : Type 0 where
+  pub outcome : Outcome
+  pub gives : TargetGives content input (go plan) bound outcome
+  pub machine : MachineOutcome
+  pub seen : IsSeen content outcome machine
+  pub answer : ran ≡ ran_of machine
+  pub text : List ℕ
+  pub writes : RunWrites content (map_of content) input plan bound shows.places shows.trace machine text
+  pub written : new ≡ append_known old text
+  pub bare : shows.places ≡ false → shows.trace ≡ false
+      → text ≡ whole_text outcome ++ closing_line outcome.end (function_name content outcome.func) outcome.steps outcome.events
+
+-- ---- from a state on
+
+-- the lines of a run that has come to this end within so many steps
+abbrev pub quiet_lines : ModuleContent → Machinery → Shows → ℕ → Progress Machine → End → Machine → List (List ℕ)
+quiet_lines content machinery shows within start end last =
+    lines_from machinery shows.trace within (Go start) ++ end_lines content shows.places end last
+
+-- the answer is that of the run from a state on, and its text was written
+pub record IsRunFrom (content : ModuleContent) (machinery : Machinery) (shows : Shows) (start : Progress Machine) (ran : Ran) (old new : Option (List ℕ)) : Type 0 where
   pub last : Progress Machine
   pub run : Ends (machine_proceeds machinery) start ran.end last
   pub func : ran.func.0 ≡ last.state.state.running.func
   pub steps : ran.steps ≡ last.state.state.steps
   pub events : ran.events ≡ last.state.state.events
   pub lines : ran.lines ≡ line_count last.lines
-  pub written : new ≡ append_known old (text_of last.lines)
+  pub written : new ≡ append_known old (concat (quiet_lines content machinery shows run.within start ran.end last.state))
 
--- a sink grew by a front of what the run has printed in some state that it comes to
-pub record WritesFrontFrom (machinery : Machinery) (start : Progress Machine) (old new : Option (List ℕ)) : Type 0 where
-  pub now : Progress Machine
-  pub reached : Reaches {E = End} (machine_proceeds machinery) start now
-  pub front : AppendsFront old new (text_of now.lines)
+-- a sink grew by a front of what the first so many steps of a run write
+pub record BeginsText (machinery : Machinery) (trace : Bool) (start : Progress Machine) (old new : Option (List ℕ)) : Type 0 where
+  pub steps : ℕ
+  pub front : AppendsFront old new (concat (lines_from machinery trace steps (Go start)))
+
+-- or of the whole text of a run
+pub record BeginsWhole (content : ModuleContent) (machinery : Machinery) (shows : Shows) (start : Progress Machine) (old new : Option (List ℕ)) : Type 0 where
+  pub end : End
+  pub last : Progress Machine
+  pub run : Ends (machine_proceeds machinery) start end last
+  pub front : AppendsFront old new (concat (quiet_lines content machinery shows run.within start end last.state))
+
+abbrev pub WritesFrontFrom : ModuleContent → Machinery → Shows → Progress Machine → Option (List ℕ) → Option (List ℕ) → Type 0
+WritesFrontFrom content machinery shows start old new =
+    BeginsText machinery shows.trace start old new ⊎ BeginsWhole content machinery shows start old new
 
 abbrev pub unprinted : Machine → Progress Machine
 unprinted machine = record { state = machine; lines = [] }
 
--- the same of a module's run over a map
-abbrev pub WritesFrontOver : ModuleContent → StackMap → List ℤ → List PlanLine → ℕ → Option (List ℕ) → Option (List ℕ) → Type 0
-WritesFrontOver content map input plan bound old new =
-    WritesFrontFrom (machinery_of content map plan bound) (machine_opening (machinery_of content map plan bound) input) old new
-
--- and over the map that these bytes are
-pub record WritesFront (content : ModuleContent) (bytes : List ℕ) (input : List ℤ) (plan : List PlanLine) (bound : ℕ) (old new : Option (List ℕ)) : Type 0 where
-  pub map : StackMap
-  pub is_map : IsMapOf bytes map
-  pub front : WritesFrontOver content map input plan bound old new
-
--- a run from a start has come to this state, with so many lines, which were written
-pub record Follows (machinery : Machinery) (start : Progress Machine) (machine : Machine) (count : ℕ) (old now : Option (List ℕ)) : Type 0 where
+-- a run from a start has come to this state after so many steps, with so many lines printed, and what they write was written
+pub record Follows (machinery : Machinery) (trace : Bool) (start : Progress Machine) (machine : Machine) (count : ℕ) (old now : Option (List ℕ)) : Type 0 where
   pub lines : List (List ℕ)
   pub reached : Reaches {E = End} (machine_proceeds machinery) start (record { state = machine; lines = lines })
   pub counted : count ≡ line_count lines
-  pub written : now ≡ append_known old (text_of lines)
+  pub written : now ≡ append_known old (concat (lines_from machinery trace reached.after (Go start)))
+  pub settled : AreSettled machine.heap.stands
+
+-- ---- steps
 
 -- the end of the run, where the step was its last
 abbrev pub ended_of : Did → Option End
 ended_of (Finishes end) = Some end
 ended_of _ = None
 
--- what a step printed was written, and counted
-abbrev pub Wrote : Did → ℕ → ℕ → Option (List ℕ) → Option (List ℕ) → Type 0
-Wrote (Prints word) count more old new = (more ≡ min (count + 1) (2 ^ 64 - 1)) × (new ≡ append_known old (printed_line word))
-Wrote _ count more old new = (more ≡ count) × (new ≡ old)
+abbrev pub printed_of : Did → List (List ℕ)
+printed_of (Prints word) = printed_line word ∷ []
+printed_of _ = []
 
-abbrev pub WroteFront : Did → Option (List ℕ) → Option (List ℕ) → Type 0
-WroteFront (Prints word) old new = AppendsFront old new (printed_line word)
-WroteFront _ old new = AppendsFront old new []
+-- what a step writes that was foreseen so and did this
+abbrev pub step_text : Bool → Happening → Did → List ℕ
+step_text event one did = concat (shown_lines event (did_lose did) one ++ printed_of did)
+
+-- the count of printed lines after it
+abbrev pub counted_by : Did → ℕ → ℕ
+counted_by (Prints word) count = min (count + 1) (2 ^ 64 - 1)
+counted_by _ count = count
+
+-- why a run stops whose places are not written to their end
+abbrev pub fault_of : Stopped → SureFault
+fault_of stops.Memory = faults.Memory
+fault_of stops.Write = faults.Write

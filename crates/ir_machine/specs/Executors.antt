@@ -13,6 +13,7 @@ use Rattle.machine_meaning.specs.Machines.{Machine, Machinery, spilled}
 use Rattle.machine_meaning.specs.MachineSteps.{machine_acts, calls}
 use Rattle.machine_meaning.specs.Code.{machinery_of}
 use Rattle.machine_frames.specs.declared.tasks.Task.{Task}
+use Rattle.machine_frames.specs.Computed.{Computes}
 use Rattle.machine_frames.specs.Frames.{line_of, lines_left, frame_of, below_of, frames_of}
 use Rattle.ir_machine.specs.declared.executor.Executor.{Executor}
 use Rattle.ir_machine.specs.declared.executor.Program.{Program}
@@ -58,9 +59,9 @@ effect_of GoesOn machine = goes_on machine
 effect_of (Prints word) machine = prints word machine
 effect_of (Ends end) machine = ends end machine
 
--- at an end stacks and heap are no matter
+-- at an end stacks are no matter
 abbrev pub without_words : Machine → Machine
-without_words machine = record machine { stack = []; stacks = []; heap = record { stands = []; contents = []; moves = [] } }
+without_words machine = record machine { stack = []; stacks = [] }
 
 abbrev pub told : Effect Machine → Effect Machine
 told (ends end machine) = ends end (without_words machine)
@@ -95,3 +96,9 @@ calls_kept machinery executor inst rest callee arguments =
     calls machinery (spilled (seen executor) (line_of executor.run.frame.next inst).inst arguments)
     (line_of executor.run.frame.next inst) (lines_left (following executor.run.frame.next inst) rest) callee
     (take arguments (map worded_operand inst.operands))
+
+-- the running frame has gone on over lines that compute numbers
+pub record HasComputed (old new : Machine) : Type 0 where
+  pub running : Frame
+  pub computes : Computes old.state.running running
+  pub is : new ≡ record old { state = record old.state { running = running } }

@@ -1,3 +1,4 @@
 pub mod Executors
 pub mod Events
+pub mod Traces
 pub mod Answers

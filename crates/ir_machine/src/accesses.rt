@@ -8,11 +8,13 @@ ghost use Rattle.object_meaning.specs.Computing.{element_bytes, field_bytes};
 ghost use Rattle.object_meaning.specs.Numbers.{width_of};
 ghost use Rattle.machine_meaning.specs.Machines.{Machine};
 ghost use Rattle.machine_meaning.specs.MachineSteps.{denied, stepped_word};
+ghost use Rattle.machine_frames.specs.Decoding.{decoded_of};
 ghost use Rattle.ir_machine.specs.Executors.{machinery, effect_of, DoesSo, acts_at, calls_at};
 
 use crate::executor::{Did, Executor, Program};
 use flat_code::width_of;
 use ir_ast::{Callee, Cell, Elem, Inst, Layout, Op, Operand, Ty};
+use machine_frames::{Decoded, Lines};
 use moving_heap::Deny;
 use sp_ids::{End, Memory, Trap, sign};
 
@@ -20,33 +22,38 @@ impl<'m, 'i> Executor<'m, 'i> {
     // `getelementptr` adds to the word.
     pub(crate) fn advance(
         &mut self,
-        program: &Program<'m, '_>,
+        program: &'m Program<'_, '_>,
         inst: &Inst,
-        rest: &'m [Inst],
+        one: &Decoded,
+        rest: Lines<'m>,
         elem: Elem,
         index_width: u32,
         place: Option<u32>,
     ) -> Result<Did, Memory>
         requires is { inst.now.op ≡ Op.Gep elem index_width place }
-        ensures { IfOk result (DoesSo (acts_at (machinery program.now) self.old inst.now rest.now inst.now.op) self.new) }
+        requires decoded { one.now ≡ decoded_of inst.now }
+        ensures { IfOk result (DoesSo (acts_at (machinery program.now) self.old inst.now rest.entry.insts.now inst.now.op) self.new) }
     {
         let layouts = program.code.module().layouts();
-        let from = self.word(inst, 0);
-        let index = self.word(inst, 1);
+        let from = self.first(inst, one);
+        let index = self.second(inst, one);
         let word = stepped_word(layouts, elem, index_width, place, from, index);
         self.pass(inst, rest, word)
     }
 
     pub(crate) fn load(
         &mut self,
-        program: &Program<'m, '_>,
+        program: &'m Program<'_, '_>,
         inst: &Inst,
-        rest: &'m [Inst],
+        one: &Decoded,
+        rest: Lines<'m>,
     ) -> Result<Did, Memory>
         requires is { inst.now.op ≡ Op.Load }
-        ensures { IfOk result (DoesSo (acts_at (machinery program.now) self.old inst.now rest.now inst.now.op) self.new) }
+        requires decoded { one.now ≡ decoded_of inst.now }
+        ensures { IfOk result (DoesSo (acts_at (machinery program.now) self.old inst.now rest.entry.insts.now inst.now.op) self.new) }
     {
-        match self.heap.load(self.word(inst, 0)) {
+        let place = self.first(inst, one);
+        match self.hints.load(&self.heap, place) {
             Ok(word) => self.pass(inst, rest, word),
             Err(deny) => Ok(denied(deny)),
         }
@@ -54,16 +61,18 @@ impl<'m, 'i> Executor<'m, 'i> {
 
     pub(crate) fn store(
         &mut self,
-        program: &Program<'m, '_>,
+        program: &'m Program<'_, '_>,
         inst: &Inst,
-        rest: &'m [Inst],
+        one: &Decoded,
+        rest: Lines<'m>,
     ) -> Result<Did, Memory>
         requires is { inst.now.op ≡ Op.Store }
-        ensures { IfOk result (DoesSo (acts_at (machinery program.now) self.old inst.now rest.now inst.now.op) self.new) }
+        requires decoded { one.now ≡ decoded_of inst.now }
+        ensures { IfOk result (DoesSo (acts_at (machinery program.now) self.old inst.now rest.entry.insts.now inst.now.op) self.new) }
     {
-        let word = self.word(inst, 0);
-        let place = self.word(inst, 1);
-        match self.heap.store(place, word) {
+        let word = self.first(inst, one);
+        let place = self.second(inst, one);
+        match self.hints.store(&mut self.heap, place, word) {
             Ok(()) => self.pass(inst, rest, 0),
             Err(deny) => Ok(denied(deny)),
         }
@@ -71,17 +80,19 @@ impl<'m, 'i> Executor<'m, 'i> {
 
     pub(crate) fn check(
         &mut self,
-        program: &Program<'m, '_>,
+        program: &'m Program<'_, '_>,
         inst: &Inst,
-        rest: &[Inst],
+        one: &Decoded,
+        rest: Lines<'m>,
         operands: &[Operand],
     ) -> Result<Did, Memory>
-        ensures { IfOk result (DoesSo (calls_at (machinery program.now) self.old inst.now rest.now Callee.Check operands.now) self.new) }
+        requires { one.now ≡ decoded_of inst.now }
+        ensures { IfOk result (DoesSo (calls_at (machinery program.now) self.old inst.now rest.entry.insts.now Callee.Check operands.now) self.new) }
     {
-        let base = self.word(inst, 0);
-        let place = self.word(inst, 1);
-        let kind = cell_named(self.word(inst, 2));
-        match self.heap.check(base, place, kind) {
+        let base = self.first(inst, one);
+        let place = self.second(inst, one);
+        let kind = cell_named(self.third(inst, one));
+        match self.hints.check(&self.heap, base, place, kind) {
             Ok(()) => self.go_on(0),
             Err(deny) => Ok(denied(deny)),
         }
@@ -89,12 +100,12 @@ impl<'m, 'i> Executor<'m, 'i> {
 
     pub(crate) fn same(
         &mut self,
-        program: &Program<'m, '_>,
+        program: &'m Program<'_, '_>,
         inst: &Inst,
-        rest: &[Inst],
+        rest: Lines<'m>,
         operands: &[Operand],
     ) -> Result<Did, Memory>
-        ensures { IfOk result (DoesSo (calls_at (machinery program.now) self.old inst.now rest.now Callee.Same operands.now) self.new) }
+        ensures { IfOk result (DoesSo (calls_at (machinery program.now) self.old inst.now rest.entry.insts.now Callee.Same operands.now) self.new) }
     {
         let base = self.word(inst, 0);
         let place = self.word(inst, 1);

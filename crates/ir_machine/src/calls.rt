@@ -1,19 +1,20 @@
 //! Calls and returns.
 
-ghost use Rattle.std.specs.Prelude.{◌≡◌, ◌∷◌, ◌≤◌, None, [], drop, map, IfOk, OnOk, slice_get, slice_set, unwrap_or};
+ghost use Rattle.std.specs.Prelude.{◌≡◌, ◌∷◌, ◌≤◌, None, [], drop, map, IfOk, slice_get, slice_set, unwrap_or};
 ghost use Rattle.ir_ast.specs.Objects.{number};
 ghost use Rattle.object_meaning.specs.Calls.{function_in};
 ghost use Rattle.object_meaning.specs.Effects.{goes_on};
-ghost use Rattle.object_meaning.specs.Registers.{operand, value};
+ghost use Rattle.object_meaning.specs.Registers.{operand};
 ghost use Rattle.machine_meaning.specs.Machines.{gone_on};
 ghost use Rattle.machine_meaning.specs.MachineTasks.{ended_machine, handed_machine};
 ghost use Rattle.machine_meaning.specs.Words.{worded_operand};
+ghost use Rattle.machine_frames.specs.Decoding.{decoded_of};
 ghost use Rattle.ir_machine.specs.Executors.{machinery, seen, DoesSo, acts_at, calls_at};
 
 use crate::executor::{Did, Executor, Program};
 use flat_code::width_of;
 use ir_ast::{Callee, Inst, Op, Operand};
-use machine_frames::{Task, word, word_at};
+use machine_frames::{Decoded, Lines, Task, word_at};
 use sp_ids::limits::{FRAMES, TASKS};
 use sp_ids::{End, Memory, Trap, sign};
 use std::mem;
@@ -22,23 +23,25 @@ impl<'m, 'i> Executor<'m, 'i> {
     /// A call with these arguments, whose live entries are in their slots.
     pub(crate) fn call(
         &mut self,
-        program: &Program<'m, '_>,
+        program: &'m Program<'_, '_>,
         inst: &Inst,
-        rest: &'m [Inst],
+        one: &Decoded,
+        rest: Lines<'m>,
         callee: Callee,
         operands: &[Operand],
     ) -> Result<Did, Memory>
-        requires stands { self.old.run.frame.rest.now ≡ inst.now ∷ rest.now }
-        ensures { IfOk result (DoesSo (calls_at (machinery program.now) self.old inst.now rest.now callee operands.now) self.new) }
+        requires stands { self.old.run.frame.rest.insts.now ≡ inst.now ∷ rest.insts.now }
+        requires decoded { one.now ≡ decoded_of inst.now }
+        ensures { IfOk result (DoesSo (calls_at (machinery program.now) self.old inst.now rest.entry.insts.now callee operands.now) self.new) }
     {
         match callee {
             Callee::Fun(func) => self.enter(program, inst, rest, func.0, operands),
-            Callee::New(layout) => self.make(program, inst, rest, layout, operands),
+            Callee::New(layout) => self.make(program, inst, rest.insts, layout, operands),
             Callee::Print => self.print(program, inst, rest, operands),
             Callee::Read => self.read(program, inst, rest, operands),
             Callee::TaskStart => self.start(program, inst, rest, operands),
-            Callee::Poll => self.poll(program, inst, rest, operands),
-            Callee::Check => self.check(program, inst, rest, operands),
+            Callee::Poll => self.poll(program, inst, rest.insts, operands),
+            Callee::Check => self.check(program, inst, one, rest, operands),
             Callee::Same => self.same(program, inst, rest, operands),
         }
     }
@@ -60,13 +63,13 @@ impl<'m, 'i> Executor<'m, 'i> {
 
     fn enter(
         &mut self,
-        program: &Program<'m, '_>,
+        program: &'m Program<'_, '_>,
         inst: &Inst,
-        rest: &'m [Inst],
+        rest: Lines<'m>,
         func: u32,
         operands: &[Operand],
     ) -> Result<Did, Memory>
-        ensures { IfOk result (DoesSo (calls_at (machinery program.now) self.old inst.now rest.now (Callee.Fun (record { 0 = func })) operands.now) self.new) }
+        ensures { IfOk result (DoesSo (calls_at (machinery program.now) self.old inst.now rest.entry.insts.now (Callee.Fun (record { 0 = func })) operands.now) self.new) }
     {
         let bound = program.bound;
         if self.steps >= bound {
@@ -76,30 +79,23 @@ impl<'m, 'i> Executor<'m, 'i> {
         if self.run.below.len() >= FRAMES as usize - 1 {
             return Ok(Did::Ends(End::Trap(Trap::Depth)));
         }
-        let address = self.run.frame.address_behind(&program.code, inst, rest)?;
-        arguments(
-            &mut self.words,
-            self.run.frame.registers.as_slice(),
-            operands,
-        )?;
-        self.run.enter(
-            self.alloc,
-            &program.code,
-            func,
-            self.words.as_slice(),
-            address,
-        )?;
+        let address = self
+            .run
+            .frame
+            .address_behind(&program.code, inst, rest.insts)?;
+        self.run
+            .call(self.alloc, &program.code, func, operands, address)?;
         Ok(Did::GoesOn)
     }
 
     fn print(
         &mut self,
-        program: &Program<'m, '_>,
+        program: &'m Program<'_, '_>,
         inst: &Inst,
-        rest: &[Inst],
+        rest: Lines<'m>,
         operands: &[Operand],
     ) -> Result<Did, Memory>
-        ensures { IfOk result (DoesSo (calls_at (machinery program.now) self.old inst.now rest.now Callee.Print operands.now) self.new) }
+        ensures { IfOk result (DoesSo (calls_at (machinery program.now) self.old inst.now rest.entry.insts.now Callee.Print operands.now) self.new) }
     {
         let number = self.argument(operands, 0);
         self.run.go_on(0)?;
@@ -108,12 +104,12 @@ impl<'m, 'i> Executor<'m, 'i> {
 
     fn read(
         &mut self,
-        program: &Program<'m, '_>,
+        program: &'m Program<'_, '_>,
         inst: &Inst,
-        rest: &[Inst],
+        rest: Lines<'m>,
         operands: &[Operand],
     ) -> Result<Did, Memory>
-        ensures { IfOk result (DoesSo (calls_at (machinery program.now) self.old inst.now rest.now Callee.Read operands.now) self.new) }
+        ensures { IfOk result (DoesSo (calls_at (machinery program.now) self.old inst.now rest.entry.insts.now Callee.Read operands.now) self.new) }
     {
         match first_of(self.input) {
             None => Ok(Did::Ends(End::Trap(Trap::Input))),
@@ -127,12 +123,12 @@ impl<'m, 'i> Executor<'m, 'i> {
     // A new task goes on at once.
     fn start(
         &mut self,
-        program: &Program<'m, '_>,
+        program: &'m Program<'_, '_>,
         inst: &Inst,
-        rest: &[Inst],
+        rest: Lines<'m>,
         operands: &[Operand],
     ) -> Result<Did, Memory>
-        ensures { IfOk result (DoesSo (calls_at (machinery program.now) self.old inst.now rest.now Callee.TaskStart operands.now) self.new) }
+        ensures { IfOk result (DoesSo (calls_at (machinery program.now) self.old inst.now rest.entry.insts.now Callee.TaskStart operands.now) self.new) }
     {
         if self.tasks.len() >= TASKS as usize {
             return Ok(Did::Ends(End::Trap(Trap::Tasks)));
@@ -151,12 +147,12 @@ impl<'m, 'i> Executor<'m, 'i> {
     // `ret`: the frame's words leave the stack; the frame below goes on with the answer, or the task ends.
     pub(crate) fn ret(
         &mut self,
-        program: &Program<'m, '_>,
+        program: &'m Program<'_, '_>,
         inst: &Inst,
-        rest: &[Inst],
+        rest: Lines<'m>,
     ) -> Result<Did, Memory>
         requires is { inst.now.op ≡ Op.Ret }
-        ensures { IfOk result (DoesSo (acts_at (machinery program.now) self.old inst.now rest.now inst.now.op) self.new) }
+        ensures { IfOk result (DoesSo (acts_at (machinery program.now) self.old inst.now rest.entry.insts.now inst.now.op) self.new) }
     {
         let bound = program.bound;
         if self.steps >= bound {
@@ -194,17 +190,6 @@ impl<'m, 'i> Executor<'m, 'i> {
         self.task = 0;
         self.go_on(0)
     }
-}
-
-// The values of these operands.
-fn arguments(words: &mut Vec<u64>, registers: &[u64], operands: &[Operand]) -> Result<(), Memory>
-    ensures { OnOk result (map number words.new.items ≡ map (value (map number registers.now)) (map worded_operand operands.now)) }
-{
-    words.clear();
-    for operand in operands {
-        words.push(word(registers, *operand))?;
-    }
-    Ok(())
 }
 
 /// The frames of a task, which has none from then on.

@@ -2,7 +2,7 @@
 
 ghost use Rattle.std.specs.Prelude.{◌≡◌, ◌≢◌, Some, None, [], map, if◌then◌else◌, IfOk, slice_get, IsTrue};
 ghost use Rattle.ir_ast.specs.Objects.{number};
-ghost use Rattle.move_plan.specs.Plans.{flips};
+ghost use Rattle.move_plan.specs.Plans.{flips, go, group};
 ghost use Rattle.object_meaning.specs.Effects.{Effect};
 ghost use Rattle.machine_meaning.specs.Machines.{Machine};
 ghost use Rattle.machine_meaning.specs.Moving.{eventful, moved_by};
@@ -15,19 +15,19 @@ use crate::executor::{Did, Executor, Program};
 use frame_walk::walk;
 use ir_ast::{Callee, Inst, Operand};
 use machine_frames::Task;
-use move_plan::Plan;
+use move_plan::{Move, Plan};
 use moving_heap::{AllocFault, Moves};
 use sp_ids::{End, Memory, Trap, sign};
 use std::mem;
 
 impl<'m, 'i> Executor<'m, 'i> {
     // An event: its moves. Whether a frame was lost, and then nothing has moved.
-    fn happen(&mut self, program: &Program<'m, '_>) -> Result<bool, Memory>
+    fn happen(&mut self, program: &Program<'_, '_>) -> Result<bool, Memory>
         ensures { IfOk result (λ lost. (next : Machine → Effect Machine) → told (eventful (machinery program.now) (seen self.old) next) ≡ told (or_lost lost (seen self.new) next)) }
     {
         self.events = self.events.saturating_add(1);
         let flip = flip_of(program.plan, self.events);
-        let _ = self.heap.ready(program.plan.group(self.events), flip);
+        let _ = self.heap.ready(group_of(program.plan, self.events), flip);
         if self.heap.moves().is_empty() {
             return Ok(false);
         }
@@ -35,7 +35,7 @@ impl<'m, 'i> Executor<'m, 'i> {
     }
 
     // The moves of the pending group.
-    fn make_moves(&mut self, program: &Program<'m, '_>) -> Result<bool, Memory>
+    fn make_moves(&mut self, program: &Program<'_, '_>) -> Result<bool, Memory>
         requires due { self.old.heap.moves ≢ [] }
         ensures { IfOk result (λ lost. (next : Machine → Effect Machine) → told (moved_by (machinery program.now) self.old.heap.moves (seen self.old) next) ≡ told (or_lost lost (seen self.new) next)) }
     {
@@ -47,7 +47,7 @@ impl<'m, 'i> Executor<'m, 'i> {
     }
 
     // The walk over all stacks, and the moves of the pending group.
-    fn walk_all(&mut self, program: &Program<'m, '_>) -> Result<bool, Memory>
+    fn walk_all(&mut self, program: &Program<'_, '_>) -> Result<bool, Memory>
         requires due { self.old.heap.moves ≢ [] }
         requires hole { slice_get self.old.tasks.items self.old.task ≡ Some None }
         ensures { IfOk result (λ lost. (next : Machine → Effect Machine) → told (moved_by (machinery program.now) self.old.heap.moves (seen self.old) next) ≡ told (or_lost lost (seen self.new) next)) }
@@ -67,7 +67,7 @@ impl<'m, 'i> Executor<'m, 'i> {
     // A poll is an event; then its `go` line holds, and the task that runs goes on.
     pub(crate) fn poll(
         &mut self,
-        program: &Program<'m, '_>,
+        program: &Program<'_, '_>,
         inst: &Inst,
         rest: &[Inst],
         operands: &[Operand],
@@ -78,14 +78,14 @@ impl<'m, 'i> Executor<'m, 'i> {
         if lost {
             return Ok(Did::Ends(End::LostFrame));
         }
-        self.go_to(program.plan.go(self.events));
+        self.go_to(go_of(program.plan, self.events));
         self.go_on(0)
     }
 
     // A new object is an event.
     pub(crate) fn make(
         &mut self,
-        program: &Program<'m, '_>,
+        program: &Program<'_, '_>,
         inst: &Inst,
         rest: &[Inst],
         layout: u32,
@@ -131,10 +131,33 @@ impl<'m, 'i> Executor<'m, 'i> {
     }
 }
 
-fn flip_of(plan: &Plan, event: u64) -> Option<u64>
+pub(crate) fn flip_of(plan: &Plan, event: u64) -> Option<u64>
     ensures { result ≡ (if flips plan.now event then Some event else None) }
 {
+    if plan.is_empty() {
+        return None;
+    }
     if plan.flips(event) { Some(event) } else { None }
+}
+
+// The moves of the event's lines.
+fn group_of(plan: &Plan, event: u64) -> &[Move]
+    ensures { result.now ≡ group plan.now event }
+{
+    if plan.is_empty() {
+        return &[];
+    }
+    plan.group(event)
+}
+
+// The task of the event's `go` line.
+fn go_of(plan: &Plan, event: u64) -> Option<u64>
+    ensures { result ≡ go plan.now event }
+{
+    if plan.is_empty() {
+        return None;
+    }
+    plan.go(event)
 }
 
 // Whether there is a task of this number, and its frames are elsewhere.
@@ -149,7 +172,7 @@ fn waits_not(tasks: &[Option<Task>], task: u64) -> bool
 
 // The walk over the stack of a task. Whether a frame was lost.
 fn walk_task<'m>(
-    program: &Program<'m, '_>,
+    program: &Program<'_, '_>,
     task: &mut Task<'m>,
     moves: &Moves,
 ) -> Result<bool, Memory>
@@ -164,7 +187,7 @@ fn walk_task<'m>(
 }
 
 fn walk_slot<'m>(
-    program: &Program<'m, '_>,
+    program: &Program<'_, '_>,
     slot: &mut Option<Task<'m>>,
     moves: &Moves,
 ) -> Result<bool, Memory>
@@ -179,7 +202,7 @@ fn walk_slot<'m>(
 
 // The walk over the stacks of these tasks, up to a frame that was lost.
 fn walk_tasks<'m>(
-    program: &Program<'m, '_>,
+    program: &Program<'_, '_>,
     tasks: &mut [Option<Task<'m>>],
     moves: &Moves,
 ) -> Result<bool, Memory>

@@ -1,5 +1,6 @@
 //! The state of a run.
 
+use heap_hints::Hints;
 use machine_frames::{Code, Move, Task};
 use move_plan::Plan;
 use moving_heap::Heap;
@@ -25,8 +26,9 @@ pub enum Did {
     Ends(End),
 }
 
-/// A run: the frames of its task, room for the moves of phis, for arguments and for what a statepoint keeps, the number of
-/// the task and the frames of the others by number, the heap, what is left of the input, and the steps and events so far.
+/// A run: the frames of its task, room for the moves of phis and for what a statepoint keeps, the number of the task and the
+/// frames of the others by number, the heap and where its objects were found last, what is left of the input, and the steps
+/// and events so far.
 #[derive(Drop)]
 pub struct Executor<'m, 'i> {
     pub run: Task<'m>,
@@ -36,6 +38,7 @@ pub struct Executor<'m, 'i> {
     pub task: u64,
     pub tasks: Vec<Option<Task<'m>>>,
     pub heap: Heap,
+    pub hints: Hints,
     pub input: &'i [i64],
     pub steps: u64,
     pub events: u64,

@@ -7,5 +7,6 @@ mod events;
 mod executor;
 mod lines;
 mod run;
+mod traces;
 
-pub use run::{Ran, RunFault, SureFault, run_any, run_verified};
+pub use run::{Ran, RunFault, Shows, SureFault, run_any, run_verified};

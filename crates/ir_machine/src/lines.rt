@@ -11,33 +11,44 @@ ghost use Rattle.object_meaning.specs.Registers.{operand};
 ghost use Rattle.machine_meaning.specs.Machines.{lifted};
 ghost use Rattle.machine_meaning.specs.MachineSteps.{machine_step, passes};
 ghost use Rattle.machine_meaning.specs.Words.{worded_operand};
-ghost use Rattle.machine_frames.specs.Frames.{line_of, lines_left, is_plain};
-ghost use Rattle.ir_machine.specs.Executors.{machinery, seen, DoesSo, acts_at, calls_kept, skipped_at};
+ghost use Rattle.machine_frames.specs.Decoding.{decoded_of, is_plain};
+ghost use Rattle.machine_frames.specs.Frames.{line_of, lines_left};
+ghost use Rattle.ir_machine.specs.Executors.{machinery, seen, DoesSo, HasComputed, acts_at, calls_kept, skipped_at};
 
 use crate::executor::{Did, Executor, Program};
 use ir_ast::{Callee, Inst, Op, Operand};
-use machine_frames::{computed, front_of, is_plain, keep, word_at, write_over};
+use machine_frames::{Decoded, Lines, computed, is_plain, keep, word_at, write_over};
 use sp_ids::{BlockId, End, Memory, Trap};
 
 impl<'m, 'i> Executor<'m, 'i> {
     /// One step of the running task.
-    pub fn step(&mut self, program: &Program<'m, '_>) -> Result<Did, Memory>
+    pub fn step(&mut self, program: &'m Program<'_, '_>) -> Result<Did, Memory>
         ensures { IfOk result (DoesSo (machine_step (machinery program.now) (seen self.old)) self.new) }
     {
-        match front_of(self.run.frame.rest) {
+        match self.run.frame.rest.front() {
             None => Ok(Did::Ends(End::Trap(Trap::Unreachable))),
-            Some(parts) => self.act(program, parts.0, parts.1),
+            Some(parts) => self.act(program, parts.0, parts.1, parts.2),
         }
+    }
+
+    /// The running task goes on over lines that compute numbers, up to one that doesn't, or that traps.
+    pub fn compute_all(&mut self)
+        ensures computed { HasComputed (seen self.old) (seen self.new) }
+        ensures heap { self.new.heap ≡ self.old.heap }
+    {
+        self.run.frame.compute_all();
     }
 
     fn act(
         &mut self,
-        program: &Program<'m, '_>,
+        program: &'m Program<'_, '_>,
         inst: &Inst,
-        rest: &'m [Inst],
+        one: &Decoded,
+        rest: Lines<'m>,
     ) -> Result<Did, Memory>
-        requires stands { self.old.run.frame.rest.now ≡ inst.now ∷ rest.now }
-        ensures { IfOk result (DoesSo (acts_at (machinery program.now) self.old inst.now rest.now inst.now.op) self.new) }
+        requires stands { self.old.run.frame.rest.insts.now ≡ inst.now ∷ rest.insts.now }
+        requires decoded { one.now ≡ decoded_of inst.now }
+        ensures { IfOk result (DoesSo (acts_at (machinery program.now) self.old inst.now rest.entry.insts.now inst.now.op) self.new) }
     {
         if is_plain(inst.op()) {
             return self.compute(program, inst, rest);
@@ -47,12 +58,14 @@ impl<'m, 'i> Executor<'m, 'i> {
                 elem,
                 index_width,
                 place,
-            } => self.advance(program, inst, rest, *elem, *index_width, *place),
-            Op::Load => self.load(program, inst, rest),
-            Op::Store => self.store(program, inst, rest),
-            Op::Call { callee, .. } => self.call(program, inst, rest, *callee, inst.operands()),
+            } => self.advance(program, inst, one, rest, *elem, *index_width, *place),
+            Op::Load => self.load(program, inst, one, rest),
+            Op::Store => self.store(program, inst, one, rest),
+            Op::Call { callee, .. } => {
+                self.call(program, inst, one, rest, *callee, inst.operands())
+            }
             Op::Statepoint { callee, types, .. } => {
-                self.statepoint(program, inst, rest, *callee, types.list().len())
+                self.statepoint(program, inst, one, rest, *callee, types.list().len())
             }
             Op::Ret => self.ret(program, inst, rest),
             Op::Br => self.jump(program, label_at(inst.labels(), 0)),
@@ -73,9 +86,33 @@ impl<'m, 'i> Executor<'m, 'i> {
         word_at(self.run.frame.registers.as_slice(), inst.operands(), place)
     }
 
+    // The same of the first operand, by what is decoded of the line.
+    pub(crate) fn first(&self, inst: &Inst, one: &Decoded) -> u64
+        requires { one.now ≡ decoded_of inst.now }
+        ensures { operand (map number self.now.run.frame.registers.items) (map worded_operand inst.now.operands) 0 ≡ number result }
+    {
+        one.first_word(self.run.frame.registers.as_slice())
+    }
+
+    // Of the second one.
+    pub(crate) fn second(&self, inst: &Inst, one: &Decoded) -> u64
+        requires { one.now ≡ decoded_of inst.now }
+        ensures { operand (map number self.now.run.frame.registers.items) (map worded_operand inst.now.operands) 1 ≡ number result }
+    {
+        one.second_word(self.run.frame.registers.as_slice())
+    }
+
+    // Of the third one.
+    pub(crate) fn third(&self, inst: &Inst, one: &Decoded) -> u64
+        requires { one.now ≡ decoded_of inst.now }
+        ensures { operand (map number self.now.run.frame.registers.items) (map worded_operand inst.now.operands) 2 ≡ number result }
+    {
+        one.third_word(self.run.frame.registers.as_slice())
+    }
+
     // The running frame goes on behind the line with this word.
-    pub(crate) fn pass(&mut self, inst: &Inst, rest: &'m [Inst], word: u64) -> Result<Did, Memory>
-        ensures { IfOk result (DoesSo (goes_on (passes (seen self.old) (line_of self.old.run.frame.next inst.now) (lines_left (following self.old.run.frame.next inst.now) rest.now) word)) self.new) }
+    pub(crate) fn pass(&mut self, inst: &Inst, rest: Lines<'m>, word: u64) -> Result<Did, Memory>
+        ensures { IfOk result (DoesSo (goes_on (passes (seen self.old) (line_of self.old.run.frame.next inst.now) (lines_left (following self.old.run.frame.next inst.now) rest.entry.insts.now) word)) self.new) }
     {
         self.run.frame.pass(inst, rest, word)?;
         Ok(Did::GoesOn)
@@ -83,12 +120,12 @@ impl<'m, 'i> Executor<'m, 'i> {
 
     fn compute(
         &mut self,
-        program: &Program<'m, '_>,
+        program: &'m Program<'_, '_>,
         inst: &Inst,
-        rest: &'m [Inst],
+        rest: Lines<'m>,
     ) -> Result<Did, Memory>
         requires plain { is_plain inst.now.op ≡ true }
-        ensures { IfOk result (DoesSo (acts_at (machinery program.now) self.old inst.now rest.now inst.now.op) self.new) }
+        ensures { IfOk result (DoesSo (acts_at (machinery program.now) self.old inst.now rest.entry.insts.now inst.now.op) self.new) }
     {
         let first = self.word(inst, 0);
         let second = self.word(inst, 1);
@@ -100,8 +137,8 @@ impl<'m, 'i> Executor<'m, 'i> {
     }
 
     // A phi took effect at the jump, and a group's members with their statepoint.
-    fn skip(&mut self, inst: &Inst, rest: &'m [Inst]) -> Result<Did, Memory>
-        ensures { IfOk result (DoesSo (goes_on (skipped_at self.old inst.now rest.now)) self.new) }
+    fn skip(&mut self, inst: &Inst, rest: Lines<'m>) -> Result<Did, Memory>
+        ensures { IfOk result (DoesSo (goes_on (skipped_at self.old inst.now rest.entry.insts.now)) self.new) }
     {
         self.run.frame.skip(inst, rest)?;
         Ok(Did::GoesOn)
@@ -110,14 +147,16 @@ impl<'m, 'i> Executor<'m, 'i> {
     // A statepoint keeps its entries in slots, and calls.
     fn statepoint(
         &mut self,
-        program: &Program<'m, '_>,
+        program: &'m Program<'_, '_>,
         inst: &Inst,
-        rest: &'m [Inst],
+        one: &Decoded,
+        rest: Lines<'m>,
         callee: Callee,
         arguments: usize,
     ) -> Result<Did, Memory>
-        requires stands { self.old.run.frame.rest.now ≡ inst.now ∷ rest.now }
-        ensures { IfOk result (DoesSo (calls_kept (machinery program.now) self.old inst.now rest.now callee arguments) self.new) }
+        requires stands { self.old.run.frame.rest.insts.now ≡ inst.now ∷ rest.insts.now }
+        requires decoded { one.now ≡ decoded_of inst.now }
+        ensures { IfOk result (DoesSo (calls_kept (machinery program.now) self.old inst.now rest.entry.insts.now callee arguments) self.new) }
     {
         keep(
             &mut self.words,
@@ -129,13 +168,14 @@ impl<'m, 'i> Executor<'m, 'i> {
         self.call(
             program,
             inst,
+            one,
             rest,
             callee,
             front(inst.operands(), arguments),
         )
     }
 
-    pub(crate) fn jump(&mut self, program: &Program<'m, '_>, block: u32) -> Result<Did, Memory>
+    pub(crate) fn jump(&mut self, program: &'m Program<'_, '_>, block: u32) -> Result<Did, Memory>
         ensures { IfOk result (DoesSo (lifted (seen self.old) (stepped (machinery program.now).setting (seen self.old).state (jumped (machinery program.now).setting block))) self.new) }
     {
         let bound = program.bound;
@@ -149,21 +189,21 @@ impl<'m, 'i> Executor<'m, 'i> {
         Ok(Did::GoesOn)
     }
 
-    fn branch(&mut self, program: &Program<'m, '_>, inst: &Inst) -> Result<Did, Memory>
+    fn branch(&mut self, program: &'m Program<'_, '_>, inst: &Inst) -> Result<Did, Memory>
         ensures { IfOk result (DoesSo (lifted (seen self.old) (stepped (machinery program.now).setting (seen self.old).state (jumped (machinery program.now).setting (label_at inst.now.labels (branch_taken (operand (map number self.old.run.frame.registers.items) (map worded_operand inst.now.operands) 0)))))) self.new) }
     {
         let taken = branch_taken(self.word(inst, 0));
         self.jump(program, label_at(inst.labels(), taken))
     }
 
-    fn switch(&mut self, program: &Program<'m, '_>, inst: &Inst) -> Result<Did, Memory>
+    fn switch(&mut self, program: &'m Program<'_, '_>, inst: &Inst) -> Result<Did, Memory>
         ensures { IfOk result (DoesSo (lifted (seen self.old) (stepped (machinery program.now).setting (seen self.old).state (jumped (machinery program.now).setting (label_at inst.now.labels (case_taken (operand (map number self.old.run.frame.registers.items) (map worded_operand inst.now.operands) 0) (drop 1 (map worded_operand inst.now.operands))))))) self.new) }
     {
         let taken = case_taken(self.word(inst, 0), inst.operands());
         self.jump(program, label_at(inst.labels(), taken))
     }
 
-    fn unreachable(&mut self, program: &Program<'m, '_>) -> Did
+    fn unreachable(&mut self, program: &'m Program<'_, '_>) -> Did
         ensures { DoesSo (lifted (seen self.old) (stepped (machinery program.now).setting (seen self.old).state (ends (End.Trap Trap.Unreachable)))) self.new result }
     {
         let bound = program.bound;

@@ -1,35 +1,41 @@
 //! Runs of the machine.
 
-ghost use Rattle.std.specs.Prelude.{◌≡◌, ◌≤◌, ◌<◌, length, codes, IfOk, IfSome, OnErr, IsErrOf};
-ghost use Rattle.std.specs.List.{All, position};
+ghost use Rattle.std.specs.Prelude.{◌≡◌, ◌≤◌, ◌<◌, length, codes, IfOk, IfSome, OnOk, OnErr, IsErrOf};
+ghost use Rattle.std.specs.List.{All, concat, position};
 ghost use Rattle.std.specs.Str.{bytes_eq};
 ghost use Rattle.tool_io.specs.Counts.{Rose};
+ghost use Rattle.tool_io.specs.Sink.{append_known, AppendsFront};
 ghost use Rattle.map_bytes.specs.declared.rules.MapFault.{MapFault};
 ghost use Rattle.map_bytes.specs.Faults.{IsFirstFault};
 ghost use Rattle.ir_ast.specs.Bundles.{HasNoBundle};
-ghost use Rattle.move_plan.specs.Plans.{go};
-ghost use Rattle.runs_unseen.specs.Runs.{IsSeenRun};
+ghost use Rattle.moving_heap.specs.Settled.{AreSettled};
 ghost use Rattle.stackmap_view.specs.Maps.{stack_map};
 ghost use Rattle.stackmap_write.specs.ModuleMaps.{map_of};
 ghost use Rattle.object_meaning.specs.Lines.{main_of};
 ghost use Rattle.object_meaning.specs.Effects.{printed_line};
+ghost use Rattle.object_meaning.specs.Texts.{function_name};
 ghost use Rattle.machine_meaning.specs.MachineRuns.{machine_opening};
+ghost use Rattle.run_texts.specs.RunTexts.{end_lines};
 ghost use Rattle.ir_machine.specs.Executors.{machinery, seen};
-ghost use Rattle.ir_machine.specs.Answers.{IsRun, IsRunOver, IsRunFrom, WritesFrontOver, WritesFrontFrom, WritesFront, unprinted, ended_of, Wrote, WroteFront};
+ghost use Rattle.ir_machine.specs.Traces.{did_lose, shown_lines};
+ghost use Rattle.ir_machine.specs.Answers.{IsRun, IsRunFrom, IsRunOver, IsRunUnseen, WritesFront, WritesFrontFrom, WritesFrontOver, counted_by, ended_of, step_text, unprinted};
 
 use crate::executor::{Did, Executor, Program};
 use arrayvec::ArrayVec;
+use heap_hints::Hints;
 use ir_ast::{Func, Module};
 use itoa::Buffer;
 use machine_frames::{Code, Task};
 use map_bytes::MapFault;
 use move_plan::Plan;
 use moving_heap::Heap;
+use run_traces::{Happening, Stopped, write_happening, write_places};
 use sp_ids::{End, FuncId, Memory, sign};
 use stackmap_view::{MapIndex, MapView};
 use statepoint_verify::Verified;
 use std::alloc::Global;
 use tool_io::{Failed, Sink};
+use tool_report::closing;
 
 /// How a run ended: its end, the function that ran last, the steps and events, and the number of lines that `print_i64`
 /// wrote. Events and lines stand still at 2^64 - 1.
@@ -40,6 +46,14 @@ pub struct Ran {
     pub steps: u64,
     pub events: u64,
     pub lines: u64,
+}
+
+/// What is shown of a run besides what it prints and the line that closes it: where its objects stand in the end, and what its events
+/// are and move.
+#[derive(Clone, Copy, Debug, PartialEq, Eq)]
+pub struct Shows {
+    pub places: bool,
+    pub trace: bool,
 }
 
 /// Why a run is not written to its end.
@@ -82,11 +96,26 @@ impl From<Failed> for SureFault {
     }
 }
 
+impl From<Stopped> for SureFault {
+    ghost use Rattle.std.specs.Prelude.{◌≡◌};
+    ghost use Rattle.ir_machine.specs.Answers.{fault_of};
+
+    ghost from_gives = { λ stop e. e ≡ fault_of stop };
+
+    fn from(stop: Stopped) -> SureFault {
+        match stop {
+            Stopped::Memory => SureFault::Memory,
+            Stopped::Write => SureFault::Write,
+        }
+    }
+}
+
 /// Runs `@main` of a rewritten module over the stack map that these bytes are, which may take these many steps, over this
-/// input and under this plan, and writes each line that it prints by one `put`.
+/// input and under this plan. It writes the trace of its events, where `shows` has it, each line that it prints, the line that closes
+/// the run, and the places of its objects, where `shows` has them, each line by one `put`.
 ///
 /// `BadMap` comes exactly where the bytes are no stack map, with their first fault, before anything is written. `Write` comes
-/// only where the sink counted a fault. After it, and after `Memory`, a front of what the run prints was written.
+/// only where the sink counted a fault. After it, and after `Memory`, a front of the run's text was written.
 pub fn run_any<O: Sink>(
     alloc: Global,
     module: &Module,
@@ -94,18 +123,19 @@ pub fn run_any<O: Sink>(
     input: &[i64],
     plan: &Plan,
     steps: u64,
+    shows: Shows,
     out: &mut O,
 ) -> Result<Ran, RunFault>
-    ensures ran { IfOk result (λ ran. IsRun «module».now.content map.now input.now plan.now steps ran (O.written out.old) (O.written out.new)) }
+    ensures ran { IfOk result (λ ran. IsRun «module».now.content map.now input.now plan.now steps shows ran (O.written out.old) (O.written out.new)) }
     ensures bad { (fault : MapFault) → result ≡ Err (RunFault.BadMap fault) → IsFirstFault map.now fault × (O.written out.new ≡ O.written out.old) }
-    ensures front { IsErrOf result RunFault.Memory → WritesFront «module».now.content map.now input.now plan.now steps (O.written out.old) (O.written out.new) }
-    ensures write { IsErrOf result RunFault.Write → WritesFront «module».now.content map.now input.now plan.now steps (O.written out.old) (O.written out.new) }
+    ensures front { IsErrOf result RunFault.Memory → WritesFront «module».now.content map.now input.now plan.now steps shows (O.written out.old) (O.written out.new) }
+    ensures write { IsErrOf result RunFault.Write → WritesFront «module».now.content map.now input.now plan.now steps shows (O.written out.old) (O.written out.new) }
     ensures failed { IsErrOf result RunFault.Write → Rose (O.faults out.old) (O.faults out.new) }
     ensures count { O.faults out.old ≤ O.faults out.new }
 {
     match MapView::of(map) {
         Err(fault) => Err(RunFault::BadMap(fault)),
-        Ok(view) => match run_over(alloc, module, view, input, plan, steps, out) {
+        Ok(view) => match run_over(alloc, module, view, input, plan, steps, shows, out) {
             Ok(ran) => Ok(ran),
             Err(SureFault::Memory) => Err(RunFault::Memory),
             Err(SureFault::Write) => Err(RunFault::Write),
@@ -116,7 +146,7 @@ pub fn run_any<O: Sink>(
 /// Runs `@main` of a verified module over the map of this view, as [`run_any`] does over bytes. Over the module's own map the
 /// moves are never noticed: the run is the one on objects that never move, so it never ends in poison or a lost frame.
 ///
-/// `Write` comes only where the sink counted a fault. After it, and after `Memory`, a front of what the run prints was written.
+/// `Write` comes only where the sink counted a fault. After it, and after `Memory`, a front of the run's text was written.
 pub fn run_verified<O: Sink>(
     alloc: Global,
     verified: &Verified,
@@ -124,16 +154,18 @@ pub fn run_verified<O: Sink>(
     input: &[i64],
     plan: &Plan,
     steps: u64,
+    shows: Shows,
     out: &mut O,
 ) -> Result<Ran, SureFault>
-    ensures ran { IfOk result (λ ran. IsRunOver verified.now.content (stack_map map.now) input.now plan.now steps ran (O.written out.old) (O.written out.new)) }
+    ensures ran { IfOk result (λ ran. IsRunOver verified.now.content (stack_map map.now) input.now plan.now steps shows ran (O.written out.old) (O.written out.new)) }
     ensures seen { All HasNoBundle verified.now.content.funcs → stack_map map.now ≡ map_of verified.now.content
-        → IfOk result (λ ran. IsSeenRun verified.now.content input.now (go plan.now) steps ran.end ran.func.0 ran.steps ran.events ran.lines (O.written out.old) (O.written out.new)) }
-    ensures front { OnErr result (WritesFrontOver verified.now.content (stack_map map.now) input.now plan.now steps (O.written out.old) (O.written out.new)) }
+        → IfOk result (λ ran. IsRunUnseen verified.now.content input.now plan.now steps shows ran (O.written out.old) (O.written out.new)) }
+    ensures front { OnErr result (WritesFrontOver verified.now.content (stack_map map.now) input.now plan.now steps shows (O.written out.old) (O.written out.new)) }
     ensures failed { IsErrOf result SureFault.Write → Rose (O.faults out.old) (O.faults out.new) }
     ensures count { O.faults out.old ≤ O.faults out.new }
 {
-    run_over(alloc, verified.module(), *map, input, plan, steps, out)
+    let module = verified.module();
+    run_over(alloc, module, *map, input, plan, steps, shows, out)
 }
 
 // The run over the map of a view.
@@ -144,10 +176,11 @@ fn run_over<O: Sink>(
     input: &[i64],
     plan: &Plan,
     bound: u64,
+    shows: Shows,
     out: &mut O,
 ) -> Result<Ran, SureFault>
-    ensures ran { IfOk result (λ ran. IsRunOver «module».now.content (stack_map view.entry) input.now plan.now bound ran (O.written out.old) (O.written out.new)) }
-    ensures front { OnErr result (WritesFrontOver «module».now.content (stack_map view.entry) input.now plan.now bound (O.written out.old) (O.written out.new)) }
+    ensures ran { IfOk result (λ ran. IsRunOver «module».now.content (stack_map view.entry) input.now plan.now bound shows ran (O.written out.old) (O.written out.new)) }
+    ensures front { OnErr result (WritesFrontOver «module».now.content (stack_map view.entry) input.now plan.now bound shows (O.written out.old) (O.written out.new)) }
     ensures failed { IsErrOf result SureFault.Write → Rose (O.faults out.old) (O.faults out.new) }
     ensures count { O.faults out.old ≤ O.faults out.new }
 {
@@ -160,13 +193,13 @@ fn run_over<O: Sink>(
         bound,
     };
     let mut executor = opened(alloc, &program, input)?;
-    run(&program, &mut executor, out)
+    run(&program, &mut executor, shows, out)
 }
 
 // Task 0 at the front of `@main`.
 fn opened<'m, 'i>(
     alloc: Global,
-    program: &Program<'m, '_>,
+    program: &'m Program<'_, '_>,
     input: &'i [i64],
 ) -> Result<Executor<'m, 'i>, Memory>
     ensures { IfOk result (λ executor. unprinted (seen executor) ≡ machine_opening (machinery program.now) input.now) }
@@ -180,6 +213,7 @@ fn opened<'m, 'i>(
         task: 0,
         tasks: vec![in alloc; None]?,
         heap: Heap::new(alloc),
+        hints: Hints::new(alloc)?,
         input,
         steps: 0,
         events: 0,
@@ -211,23 +245,29 @@ fn is_main(func: &Func) -> bool
 
 // Runs to the end.
 fn run<'m, O: Sink>(
-    program: &Program<'m, '_>,
+    program: &'m Program<'_, '_>,
     executor: &mut Executor<'m, '_>,
+    shows: Shows,
     out: &mut O,
 ) -> Result<Ran, SureFault>
-    ensures ran { IfOk result (λ ran. IsRunFrom (machinery program.now) (unprinted (seen executor.old)) ran (O.written out.old) (O.written out.new)) }
-    ensures front { OnErr result (WritesFrontFrom (machinery program.now) (unprinted (seen executor.old)) (O.written out.old) (O.written out.new)) }
+    requires settled { AreSettled executor.old.heap.stands }
+    ensures ran { IfOk result (λ ran. IsRunFrom program.now.code (machinery program.now) shows (unprinted (seen executor.old)) ran (O.written out.old) (O.written out.new)) }
+    ensures front { OnErr result (WritesFrontFrom program.now.code (machinery program.now) shows (unprinted (seen executor.old)) (O.written out.old) (O.written out.new)) }
     ensures failed { IsErrOf result SureFault.Write → Rose (O.faults out.old) (O.faults out.new) }
     ensures count { O.faults out.old ≤ O.faults out.new }
 {
     let mut lines = 0u64;
+    let mut happening = Happening::new(executor.alloc);
     for _ in 0..u64::MAX {
+        executor.compute_all();
+        let event = executor.foresee(program, shows.trace, &mut happening)?;
         let did = executor.step(program)?;
+        write_step(event, &happening, did, out)?;
         if let Some(end) = ended(did) {
+            write_end(program, executor, end, shows.places, out)?;
             return Ok(how_ran(end, executor, lines));
         }
-        let more = write_line(did, lines, out)?;
-        lines = more;
+        lines = counted(did, lines);
     }
     Err(SureFault::Memory)
 }
@@ -242,19 +282,89 @@ fn ended(did: Did) -> Option<End>
     }
 }
 
-// Writes what a step printed, and counts the line.
-fn write_line<O: Sink>(did: Did, lines: u64, out: &mut O) -> Result<u64, Failed>
-    ensures ok { IfOk result (λ more. Wrote did lines more (O.written out.old) (O.written out.new)) }
-    ensures err { OnErr result (WroteFront did (O.written out.old) (O.written out.new)) }
+// The count of printed lines after a step.
+fn counted(did: Did, lines: u64) -> u64
+    ensures { result ≡ counted_by did lines }
+{
+    match did {
+        Did::Prints(_) => lines.saturating_add(1),
+        _ => lines,
+    }
+}
+
+// Writes the trace of a step, if it was an event, and what it printed.
+fn write_step<O: Sink>(
+    event: bool,
+    happening: &Happening,
+    did: Did,
+    out: &mut O,
+) -> Result<(), Failed>
+    ensures ok { OnOk result (O.written out.new ≡ append_known (O.written out.old) (step_text event happening.now did)) }
+    ensures err { OnErr result (AppendsFront (O.written out.old) (O.written out.new) (step_text event happening.now did)) }
     ensures failed { OnErr result (Rose (O.faults out.old) (O.faults out.new)) }
     ensures count { O.faults out.old ≤ O.faults out.new }
 {
+    write_event(event, happening, did, out)?;
     match did {
-        Did::Prints(number) => {
-            out.put(printed_line(number).as_slice())?;
-            Ok(lines.saturating_add(1))
-        }
-        _ => Ok(lines),
+        Did::Prints(number) => out.put(printed_line(number).as_slice()),
+        _ => Ok(()),
+    }
+}
+
+fn write_event<O: Sink>(
+    event: bool,
+    happening: &Happening,
+    did: Did,
+    out: &mut O,
+) -> Result<(), Failed>
+    ensures ok { OnOk result (O.written out.new ≡ append_known (O.written out.old) (concat (shown_lines event (did_lose did) happening.now))) }
+    ensures err { OnErr result (AppendsFront (O.written out.old) (O.written out.new) (concat (shown_lines event (did_lose did) happening.now))) }
+    ensures failed { OnErr result (Rose (O.faults out.old) (O.faults out.new)) }
+    ensures count { O.faults out.old ≤ O.faults out.new }
+{
+    if event {
+        write_happening(happening, loses(did), out)
+    } else {
+        Ok(())
+    }
+}
+
+// Whether the walk of the step lost a frame.
+fn loses(did: Did) -> bool
+    ensures { result ≡ did_lose did }
+{
+    matches!(did, Did::Ends(End::LostFrame))
+}
+
+// Writes the line that closes a run, and where its objects stand, if that is shown.
+fn write_end<O: Sink>(
+    program: &Program,
+    executor: &Executor,
+    end: End,
+    places: bool,
+    out: &mut O,
+) -> Result<(), SureFault>
+    requires settled { AreSettled executor.now.heap.stands }
+    ensures ok { OnOk result (O.written out.new ≡ append_known (O.written out.old) (concat (end_lines program.now.code places end (seen executor.now)))) }
+    ensures err { OnErr result (AppendsFront (O.written out.old) (O.written out.new) (concat (end_lines program.now.code places end (seen executor.now)))) }
+    ensures failed { IsErrOf result SureFault.Write → Rose (O.faults out.old) (O.faults out.new) }
+    ensures count { O.faults out.old ≤ O.faults out.new }
+{
+    let module = program.code.module();
+    let name = function_name(module, executor.run.frame.func);
+    closing(end, name, executor.steps, executor.events, out)?;
+    if places {
+        write_places(module.layouts(), &executor.heap, out)?;
+    }
+    Ok(())
+}
+
+fn function_name(code: &Module, func: u32) -> &[u8]
+    ensures { result.now ≡ function_name code.now.content func }
+{
+    match code.funcs().get(func as usize) {
+        Some(func) => func.name().bytes(),
+        None => b"",
     }
 }
 

@@ -2,3 +2,5 @@ pub mod WordLemmas
 pub mod LineLemmas
 pub mod CodeLemmas
 pub mod FrameLemmas
+pub mod DecodeLemmas
+pub mod ComputedLemmas

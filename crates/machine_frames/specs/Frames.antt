@@ -1,7 +1,7 @@
 -- What a frame stands for: a frame of the address machine, whose registers hold words.
 use Rattle.std.specs.Prelude.{ℕ, ◌-◌, Bool, true, false, List, ◌∷◌, ◌++◌, length, map, filter, drop, replicate, reverse}
 use Rattle.ir_ast.specs.declared.ops.Op.{Op}
-use Rattle.ir_ast.specs.declared.ops.Op.TheVariants.{Add, Sub, Mul, Udiv, Sdiv, Urem, Srem, And, Or, Xor, Shl, Lshr, Ashr, Icmp, Trunc, Zext, Sext, Select, Statepoint}
+use Rattle.ir_ast.specs.declared.ops.Op.TheVariants.{Statepoint}
 use Rattle.ir_ast.specs.Insts.{Instruction}
 use Rattle.ir_ast.specs.Modules.{ModuleContent}
 use Rattle.ir_ast.specs.Objects.{Datum, number}
@@ -15,28 +15,6 @@ use Rattle.machine_meaning.specs.Words.{worded}
 use Rattle.machine_frames.specs.declared.frames.Frame.{Frame as Standing}
 use Rattle.machine_frames.specs.declared.frames.Move.{Move}
 use Rattle.machine_frames.specs.declared.tasks.Task.{Task}
-
--- a line that computes a number of numbers
-abbrev pub is_plain : Op → Bool
-is_plain Add = true
-is_plain Sub = true
-is_plain Mul = true
-is_plain Udiv = true
-is_plain Sdiv = true
-is_plain Urem = true
-is_plain Srem = true
-is_plain And = true
-is_plain Or = true
-is_plain Xor = true
-is_plain Shl = true
-is_plain Lshr = true
-is_plain Ashr = true
-is_plain (Icmp pred) = true
-is_plain (Trunc to) = true
-is_plain (Zext to) = true
-is_plain (Sext to) = true
-is_plain Select = true
-is_plain _ = false
 
 abbrev pub is_statepoint : Op → Bool
 is_statepoint (Statepoint id callee types) = true
@@ -56,7 +34,7 @@ abbrev pub frame_of : Standing → Frame
 frame_of frame = record {
   func = frame.func;
   block = frame.block;
-  rest = lines_left frame.next frame.rest.now;
+  rest = lines_left frame.next frame.rest.insts.now;
   registers = map number frame.registers.items;
 }
 

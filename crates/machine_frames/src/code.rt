@@ -1,12 +1,14 @@
 //! A rewritten module as it is run: its instructions, the registers of their results, and their addresses.
 
-ghost use Rattle.std.specs.Prelude.{◌≡◌, [], ◌≤◌, IfOk, length, map, MatchOption, None, Some, slice_get, slice_index, ◌-◌};
+ghost use Rattle.std.specs.Prelude.{◌≡◌, [], ◌≤◌, IfOk, length, map, MatchOption, None, Some, slice_get, slice_index, unwrap_or, ◌-◌};
 ghost use Rattle.std.specs.Option.{option_map, option_map_or};
 ghost use Rattle.ir_ast.specs.Funcs.{content_of};
 ghost use Rattle.object_meaning.specs.Lines.{insts_in, insts_of, first_register, register_count};
 ghost use Rattle.machine_meaning.specs.Code.{code_address, place_before, words_in};
+ghost use Rattle.machine_frames.specs.Decoding.{decoded_of};
 ghost use Rattle.machine_frames.specs.Tables.{table_of};
 
+use crate::decoded::{Decoded, Lines, decoded_blocks};
 use crate::numbering::{befores_of, registers_of};
 use frame_slots::Layouts;
 use ir_ast::{Func, Inst, Module};
@@ -16,19 +18,21 @@ use std::alloc::Global;
 use std::marker::Model;
 
 /// How many instructions stand before each block of a function, and the register of the first result of each; last the
-/// number of its registers.
+/// number of its registers. The instructions of each block, decoded.
 #[derive(Drop)]
 pub(crate) struct Table {
     befores: Vec<usize>,
     firsts: Vec<usize>,
+    decoded: Vec<Vec<Decoded>>,
 }
 
 impl Model for Table {
+    ghost use Rattle.std.specs.Prelude.{map};
     ghost use Rattle.machine_frames.specs.Tables.{Tabled};
 
     ghost Value = { Tabled };
 
-    ghost view = { λ table. record { befores = table.befores.items; firsts = table.firsts.items } };
+    ghost view = { λ table. record { befores = table.befores.items; firsts = table.firsts.items; decoded = map (λ block. block.items) table.decoded.items } };
 }
 
 /// A module with what is counted once of its functions. Contracts see the module's content.
@@ -75,12 +79,30 @@ impl<'m> Code<'m> {
     }
 
     /// The instructions of a block; none, where there is no such block.
+    pub fn lines(&self, func: u32, block: u32) -> Lines<'_>
+        ensures { result.insts.now ≡ insts_of self.now func block }
+    {
+        let insts = self.insts(func, block);
+        Lines::of(insts, self.decoded(func, block))
+    }
+
+    /// The instructions of a block; none, where there is no such block.
     pub fn insts(&self, func: u32, block: u32) -> &'m [Inst]
         ensures { result.now ≡ insts_of self.now func block }
     {
         match func_at(self.module, func as usize) {
             None => &[],
             Some(func) => insts_in(func, block),
+        }
+    }
+
+    // The same, decoded.
+    fn decoded(&self, func: u32, block: u32) -> &[Decoded]
+        ensures { result.now ≡ map decoded_of (insts_of self.now func block) }
+    {
+        match table_in(self.tables.as_slice(), func as usize) {
+            None => &[],
+            Some(table) => table.block(block),
         }
     }
 
@@ -150,6 +172,15 @@ impl Table {
         self.firsts.get(block as usize).copied().unwrap_or(0)
     }
 
+    fn block(&self, block: u32) -> &[Decoded]
+        ensures { result.now ≡ unwrap_or (slice_get self.now.decoded block) [] }
+    {
+        match self.decoded.get(block as usize) {
+            None => &[],
+            Some(decoded) => decoded.as_slice(),
+        }
+    }
+
     fn last(&self) -> usize
         ensures { result ≡ slice_index self.now.firsts (length self.now.firsts - 1) }
     {
@@ -178,7 +209,12 @@ fn table_of(alloc: Global, func: &Func) -> Result<Table, Memory>
 {
     let befores = befores_of(alloc, func.blocks())?;
     let firsts = registers_of(alloc, func)?;
-    Ok(Table { befores, firsts })
+    let decoded = decoded_blocks(alloc, func.blocks())?;
+    Ok(Table {
+        befores,
+        firsts,
+        decoded,
+    })
 }
 
 fn func_at(module: &Module, place: usize) -> Option<&Func>

@@ -1,13 +1,16 @@
 //! What the lines on integers compute, on words.
 
-ghost use Rattle.std.specs.Prelude.{◌≡◌, true, [], Ok};
+ghost use Rattle.std.specs.Prelude.{◌≡◌, ◌≤◌, true, [], Ok, IfSome};
 ghost use Rattle.ir_ast.specs.Objects.{number};
+ghost use Rattle.object_meaning.specs.Comparisons.{bit, numbers_compare};
 ghost use Rattle.object_meaning.specs.Computing.{computed, with_number};
-ghost use Rattle.object_meaning.specs.Numbers.{width_of, sign_extended};
+ghost use Rattle.sp_ids.specs.Numbers.{signed};
+ghost use Rattle.object_meaning.specs.Numbers.{width_of, sign_extended, arithmetic};
 ghost use Rattle.flat_code.specs.Actions.{number_done, ExtendsWell};
 ghost use Rattle.machine_meaning.specs.Words.{worded_type};
-ghost use Rattle.machine_frames.specs.Frames.{is_plain};
+ghost use Rattle.machine_frames.specs.Decoding.{is_plain, found_word};
 
+use crate::decoded::Decoded;
 use flat_code::{Action, computed_number, width_of};
 use ir_ast::{Op, Pred, Ty};
 use sp_ids::{Trap, sign, wrap};
@@ -37,7 +40,104 @@ pub fn computed(op: &Op, ty: &Ty, first: u64, second: u64, third: u64) -> Result
         Op::Zext(_) => Ok(first),
         Op::Sext(to) => extended(*to, ty, first),
         Op::Select => Ok(if first > 0 { second } else { third }),
-        _ => Ok(0),
+        Op::Phi
+        | Op::Gep { .. }
+        | Op::Load
+        | Op::Store
+        | Op::Call { .. }
+        | Op::Statepoint { .. }
+        | Op::GcResult
+        | Op::GcRelocate
+        | Op::Br
+        | Op::CondBr
+        | Op::Switch
+        | Op::Ret
+        | Op::Unreachable => Ok(0),
+    }
+}
+
+/// The number that a line with this operator and type gives which computes one, unless it traps; none, for any other line.
+pub(crate) fn outcome(op: &Op, ty: &Ty, decoded: &Decoded, registers: &[u64]) -> Option<u64>
+    requires some_bits { 1 ≤ decoded.now.width }
+    requires word { decoded.now.width ≤ 64 }
+    requires width { decoded.now.width ≡ width_of ty.now }
+    ensures plain { IfSome result (λ word. decoded.now.plain ≡ true) }
+    ensures value { IfSome result (λ word. computed [] op.now (worded_type op.now ty.now) (number (found_word registers.now decoded.now.first)) (number (found_word registers.now decoded.now.second)) (number (found_word registers.now decoded.now.third)) ≡ Ok (number word)) }
+{
+    if !decoded.plain {
+        return None;
+    }
+    let width = decoded.width;
+    let first = decoded.first.word(registers);
+    let second = decoded.second.word(registers);
+    match op {
+        Op::Add => Some(wrap(width, first.wrapping_add(second))),
+        Op::Sub => Some(wrap(width, first.wrapping_sub(second))),
+        Op::Mul => Some(wrap(width, first.wrapping_mul(second))),
+        Op::Udiv => quotient(first, second),
+        Op::Urem => remainder(first, second),
+        Op::And => Some(first & second),
+        Op::Or => Some(first | second),
+        Op::Xor => Some(first ^ second),
+        Op::Shl => left_shift(width, first, second),
+        Op::Lshr => right_shift(width, first, second),
+        Op::Icmp(pred) => Some(compared_word(*pred, ty, first, second)),
+        Op::Zext(_) => Some(first),
+        Op::Sdiv => rare(op, ty, first, second),
+        Op::Srem => rare(op, ty, first, second),
+        Op::Ashr => rare(op, ty, first, second),
+        Op::Trunc(_) => rare(op, ty, first, second),
+        Op::Sext(_) => rare(op, ty, first, second),
+        Op::Select => {
+            if first > 0 {
+                Some(second)
+            } else {
+                Some(decoded.third.word(registers))
+            }
+        }
+        _ => None,
+    }
+}
+
+// The same of the lines that are rare.
+fn rare(op: &Op, ty: &Ty, first: u64, second: u64) -> Option<u64>
+    ensures { is_plain op.now ≡ true → IfSome result (λ word. computed [] op.now (worded_type op.now ty.now) (number first) (number second) (number 0) ≡ Ok (number word)) }
+{
+    computed(op, ty, first, second, 0).ok()
+}
+
+fn quotient(left: u64, right: u64) -> Option<u64>
+    ensures { IfSome result (λ word. arithmetic Op.Udiv 64 left right ≡ Ok word) }
+{
+    if right == 0 { None } else { Some(left / right) }
+}
+
+fn remainder(left: u64, right: u64) -> Option<u64>
+    ensures { IfSome result (λ word. arithmetic Op.Urem 64 left right ≡ Ok word) }
+{
+    if right == 0 { None } else { Some(left % right) }
+}
+
+fn left_shift(width: u32, left: u64, right: u64) -> Option<u64>
+    requires some_bits { 1 ≤ width }
+    requires word { width ≤ 64 }
+    ensures { IfSome result (λ word. arithmetic Op.Shl width left right ≡ Ok word) }
+{
+    if right < u64::from(width) {
+        Some(wrap(width, left << right))
+    } else {
+        None
+    }
+}
+
+fn right_shift(width: u32, left: u64, right: u64) -> Option<u64>
+    requires { width ≤ 64 }
+    ensures { IfSome result (λ word. arithmetic Op.Lshr width left right ≡ Ok word) }
+{
+    if right < u64::from(width) {
+        Some(left >> right)
+    } else {
+        None
     }
 }
 
@@ -52,12 +152,31 @@ fn of_two(action: Action, ty: &Ty, left: u64, right: u64) -> Result<u64, Trap>
 fn compared(pred: Pred, ty: &Ty, left: u64, right: u64) -> Result<u64, Trap>
     ensures { result ≡ number_done (Action.Compare pred) (width_of (worded_type (Op.Icmp pred) ty.now)) left right }
 {
-    match ty {
-        Ty::Ptr => of_two(Action::Compare(pred), &Ty::Int(64), left, right),
-        Ty::Void => of_two(Action::Compare(pred), ty, left, right),
-        Ty::Int(_) => of_two(Action::Compare(pred), ty, left, right),
-        Ty::Token => of_two(Action::Compare(pred), ty, left, right),
+    Ok(compared_word(pred, ty, left, right))
+}
+
+fn compared_word(pred: Pred, ty: &Ty, left: u64, right: u64) -> u64
+    ensures { result ≡ bit (numbers_compare pred (width_of (worded_type (Op.Icmp pred) ty.now)) left right) }
+{
+    match pred {
+        Pred::Eq => u64::from(left == right),
+        Pred::Ne => u64::from(left != right),
+        Pred::Ugt => u64::from(left > right),
+        Pred::Uge => u64::from(left >= right),
+        Pred::Ult => u64::from(left < right),
+        Pred::Ule => u64::from(left <= right),
+        Pred::Sgt => u64::from(signed(ty, left) > signed(ty, right)),
+        Pred::Sge => u64::from(signed(ty, left) >= signed(ty, right)),
+        Pred::Slt => u64::from(signed(ty, left) < signed(ty, right)),
+        Pred::Sle => u64::from(signed(ty, left) <= signed(ty, right)),
     }
+}
+
+// The signed number that a word of a type is, or that a pointer's word is.
+fn signed(ty: &Ty, word: u64) -> i64
+    ensures { (pred : Pred) → result ≡ signed (width_of (worded_type (Op.Icmp pred) ty.now)) word }
+{
+    sign(width_of(ty), word)
 }
 
 fn extended(to: u32, ty: &Ty, word: u64) -> Result<u64, Trap>

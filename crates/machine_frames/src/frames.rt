@@ -1,26 +1,31 @@
 //! A frame: where it stands, and its registers.
 
-ghost use Rattle.std.specs.Prelude.{◌≡◌, ◌==◌, ◌-◌, ◌++◌, ℕ, true, List, length, map, replicate, IfOk, OnOk};
+ghost use Rattle.std.specs.Prelude.{◌≡◌, ◌==◌, ◌≤◌, ◌-◌, ◌++◌, ℕ, true, List, drop, length, map, replicate, IfOk, OnOk};
 ghost use Rattle.std.specs.Option.{option_map_or};
 ghost use Rattle.std.specs.List.{position};
 ghost use Rattle.ir_ast.specs.Objects.{number};
-ghost use Rattle.object_meaning.specs.Lines.{following};
-ghost use Rattle.object_meaning.specs.Registers.{put, put_all};
+ghost use Rattle.object_meaning.specs.Lines.{following, after_all};
+ghost use Rattle.object_meaning.specs.Registers.{put, put_all, value};
+ghost use Rattle.object_meaning.specs.States.{Frame as IrFrame};
 ghost use Rattle.object_meaning.specs.Jumps.{arrived, incoming, phi_write};
 ghost use Rattle.map_bytes.specs.Maps.{StackMap};
 ghost use Rattle.move_plan.specs.declared.plan_lines.PlanLine.{PlanLine};
 ghost use Rattle.machine_meaning.specs.Code.{machinery_of};
+ghost use Rattle.machine_meaning.specs.Words.{worded_operand};
 ghost use Rattle.machine_meaning.specs.Machines.{behind, gone_from, gone_behind, regrouped_by, slot_put, return_address, address_behind};
+ghost use Rattle.machine_frames.specs.Computed.{Computes};
+ghost use Rattle.machine_frames.specs.Decoding.{decoded_of};
 ghost use Rattle.machine_frames.specs.Frames.{line_of, lines_left, lines_in, frame_of, entered_in, write_of, is_statepoint};
 
 use crate::code::Code;
-use crate::numbering::{after_all, following, front_of, member_count, phi_count, register_of};
+use crate::computing::outcome;
+use crate::decoded::{Decoded, Lines};
+use crate::numbering::{following, member_count, phi_count, register_of};
 use crate::slots::{is_statepoint, member_word};
-use crate::words::{put, word_at};
+use crate::words::{put, word, word_at};
 use frame_walk::Stack;
-use ir_ast::{Inst, Op};
+use ir_ast::{Inst, Op, Operand};
 use sp_ids::{BlockId, Memory};
-use std::alloc::Global;
 
 /// A word that a phi assigns, and the register that it goes to.
 #[derive(Clone, Copy, Debug, PartialEq, Eq)]
@@ -35,34 +40,55 @@ pub struct Move {
 pub struct Frame<'m> {
     pub func: u32,
     pub block: u32,
-    pub rest: &'m [Inst],
+    pub rest: Lines<'m>,
     pub next: usize,
     pub registers: Vec<u64>,
 }
 
 impl<'m> Frame<'m> {
-    /// The first frame of a call with these arguments.
+    /// The first frame of a call with these arguments, whose registers take this room.
     pub fn entered(
-        alloc: Global,
-        code: &Code<'m>,
+        room: Vec<u64>,
+        code: &'m Code<'_>,
         func: u32,
         arguments: &[u64],
     ) -> Result<Frame<'m>, Memory>
         ensures { IfOk result (λ frame. frame_of frame ≡ entered_in code.now func (map number arguments.now)) }
     {
-        let registers = registers_of(alloc, arguments, code.registers(func))?;
+        let registers = registers_of(room, arguments, code.registers(func))?;
         Ok(Frame {
             func,
             block: 0,
-            rest: code.insts(func, 0),
+            rest: code.lines(func, 0),
+            next: code.first(func, 0),
+            registers,
+        })
+    }
+
+    /// The same of a call whose arguments are what these operands are in the frame that calls.
+    pub(crate) fn called(
+        room: Vec<u64>,
+        code: &'m Code<'_>,
+        func: u32,
+        from: &[u64],
+        operands: &[Operand],
+    ) -> Result<Frame<'m>, Memory>
+        ensures { IfOk result (λ frame. frame_of frame ≡ entered_in code.now func (map (value (map number from.now)) (map worded_operand operands.now))) }
+    {
+        let arguments = words_of(room, from, operands)?;
+        let registers = filled(arguments, code.registers(func))?;
+        Ok(Frame {
+            func,
+            block: 0,
+            rest: code.lines(func, 0),
             next: code.first(func, 0),
             registers,
         })
     }
 
     /// Goes on behind a line with this result.
-    pub fn pass(&mut self, inst: &Inst, rest: &'m [Inst], word: u64) -> Result<(), Memory>
-        ensures { OnOk result (frame_of self.new ≡ record (frame_of self.old) { rest = lines_left (following self.old.next inst.now) rest.now; registers = put (line_of self.old.next inst.now).to (number word) (frame_of self.old).registers }) }
+    pub fn pass(&mut self, inst: &Inst, rest: Lines<'m>, word: u64) -> Result<(), Memory>
+        ensures { OnOk result (frame_of self.new ≡ record (frame_of self.old) { rest = lines_left (following self.old.next inst.now) rest.entry.insts.now; registers = put (line_of self.old.next inst.now).to (number word) (frame_of self.old).registers }) }
     {
         let next = following(self.next, inst)?;
         put(
@@ -75,9 +101,23 @@ impl<'m> Frame<'m> {
         Ok(())
     }
 
+    /// Goes on over lines that compute numbers, up to one that doesn't, or that traps.
+    pub fn compute_all(&mut self)
+        ensures { Computes (frame_of self.old) (frame_of self.new) }
+    {
+        let (count, next) = compute_lines(
+            self.registers.as_mut_slice(),
+            self.next,
+            self.rest.insts,
+            self.rest.decoded,
+        );
+        self.next = next;
+        self.rest = self.rest.behind(count);
+    }
+
     /// Goes on behind a line that takes effect elsewhere.
-    pub fn skip(&mut self, inst: &Inst, rest: &'m [Inst]) -> Result<(), Memory>
-        ensures { OnOk result (frame_of self.new ≡ record (frame_of self.old) { rest = lines_left (following self.old.next inst.now) rest.now }) }
+    pub fn skip(&mut self, inst: &Inst, rest: Lines<'m>) -> Result<(), Memory>
+        ensures { OnOk result (frame_of self.new ≡ record (frame_of self.old) { rest = lines_left (following self.old.next inst.now) rest.entry.insts.now }) }
     {
         let next = following(self.next, inst)?;
         self.rest = rest;
@@ -89,9 +129,9 @@ impl<'m> Frame<'m> {
     pub fn go_on(&mut self, stack: &Stack, answer: u64) -> Result<(), Memory>
         ensures { OnOk result (frame_of self.new ≡ gone_from stack.now (frame_of self.old) (frame_of self.old).rest (number answer)) }
     {
-        match front_of(self.rest) {
+        match self.rest.front() {
             None => Ok(()),
-            Some(parts) => self.go_behind(stack, parts.0, parts.1, answer),
+            Some(parts) => self.go_behind(stack, parts.0, parts.2, answer),
         }
     }
 
@@ -99,10 +139,10 @@ impl<'m> Frame<'m> {
         &mut self,
         stack: &Stack,
         inst: &Inst,
-        rest: &'m [Inst],
+        rest: Lines<'m>,
         answer: u64,
     ) -> Result<(), Memory>
-        ensures { OnOk result (frame_of self.new ≡ gone_behind stack.now (frame_of self.old) (line_of self.old.next inst.now) (lines_left (following self.old.next inst.now) rest.now) (number answer) inst.now.op) }
+        ensures { OnOk result (frame_of self.new ≡ gone_behind stack.now (frame_of self.old) (line_of self.old.next inst.now) (lines_left (following self.old.next inst.now) rest.entry.insts.now) (number answer) inst.now.op) }
     {
         if is_statepoint(inst.op()) {
             let next = following(self.next, inst)?;
@@ -117,15 +157,15 @@ impl<'m> Frame<'m> {
         &mut self,
         stack: &Stack,
         first: usize,
-        rest: &'m [Inst],
+        rest: Lines<'m>,
         answer: u64,
     ) -> Result<(), Memory>
-        ensures { OnOk result (frame_of self.new ≡ regrouped_by stack.now (frame_of self.old) (lines_left first rest.now) (number answer)) }
+        ensures { OnOk result (frame_of self.new ≡ regrouped_by stack.now (frame_of self.old) (lines_left first rest.entry.insts.now) (number answer)) }
     {
-        let (members, behind) = rest.split_at(member_count(rest));
-        let next = after_all(first, members)?;
-        put_members(self.registers.as_mut_slice(), stack, first, members, answer)?;
-        self.rest = behind;
+        let count = member_count(rest.insts);
+        let (members, _behind) = rest.insts.split_at(count);
+        let next = put_members(self.registers.as_mut_slice(), stack, first, members, answer)?;
+        self.rest = rest.behind(count);
         self.next = next;
         Ok(())
     }
@@ -133,36 +173,36 @@ impl<'m> Frame<'m> {
     /// Goes to another block, whose phis take effect together. `moves` is room for them.
     pub fn arrive(
         &mut self,
-        code: &Code<'m>,
+        code: &'m Code<'_>,
         moves: &mut Vec<Move>,
         block: u32,
     ) -> Result<(), Memory>
         ensures { OnOk result (frame_of self.new ≡ arrived (frame_of self.old) block (lines_in code.now self.old.func block)) }
     {
-        let insts = code.insts(self.func, block);
+        let lines = code.lines(self.func, block);
         let first = code.first(self.func, block);
-        let (phis, rest) = insts.split_at(phi_count(insts));
-        let next = after_all(first, phis)?;
-        gather(moves, self.registers.as_slice(), self.block, first, phis)?;
+        let count = phi_count(lines.insts);
+        let (phis, _behind) = lines.insts.split_at(count);
+        let next = gather(moves, self.registers.as_slice(), self.block, first, phis)?;
         do_moves(self.registers.as_mut_slice(), moves.as_slice());
         self.block = block;
-        self.rest = rest;
+        self.rest = lines.behind(count);
         self.next = next;
         Ok(())
     }
 
     /// The return address of the call at which it stands, or 0.
-    pub fn return_address(&self, code: &Code<'m>) -> Result<u64, Memory>
+    pub fn return_address(&self, code: &Code) -> Result<u64, Memory>
         ensures { IfOk result (λ address. (map : StackMap) → (plan : List PlanLine) → (bound : ℕ) → return_address (machinery_of code.now map plan bound) (frame_of self.now) ≡ address) }
     {
-        match front_of(self.rest) {
+        match self.rest.front() {
             None => Ok(0),
-            Some(parts) => self.address_behind(code, parts.0, parts.1),
+            Some(parts) => self.address_behind(code, parts.0, parts.2.insts),
         }
     }
 
     /// The address behind a call, its group taken along.
-    pub fn address_behind(&self, code: &Code<'m>, inst: &Inst, rest: &[Inst]) -> Result<u64, Memory>
+    pub fn address_behind(&self, code: &Code, inst: &Inst, rest: &[Inst]) -> Result<u64, Memory>
         ensures { IfOk result (λ address. (map : StackMap) → (plan : List PlanLine) → (bound : ℕ) → address_behind (machinery_of code.now map plan bound) (frame_of self.now) (line_of self.now.next inst.now) (lines_left (following self.now.next inst.now) rest.now) ≡ address) }
     {
         let insts = code.insts(self.func, self.block);
@@ -170,6 +210,32 @@ impl<'m> Frame<'m> {
         let left = left_behind(inst.op(), rest);
         code.address(self.func, self.block, all.saturating_sub(left))
     }
+}
+
+// The lines that stand first take effect, up to one that doesn't compute a number for one of these registers, or that traps.
+// How many they are, and the register of the next result.
+fn compute_lines(
+    registers: &mut [u64],
+    first: usize,
+    insts: &[Inst],
+    decoded: &[Decoded],
+) -> (usize, usize)
+    requires { decoded.now ≡ map decoded_of insts.now }
+    ensures within { result.0 ≤ length insts.now }
+    ensures computes { (frame : IrFrame) → frame.rest ≡ lines_left first insts.now → frame.registers ≡ map number registers.old → Computes frame (record frame { rest = lines_left result.1 (drop result.0 insts.now); registers = map number registers.new }) }
+{
+    let mut next = first;
+    for (place, inst) in insts.iter().enumerate() {
+        if next >= registers.len() {
+            return (place, next);
+        }
+        match outcome(inst.op(), inst.ty(), &decoded[place], registers) {
+            None => return (place, next),
+            Some(word) => registers[next] = word,
+        }
+        next += 1;
+    }
+    (insts.len(), next)
 }
 
 // How many instructions are left behind a call, its group taken along.
@@ -184,34 +250,50 @@ fn left_behind(op: &Op, rest: &[Inst]) -> usize
 }
 
 // These arguments, and 0 in so many registers at least.
-fn registers_of(alloc: Global, arguments: &[u64], count: usize) -> Result<Vec<u64>, Memory>
+fn registers_of(room: Vec<u64>, arguments: &[u64], count: usize) -> Result<Vec<u64>, Memory>
     ensures { IfOk result (λ registers. registers.items ≡ arguments.now ++ replicate (count - length arguments.now) 0) }
 {
-    let mut registers = Vec::with_capacity(alloc, count)?;
+    let mut registers = room;
+    registers.clear();
+    registers.reserve(count)?;
     registers.extend_from_slice(arguments)?;
-    fill(&mut registers, count.saturating_sub(arguments.len()))?;
+    registers.resize(count.max(arguments.len()), 0)?;
     Ok(registers)
 }
 
-// More registers, each 0.
-fn fill(registers: &mut Vec<u64>, count: usize) -> Result<(), Memory>
-    ensures { OnOk result (registers.new.items ≡ registers.old.items ++ replicate count 0) }
+// What these operands are in a frame with the registers `from`.
+fn words_of(room: Vec<u64>, from: &[u64], operands: &[Operand]) -> Result<Vec<u64>, Memory>
+    ensures { IfOk result (λ words. map number words.items ≡ map (value (map number from.now)) (map worded_operand operands.now)) }
 {
-    for _ in 0..count {
-        registers.push(0)?;
+    let mut words = room;
+    words.clear();
+    for operand in operands {
+        words.push(word(from, *operand))?;
     }
-    Ok(())
+    Ok(words)
 }
 
-// The members of a group get their values, of which the first goes to the register `first`.
+// These arguments, and 0 in so many registers at least.
+fn filled(arguments: Vec<u64>, count: usize) -> Result<Vec<u64>, Memory>
+    ensures { IfOk result (λ registers. registers.items ≡ arguments.items ++ replicate (count - length arguments.items) 0) }
+{
+    let mut registers = arguments;
+    let given = registers.len();
+    registers.resize(count.max(given), 0)?;
+    Ok(registers)
+}
+
+// The members of a group get their values, of which the first goes to the register `first`. The register of the next result
+// behind them.
 fn put_members(
     registers: &mut [u64],
     stack: &Stack,
     first: usize,
     members: &[Inst],
     answer: u64,
-) -> Result<(), Memory>
-    ensures { OnOk result (map number registers.new ≡ put_all (map (slot_put stack.now (number answer)) (lines_left first members.now)) (map number registers.old)) }
+) -> Result<usize, Memory>
+    ensures put { OnOk result (map number registers.new ≡ put_all (map (slot_put stack.now (number answer)) (lines_left first members.now)) (map number registers.old)) }
+    ensures next { IfOk result (λ next. next ≡ after_all first members.now) }
 {
     let mut next = first;
     for member in members {
@@ -220,18 +302,19 @@ fn put_members(
         let after = following(next, member)?;
         next = after;
     }
-    Ok(())
+    Ok(next)
 }
 
-// What phis assign on the edge from a block, all read before any is written.
+// What phis assign on the edge from a block, all read before any is written. The register of the next result behind them.
 fn gather(
     moves: &mut Vec<Move>,
     registers: &[u64],
     from: u32,
     first: usize,
     phis: &[Inst],
-) -> Result<(), Memory>
-    ensures { OnOk result (map write_of moves.new.items ≡ map (phi_write from (map number registers.now)) (lines_left first phis.now)) }
+) -> Result<usize, Memory>
+    ensures moves { OnOk result (map write_of moves.new.items ≡ map (phi_write from (map number registers.now)) (lines_left first phis.now)) }
+    ensures next { IfOk result (λ next. next ≡ after_all first phis.now) }
 {
     moves.clear();
     let mut next = first;
@@ -244,7 +327,7 @@ fn gather(
         let after = following(next, phi)?;
         next = after;
     }
-    Ok(())
+    Ok(next)
 }
 
 // The word of a phi on the edge from a block.

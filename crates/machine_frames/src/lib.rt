@@ -3,6 +3,7 @@
 
 mod code;
 mod computing;
+mod decoded;
 mod frames;
 mod numbering;
 mod slots;
@@ -11,8 +12,8 @@ mod words;
 
 pub use code::Code;
 pub use computing::{computed, is_plain};
+pub use decoded::{Decoded, Lines, Source};
 pub use frames::{Frame, Move};
-pub use numbering::front_of;
 pub use slots::{is_statepoint, keep, write_over};
 pub use tasks::Task;
 pub use words::{word, word_at};

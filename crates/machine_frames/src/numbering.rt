@@ -115,13 +115,3 @@ fn is_member(op: &Op) -> bool
 {
     matches!(op, Op::GcResult | Op::GcRelocate)
 }
-
-/// The first of these instructions and the others.
-pub fn front_of<'m>(insts: &'m [Inst]) -> Option<(&'m Inst, &'m [Inst])>
-    ensures { MatchOption result (insts.now ≡ []) (λ parts. insts.now ≡ parts.0.now ∷ parts.1.now) }
-{
-    match insts {
-        [] => None,
-        [inst, rest @ ..] => Some((inst, rest)),
-    }
-}

@@ -2,7 +2,9 @@
 
 ghost use Rattle.std.specs.Prelude.{◌≡◌, ◌+◌, ◌++◌, ◌∷◌, [], drop, map, replicate, IfOk, OnOk, Ok, Err};
 ghost use Rattle.ir_ast.specs.Objects.{number};
+ghost use Rattle.object_meaning.specs.Registers.{value};
 ghost use Rattle.machine_meaning.specs.Code.{words_in};
+ghost use Rattle.machine_meaning.specs.Words.{worded_operand};
 ghost use Rattle.machine_meaning.specs.Machines.{gone_from};
 ghost use Rattle.machine_frames.specs.Frames.{frame_of, entered_in, below_of};
 ghost use Rattle.machine_frames.specs.Tasks.{Begins, Enters, Leaves};
@@ -10,35 +12,39 @@ ghost use Rattle.machine_frames.specs.Tasks.{Begins, Enters, Leaves};
 use crate::code::Code;
 use crate::frames::Frame;
 use frame_walk::Stack;
+use ir_ast::Operand;
 use sp_ids::Memory;
 use std::alloc::Global;
 use std::mem;
 
-/// The frame of a task that runs, or that waits as its newest; those below, the newest last; and its stack.
+/// The frame of a task that runs, or that waits as its newest; those below, the newest last; and its stack. The registers of
+/// frames that are gone are room for those of new ones.
 #[derive(Drop)]
 pub struct Task<'m> {
     pub frame: Frame<'m>,
     pub below: Vec<Frame<'m>>,
     pub stack: Stack,
+    room: Vec<Vec<u64>>,
 }
 
 impl<'m> Task<'m> {
     /// A task that begins with a call, whose return address is 0.
     pub fn begin(
         alloc: Global,
-        code: &Code<'m>,
+        code: &'m Code<'_>,
         func: u32,
         arguments: &[u64],
     ) -> Result<Task<'m>, Memory>
         ensures { IfOk result (Begins code.now func (map number arguments.now)) }
     {
-        let frame = Frame::entered(alloc, code, func, arguments)?;
+        let frame = Frame::entered(Vec::new(alloc), code, func, arguments)?;
         let mut stack = Stack::new(alloc);
         stack.push_frame(code.frame_words(func)?, 0)?;
         Ok(Task {
             frame,
             below: Vec::new(alloc),
             stack,
+            room: Vec::new(alloc),
         })
     }
 
@@ -46,14 +52,36 @@ impl<'m> Task<'m> {
     pub fn enter(
         &mut self,
         alloc: Global,
-        code: &Code<'m>,
+        code: &'m Code<'_>,
         func: u32,
         arguments: &[u64],
         address: u64,
     ) -> Result<(), Memory>
         ensures { OnOk result (Enters code.now func (map number arguments.now) address self.old self.new) }
     {
-        let frame = Frame::entered(alloc, code, func, arguments)?;
+        let room = self.room.pop().unwrap_or(Vec::new(alloc));
+        let frame = Frame::entered(room, code, func, arguments)?;
+        let words = code.frame_words(func)?;
+        self.stack.push_frame(words, address)?;
+        let waits = mem::replace(&mut self.frame, frame);
+        self.below.push(waits)?;
+        Ok(())
+    }
+
+    /// The same of a call whose arguments are what these operands are in the frame that runs.
+    pub fn call(
+        &mut self,
+        alloc: Global,
+        code: &'m Code<'_>,
+        func: u32,
+        operands: &[Operand],
+        address: u64,
+    ) -> Result<(), Memory>
+        ensures { OnOk result (Enters code.now func (map (value (map number self.old.frame.registers.items)) (map worded_operand operands.now)) address self.old self.new) }
+    {
+        let room = self.room.pop().unwrap_or(Vec::new(alloc));
+        let from = self.frame.registers.as_slice();
+        let frame = Frame::called(room, code, func, from, operands)?;
         let words = code.frame_words(func)?;
         self.stack.push_frame(words, address)?;
         let waits = mem::replace(&mut self.frame, frame);
@@ -70,7 +98,7 @@ impl<'m> Task<'m> {
     }
 
     /// The newest of the frames that wait runs again, and the running one is gone. Whether there was one.
-    pub fn leave(&mut self, code: &Code<'m>) -> Result<bool, Memory>
+    pub fn leave(&mut self, code: &Code) -> Result<bool, Memory>
         ensures { IfOk result (λ left. Leaves code.now self.old left self.new) }
     {
         let words = code.frame_words(self.frame.func)?;
@@ -84,7 +112,8 @@ impl<'m> Task<'m> {
             return Err(Memory);
         }
         let _ = self.stack.pop_frame(words);
-        self.frame = frame;
+        let left = mem::replace(&mut self.frame, frame);
+        self.room.push(left.registers)?;
         Ok(true)
     }
 }

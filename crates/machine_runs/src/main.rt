@@ -4,18 +4,47 @@
 
 mod running;
 
+use ir_machine::Shows;
 use running::show_run;
 use std::process::ExitCode;
 use std::{env, io};
 
-const USAGE: &str = "usage: machine_runs run MODULE INPUT PLAN STEPS, or machine_runs show NAME..";
+const USAGE: &str =
+    "usage: machine_runs run|trace MODULE INPUT PLAN STEPS, or machine_runs show NAME..";
+
+const NOTHING: Shows = Shows {
+    places: false,
+    trace: false,
+};
+
+const ALL: Shows = Shows {
+    places: true,
+    trace: true,
+};
 
 fn main(rt: HostRuntime) -> io::Result<ExitCode> {
     let words: Vec<String> = env::args(&rt)?.collect(rt.alloc())?;
     let words: Vec<&str> = words.iter().map(|word| word.as_str()).collect(rt.alloc())?;
     match words.as_slice() {
         [_, command, module, input, plan, steps] if *command == "run" => {
-            show(&rt, module, input, plan, steps.parse::<u64>().unwrap_or(0))
+            show(
+                &rt,
+                module,
+                input,
+                plan,
+                steps.parse::<u64>().unwrap_or(0),
+                NOTHING,
+            )
+        }
+        [_, command, module, input, plan, steps] if *command == "trace" => {
+            show(
+                &rt,
+                module,
+                input,
+                plan,
+                steps.parse::<u64>().unwrap_or(0),
+                ALL,
+            )
         }
         [_, command, names @ ..] if *command == "show" => show_all(&rt, names),
         _ => {
@@ -25,13 +54,13 @@ fn main(rt: HostRuntime) -> io::Result<ExitCode> {
     }
 }
 
-// Runs NAME.ll under NAME.plan, without an input, for each of these names.
+// Runs NAME.ll under NAME.plan, without an input, for each of these names, with its trace and its places.
 fn show_all(rt: &HostRuntime, names: &[&str]) -> io::Result<ExitCode> {
     for name in names {
         println!(rt; "module {name}")?;
         let module = format!(in rt.alloc(); "{name}.ll")?;
         let plan = format!(in rt.alloc(); "{name}.plan")?;
-        let _ = show(rt, module.as_str(), "/dev/null", plan.as_str(), 1_000)?;
+        let _ = show(rt, module.as_str(), "/dev/null", plan.as_str(), 1_000, ALL)?;
     }
     Ok(ExitCode::SUCCESS)
 }
@@ -42,8 +71,9 @@ fn show(
     input: &str,
     plan: &str,
     steps: u64,
+    shows: Shows,
 ) -> io::Result<ExitCode> {
-    match show_run(rt, module, input, plan, steps) {
+    match show_run(rt, module, input, plan, steps, shows) {
         Ok(()) => Ok(ExitCode::SUCCESS),
         Err(error) => {
             println!(rt; "{error}")?;

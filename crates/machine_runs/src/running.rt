@@ -9,7 +9,7 @@ ghost use Rattle.ir_cfg.specs.TargetModules.{IsTargetModule};
 use anyhow::{Result, bail};
 use frame_slots::Layouts;
 use ir_ast::Module;
-use ir_machine::run_any;
+use ir_machine::{Shows, run_any};
 use ir_reader::read_rewritten;
 use ir_types::typed_rewritten;
 use move_plan::{Plan, read_input};
@@ -17,13 +17,14 @@ use sp_ids::limits::FILE_BYTES;
 use stackmap_write::write;
 use tool_io::{DiskFiles, Files, OutSink, TakeFault};
 
-/// Runs the module of a file in the rewritten form over its own map, and writes what it prints and how it ended.
+/// Runs the module of a file in the rewritten form over its own map, and writes its text, with these shows, and how it ended.
 pub(crate) fn show_run(
     rt: &HostRuntime,
     module: &str,
     input: &str,
     plan: &str,
     steps: u64,
+    shows: Shows,
 ) -> Result<()> {
     let alloc = rt.alloc();
     let text = taken(rt, module)?;
@@ -39,10 +40,17 @@ pub(crate) fn show_run(
     let Ok(plan) = Plan::read(alloc, &lines) else {
         bail!("the plan has a fault");
     };
-    run(rt, &whole, &input, &plan, steps)
+    run(rt, &whole, &input, &plan, steps, shows)
 }
 
-fn run(rt: &HostRuntime, whole: &Module, input: &[i64], plan: &Plan, steps: u64) -> Result<()>
+fn run(
+    rt: &HostRuntime,
+    whole: &Module,
+    input: &[i64],
+    plan: &Plan,
+    steps: u64,
+    shows: Shows,
+) -> Result<()>
     requires target { IsTargetModule whole.now.content }
     requires no_bundle { All HasNoBundle whole.now.content.funcs }
 {
@@ -56,6 +64,7 @@ fn run(rt: &HostRuntime, whole: &Module, input: &[i64], plan: &Plan, steps: u64)
         input,
         plan,
         steps,
+        shows,
         &mut OutSink::new(rt),
     );
     println!(rt; "{ran:?}")?;

@@ -1,5 +1,5 @@
 -- Move lines, one by one.
-use Rattle.std.proofs.Common.{◌≡◌, ℕ, ◌+◌, ◌<◌, ◌≤◌, Bool, true, false, inl, inr, List, [], ◌∷◌, ◌++◌, length, take, drop, get_or, set, refl, sym, ap, ◌∙◌, arith, ◌&&◌, cond, eqb, ltb, leb, Option, Some, None}
+use Rattle.std.proofs.Common.{◌≡◌, ℕ, zero, suc, ◌+◌, ◌<◌, ◌≤◌, Bool, true, false, inl, inr, List, [], ◌∷◌, ◌++◌, length, take, drop, get_or, set, refl, sym, ap, ◌∙◌, arith, ◌&&◌, cond, eqb, ltb, leb, Option, Some, None}
 use Rattle.std.specs.Option.{option_or, is_some}
 use Rattle.std.proofs.lemmas.Bool.{and_parts, and_from, and_cases, and_left, and_right, eqb-true, eqb-false, eq-eqb, ne_eqb, cases_eq, lt-ltb, le-leb}
 use Rattle.std.proofs.lemmas.List.{take_more, take-append-drop, drop_more, get_or-set_same, get_or-set_other, get_or-map, length-map, same_lists, get_or_default}
@@ -136,3 +136,11 @@ pub unnamed_here : (lines : List Move) (targets : List (Option ℕ)) (i place : 
     → get_or targets place None ≡ line_target (take i lines) (place + 1) → line_target (take i lines) x.obj ≡ None
 unnamed_here lines targets i place x at free named =
     ap (line_target (take i lines)) (sym at) ∙ sym named ∙ none_of (get_or targets place None) free
+
+-- the first line that names an object gives its target
+pub first_line : (lines : List Move) (i n : ℕ) (d : Move) → i < length lines → line_target (take i lines) n ≡ None → (get_or lines i d).obj ≡ n → line_target lines n ≡ Some (get_or lines i d).to
+first_line [] i n d l none e = absurd (omega arith)
+first_line (x ∷ xs) zero n d l none e = rw (eq-eqb x.obj n e) refl
+first_line (x ∷ xs) (suc i) n d l none e =
+    (elim (eqb x.obj n) as (λ b. cond b (Some x.to) (line_target (take i xs) n) ≡ None → cond b (Some x.to) (line_target xs n) ≡ Some (get_or xs i d).to)
+    [ true ↦ λ q. cc | false ↦ λ q. first_line xs i n d (let h : i < length xs = omega arith in h) q e ]) none

@@ -1,10 +1,10 @@
 -- Objects in the order of their addresses: two parts, a merge, and what a group does to the order.
-use Rattle.std.proofs.Common.{◌≡◌, ℕ, zero, suc, ◌+◌, ◌-◌, ◌<◌, ◌≤◌, ◌^◌, Bool, true, false, not, ◌&&◌, cond, inl, inr, List, [], ◌∷◌, ◌++◌, length, take, drop, map, get_or, refl, sym, ap, ◌∙◌, subst, arith, Option, Some, None}
+use Rattle.std.proofs.Common.{◌≡◌, ℕ, zero, suc, ◌+◌, ◌-◌, ◌<◌, ◌≤◌, ◌^◌, Bool, true, false, not, ◌&&◌, cond, inl, inr, List, [], ◌∷◌, ◌++◌, length, drop, map, get_or, refl, sym, ap, ◌∙◌, subst, arith, Option, Some, None}
 use Rattle.std.specs.Prelude.{is_some, filter}
 use Rattle.std.specs.List.{All, filter_map, list_all, insert}
 use Rattle.std.specs.List.Sorted.{IsPermutation, IsNonDecreasingBy}
 use Rattle.std.proofs.lemmas.Bool.{cases_lt}
-use Rattle.std.proofs.lemmas.List.{drop_more, drop_all, append_assoc, append-nil, length-append, length_push, get_or_push, get_or_append_left, get_or-append_right, get_or-map, length-map, same_lists, take-append-le, drop-append-le, length-drop, get_or_default}
+use Rattle.std.proofs.lemmas.List.{drop_more, drop_all, append_assoc, append-nil, length-append, length_push, get_or_push, get_or_append_left, get_or-append_right, get_or-map, length-map, same_lists, length-drop, get_or_default}
 use Rattle.std.proofs.lemmas.List.Folds.{list_all-append}
 use Rattle.std.proofs.lemmas.List.Elements.{filter-append}
 use Rattle.std.proofs.lemmas.List.Sums.{list_all-from_AllPass}
@@ -12,7 +12,7 @@ use Rattle.std.proofs.lemmas.List.Sorted.{IsPermutation-refl, IsPermutation-sym,
 use Rattle.std.proofs.Math.Seq.{take-append_seam, drop-append_seam}
 use Rattle.moving_heap.specs.declared.stands.Stand.{Stand}
 use Rattle.moving_heap.specs.Places.{apart, clear, moved, sent}
-use Rattle.moving_heap.specs.Orders.{target_of, stays, leaver, sent_by, IsLow, IsHigh, AreHalves}
+use Rattle.moving_heap.specs.Orders.{target_of, stays, leaver, sent_by, IsLow, IsHigh}
 use Rattle.moving_heap.specs.Settled.{IsNumbered}
 use Rattle.moving_heap.proofs.ApartLemmas.{clear_from}
 
@@ -97,24 +97,12 @@ apart_parts (x ∷ xs) ys low high =
     ∙ and_regroup (list_all (clear x) xs) (apart xs) (apart ys)
 
 -- a further object goes behind the low part
-pub pushed_is : (stands : List Stand) (high : ℕ) (x : Stand) → high ≤ length stands
-    → drop high (stands ++ x ∷ []) ++ take high (stands ++ x ∷ []) ≡ (drop high stands ++ x ∷ []) ++ take high stands
-pushed_is stands high x h =
-    ap (λ (l : List Stand). l ++ take high (stands ++ x ∷ [])) (drop-append-le high stands (x ∷ []) h)
-    ∙ ap (λ (l : List Stand). (drop high stands ++ x ∷ []) ++ l) (take-append-le high stands (x ∷ []) h)
-
-pub pushed_same : (stands : List Stand) (high : ℕ) (x : Stand) → high ≤ length stands
-    → IsPermutation (x ∷ (drop high stands ++ take high stands)) (drop high (stands ++ x ∷ []) ++ take high (stands ++ x ∷ []))
-pushed_same stands high x h =
-    rw (pushed_is stands high x h, append_assoc (drop high stands) (x ∷ []) (take high stands))
-    (IsPermutation-sym (drop high stands ++ x ∷ take high stands) (x ∷ (drop high stands ++ take high stands)) (IsPermutation-middle (drop high stands) x (take high stands)))
-
 insert_between : (xs ys : List Stand) (x : Stand) → insert (xs ++ ys) (length xs) x ≡ (xs ++ x ∷ []) ++ ys
 insert_between xs ys x =
     ap (λ (l : List Stand). l ++ x ∷ drop (length xs) (xs ++ ys)) (take-append_seam xs ys) ∙ ap (λ (l : List Stand). xs ++ x ∷ l) (drop-append_seam xs ys)
     ∙ sym (append_assoc xs (x ∷ []) ys)
 
-sorted_between : (xs ys : List Stand) (x : Stand) → Rises (xs ++ ys) → All IsLow xs → All IsHigh ys → IsLow x → All (λ other. IsLow other → other.address ≤ x.address) (xs ++ ys)
+pub sorted_between : (xs ys : List Stand) (x : Stand) → Rises (xs ++ ys) → All IsLow xs → All IsHigh ys → IsLow x → All (λ other. IsLow other → other.address ≤ x.address) (xs ++ ys)
     → Rises ((xs ++ x ∷ []) ++ ys)
 sorted_between xs ys x sorted low high here last =
     let size = length-append xs ys in
@@ -122,22 +110,6 @@ sorted_between xs ys x sorted low high here last =
     (IsNonDecreasingBy-insert (λ (s : Stand). s.address) (xs ++ ys) (length xs) x sorted (omega arith)
     (λ k d l. last k d (omega arith) (rw (get_or_append_left xs ys d k l) (low k d l)))
     (λ k d le l. rw (get_or-append_right xs ys (length xs) k d refl le) (let h = high (k - length xs) d (omega arith) in omega arith)))
-
-pub pushed_sorted : (stands : List Stand) (high : ℕ) (x : Stand) → AreHalves stands high → Rises (drop high stands ++ take high stands) → IsLow x
-    → All (λ other. IsLow other → other.address ≤ x.address) (drop high stands ++ take high stands) → Rises (drop high (stands ++ x ∷ []) ++ take high (stands ++ x ∷ []))
-pushed_sorted stands high x are sorted here last =
-    rw (pushed_is stands high x are.within) (sorted_between (drop high stands) (take high stands) x sorted are.lower are.upper here last)
-
--- a list of two parts, turned round
-pub turned : (xs ys : List Stand) → drop (length xs) (xs ++ ys) ++ take (length xs) (xs ++ ys) ≡ ys ++ xs
-turned xs ys = ap (λ (l : List Stand). l ++ take (length xs) (xs ++ ys)) (drop-append_seam xs ys) ∙ ap (λ (l : List Stand). ys ++ l) (take-append_seam xs ys)
-
-pub halves_of : (xs ys : List Stand) → All IsHigh xs → All IsLow ys → AreHalves (xs ++ ys) (length xs)
-halves_of xs ys high low = record {
-  within = let size = length-append xs ys in omega arith;
-  upper = subst (λ (l : List Stand). All IsHigh l) (sym (take-append_seam xs ys)) high;
-  lower = subst (λ (l : List Stand). All IsLow l) (sym (drop-append_seam xs ys)) low;
-}
 
 -- ---- those that stay and those that leave
 

@@ -1,22 +1,22 @@
 -- Tables of places: before and after a move, and with a further object.
 use Rattle.std.proofs.Common.{◌≡◌, ℕ, zero, suc, ◌+◌, ◌-◌, ◌*◌, ◌<◌, ◌≤◌, ◌≢◌, ◌^◌, ◌%◌, Bool, true, false, ◌⊎◌, inl, inr, List, [], ◌∷◌, ◌++◌, length, get_or, map, refl, sym, ap, ◌∙◌, subst, arith, cond, eqb, ltb, leb, ◌&&◌, Option, Some, None}
-use Rattle.std.specs.List.{sum_by, All, filter_map}
+use Rattle.std.specs.List.{sum_by, All}
 use Rattle.std.specs.Prelude.{slice_get}
 use Rattle.std.specs.Option.{option_map, option_map_or, unwrap_or}
 use Rattle.std.proofs.lemmas.Option.{get_or_from_slice_get}
-use Rattle.std.specs.List.Sorted.{IsPermutation, IsNonDecreasingBy}
+use Rattle.std.specs.List.Sorted.{IsPermutation}
 use Rattle.std.proofs.lemmas.Bool.{and_parts, and_from, and_left, and_right, eqb-true, eq-eqb, ne_eqb, ltb-true, leb-true, lt-ltb, le-leb, le-ltb, lt-leb, cases_lt, cases_Bool, false_from_ne_true}
 use Rattle.std.proofs.lemmas.List.{same_lists, length-map, get_or-map, get_or_append_left, get_or_push, length_push}
 use Rattle.std.proofs.lemmas.List.Sums.{sum_by-cons, sum_by_push}
-use Rattle.std.proofs.lemmas.List.Sorted.{IsPermutation-sym, IsPermutation-trans, IsPermutation-cons, IsPermutation-to_front, IsPermutation-map, All-permutation}
+use Rattle.std.proofs.lemmas.List.Sorted.{IsPermutation-sym, IsPermutation-trans, IsPermutation-map, All-permutation}
 use Rattle.move_plan.specs.declared.plan_lines.Move.{Move}
 use Rattle.moving_heap.specs.declared.stands.Verdict.TheVariants.{Empty, Legal, Illegal}
 use Rattle.moving_heap.specs.declared.stands.Stand.{Stand}
 use Rattle.moving_heap.specs.declared.stands.Moved.{Moved}
 use Rattle.moving_heap.specs.Places.{new_address, owner, stands_at, holds, apart, clear, moves_of, moved, sent, fits, all_fit, new_word, carried, new_stand, first_place, due_moves, group_moves, group_targets, is_legal, no_lines, moves_none, exist, differ}
-use Rattle.moving_heap.specs.Settled.{Pairs, Clear, IsSettled, AreSettled, IsOrder, IsTable, Group, DifferentPlaces}
-use Rattle.moving_heap.specs.Orders.{target_of, leaver, sent_by, IsLow, IsHigh}
-use Rattle.moving_heap.proofs.OrderLemmas.{leavers_high, moved_by_number}
+use Rattle.moving_heap.specs.Settled.{Pairs, Clear, IsSettled, AreSettled, IsOrder, DifferentPlaces}
+use Rattle.moving_heap.specs.Orders.{target_of, sent_by, IsLow}
+use Rattle.moving_heap.proofs.OrderLemmas.{moved_by_number}
 use Rattle.moving_heap.proofs.ApartLemmas.{apart_pairs, pairs_apart, pairs_permutation}
 use Rattle.moving_heap.proofs.FindLemmas.{pairs_tail, old_of, find_nothing, find_at_index, find_in_order, find_not_in_order, AtMostOne, found_by, none_passes}
 
@@ -204,14 +204,6 @@ settled_added stands size are low whole room =
           (λ k d l. swapped _ _ (new_clear (sizes stands) size (first_place stands) (get_or stands k d) (are.each k d l) room refl)));
     }
 
-pub order_added : (stands order new_order : List Stand) (new : Stand) → IsOrder stands order → IsPermutation (new ∷ order) new_order → IsNonDecreasingBy (λ stand. stand.address) new_order
-    → IsOrder (stands ++ new ∷ []) new_order
-order_added stands order new_order new is same sorted = record {
-  same = IsPermutation-trans (stands ++ new ∷ []) (new ∷ stands) new_order (IsPermutation-to_front stands new)
-      (IsPermutation-trans (new ∷ stands) (new ∷ order) new_order (IsPermutation-cons new stands order is.same) same);
-  sorted = sorted;
-}
-
 -- a new object stands behind all that never moved
 behind_low : (used : ℕ) (stand : Stand) → IsSettled used stand → IsLow stand → stand.address ≤ 65536 + used
 behind_low used stand s low = elim s.place [ inl a ↦ (let size = s.size in omega arith) | inr b ↦ (let size = s.size in let no : ⊥ = omega arith in absurd no) ]
@@ -222,17 +214,12 @@ last_low stands order address are is at =
     (λ k d l low. subst (λ (n : ℕ). (get_or stands k d).address ≤ n) (sym at) (behind_low (sizes stands) (get_or stands k d) (are.each k d l) low))
 
 -- those that leave land in the upper half
-lands : (stands : List Stand) (targets : List (Option ℕ)) (k to : ℕ) (d : Stand) → AreSettled stands → all_fit stands targets ≡ true → k < length stands → target_of targets (get_or stands k d) ≡ Some to → 2 ^ 40 ≤ to
+pub lands : (stands : List Stand) (targets : List (Option ℕ)) (k to : ℕ) (d : Stand) → AreSettled stands → all_fit stands targets ≡ true → k < length stands → target_of targets (get_or stands k d) ≡ Some to → 2 ^ 40 ≤ to
 lands stands targets k to d are fit l e =
     let number = are.numbered.at k d l in
     let place : (get_or stands k d).number - 1 ≡ k = omega arith in
     let f = and_parts (eqb (to % 8) 0) (leb (2 ^ 40) to && leb (to + (get_or stands k d).size) (2 ^ 46)) (fits_at stands targets k to d fit l (ap (λ (n : ℕ). get_or targets n None) (sym place) ∙ e)) in
     leb-true (2 ^ 40) to (and_parts (leb (2 ^ 40) to) (leb (to + (get_or stands k d).size) (2 ^ 46)) f.1).0
-
-pub land_high : (stands order : List Stand) (targets : List (Option ℕ)) → AreSettled stands → IsOrder stands order → all_fit stands targets ≡ true → All IsHigh (filter_map (leaver targets) order)
-land_high stands order targets are is fit =
-    leavers_high targets order
-    (All-permutation (λ (stand : Stand). (to : ℕ) → target_of targets stand ≡ Some to → 2 ^ 40 ≤ to) stands order is.same (λ k d l to e. lands stands targets k to d are fit l e))
 
 pub next_same : (stands order next : List Stand) (targets : List (Option ℕ)) → AreSettled stands → IsOrder stands order → IsPermutation (map (sent_by targets) order) next → IsPermutation (moved stands targets) next
 next_same stands order next targets are is p =
@@ -287,70 +274,6 @@ owner_not_found stands order word count are is within low high last =
           (le-ltb word ((get_or order k d).address + (get_or order k d).size) (ended stands order word count k d are is within l a low (last d (omega arith))))
       | inr b ↦ and_left (leb (get_or order k d).address word) (ltb word ((get_or order k d).address + (get_or order k d).size)) (lt-leb (get_or order k d).address word (high k d b l))
     ]))
-
-pub table_applied : (stands order next : List Stand) (targets : List (Option ℕ)) (used : ℕ) (group : Group) (new_stands : List Stand) (room : ℕ)
-    → IsTable stands order next targets used group → (group.moves ≡ [] → ⊥) → new_stands ≡ moved stands targets → room ≡ group.room
-    → IsTable new_stands next order targets used (record { moves = []; room = room })
-table_applied stands order next targets used group new_stands room is some stands_are room_is =
-    elim is.due [
-      | inl none ↦ absurd (some none)
-      | inr due ↦ (
-          rw stands_are (record {
-            settled = due.settled;
-            sorted = due.sorted;
-            targets_size = is.targets_size ∙ sym (moved-length stands targets);
-            used_is = is.used_is ∙ sym (moved-sum stands targets);
-            room = rw (room_is, moved-length stands targets) is.room;
-            due = inl refl;
-          }))
-    ]
-
--- what a pending group does to the objects
-pub applied_as_carried : (stands order next : List Stand) (targets : List (Option ℕ)) (used : ℕ) (group : Group)
-    → IsTable stands order next targets used group → (group.moves ≡ [] → ⊥) → moved stands targets ≡ map (carried group.moves) stands
-applied_as_carried stands order next targets used group is some =
-    elim is.due [
-      | inl none ↦ absurd (some none)
-      | inr due ↦ carried_all stands targets (different stands is.settled) ∙ ap (λ moves. map (carried moves) stands) (sym due.moves_are)
-    ]
-
-new_is : (stands : List Stand) (number size address : ℕ) → number ≡ length stands + 1 → address ≡ first_place stands
-    → ◌≡◌ {A = Stand} (record { number = number; size = size; address = address }) (new_stand stands size)
-new_is stands number size address n a = cc
-
-pub table_added : (stands order next : List Stand) (targets : List (Option ℕ)) (used : ℕ) (group : Group)
-    (new_stands new_order new_next : List Stand) (new_targets : List (Option ℕ)) (new_used room number size address : ℕ)
-    → IsTable stands order next targets used group → 8 ≤ size → size % 8 ≡ 0 → sizes stands + size ≤ 67108864 → number ≡ length stands + 1 → address ≡ 65536 + used
-    → new_stands ≡ stands ++ record { number = number; size = size; address = address } ∷ []
-    → IsPermutation (record { number = number; size = size; address = address } ∷ order) new_order → IsNonDecreasingBy (λ stand. stand.address) new_order
-    → length new_targets ≡ length targets + 1 → new_used ≡ used + size → length stands + 1 ≤ room
-    → IsTable new_stands new_order new_next new_targets new_used (record { moves = []; room = room })
-table_added stands order next targets used group new_stands new_order new_next new_targets new_used room number size address is low whole fits n a stands_are order_same order_sorted targets_are used_is room_is =
-    let new : ◌≡◌ {A = Stand} (record { number = number; size = size; address = address }) (new_stand stands size) = new_is stands number size address n (a ∙ ap (λ u. 65536 + u) is.used_is) in
-    let stands_are' : new_stands ≡ stands ++ new_stand stands size ∷ [] = stands_are ∙ ap (λ (s : Stand). stands ++ s ∷ []) new in
-    let count = length_push stands (new_stand stands size) in
-    let sum = sum_by_push (λ (s : Stand). s.size) stands (new_stand stands size) in
-    rw stands_are' (record {
-      settled = settled_added stands size is.settled low whole fits;
-      sorted = order_added stands order new_order (new_stand stands size) is.sorted (subst (λ (s : Stand). IsPermutation (s ∷ order) new_order) new order_same) order_sorted;
-      targets_size = targets_are ∙ ap (λ m. m + 1) is.targets_size ∙ sym count;
-      used_is = used_is ∙ ap (λ m. m + size) is.used_is ∙ sym sum;
-      room = rw count room_is;
-      due = inl refl;
-    })
-
-pub table_kept : (stands order next : List Stand) (targets : List (Option ℕ)) (used : ℕ) (group : Group) (new_stands new_order new_next : List Stand) (new_targets : List (Option ℕ)) (new_group : Group)
-    → IsTable stands order next targets used group → new_stands ≡ stands → new_order ≡ order → new_next ≡ next → new_targets ≡ targets → new_group.moves ≡ group.moves → group.room ≤ new_group.room
-    → IsTable new_stands new_order new_next new_targets used new_group
-table_kept stands order next targets used group new_stands new_order new_next new_targets new_group is s o n t m room =
-    rw (s, o, n, t) (record {
-      settled = is.settled;
-      sorted = is.sorted;
-      targets_size = is.targets_size;
-      used_is = is.used_is;
-      room = omega (arith, is.room);
-      due = rw m is.due;
-    })
 
 -- Laws of addresses. An object's address moves with it, and so does each word that is its address and an offset
 

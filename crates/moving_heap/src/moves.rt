@@ -1,33 +1,39 @@
 //! The moves of a group, looked up by old addresses.
 
-ghost use Rattle.std.specs.Prelude.{◌≡◌, ◌<◌, ◌≤◌, ℕ, IsTrue, [], length, slice_index_or, vec_capacity, OnOk, ◌↔◌};
+ghost use Rattle.std.specs.Prelude.{◌≡◌, ◌+◌, ◌*◌, ◌<◌, ◌≤◌, ◌^◌, ◌++◌, ℕ, IsTrue, [], length, map, slice_index_or, vec_capacity, OnOk, ◌↔◌};
+ghost use Rattle.std.specs.List.{range_with_len};
 ghost use Rattle.std.specs.List.Sorted.{IsNonDecreasingBy};
-ghost use Rattle.moving_heap.specs.Places.{moves_of, new_address};
-ghost use Rattle.moving_heap.specs.Settled.{DifferentPlaces};
+ghost use Rattle.moving_heap.specs.Places.{new_address, verdict, group_moves};
+ghost use Rattle.moving_heap.specs.Orders.{resting};
+ghost use Rattle.moving_heap.specs.Settled.{AreSettled, AreRanked, IsDue, followed, move_at};
 ghost use Rattle.moving_heap.specs.declared.stands.Moved.{Moved};
 
-use crate::stands::{Moved, Stand};
+use crate::groups::judge;
+use crate::orders::Order;
+use crate::stands::{Moved, Stand, Verdict};
+use move_plan::Move;
 use sp_ids::Memory;
 use std::alloc::Global;
 use std::marker::Model;
 
-/// The moves of a group, in the order of object numbers, with room for so many.
+/// The moves of a group, in the order of object numbers, with room for so many; `sorted` has their places in the order of their
+/// old addresses.
 #[derive(Drop)]
 pub struct Moves {
     list: Vec<Moved>,
-    sorted: Vec<Moved>,
+    sorted: Vec<u32>,
     room: usize,
 }
 
 impl Model for Moves {
-    ghost use Rattle.std.specs.Prelude.{◌≤◌, vec_capacity};
-    ghost use Rattle.moving_heap.specs.Settled.{Group, AreMoves};
+    ghost use Rattle.std.specs.Prelude.{◌≤◌, map, vec_capacity};
+    ghost use Rattle.moving_heap.specs.Settled.{Group, AreMoves, move_at};
 
     ghost Value = { Group };
 
     ghost view = { λ moves. record { moves = moves.list.items; room = moves.room } };
 
-    ghost invariant = { λ moves. AreMoves moves.list.items moves.sorted.items × (moves.room ≤ vec_capacity moves.list) × (moves.room ≤ vec_capacity moves.sorted) };
+    ghost invariant = { λ moves. AreMoves moves.list.items (map (move_at moves.list.items) moves.sorted.items) × (moves.room ≤ vec_capacity moves.list) × (moves.room ≤ vec_capacity moves.sorted) };
 }
 
 impl Moves {
@@ -60,13 +66,16 @@ impl Moves {
     pub fn new_address(&self, old: u64) -> Option<u64>
         ensures { result ≡ new_address self.now.moves old }
     {
-        let moves = self.sorted.as_slice();
-        let place = first_from(moves, old);
-        if place < moves.len() && moves[place].old == old {
-            Some(moves[place].new)
-        } else {
-            None
+        let moves = self.list.as_slice();
+        let sorted = self.sorted.as_slice();
+        let place = first_from(moves, sorted, old);
+        if place < sorted.len() {
+            let moved = move_at(moves, sorted[place]);
+            if moved.old == old {
+                return Some(moved.new);
+            }
         }
+        None
     }
 
     /// Room for so many moves.
@@ -92,54 +101,124 @@ impl Moves {
         self.sorted.clear();
     }
 
-    /// The moves of a group. No two objects stand at one address.
-    pub(crate) fn fill(&mut self, targets: &[Option<u64>], stands: &[Stand])
+    /// The verdict on the moves of an event: those of the lines, and of a flip where `event` has the event's number. A legal
+    /// group is kept, and `next` is the order of the objects after it.
+    pub(crate) fn ready(
+        &mut self,
+        next: &mut Order,
+        stands: &[Stand],
+        order: &Order,
+        lines: &[Move],
+        event: Option<u64>,
+    ) -> Verdict
+        requires settled { AreSettled stands.now }
+        requires ranked { AreRanked stands.now order.now }
         requires room { length stands.now ≤ self.old.room }
-        requires same { length targets.now ≡ length stands.now }
-        requires apart { DifferentPlaces stands.now }
-        ensures { self.new ≡ record { moves = moves_of stands.now targets.now; room = self.old.room } }
+        requires next_room { length stands.now ≤ next.old.room }
+        ensures answer { result ≡ verdict stands.now lines.now event }
+        ensures moves { self.new ≡ record { moves = group_moves stands.now lines.now event; room = self.old.room } }
+        ensures due { result ≡ Verdict.Legal → IsDue stands.now next.new (group_moves stands.now lines.now event) }
+        ensures next_room { next.new.room ≡ next.old.room }
     {
         self.list.clear();
-        list_moves(&mut self.list, targets, stands);
         self.sorted.clear();
-        let _ = self.sorted.extend_from_slice(self.list.as_slice());
-        self.sorted.sort_unstable_by_key(|moved| moved.old);
+        if lines.is_empty() && event.is_none() {
+            return Verdict::Empty;
+        }
+        rest(&mut self.list, stands);
+        let verdict = judge(
+            next,
+            &mut self.sorted,
+            self.list.as_mut_slice(),
+            stands,
+            order,
+            lines,
+            event,
+        );
+        self.sorted.clear();
+        if verdict != Verdict::Legal {
+            self.list.clear();
+            return verdict;
+        }
+        self.list.retain(|moved| moved.new != 0);
+        number(&mut self.sorted, self.list.len());
+        let moves = self.list.as_slice();
+        self.sorted
+            .sort_unstable_by_key(|place| move_at(moves, *place).old);
+        verdict
     }
 }
 
-fn list_moves(list: &mut Vec<Moved>, targets: &[Option<u64>], stands: &[Stand])
+// A move for each object, to no place.
+fn rest(list: &mut Vec<Moved>, stands: &[Stand])
     requires empty { list.old.items ≡ [] }
     requires room { length stands.now ≤ vec_capacity list.old }
-    requires same { length targets.now ≡ length stands.now }
-    ensures moves { list.new.items ≡ moves_of stands.now targets.now }
+    ensures moves { list.new.items ≡ map resting stands.now }
     ensures capacity { vec_capacity list.old ≤ vec_capacity list.new }
 {
-    for (place, stand) in stands.iter().enumerate() {
-        if let Some(to) = targets[place] {
-            let _ = list.push(Moved {
-                old: stand.address,
-                new: to,
-            });
-        }
+    for stand in stands {
+        let _ = list.push(Moved {
+            old: stand.address,
+            new: 0,
+        });
+    }
+}
+
+// The places from 0 on.
+fn number(places: &mut Vec<u32>, count: usize)
+    requires empty { places.old.items ≡ [] }
+    requires room { count ≤ vec_capacity places.old }
+    requires small { count < 2 ^ 32 }
+    ensures places { places.new.items ≡ range_with_len 0 count }
+    ensures capacity { vec_capacity places.old ≤ vec_capacity places.new }
+{
+    for place in 0..count {
+        let _ = places.push(place as u32);
+    }
+}
+
+// A move by its place.
+fn move_at(moves: &[Moved], place: u32) -> Moved
+    ensures { result ≡ move_at moves.now place }
+{
+    let place = place as usize;
+    if place < moves.len() {
+        moves[place]
+    } else {
+        Moved { old: 0, new: 0 }
     }
 }
 
 // The first of the moves from this address on.
-fn first_from(moves: &[Moved], old: u64) -> usize
-    requires { IsNonDecreasingBy (λ move. move.old) moves.now }
-    ensures within { result ≤ length moves.now }
-    ensures below { (k : ℕ) → (d : Moved) → k < result → (slice_index_or moves.now k d).old < old }
-    ensures above { (k : ℕ) → (d : Moved) → result ≤ k → k < length moves.now → old ≤ (slice_index_or moves.now k d).old }
+fn first_from(moves: &[Moved], sorted: &[u32], old: u64) -> usize
+    requires { IsNonDecreasingBy (λ move. move.old) (map (move_at moves.now) sorted.now) }
+    ensures within { result ≤ length (map (move_at moves.now) sorted.now) }
+    ensures below { (k : ℕ) → (d : Moved) → k < result → (slice_index_or (map (move_at moves.now) sorted.now) k d).old < old }
+    ensures above { (k : ℕ) → (d : Moved) → result ≤ k → k < length (map (move_at moves.now) sorted.now) → old ≤ (slice_index_or (map (move_at moves.now) sorted.now) k d).old }
 {
     let mut low = 0;
-    let mut high = moves.len();
+    let mut high = sorted.len();
     while low < high {
         let middle = low + (high - low) / 2;
-        if moves[middle].old < old {
+        let moved = move_at(moves, sorted[middle]);
+        if moved.old < old {
             low = middle + 1;
         } else {
             high = middle;
         }
     }
     low
+}
+
+/// The objects after the moves, which stand in the order of the objects.
+pub(crate) fn follow(stands: &mut [Stand], moves: &[Moved])
+    ensures { stands.new ≡ followed moves.now stands.old }
+{
+    let mut next = 0;
+    for stand in stands.iter_mut() {
+        if next < moves.len() && moves[next].old == stand.address {
+            stand.address = moves[next].new;
+            next += 1;
+        }
+    }
 }

@@ -1,45 +1,46 @@
 //! Objects in the order of their addresses.
 
-ghost use Rattle.std.specs.Prelude.{◌≡◌, ℕ, ◌+◌, ◌<◌, ◌≤◌, ◌^◌, ◌++◌, ◌∷◌, [], Some, true, length, filter, slice_get, slice_index_or, vec_capacity, OnOk, OnErr};
-ghost use Rattle.std.specs.List.{All, filter_map};
+ghost use Rattle.std.specs.Prelude.{◌≡◌, ℕ, ◌+◌, ◌<◌, ◌≤◌, ◌++◌, ◌∷◌, [], Some, length, filter, slice_get, slice_index_or, vec_capacity, OnOk};
+ghost use Rattle.std.specs.List.{All};
 ghost use Rattle.std.specs.List.Sorted.{IsPermutation, IsNonDecreasingBy};
-ghost use Rattle.std.specs.Option.{is_some};
 ghost use Rattle.moving_heap.specs.Places.{apart};
-ghost use Rattle.moving_heap.specs.Orders.{target_of, stays, leaver, IsLow, IsHigh};
+ghost use Rattle.moving_heap.specs.Orders.{targets_in, stays, stays_at, leaves_at, row, ranks, then_row, then_ranks, IsLow, IsHigh};
+ghost use Rattle.moving_heap.specs.Settled.{AreRanked};
 ghost use Rattle.moving_heap.specs.declared.stands.Stand.{Stand};
 
-use crate::stands::Stand;
+use crate::stands::{Moved, Stand, stand_at, target_of, then_at};
 use sp_ids::Memory;
 use std::alloc::Global;
 use std::marker::Model;
 
-/// Objects in the order of their addresses. Those that never moved end at or below 2^40, in the order of their numbers; the
-/// others stand from 2^40 on. They are kept in two parts, the upper one first, so that a new object goes to the end.
+/// The places, from 0, of objects in the order of their addresses. Those that never moved end at or below 2^40, in the order
+/// of their numbers; the others stand from 2^40 on. They are kept in two parts, the upper one first, so that a new object goes
+/// to the end.
 #[derive(Drop)]
 pub(crate) struct Order {
-    stands: Vec<Stand>,
+    places: Vec<u32>,
     high: usize,
     room: usize,
 }
 
 impl Model for Order {
-    ghost use Rattle.std.specs.Prelude.{◌≤◌, ◌++◌, take, drop, vec_capacity};
-    ghost use Rattle.moving_heap.specs.Orders.{Ordered, AreHalves};
+    ghost use Rattle.std.specs.Prelude.{◌≤◌, length, take, drop, vec_capacity};
+    ghost use Rattle.moving_heap.specs.Orders.{Ordered};
 
     ghost Value = { Ordered };
 
-    ghost view = { λ order. record { stands = drop order.high order.stands.items ++ take order.high order.stands.items; room = order.room } };
+    ghost view = { λ order. record { low = drop order.high order.places.items; high = take order.high order.places.items; room = order.room } };
 
-    ghost invariant = { λ order. AreHalves order.stands.items order.high × (order.room ≤ vec_capacity order.stands) };
+    ghost invariant = { λ order. (order.high ≤ length order.places.items) × (order.room ≤ vec_capacity order.places) };
 }
 
 impl Order {
     /// No objects.
     pub(crate) fn new(alloc: Global) -> Order
-        ensures { result ≡ record { stands = []; room = 0 } }
+        ensures { result ≡ record { low = []; high = []; room = 0 } }
     {
         Order {
-            stands: Vec::new(alloc),
+            places: Vec::new(alloc),
             high: 0,
             room: 0,
         }
@@ -47,146 +48,152 @@ impl Order {
 
     /// How many there are.
     pub(crate) fn len(&self) -> usize
-        ensures { result ≡ length self.now.stands }
+        ensures { result ≡ length self.now.low + length self.now.high }
     {
-        self.stands.len()
+        self.places.len()
     }
 
     // Those that never moved, and the others.
-    fn parts(&self) -> (&[Stand], &[Stand])
-        ensures all { self.now.stands ≡ result.0.now ++ result.1.now }
-        ensures low { All IsLow result.0.now }
-        ensures high { All IsHigh result.1.now }
+    fn parts(&self) -> (&[u32], &[u32])
+        ensures low { result.0.now ≡ self.now.low }
+        ensures high { result.1.now ≡ self.now.high }
     {
-        let stands = self.stands.as_slice();
-        (&stands[self.high..], &stands[..self.high])
+        let places = self.places.as_slice();
+        (&places[self.high..], &places[..self.high])
     }
 
     /// The object with this place in the order.
-    pub(crate) fn at(&self, rank: usize) -> Stand
-        requires { rank < length self.now.stands }
-        ensures { slice_get self.now.stands rank ≡ Some result }
+    pub(crate) fn at(&self, stands: &[Stand], rank: usize) -> Stand
+        requires { rank < length self.now.low + length self.now.high }
+        ensures { slice_get (ranks stands.now self.now) rank ≡ Some result }
     {
         let (low, high) = self.parts();
-        at_rank(low, high, rank)
+        at_rank(low, high, stands, rank)
     }
 
     /// How many stand at or before an address.
-    pub(crate) fn count_to(&self, word: u64) -> usize
-        requires { IsNonDecreasingBy (λ stand. stand.address) self.now.stands }
-        ensures within { result ≤ length self.now.stands }
-        ensures below { (k : ℕ) → (d : Stand) → k < result → (slice_index_or self.now.stands k d).address ≤ word }
-        ensures above { (k : ℕ) → (d : Stand) → result ≤ k → k < length self.now.stands → word < (slice_index_or self.now.stands k d).address }
+    pub(crate) fn count_to(&self, stands: &[Stand], word: u64) -> usize
+        requires { AreRanked stands.now self.now }
+        ensures within { result ≤ length (ranks stands.now self.now) }
+        ensures below { (k : ℕ) → (d : Stand) → k < result → (slice_index_or (ranks stands.now self.now) k d).address ≤ word }
+        ensures above { (k : ℕ) → (d : Stand) → result ≤ k → k < length (ranks stands.now self.now) → word < (slice_index_or (ranks stands.now self.now) k d).address }
     {
         let (low, high) = self.parts();
-        count_in(low, high, word)
+        count_in(low, high, stands, word)
     }
 
-    /// Whether no two of them overlap.
-    pub(crate) fn is_apart(&self) -> bool
-        requires sorted { IsNonDecreasingBy (λ stand. stand.address) self.now.stands }
-        requires sizes { All (λ stand. 0 < stand.size) self.now.stands }
-        ensures { result ≡ apart self.now.stands }
+    /// Whether no two of them overlap, each at its target.
+    pub(crate) fn is_apart(&self, stands: &[Stand], targets: &[Moved]) -> bool
+        requires sorted { IsNonDecreasingBy (λ stand. stand.address) (then_ranks stands.now (targets_in targets.now) self.now) }
+        requires sizes { All (λ stand. 0 < stand.size) (then_ranks stands.now (targets_in targets.now) self.now) }
+        requires low { All IsLow (then_row stands.now (targets_in targets.now) self.now.low) }
+        requires high { All IsHigh (then_row stands.now (targets_in targets.now) self.now.high) }
+        ensures { result ≡ apart (then_ranks stands.now (targets_in targets.now) self.now) }
     {
         let (low, high) = self.parts();
-        are_apart(low, high)
+        are_apart(low, high, stands, targets)
     }
 
     /// Room for so many objects.
     pub(crate) fn reserve(&mut self, count: usize) -> Result<(), Memory>
-        ensures stands { self.new.stands ≡ self.old.stands }
+        ensures low { self.new.low ≡ self.old.low }
+        ensures high { self.new.high ≡ self.old.high }
         ensures room { OnOk result (count ≤ self.new.room) }
         ensures grows { self.old.room ≤ self.new.room }
     {
         if count > self.room {
-            self.stands
-                .reserve(count.saturating_sub(self.stands.len()))?;
+            self.places
+                .reserve(count.saturating_sub(self.places.len()))?;
             self.room = count;
         }
         Ok(())
     }
 
     /// A further object, behind all that never moved.
-    pub(crate) fn push(&mut self, stand: Stand)
-        requires room { length self.old.stands < self.old.room }
-        requires sorted { IsNonDecreasingBy (λ stand. stand.address) self.old.stands }
-        requires low { IsLow stand }
-        requires last { All (λ other. IsLow other → other.address ≤ stand.address) self.old.stands }
-        ensures same { IsPermutation (stand ∷ self.old.stands) self.new.stands }
-        ensures sorted { IsNonDecreasingBy (λ stand. stand.address) self.new.stands }
-        ensures room { self.new.room ≡ self.old.room }
+    pub(crate) fn push(&mut self, place: u32)
+        requires { length self.old.low + length self.old.high < self.old.room }
+        ensures { self.new ≡ record { low = self.old.low ++ place ∷ []; high = self.old.high; room = self.old.room } }
     {
-        let _ = self.stands.push(stand);
+        let _ = self.places.push(place);
     }
 
-    /// Adds those that have a target, each at its target.
-    pub(crate) fn gather(&self, leaving: &mut Vec<Stand>, targets: &[Option<u64>])
-        requires { length leaving.old.items + length (filter_map (leaver targets.now) self.now.stands) ≤ vec_capacity leaving.old }
-        ensures leavers { leaving.new.items ≡ leaving.old.items ++ filter_map (leaver targets.now) self.now.stands }
+    /// Adds those that have a target.
+    pub(crate) fn gather(&self, leaving: &mut Vec<u32>, stands: &[Stand], targets: &[Moved])
+        requires { length leaving.old.items + length (filter (leaves_at stands.now (targets_in targets.now)) (self.now.low ++ self.now.high)) ≤ vec_capacity leaving.old }
+        ensures leavers { leaving.new.items ≡ leaving.old.items ++ filter (leaves_at stands.now (targets_in targets.now)) (self.now.low ++ self.now.high) }
         ensures capacity { vec_capacity leaving.old ≤ vec_capacity leaving.new }
     {
         let (low, high) = self.parts();
-        gather(leaving, low, targets);
-        gather(leaving, high, targets);
+        gather(leaving, low, stands, targets);
+        gather(leaving, high, stands, targets);
     }
 
     /// Becomes the order of those objects that have no target, and of those that leave for theirs.
-    pub(crate) fn fill(&mut self, from: &Order, leaving: &[Stand], targets: &[Option<u64>])
-        requires room { length (filter (stays targets.now) from.now.stands) + length leaving.now ≤ self.old.room }
-        requires sorted { IsNonDecreasingBy (λ stand. stand.address) from.now.stands }
-        requires leaving_sorted { IsNonDecreasingBy (λ stand. stand.address) leaving.now }
-        requires high { All IsHigh leaving.now }
-        ensures same { IsPermutation (filter (stays targets.now) from.now.stands ++ leaving.now) self.new.stands }
-        ensures sorted { IsNonDecreasingBy (λ stand. stand.address) self.new.stands }
+    pub(crate) fn fill(
+        &mut self,
+        from: &Order,
+        leaving: &[u32],
+        stands: &[Stand],
+        targets: &[Moved],
+    )
+        requires room { length (filter (stays (targets_in targets.now)) (ranks stands.now from.now)) + length leaving.now ≤ self.old.room }
+        requires ranked { AreRanked stands.now from.now }
+        requires leaving_sorted { IsNonDecreasingBy (λ stand. stand.address) (then_row stands.now (targets_in targets.now) leaving.now) }
+        requires leaving_high { All IsHigh (then_row stands.now (targets_in targets.now) leaving.now) }
+        ensures same { IsPermutation (filter (stays (targets_in targets.now)) (ranks stands.now from.now) ++ then_row stands.now (targets_in targets.now) leaving.now) (then_ranks stands.now (targets_in targets.now) self.new) }
+        ensures sorted { IsNonDecreasingBy (λ stand. stand.address) (then_ranks stands.now (targets_in targets.now) self.new) }
+        ensures low { All IsLow (then_row stands.now (targets_in targets.now) self.new.low) }
+        ensures high { All IsHigh (then_row stands.now (targets_in targets.now) self.new.high) }
         ensures room { self.new.room ≡ self.old.room }
     {
-        self.stands.clear();
+        self.places.clear();
         let (low, high) = from.parts();
-        merge(&mut self.stands, high, leaving, targets);
-        self.high = self.stands.len();
-        keep(&mut self.stands, low, targets);
+        merge(&mut self.places, high, leaving, stands, targets);
+        self.high = self.places.len();
+        keep(&mut self.places, low, stands, targets);
     }
 }
 
-fn at_rank(low: &[Stand], high: &[Stand], rank: usize) -> Stand
-    requires { rank < length (low.now ++ high.now) }
-    ensures { slice_get (low.now ++ high.now) rank ≡ Some result }
+fn at_rank(low: &[u32], high: &[u32], stands: &[Stand], rank: usize) -> Stand
+    requires { rank < length low.now + length high.now }
+    ensures { slice_get (row stands.now low.now ++ row stands.now high.now) rank ≡ Some result }
 {
     if rank < low.len() {
-        low[rank]
+        stand_at(stands, low[rank])
     } else {
-        high[rank - low.len()]
+        stand_at(stands, high[rank - low.len()])
     }
 }
 
 // How many of all stand at or before an address.
-fn count_in(low: &[Stand], high: &[Stand], word: u64) -> usize
-    requires sorted { IsNonDecreasingBy (λ stand. stand.address) (low.now ++ high.now) }
-    requires low { All IsLow low.now }
-    requires high { All IsHigh high.now }
-    ensures within { result ≤ length (low.now ++ high.now) }
-    ensures below { (k : ℕ) → (d : Stand) → k < result → (slice_index_or (low.now ++ high.now) k d).address ≤ word }
-    ensures above { (k : ℕ) → (d : Stand) → result ≤ k → k < length (low.now ++ high.now) → word < (slice_index_or (low.now ++ high.now) k d).address }
+fn count_in(low: &[u32], high: &[u32], stands: &[Stand], word: u64) -> usize
+    requires sorted { IsNonDecreasingBy (λ stand. stand.address) (row stands.now low.now ++ row stands.now high.now) }
+    requires low { All IsLow (row stands.now low.now) }
+    requires high { All IsHigh (row stands.now high.now) }
+    ensures within { result ≤ length (row stands.now low.now ++ row stands.now high.now) }
+    ensures below { (k : ℕ) → (d : Stand) → k < result → (slice_index_or (row stands.now low.now ++ row stands.now high.now) k d).address ≤ word }
+    ensures above { (k : ℕ) → (d : Stand) → result ≤ k → k < length (row stands.now low.now ++ row stands.now high.now) → word < (slice_index_or (row stands.now low.now ++ row stands.now high.now) k d).address }
 {
     if word < 1 << 40 {
-        count_to(low, word)
+        count_to(low, stands, word)
     } else {
-        low.len() + count_to(high, word)
+        low.len() + count_to(high, stands, word)
     }
 }
 
 // How many of these stand at or before an address.
-fn count_to(order: &[Stand], word: u64) -> usize
-    requires { IsNonDecreasingBy (λ stand. stand.address) order.now }
-    ensures within { result ≤ length order.now }
-    ensures below { (k : ℕ) → (d : Stand) → k < result → (slice_index_or order.now k d).address ≤ word }
-    ensures above { (k : ℕ) → (d : Stand) → result ≤ k → k < length order.now → word < (slice_index_or order.now k d).address }
+fn count_to(order: &[u32], stands: &[Stand], word: u64) -> usize
+    requires { IsNonDecreasingBy (λ stand. stand.address) (row stands.now order.now) }
+    ensures within { result ≤ length (row stands.now order.now) }
+    ensures below { (k : ℕ) → (d : Stand) → k < result → (slice_index_or (row stands.now order.now) k d).address ≤ word }
+    ensures above { (k : ℕ) → (d : Stand) → result ≤ k → k < length (row stands.now order.now) → word < (slice_index_or (row stands.now order.now) k d).address }
 {
     let mut low = 0;
     let mut high = order.len();
     while low < high {
         let middle = low + (high - low) / 2;
-        if order[middle].address <= word {
+        let stand = stand_at(stands, order[middle]);
+        if stand.address <= word {
             low = middle + 1;
         } else {
             high = middle;
@@ -195,90 +202,79 @@ fn count_to(order: &[Stand], word: u64) -> usize
     low
 }
 
-fn are_apart(low: &[Stand], high: &[Stand]) -> bool
-    requires sorted { IsNonDecreasingBy (λ stand. stand.address) (low.now ++ high.now) }
-    requires sizes { All (λ stand. 0 < stand.size) (low.now ++ high.now) }
-    requires low { All IsLow low.now }
-    requires high { All IsHigh high.now }
-    ensures { result ≡ apart (low.now ++ high.now) }
+fn are_apart(low: &[u32], high: &[u32], stands: &[Stand], targets: &[Moved]) -> bool
+    requires sorted { IsNonDecreasingBy (λ stand. stand.address) (then_row stands.now (targets_in targets.now) low.now ++ then_row stands.now (targets_in targets.now) high.now) }
+    requires sizes { All (λ stand. 0 < stand.size) (then_row stands.now (targets_in targets.now) low.now ++ then_row stands.now (targets_in targets.now) high.now) }
+    requires low { All IsLow (then_row stands.now (targets_in targets.now) low.now) }
+    requires high { All IsHigh (then_row stands.now (targets_in targets.now) high.now) }
+    ensures { result ≡ apart (then_row stands.now (targets_in targets.now) low.now ++ then_row stands.now (targets_in targets.now) high.now) }
 {
-    chained(low) && chained(high)
+    chained(low, stands, targets) && chained(high, stands, targets)
 }
 
-// Whether objects in the order of their addresses are apart.
-fn chained(order: &[Stand]) -> bool
-    requires sorted { IsNonDecreasingBy (λ stand. stand.address) order.now }
-    requires sizes { All (λ stand. 0 < stand.size) order.now }
-    ensures { result ≡ apart order.now }
+// Whether objects in the order of their addresses are apart, each at its target.
+fn chained(order: &[u32], stands: &[Stand], targets: &[Moved]) -> bool
+    requires sorted { IsNonDecreasingBy (λ stand. stand.address) (then_row stands.now (targets_in targets.now) order.now) }
+    requires sizes { All (λ stand. 0 < stand.size) (then_row stands.now (targets_in targets.now) order.now) }
+    ensures { result ≡ apart (then_row stands.now (targets_in targets.now) order.now) }
 {
     for place in 1..order.len() {
-        let before = order[place - 1];
-        if u64::from(before.size) > order[place].address - before.address {
+        let before = then_at(stands, targets, order[place - 1]);
+        let here = then_at(stands, targets, order[place]);
+        if u64::from(before.size) > here.address - before.address {
             return false;
         }
     }
     true
 }
 
-// The target of an object, if it has one.
-fn target_of(targets: &[Option<u64>], stand: Stand) -> Option<u64>
-    ensures { result ≡ target_of targets.now stand }
-{
-    let place = (stand.number as usize).saturating_sub(1);
-    if place < targets.len() {
-        targets[place]
-    } else {
-        None
-    }
-}
-
-// Adds those that have a target, each at its target.
-fn gather(leaving: &mut Vec<Stand>, run: &[Stand], targets: &[Option<u64>])
-    requires { length leaving.old.items + length (filter_map (leaver targets.now) run.now) ≤ vec_capacity leaving.old }
-    ensures leavers { leaving.new.items ≡ leaving.old.items ++ filter_map (leaver targets.now) run.now }
+// Adds those that have a target.
+fn gather(leaving: &mut Vec<u32>, run: &[u32], stands: &[Stand], targets: &[Moved])
+    requires { length leaving.old.items + length (filter (leaves_at stands.now (targets_in targets.now)) run.now) ≤ vec_capacity leaving.old }
+    ensures leavers { leaving.new.items ≡ leaving.old.items ++ filter (leaves_at stands.now (targets_in targets.now)) run.now }
     ensures capacity { vec_capacity leaving.old ≤ vec_capacity leaving.new }
 {
-    for stand in run {
-        if let Some(to) = target_of(targets, *stand) {
-            let _ = leaving.push(Stand {
-                address: to,
-                ..*stand
-            });
+    for place in run {
+        if target_of(targets, stand_at(stands, *place)).is_some() {
+            let _ = leaving.push(*place);
         }
     }
 }
 
 // Adds those that have no target.
-fn keep(next: &mut Vec<Stand>, run: &[Stand], targets: &[Option<u64>])
-    requires { length next.old.items + length (filter (stays targets.now) run.now) ≤ vec_capacity next.old }
-    ensures stayers { next.new.items ≡ next.old.items ++ filter (stays targets.now) run.now }
+fn keep(next: &mut Vec<u32>, run: &[u32], stands: &[Stand], targets: &[Moved])
+    requires { length next.old.items + length (filter (stays_at stands.now (targets_in targets.now)) run.now) ≤ vec_capacity next.old }
+    ensures stayers { next.new.items ≡ next.old.items ++ filter (stays_at stands.now (targets_in targets.now)) run.now }
     ensures capacity { vec_capacity next.old ≤ vec_capacity next.new }
 {
-    for stand in run {
-        if target_of(targets, *stand).is_none() {
-            let _ = next.push(*stand);
+    for place in run {
+        if target_of(targets, stand_at(stands, *place)).is_none() {
+            let _ = next.push(*place);
         }
     }
 }
 
 // Those of a run that have no target, and those that leave, together in the order of their addresses.
-fn merge(next: &mut Vec<Stand>, run: &[Stand], leaving: &[Stand], targets: &[Option<u64>])
+fn merge(next: &mut Vec<u32>, run: &[u32], leaving: &[u32], stands: &[Stand], targets: &[Moved])
     requires empty { next.old.items ≡ [] }
-    requires room { length (filter (stays targets.now) run.now) + length leaving.now ≤ vec_capacity next.old }
-    requires sorted { IsNonDecreasingBy (λ stand. stand.address) run.now }
-    requires leaving_sorted { IsNonDecreasingBy (λ stand. stand.address) leaving.now }
-    ensures same { IsPermutation (filter (stays targets.now) run.now ++ leaving.now) next.new.items }
-    ensures sorted { IsNonDecreasingBy (λ stand. stand.address) next.new.items }
+    requires room { length (filter (stays (targets_in targets.now)) (row stands.now run.now)) + length leaving.now ≤ vec_capacity next.old }
+    requires sorted { IsNonDecreasingBy (λ stand. stand.address) (row stands.now run.now) }
+    requires leaving_sorted { IsNonDecreasingBy (λ stand. stand.address) (then_row stands.now (targets_in targets.now) leaving.now) }
+    ensures same { IsPermutation (filter (stays (targets_in targets.now)) (row stands.now run.now) ++ then_row stands.now (targets_in targets.now) leaving.now) (then_row stands.now (targets_in targets.now) next.new.items) }
+    ensures sorted { IsNonDecreasingBy (λ stand. stand.address) (then_row stands.now (targets_in targets.now) next.new.items) }
     ensures capacity { vec_capacity next.old ≤ vec_capacity next.new }
 {
     let mut place = 0;
     let mut taken = 0;
     while place < run.len() {
-        if taken < leaving.len() && leaving[taken].address < run[place].address {
+        let stand = stand_at(stands, run[place]);
+        if taken < leaving.len()
+            && then_at(stands, targets, leaving[taken]).address < stand.address
+        {
             let _ = next.push(leaving[taken]);
             taken += 1;
         } else {
-            if target_of(targets, run[place]).is_none() {
+            if target_of(targets, stand).is_none() {
                 let _ = next.push(run[place]);
             }
             place += 1;

@@ -7,7 +7,7 @@ use Rattle.sp_ids.specs.declared.ends.Trap.TheVariants.{Null, Bounds, Kind}
 use Rattle.ir_ast.specs.declared.cells.Cell.{Cell}
 use Rattle.ir_ast.specs.declared.cells.Cell.TheVariants.{I64, Ptr}
 use Rattle.ir_ast.specs.declared.types.Ty.{Ty}
-use Rattle.ir_ast.specs.declared.types.Ty.TheVariants.{Ptr as Managed}
+use Rattle.ir_ast.specs.declared.types.Ty.TheVariants.{Void, Int, Ptr as Managed, Token}
 use Rattle.ir_ast.specs.Cells.{kind_of}
 use Rattle.ir_ast.specs.Layouts.{ObjectLayout}
 use Rattle.ir_ast.specs.Sizes.{bytes, laid, size_of, fields_in}
@@ -23,7 +23,9 @@ pub record Place : Type 0 where
 -- the cell that has a type, and the one that the literal of a check names
 abbrev pub cell_of : Ty → Cell
 cell_of Managed = Ptr
-cell_of _ = I64
+cell_of Void = I64
+cell_of (Int width) = I64
+cell_of Token = I64
 
 abbrev pub cell_named : ℕ → Cell
 cell_named kind = if kind == kind_of Ptr then Ptr else I64

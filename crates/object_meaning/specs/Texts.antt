@@ -8,7 +8,7 @@ use Rattle.sp_ids.specs.Numbers.{signed}
 use Rattle.sp_ids.specs.declared.ends.End.{End}
 use Rattle.sp_ids.specs.declared.ends.End.TheVariants.{Trap}
 use Rattle.ir_ast.specs.declared.types.Ty.{Ty}
-use Rattle.ir_ast.specs.declared.types.Ty.TheVariants.{Ptr}
+use Rattle.ir_ast.specs.declared.types.Ty.TheVariants.{Void, Int, Ptr, Token}
 use Rattle.ir_ast.specs.declared.ops.Operand.{Operand}
 use Rattle.ir_ast.specs.Modules.{ModuleContent}
 use Rattle.ir_ast.specs.Objects.{Pointer, Datum}
@@ -26,7 +26,9 @@ shown_pointer to =
 -- what a value of a type is shown as
 abbrev pub shown : Ty → Datum → List ℕ
 shown Ptr datum = shown_pointer (pointer_in datum)
-shown ty datum = signed_decimal (signed (width_of ty) (number_in datum))
+shown Void datum = signed_decimal (signed (width_of Void) (number_in datum))
+shown (Int width) datum = signed_decimal (signed (width_of (Int width)) (number_in datum))
+shown Token datum = signed_decimal (signed (width_of Token) (number_in datum))
 
 abbrev pub function_name : ModuleContent → ℕ → List ℕ
 function_name content func = option_map_or (λ defined. defined.name) (slice_get content.funcs func) []

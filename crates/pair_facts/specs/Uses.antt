@@ -4,7 +4,7 @@ use Rattle.std.specs.Prelude.{◌≡◌, ℕ, suc, Bool, true, false, ◌==◌, 
 use Rattle.std.specs.List.{Contains, list_any, position}
 use Rattle.std.specs.Option.{option_map_or}
 use Rattle.ir_ast.specs.declared.types.Ty.{Ty}
-use Rattle.ir_ast.specs.declared.types.Ty.TheVariants.{Ptr}
+use Rattle.ir_ast.specs.declared.types.Ty.TheVariants.{Void, Int as Integer, Ptr, Token}
 use Rattle.ir_ast.specs.declared.ops.Callee.{Callee}
 use Rattle.ir_ast.specs.declared.ops.Callee.TheVariants.{Check, Same}
 use Rattle.ir_ast.specs.declared.ops.Operand.{Operand}
@@ -28,11 +28,15 @@ pub record Use : Type 0 where
 
 abbrev pointer_of : Ty → Operand → List Operand
 pointer_of Ptr operand = operand ∷ []
-pointer_of ty operand = []
+pointer_of Void operand = []
+pointer_of (Integer width) operand = []
+pointer_of Token operand = []
 
 abbrev pub pointers_of : List Ty → List Operand → List Operand
 pointers_of (Ptr ∷ types) (operand ∷ operands) = operand ∷ pointers_of types operands
-pointers_of (ty ∷ types) (operand ∷ operands) = pointers_of types operands
+pointers_of (Void ∷ types) (operand ∷ operands) = pointers_of types operands
+pointers_of (Integer width ∷ types) (operand ∷ operands) = pointers_of types operands
+pointers_of (Token ∷ types) (operand ∷ operands) = pointers_of types operands
 pointers_of types operands = []
 
 -- a helper's operands aren't passed

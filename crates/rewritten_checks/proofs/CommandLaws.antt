@@ -12,11 +12,11 @@ use Rattle.ir_types.specs.FaultSet.{HasNoFault}
 use Rattle.accepted_texts.proofs.Accepted.{accepted_is_source}
 use Rattle.tool_words.specs.Words.{command_of}
 use Rattle.tool_words.specs.declared.request.Command.{Command}
-use Rattle.tool_words.specs.declared.request.Command.TheVariants.{Check, Exec, Rewrite, Run, Show, Source as SourceRun}
+use Rattle.tool_words.specs.declared.request.Command.TheVariants.{Check, Exec, Gen, Rewrite, Run, Show, Source as SourceRun}
 use Rattle.tool_words.specs.declared.request.Part.{Part}
 use Rattle.tool_words.specs.declared.request.Part.TheVariants.{Text}
 use Rattle.tool_words.specs.declared.request.RunRequest.{RunRequest}
-use Rattle.statepoint_tool.specs.Causes.{Ends, IsAccepted, IsAskedFor, Rewrites, by_checking, by_exec, by_executing, by_rewriting, by_run, by_running, by_showing, by_source}
+use Rattle.statepoint_tool.specs.Causes.{Ends, IsAccepted, IsAskedFor, Rewrites, by_checking, by_exec, by_executing, by_generating, by_rewriting, by_run, by_running, by_running_rewritten, by_showing, by_source}
 use Rattle.statepoint_tool.specs.Steps.{Go, goes_on}
 use Rattle.statepoint_tool.specs.Taken.{Bytes, FilesSeen, MayGive, Taken, file_phase}
 use Rattle.statepoint_tool.specs.Work.{Given, MayGiveNamed, MayGiveShown, check_work, checked_phase, content_of, passed, text_of_part, verified}
@@ -49,9 +49,11 @@ module _ (words : List (List ℕ)) (asks : AsksForText words) where
 
   no_run : (engine : _) (request : RunRequest) → IsAskedFor words engine request → ⊥
   no_run _ _ (by_source request command) = (let bad : SourceRun request ≡ Rewrite asks.module_file Text = not_asked (SourceRun request) (sym command ∙ asks.command) in cc)
-  no_run _ _ (by_run request command) = (let bad : Run request ≡ Rewrite asks.module_file Text = not_asked (Run request) (sym command ∙ asks.command) in cc)
-  no_run _ _ (by_exec request map_file trust command) =
-      (let bad : Exec request map_file trust ≡ Rewrite asks.module_file Text = not_asked (Exec request map_file trust) (sym command ∙ asks.command) in cc)
+  no_run _ _ (by_run request map_file places trace command) =
+      (let bad : Run request map_file places trace ≡ Rewrite asks.module_file Text = not_asked (Run request map_file places trace) (sym command ∙ asks.command) in cc)
+  no_run _ _ (by_exec request map_file trust places trace command) =
+      (let bad : Exec request map_file trust places trace ≡ Rewrite asks.module_file Text =
+      not_asked (Exec request map_file trust places trace) (sym command ∙ asks.command) in cc)
 
   module _ (files : FilesSeen) (given : Given) (may : MayGiveNamed files (command_of words) given) where
     wrote : (rewrites : Rewrites words given) → length (text_of_part rewrites.reads.asks.part rewrites.after) ≤ 16777216
@@ -77,5 +79,10 @@ written_texts_are_ok words asks files given may _ (by_checking checks) short mod
     absurd (let bad : Check checks.asks.module_file ≡ Rewrite asks.module_file Text = not_asked words asks (Check checks.asks.module_file) (sym checks.asks.command ∙ asks.command) in cc)
 written_texts_are_ok words asks files given may _ (by_running runs outcome gives) short module_file later taken =
     let run = runs.reads.reads.accepts.asks in absurd (no_run words asks run.engine run.request run.asked)
-written_texts_are_ok words asks files given may _ (by_executing runs outcome gives) short module_file later taken =
+written_texts_are_ok words asks files given may _ (by_running_rewritten runs) short module_file later taken =
     let run = runs.reads.reads.accepts.asks in absurd (no_run words asks run.engine run.request run.asked)
+written_texts_are_ok words asks files given may _ (by_executing runs outcome text writes) short module_file later taken =
+    let run = runs.reads.reads.accepts.asks in absurd (no_run words asks run.engine run.request run.asked)
+written_texts_are_ok words asks files given may _ (by_generating asked output generates) short module_file later taken =
+    absurd (let bad : Gen asked.seed asked.size asked.steps ≡ Rewrite asks.module_file Text =
+    not_asked words asks (Gen asked.seed asked.size asked.steps) (sym asked.command ∙ asks.command) in cc)

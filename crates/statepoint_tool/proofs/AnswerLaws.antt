@@ -4,13 +4,15 @@ use Rattle.sp_ids.specs.declared.ends.End.{End}
 use Rattle.sp_ids.specs.declared.ends.End.TheVariants as ended_by
 use Rattle.ir_ast.specs.declared.modules.Form.TheVariants as text_forms
 use Rattle.statepoint_tool.specs.Answers.{SinkSeen, Gained, SinkFailed, Came, IsBegun, IsTold, IsSaidInPart, IsAnswer}
-use Rattle.statepoint_tool.specs.Causes.{CannotRead, Ends, by_showing, by_checking, by_rewriting, by_running, by_executing, module_run}
+use Rattle.generated_forms.specs.Modules.{generated}
+use Rattle.gen_report.specs.Summaries.{summary_of}
+use Rattle.statepoint_tool.specs.Causes.{AsksToGenerate, CannotRead, Ends, by_showing, by_checking, by_rewriting, by_running, by_running_rewritten, by_executing, by_generating, module_run}
 use Rattle.statepoint_tool.specs.Notes.{refusal_line, status_of_cause}
 use Rattle.statepoint_tool.specs.Statuses.{CauseOf, Exactly, IsDue, NoteFailed, ReadFaultCounted, Says, Writes, WritesFront, Yields, status_of_step}
 use Rattle.statepoint_tool.specs.Steps.{Step, Go, Stop}
 use Rattle.statepoint_tool.specs.Taken.{FilesSeen}
 use Rattle.tool_words.specs.Words.{command_of}
-use Rattle.statepoint_tool.specs.Work.{Output, Given, MayGiveNamed, content_of, shown, passed, written_of, output_of, executed, work}
+use Rattle.statepoint_tool.specs.Work.{Output, Given, MayGiveNamed, Generating, generates, content_of, ended_with, shown, passed, written_of, output_of, work}
 use Rattle.statepoint_tool.specs.Closings.{status_of_end}
 use Rattle.statepoint_tool.specs.declared.refusal.Cause.{Cause}
 use Rattle.statepoint_tool.specs.declared.refusal.Cause.TheVariants as cause
@@ -18,6 +20,7 @@ use Rattle.statepoint_tool.specs.declared.refusal.Refusal.{Refusal}
 use Rattle.statepoint_tool.specs.declared.refusal.Refusal.TheVariants.{Defined, WriteFault, Memory}
 use Rattle.statepoint_tool.specs.declared.status.Status.{Status}
 use Rattle.statepoint_tool.specs.declared.status.Status.TheVariants as ending
+use Rattle.statepoint_tool.proofs.StepLaws.{same-value}
 use Rattle.statepoint_tool.proofs.CauseLaws.{Explains, Explains-work, CauseOf-explained, ComesWith, Once-work, Rose-gives}
 
 -- the status of a call is that of a step that the work comes to
@@ -116,6 +119,14 @@ module _ (words : List (List ℕ)) (files : FilesSeen) (out notes : SinkSeen) (g
   writes_at output ended_by.Poison is ends written = record { given = given; may = may; holds = ((output, ends, is), written) }
   writes_at output ended_by.LostFrame is ends written = record { given = given; may = may; holds = ((output, ends, is), written) }
 
+  writes_generated : (asks : AsksToGenerate words) (output : Output) (step : Step Output) → step ≡ Go output → Generating asks.seed asks.size asks.steps step → Gained out output.text
+      → Writes output.status words files out
+  writes_generated asks output _ is (generates after own meant means) written =
+      let made = ended_with (summary_of (generated asks.seed asks.size) after meant) meant.end in
+      let same = same-value made output is in
+      subst (λ (o : Output). Writes o.status words files out) same
+      (writes_at made meant.end refl (by_generating asks made (generates after own meant means)) (subst (λ (o : Output). Gained out o.text) (sym same) written))
+
   writes_output : (output : Output) → Ends words given output → Gained out output.text → Writes output.status words files out
   writes_output _ (by_showing shows) written =
       record { given = given; may = may; holds = ((shown (content_of text_forms.Source shows.lines), by_showing shows, refl), written) }
@@ -125,8 +136,11 @@ module _ (words : List (List ℕ)) (files : FilesSeen) (out notes : SinkSeen) (g
       record { given = given; may = may; holds = ((written_of rewrites.reads.asks.part rewrites.after, by_rewriting rewrites, refl), written) }
   writes_output _ (by_running runs outcome gives) written =
       writes_at (output_of (module_run runs.reads) outcome) outcome.end refl (by_running runs outcome gives) written
-  writes_output _ (by_executing runs outcome gives) written =
-      writes_at (executed (module_run runs.reads) outcome gives.last.lines) outcome.end refl (by_executing runs outcome gives) written
+  writes_output _ (by_running_rewritten runs) written =
+      writes_at (ended_with runs.text runs.meant.end) runs.meant.end refl (by_running_rewritten runs) written
+  writes_output _ (by_executing runs outcome text writes) written =
+      writes_at (ended_with text outcome.end) outcome.end refl (by_executing runs outcome text writes) written
+  writes_output output (by_generating asks _ generating) written = writes_generated asks output (Go output) refl generating written
 
   writes_nothing : (reason : Cause) → Gained out [] → Writes (status_of_cause reason) words files out
   writes_nothing cause.Words unwritten = unwritten
@@ -169,12 +183,20 @@ module _ (words : List (List ℕ)) (files : FilesSeen) (out notes : SinkSeen) (g
   says_nothing ended_by.Poison silent = silent
   says_nothing ended_by.LostFrame silent = silent
 
+  says_generated : (asks : AsksToGenerate words) (output : Output) (step : Step Output) → step ≡ Go output → Generating asks.seed asks.size asks.steps step → Gained notes []
+      → Says output.status words files out notes
+  says_generated asks output _ is (generates after own meant means) silent =
+      subst (λ (o : Output). Says o.status words files out notes) (same-value (ended_with (summary_of (generated asks.seed asks.size) after meant) meant.end) output is)
+      (says_nothing meant.end silent)
+
   says_output : (output : Output) → Ends words given output → Gained notes [] → Says output.status words files out notes
   says_output _ (by_showing shows) silent = silent
   says_output _ (by_checking checks) silent = silent
   says_output _ (by_rewriting rewrites) silent = silent
   says_output _ (by_running runs outcome gives) silent = says_nothing outcome.end silent
-  says_output _ (by_executing runs outcome gives) silent = says_nothing outcome.end silent
+  says_output _ (by_running_rewritten runs) silent = says_nothing runs.meant.end silent
+  says_output _ (by_executing runs outcome text writes) silent = says_nothing outcome.end silent
+  says_output output (by_generating asks _ generating) silent = says_generated asks output (Go output) refl generating silent
 
   says_line : (reason : Cause) → Explains (Stop reason) words given → Gained notes (refusal_line (Defined reason)) → Says (status_of_cause reason) words files out notes
   says_line cause.Words explains line = line

@@ -1,5 +1,5 @@
 -- Each status of the work comes exactly by its cause.
-use Rattle.std.proofs.Common.{◌≡◌, ℕ, Bool, true, false, List, Option, Some, None, refl, sym, ap, subst}
+use Rattle.std.proofs.Common.{◌≡◌, ℕ, Bool, true, false, List, [], Option, Some, None, refl, sym, ap, subst, ◌∙◌}
 use Rattle.std.specs.Prelude.{ℤ}
 use Rattle.sp_ids.specs.declared.ends.End.{End}
 use Rattle.sp_ids.specs.declared.ends.End.TheVariants as ended
@@ -14,13 +14,23 @@ use Rattle.map_bytes.specs.Maps.{StackMap}
 use Rattle.pair_facts.specs.Faults.{IsVerified, IsLeastFault as IsLeastCheckFault}
 use Rattle.stackmap_write.specs.ModuleMaps.{map_of}
 use Rattle.tool_io.specs.Counts.{Rose}
-use Rattle.statepoint_tool.specs.Causes.{IsAccepted, AsksToShow, AsksToCheck, AsksToRewrite, IsAskedFor, by_source, by_run, by_exec, AsksForRun, ReadsToRewrite, ReadsModule, ReadsInput, ReadsPlan, Runs, Executes, ReadsForMap, IsTrusted, Checks, engine_asked, module_run, steps_asked, Ends, by_showing, by_checking, by_rewriting, by_running, by_executing, EndsWith, NoCommand, NamesModule, to_show, to_check, to_rewrite, to_run, NamesJudged, to_judge, to_run_judged, HasCheckFault, HasSomeCheckFault, NamesSource, to_write, to_run_rewritten, RunsSource, HasModuleFault, in_text, too_many, HasSomeModuleFault, HasSomeInputFault, HasSomePlanFault, HasSomeMapFault, FileGives, module_gives, input_gives, plan_gives, map_gives, CannotRead, IsTooLong, StopsBy}
-use Rattle.sp_rewrite.specs.Relocates.{HasManyRelocates}
+use Rattle.statepoint_tool.specs.Causes.{IsAccepted, AsksToShow, AsksToCheck, AsksToRewrite, AsksToGenerate, IsAskedFor, by_source, by_run, by_exec, AsksForRun, ReadsToRewrite, ReadsModule, ReadsInput, ReadsPlan, Runs, RunsRewritten, Executes, IsExecuted, shown_by, ReadsForMap, IsTrusted, Checks, engine_asked, module_run, steps_asked, Ends, by_showing, by_checking, by_rewriting, by_running, by_running_rewritten, by_executing, by_generating, EndsWith, NoCommand, NamesModule, to_show, to_check, to_rewrite, to_run, NamesJudged, to_judge, to_run_judged, HasCheckFault, HasSomeCheckFault, NamesSource, to_write, to_run_rewritten, HasModuleFault, in_text, too_many, HasSomeModuleFault, HasSomeInputFault, HasSomePlanFault, HasSomeMapFault, FileGives, module_gives, input_gives, plan_gives, map_gives, CannotRead, IsTooLong, StopsBy}
+use Rattle.sp_rewrite.specs.Relocates.{HasFewRelocates, HasManyRelocates}
+use Rattle.sp_rewrite.specs.Statements.{IsRewritten}
+use Rattle.sp_rewrite.proofs.RewrittenLaws.{rewriting_is_one}
+use Rattle.rewritten_definite.specs.Statements.{rewritten_source}
+use Rattle.object_meaning.specs.Outcomes.{Outcome}
+use Rattle.object_meaning.specs.SourceRuns.{source_setting}
+use Rattle.object_meaning.proofs.OutcomeLaws.{gives_one}
+use Rattle.move_plan.specs.Plans.{go}
+use Rattle.generated_forms.specs.Modules.{generated}
+use Rattle.gen_report.specs.Summaries.{flipping, summary_of}
+use Rattle.ir_machine.specs.declared.run.Shows.{Shows}
 use Rattle.statepoint_tool.specs.Statuses.{CauseOf, status_of_step}
 use Rattle.statepoint_tool.specs.Steps.{Step, Go, Stop, Then, goes_on, stops}
 use Rattle.statepoint_tool.specs.Taken.{Taken, Bytes, Longer, Faulty, FilesSeen, MayGive, file_phase}
 use Rattle.tool_words.specs.Words.{command_of}
-use Rattle.statepoint_tool.specs.Work.{Output, Given, MayGiveMap, MayGiveAll, MayGiveNamed, form_of, map_phase, ReadingMap, no_map, Executing, executes, executed, run_phase, content_of, shown, passed, written_of, module_phase, Judging, verified, said_no, judged, checked_phase, run_module_phase, after_check, check_work, Rewriting, rewritten, too_many as has_too_many, after_rewriting, rewrite_phase, ReadingInput, has_numbers, no_input, ReadingPlan, planned, no_plan, show_phase, after_input, after_module, Running, run_work, comes, output_of, command_work, work}
+use Rattle.statepoint_tool.specs.Work.{Output, Given, Generating, generates, MayGiveFile, MayGiveMap, MayGiveAll, MayGiveNamed, form_of, map_named, map_phase, showing, ReadingMap, no_map, Executing, executes, ended_with, run_phase, RunningRewritten, comes_rewritten, content_of, shown, passed, written_of, module_phase, Judging, verified, said_no, judged, checked_phase, run_module_phase, after_check, check_work, Rewriting, rewritten, too_many as has_too_many, after_rewriting, rewrite_phase, ReadingInput, has_numbers, no_input, ReadingPlan, planned, no_plan, show_phase, after_input, after_module, Running, run_work, comes, output_of, command_work, work}
 use Rattle.statepoint_tool.specs.Closings.{status_of_end}
 use Rattle.statepoint_tool.specs.declared.refusal.Cause.{Cause}
 use Rattle.statepoint_tool.specs.declared.refusal.Cause.TheVariants as cause
@@ -30,16 +40,24 @@ use Rattle.statepoint_tool.specs.declared.engine.Engine.{Engine}
 use Rattle.statepoint_tool.specs.declared.engine.Engine.TheVariants.{Meaning, Rewriter, Machine}
 use Rattle.tool_words.specs.declared.request.RunRequest.{RunRequest}
 use Rattle.tool_words.specs.declared.request.Command.{Command}
-use Rattle.tool_words.specs.declared.request.Command.TheVariants.{Show, Rewrite, Check, Source, Run, Exec}
+use Rattle.tool_words.specs.declared.request.Command.TheVariants.{Show, Rewrite, Check, Source, Run, Exec, Gen}
 use Rattle.statepoint_tool.specs.declared.status.Status.{Status}
 use Rattle.statepoint_tool.specs.declared.status.Status.TheVariants.{ModuleRefused, WordsRefused, ReadFault, PlanRefused, InputRefused, MapRefused, CheckSaidNo, TooLong}
-use Rattle.statepoint_tool.proofs.RewriteLaws.{Once-rewrite_phase}
+use Rattle.statepoint_tool.proofs.RewriteLaws.{Once-Rewriting, Once-rewrite_phase, few_or_many}
 use Rattle.statepoint_tool.proofs.InputLaws.{Once-ReadingInput, Once-ReadingPlan, input-gives, input-refused, plan-gives, plan-refused}
-use Rattle.statepoint_tool.proofs.RunLaws.{Once-Running}
+use Rattle.statepoint_tool.proofs.RunLaws.{Once-Running, Once-RunningRewritten}
 use Rattle.statepoint_tool.proofs.JudgeLaws.{Once-checked_phase, Once-run_module_phase, passes, says_no, large, trusted_of, as-trusted, file-stops}
 use Rattle.statepoint_tool.proofs.MachineLaws.{Once-Executing, Once-ReadingMap, map-refused}
 use Rattle.statepoint_tool.proofs.StepLaws.{Once, stop_in, same-value, not_both, Once-comes_to, Once-Then, Once-file_phase}
 use Rattle.statepoint_tool.proofs.TextLaws.{Accepts, accepts, StopsByText, refuses, as-accepted, as-refused, Once-module_phase}
+
+-- ---- names of stack maps
+
+none_named : (name : List ℕ) → None ≡ Some name → ⊥
+none_named name is = cc
+
+one_named : (one other : List ℕ) → Some one ≡ Some other → one ≡ other
+one_named one other is = cc
 
 -- ---- the work comes to one step
 
@@ -50,10 +68,14 @@ Once-map_phase content (Some name) taken = Once-file_phase name ReadingMap Once-
 Once-run_phase : (engine : Engine) (content : ModuleContent) (numbers : List ℤ) (lines : List PlanLine) (steps : ℕ) (taken : Taken) →
     Once (run_phase engine content numbers lines steps taken)
 Once-run_phase Meaning content numbers lines steps taken = Once-Running content numbers lines steps
-Once-run_phase Rewriter content numbers lines steps taken = Once-Running content numbers lines steps
-Once-run_phase (Machine map_file trust) content numbers lines steps taken =
-    Once-Then (map_phase content map_file taken) (Executing content numbers lines steps) (Once-map_phase content map_file taken)
-    (Once-Executing content numbers lines steps)
+Once-run_phase (Rewriter None shows) content numbers lines steps taken = Once-RunningRewritten content numbers lines steps shows
+Once-run_phase (Rewriter (Some name) shows) content numbers lines steps taken =
+    Once-Then (Rewriting content) (λ (after : ModuleContent). Then (file_phase name ReadingMap taken) (Executing after numbers lines steps shows)) (Once-Rewriting content)
+    (λ (after : ModuleContent). Once-Then (file_phase name ReadingMap taken) (Executing after numbers lines steps shows) (Once-file_phase name ReadingMap Once-ReadingMap taken)
+    (Once-Executing after numbers lines steps shows))
+Once-run_phase (Machine map_file trust shows) content numbers lines steps taken =
+    Once-Then (map_phase content map_file taken) (Executing content numbers lines steps shows) (Once-map_phase content map_file taken)
+    (Once-Executing content numbers lines steps shows)
 
 Once-after_input : (plan : List ℕ) (engine : Engine) (content : ModuleContent) (numbers : List ℤ) (steps : ℕ) (given : Taken × Taken) →
     Once (after_input plan engine content numbers steps given)
@@ -74,6 +96,12 @@ Once-run_work engine request given =
     (Once-file_phase request.code (run_module_phase engine) (Once-run_module_phase engine) given.module_file)
     (λ (whole : LinedModule). Once-after_module request.input request.plan engine whole.content request.steps (given.input, (given.plan, given.map_file)))
 
+Once-Generating : (seed size steps : ℕ) → Once (Generating seed size steps)
+Once-Generating seed size steps _ _ (generates after is one first) (generates again also other second) =
+    ap (λ (code : ModuleContent). Go (ended_with (summary_of (generated seed size) code one) one.end)) (rewriting_is_one (generated seed size) after again is also)
+    ∙ ap (λ (outcome : Outcome). Go (ended_with (summary_of (generated seed size) again outcome) outcome.end))
+    (gives_one (source_setting (generated seed size) (go flipping) steps) [] one other first second)
+
 Once-command : (command : Option Command) (given : Given) → Once (command_work command given)
 Once-command None given = Once-comes_to (Stop cause.Words)
 Once-command (Some (Show module_file)) given =
@@ -86,8 +114,9 @@ Once-command (Some (Check module_file)) given =
     Once-Then (file_phase module_file checked_phase given.module_file) after_check
     (Once-file_phase module_file checked_phase Once-checked_phase given.module_file) (λ (whole : LinedModule). Once-comes_to (Go passed))
 Once-command (Some (Source request)) given = Once-run_work Meaning request given
-Once-command (Some (Run request)) given = Once-run_work Rewriter request given
-Once-command (Some (Exec request map_file trust)) given = Once-run_work (Machine map_file trust) request given
+Once-command (Some (Run request map_file places trace)) given = Once-run_work (Rewriter map_file (showing places trace)) request given
+Once-command (Some (Exec request map_file trust places trace)) given = Once-run_work (Machine map_file trust (showing places trace)) request given
+Once-command (Some (Gen seed size steps)) given = Once-Generating seed size steps
 
 pub Once-work : (words : List (List ℕ)) (given : Given) → Once (work words given)
 Once-work words given = Once-command (command_of words) given
@@ -232,9 +261,25 @@ module _ (words : List (List ℕ)) (given : Given) where
       Running (module_run runs.reads) runs.reads.reads.numbers runs.reads.plan (steps_asked runs.reads) step → Explains step words given
   running_explains runs _ (comes outcome gives) = by_running runs outcome gives
 
+  rewritten_explains : (reads : ReadsPlan words given) (shows : Shows) → engine_asked reads ≡ Rewriter None shows → (step : Step Output) →
+      RunningRewritten (module_run reads) reads.reads.numbers reads.plan (steps_asked reads) shows step → Explains step words given
+  rewritten_explains reads shows engine _ (comes_rewritten meant means after is machine text writes) =
+      by_running_rewritten (record {
+        reads = reads;
+        shows = shows;
+        engine = engine;
+        meant = meant;
+        means = means;
+        after = after;
+        rewritten = is;
+        machine = machine;
+        text = text;
+        writes = writes;
+      })
+
   executing_explains : (runs : Executes words given) (step : Step Output) →
-      Executing (module_run runs.reads) runs.reads.reads.numbers runs.reads.plan (steps_asked runs.reads) runs.map step → Explains step words given
-  executing_explains runs _ (executes outcome gives) = by_executing runs outcome gives
+      Executing runs.code runs.reads.reads.numbers runs.reads.plan (steps_asked runs.reads) (shown_by (engine_asked runs.reads)) runs.map step → Explains step words given
+  executing_explains runs _ (executes outcome text writes) = by_executing runs outcome text writes
 
   map_stops : (reads : ReadsForMap words given) (taken : Taken) → given.map_file ≡ taken → (reason : Cause) → file_phase reads.map_file ReadingMap taken (Stop reason) →
       Explains (Stop reason) words given
@@ -245,19 +290,47 @@ module _ (words : List (List ℕ)) (given : Given) where
   map_stops reads Longer is reason first = stop-at reason (cause.TooLong reads.map_file) first (map_gives reads is)
   map_stops reads Faulty is reason first = stop-at reason (cause.ReadFault reads.map_file) first (map_gives reads is)
 
-  no_map_stops : (reads : ReadsPlan words given) (map_file : Option (List ℕ)) (trust : Bool) → engine_asked reads ≡ Machine map_file trust → (reason : Cause) →
-      map_phase (module_run reads) map_file given.map_file (Stop reason) → Explains (Stop reason) words given
-  no_map_stops reads None trust engine reason first = absurd (not_both (map_of (module_run reads)) reason (sym first))
-  no_map_stops reads (Some name) trust engine reason first =
-      map_stops (record { reads = reads; map_file = name; trust = trust; engine = engine }) given.map_file refl reason first
+  no_map_stops : (reads : ReadsPlan words given) (map_file : Option (List ℕ)) → map_named (engine_asked reads) ≡ map_file → (code : ModuleContent) (reason : Cause) →
+      map_phase code map_file given.map_file (Stop reason) → Explains (Stop reason) words given
+  no_map_stops reads None named code reason first = absurd (not_both (map_of code) reason (sym first))
+  no_map_stops reads (Some name) named code reason first = map_stops (record { reads = reads; map_file = name; named = named }) given.map_file refl reason first
+
+  -- a module runs on the machine over a stack map
+  over_map_explains : (reads : ReadsPlan words given) (engine : Engine) → engine_asked reads ≡ engine → (code : ModuleContent) → IsExecuted engine (module_run reads) code → (step : Step Output) →
+      Then (map_phase code (map_named engine) given.map_file) (Executing code reads.reads.numbers reads.plan (steps_asked reads) (shown_by engine)) step → Explains step words given
+  over_map_explains reads engine is code runs _ (goes_on map step first rest) =
+      executing_explains (record {
+        reads = reads;
+        code = code;
+        runs = subst (λ (e : Engine). IsExecuted e (module_run reads) code) (sym is) runs;
+        map = map;
+        takes = subst (λ (e : Engine). map_phase code (map_named e) given.map_file (Go map)) (sym is) first;
+      }) step
+      (subst (λ (e : Engine). Executing code reads.reads.numbers reads.plan (steps_asked reads) (shown_by e) map step) (sym is) rest)
+  over_map_explains reads engine is code runs _ (stops reason first) = no_map_stops reads (map_named engine) (ap map_named is) code reason first
+
+  is_rewritten : (content after : ModuleContent) (step : Step ModuleContent) → step ≡ Go after → Rewriting content step → IsRewritten content after
+  is_rewritten content after _ is (rewritten own own_is few) = subst (IsRewritten content) (same-value own after is) own_is
+  is_rewritten content after _ is (has_too_many many) = absurd (not_both after (cause.Module TooManyRelocations) (sym is))
+
+  few_stops : (content : ModuleContent) → HasFewRelocates content → (reason : Cause) (step : Step ModuleContent) → step ≡ Stop reason → Rewriting content step → ⊥
+  few_stops content few reason _ is (rewritten own own_is own_few) = not_both own reason is
+  few_stops content few reason _ is (has_too_many many) = few_or_many content few many
+
+  -- the rewritten module runs over the stack map in a file
+  given_map_explains : (reads : ReadsPlan words given) (name : List ℕ) (shows : Shows) → engine_asked reads ≡ Rewriter (Some name) shows → (step : Step Output) →
+      run_phase (Rewriter (Some name) shows) (module_run reads) reads.reads.numbers reads.plan (steps_asked reads) given.map_file step → Explains step words given
+  given_map_explains reads name shows is _ (goes_on after step first rest) =
+      over_map_explains reads (Rewriter (Some name) shows) is after (is_rewritten (module_run reads) after (Go after) refl first) step rest
+  given_map_explains reads name shows is _ (stops reason first) =
+      absurd (few_stops (module_run reads) (subst (λ (e : Engine). IsTrusted e (module_run reads)) is reads.reads.accepts.trusted) reason (Stop reason) refl first)
 
   phase_explains : (reads : ReadsPlan words given) (engine : Engine) → engine_asked reads ≡ engine → (step : Step Output) →
       run_phase engine (module_run reads) reads.reads.numbers reads.plan (steps_asked reads) given.map_file step → Explains step words given
-  phase_explains reads Meaning is step due = running_explains (record { reads = reads; engine = subst RunsSource (sym is) tt }) step due
-  phase_explains reads Rewriter is step due = running_explains (record { reads = reads; engine = subst RunsSource (sym is) tt }) step due
-  phase_explains reads (Machine map_file trust) is _ (goes_on map step first rest) =
-      executing_explains (record { reads = reads; map_file = map_file; trust = trust; engine = is; map = map; takes = first }) step rest
-  phase_explains reads (Machine map_file trust) is _ (stops reason first) = no_map_stops reads map_file trust is reason first
+  phase_explains reads Meaning is step due = running_explains (record { reads = reads; engine = is }) step due
+  phase_explains reads (Rewriter None shows) is step due = rewritten_explains reads shows is step due
+  phase_explains reads (Rewriter (Some name) shows) is step due = given_map_explains reads name shows is step due
+  phase_explains reads (Machine map_file trust shows) is step due = over_map_explains reads (Machine map_file trust shows) is (module_run reads) refl step due
 
   plan_explains : (reads : ReadsInput words given) (plan : Taken) → given.plan ≡ plan → (step : Step Output) →
       after_input reads.accepts.asks.request.plan reads.accepts.asks.engine (content_of (form_of reads.accepts.asks.engine) reads.accepts.lines) reads.numbers reads.accepts.asks.request.steps
@@ -316,21 +389,21 @@ module _ (words : List (List ℕ)) (given : Given) where
   judged_stops : (engine : Engine) (request : RunRequest) → IsAskedFor words engine request → (text : List ℕ) → given.module_file ≡ Bytes text → (whole : LinedModule) → Accepts (form_of engine) text whole
       → (reason : Cause) → judged engine whole (Stop reason) → Explains (Stop reason) words given
   judged_stops _ _ (by_source request is) text taken whole accepted reason stopped = absurd (not_both whole reason (sym stopped))
-  judged_stops _ _ (by_run request is) text taken whole accepted reason stopped =
+  judged_stops _ _ (by_run request map_file places trace is) text taken whole accepted reason stopped =
       let found = large whole reason (Stop reason) refl stopped in
       stop-at {A = Output} reason (cause.Module TooManyRelocations) (ap Stop found.is)
       (too_many (record {
         name = request.code;
-        names = to_run_rewritten request is;
+        names = to_run_rewritten request map_file places trace is;
         text = text;
         taken = taken;
         lines = accepted.lines;
         accepted = accepted.accepted;
         many = subst (λ (w : LinedModule). HasManyRelocates w.content) accepted.is found.many;
       }))
-  judged_stops _ _ (by_exec request map_file true is) text taken whole accepted reason stopped = absurd (not_both whole reason (sym stopped))
-  judged_stops _ _ (by_exec request map_file false is) text taken whole accepted reason stopped =
-      said_no_stops request.code text (to_run_judged request map_file is) taken whole accepted reason stopped
+  judged_stops _ _ (by_exec request map_file true places trace is) text taken whole accepted reason stopped = absurd (not_both whole reason (sym stopped))
+  judged_stops _ _ (by_exec request map_file false places trace is) text taken whole accepted reason stopped =
+      said_no_stops request.code text (to_run_judged request map_file places trace is) taken whole accepted reason stopped
 
   run_stops : (asks : AsksForRun words) (text : List ℕ) → given.module_file ≡ Bytes text → (reason : Cause) (came : Step LinedModule) → came ≡ Stop reason → run_module_phase asks.engine text came
       → Explains (Stop reason) words given
@@ -349,15 +422,20 @@ module _ (words : List (List ℕ)) (given : Given) where
   run_explains asks Faulty is _ (goes_on whole step first rest) = absurd (not_both whole (cause.ReadFault asks.request.code) first)
   run_explains asks Faulty is _ (stops reason first) = stop-at reason (cause.ReadFault asks.request.code) first (module_gives (form_of asks.engine) asks.request.code (to_run asks) is)
 
+  generating_explains : (asks : AsksToGenerate words) (step : Step Output) → Generating asks.seed asks.size asks.steps step → Explains step words given
+  generating_explains asks _ (generates after is meant means) = by_generating asks _ (generates after is meant means)
+
   command_explains : (command : Option Command) → command_of words ≡ command → (step : Step Output) → command_work command given step → Explains step words given
   command_explains None is step due = explains-at step (Stop cause.Words) due is
   command_explains (Some (Show module_file)) is step due = show_explains (record { module_file = module_file; command = is }) given.module_file refl step due
   command_explains (Some (Rewrite module_file part)) is step due = rewrite_explains (record { module_file = module_file; part = part; command = is }) given.module_file refl step due
   command_explains (Some (Check module_file)) is step due = check_explains (record { module_file = module_file; command = is }) given.module_file refl step due
   command_explains (Some (Source request)) is step due = run_explains (record { engine = Meaning; request = request; asked = by_source request is }) given.module_file refl step due
-  command_explains (Some (Run request)) is step due = run_explains (record { engine = Rewriter; request = request; asked = by_run request is }) given.module_file refl step due
-  command_explains (Some (Exec request map_file trust)) is step due =
-      run_explains (record { engine = Machine map_file trust; request = request; asked = by_exec request map_file trust is }) given.module_file refl step due
+  command_explains (Some (Run request map_file places trace)) is step due =
+      run_explains (record { engine = Rewriter map_file (showing places trace); request = request; asked = by_run request map_file places trace is }) given.module_file refl step due
+  command_explains (Some (Exec request map_file trust places trace)) is step due =
+      run_explains (record { engine = Machine map_file trust (showing places trace); request = request; asked = by_exec request map_file trust places trace is }) given.module_file refl step due
+  command_explains (Some (Gen seed size steps)) is step due = generating_explains (record { seed = seed; size = size; steps = steps; command = is }) step due
 
   -- each step of the work has its cause
   pub Explains-work : (step : Step Output) → work words given step → Explains step words given
@@ -370,14 +448,21 @@ module _ (words : List (List ℕ)) (given : Given) where
   cause_at_end output ended.Poison is ends = (output, ends, is)
   cause_at_end output ended.LostFrame is ends = (output, ends, is)
 
+  cause_of_generated : (asks : AsksToGenerate words) (output : Output) (step : Step Output) → step ≡ Go output → Generating asks.seed asks.size asks.steps step → CauseOf output.status words given
+  cause_of_generated asks output _ is (generates after own meant means) =
+      let made = ended_with (summary_of (generated asks.seed asks.size) after meant) meant.end in
+      subst (λ (o : Output). CauseOf o.status words given) (same-value made output is)
+      (cause_at_end made meant.end refl (by_generating asks made (generates after own meant means)))
+
   cause_of_output : (output : Output) → Ends words given output → CauseOf output.status words given
   cause_of_output _ (by_showing shows) = (shown (content_of text_forms.Source shows.lines), by_showing shows, refl)
   cause_of_output _ (by_checking checks) = (passed, by_checking checks, refl)
   cause_of_output _ (by_rewriting rewrites) = (written_of rewrites.reads.asks.part rewrites.after, by_rewriting rewrites, refl)
   cause_of_output _ (by_running runs outcome gives) =
       cause_at_end (output_of (module_run runs.reads) outcome) outcome.end refl (by_running runs outcome gives)
-  cause_of_output _ (by_executing runs outcome gives) =
-      cause_at_end (executed (module_run runs.reads) outcome gives.last.lines) outcome.end refl (by_executing runs outcome gives)
+  cause_of_output _ (by_running_rewritten runs) = cause_at_end (ended_with runs.text runs.meant.end) runs.meant.end refl (by_running_rewritten runs)
+  cause_of_output _ (by_executing runs outcome text writes) = cause_at_end (ended_with text outcome.end) outcome.end refl (by_executing runs outcome text writes)
+  cause_of_output output (by_generating asks _ generating) = cause_of_generated asks output (Go output) refl generating
 
   -- and so has its status
   pub CauseOf-explained : (step : Step Output) → Explains step words given → CauseOf (status_of_step step) words given
@@ -398,8 +483,8 @@ module _ (words : List (List ℕ)) (given : Given) where
 
   commanded_as : (engine : Engine) (request : RunRequest) (step : Step Output) → IsAskedFor words engine request → run_work engine request given step → work words given step
   commanded_as _ _ step (by_source request is) due = commanded (Some (Source request)) step is due
-  commanded_as _ _ step (by_run request is) due = commanded (Some (Run request)) step is due
-  commanded_as _ _ step (by_exec request map_file trust is) due = commanded (Some (Exec request map_file trust)) step is due
+  commanded_as _ _ step (by_run request map_file places trace is) due = commanded (Some (Run request map_file places trace)) step is due
+  commanded_as _ _ step (by_exec request map_file trust places trace is) due = commanded (Some (Exec request map_file trust places trace)) step is due
 
   commanded_run : (asks : AsksForRun words) (step : Step Output) → run_work asks.engine asks.request given step → work words given step
   commanded_run asks step due = commanded_as asks.engine asks.request step asks.asked due
@@ -449,11 +534,17 @@ module _ (words : List (List ℕ)) (given : Given) where
       with_plan reads step
       (subst (λ (e : Engine). run_phase e (module_run reads) reads.reads.numbers reads.plan (steps_asked reads) given.map_file step) (sym is) due)
 
-  runs_phase : (engine : Engine) → RunsSource engine → (content : ModuleContent) (numbers : List ℤ) (lines : List PlanLine) (steps : ℕ) (step : Step Output)
-      → Running content numbers lines steps step → run_phase engine content numbers lines steps given.map_file step
-  runs_phase Meaning runs content numbers lines steps step due = due
-  runs_phase Rewriter runs content numbers lines steps step due = due
-  runs_phase (Machine map_file trust) runs content numbers lines steps step due = absurd runs
+  -- what runs on the machine over a stack map
+  over_map_phase : (reads : ReadsPlan words given) (engine : Engine) → engine_asked reads ≡ engine → (code : ModuleContent) → IsExecuted engine (module_run reads) code → (step : Step Output) →
+      Then (map_phase code (map_named engine) given.map_file) (Executing code reads.reads.numbers reads.plan (steps_asked reads) (shown_by engine)) step → work words given step
+  over_map_phase reads Meaning is code runs step due = absurd runs
+  over_map_phase reads (Rewriter None shows) is code runs step due = absurd runs
+  over_map_phase reads (Rewriter (Some name) shows) is code runs step due =
+      phase_by reads (Rewriter (Some name) shows) step is
+      (goes_on code step (rewritten code runs (subst (λ (e : Engine). IsTrusted e (module_run reads)) is reads.reads.accepts.trusted)) due)
+  over_map_phase reads (Machine map_file trust shows) is code runs step due =
+      phase_by reads (Machine map_file trust shows) step is
+      (subst (λ (c : ModuleContent). Then (map_phase c map_file given.map_file) (Executing c reads.reads.numbers reads.plan (steps_asked reads) shows) step) runs due)
 
   -- the work of a run is the source meaning, or the machine's run
   pub work-ends : (output : Output) → Ends words given output → work words given (Go output)
@@ -474,12 +565,14 @@ module _ (words : List (List ℕ)) (given : Given) where
       let output = written_of rewrites.reads.asks.part rewrites.after in
       with_source rewrites.reads (Go output) (goes_on rewrites.after (Go output) (rewritten rewrites.after rewrites.is rewrites.few) refl)
   work-ends _ (by_running runs outcome gives) =
-      with_plan runs.reads (Go (output_of (module_run runs.reads) outcome))
-      (runs_phase (engine_asked runs.reads) runs.engine (module_run runs.reads) runs.reads.reads.numbers runs.reads.plan (steps_asked runs.reads)
-      (Go (output_of (module_run runs.reads) outcome)) (comes outcome gives))
-  work-ends _ (by_executing runs outcome gives) =
-      let output = executed (module_run runs.reads) outcome gives.last.lines in
-      phase_by runs.reads (Machine runs.map_file runs.trust) (Go output) runs.engine (goes_on runs.map (Go output) runs.takes (executes outcome gives))
+      phase_by runs.reads Meaning (Go (output_of (module_run runs.reads) outcome)) runs.engine (comes outcome gives)
+  work-ends _ (by_running_rewritten runs) =
+      phase_by runs.reads (Rewriter None runs.shows) (Go (ended_with runs.text runs.meant.end)) runs.engine
+      (comes_rewritten runs.meant runs.means runs.after runs.rewritten runs.machine runs.text runs.writes)
+  work-ends _ (by_executing runs outcome text writes) =
+      let output = ended_with text outcome.end in
+      over_map_phase runs.reads (engine_asked runs.reads) refl runs.code runs.runs (Go output) (goes_on runs.map (Go output) runs.takes (executes outcome text writes))
+  work-ends output (by_generating asks _ generating) = commanded (Some (Gen asks.seed asks.size asks.steps)) (Go output) asks.command generating
 
   -- the work comes to a step of this status
   abbrev pub ComesWith : Status → Type 0
@@ -507,11 +600,11 @@ module _ (words : List (List ℕ)) (given : Given) where
   large_stops _ text (to_write asks) taken lines accepted many =
       let reason = cause.Module TooManyRelocations in
       with_source (record { asks = asks; text = text; taken = taken; lines = lines; accepted = accepted }) (Stop reason) (stops reason (has_too_many many))
-  large_stops _ text (to_run_rewritten request is) taken lines accepted many =
+  large_stops _ text (to_run_rewritten request map_file places trace is) taken lines accepted many =
       let reason = cause.Module TooManyRelocations in
       let whole = module_of text_forms.Source lines in
-      commanded (Some (Run request)) (Stop reason) is
-      (stops reason (subst (λ (t : Taken). file_phase request.code (run_module_phase Rewriter) t (Stop reason)) (sym taken)
+      commanded (Some (Run request map_file places trace)) (Stop reason) is
+      (stops reason (subst (λ (t : Taken). file_phase request.code (run_module_phase (Rewriter map_file (showing places trace))) t (Stop reason)) (sym taken)
       (goes_on whole (Stop reason) (as-accepted text_forms.Source text lines accepted) (stops reason (has_too_many many)))))
 
   stops-HasModuleFault : (fault : ModuleFault) → HasModuleFault words given fault → work words given (Stop (cause.Module fault))
@@ -532,11 +625,11 @@ module _ (words : List (List ℕ)) (given : Given) where
       commanded (Some (Check asks.module_file)) (Stop reason) asks.command
       (stops reason (subst (λ (t : Taken). file_phase asks.module_file checked_phase t (Stop reason)) (sym taken)
       (goes_on whole (Stop reason) (as-accepted text_forms.Rewritten text lines accepted) (said_no fault least))))
-  judge_stops _ text (to_run_judged request map_file is) taken lines accepted fault least =
+  judge_stops _ text (to_run_judged request map_file places trace is) taken lines accepted fault least =
       let reason = cause.Check fault in
       let whole = module_of text_forms.Rewritten lines in
-      commanded (Some (Exec request map_file false)) (Stop reason) is
-      (stops reason (subst (λ (t : Taken). file_phase request.code (run_module_phase (Machine map_file false)) t (Stop reason)) (sym taken)
+      commanded (Some (Exec request map_file false places trace)) (Stop reason) is
+      (stops reason (subst (λ (t : Taken). file_phase request.code (run_module_phase (Machine map_file false (showing places trace))) t (Stop reason)) (sym taken)
       (goes_on whole (Stop reason) (as-accepted text_forms.Rewritten text lines accepted) (said_no fault least))))
 
   pub comes-HasSomeCheckFault : HasSomeCheckFault words given → ComesWith CheckSaidNo
@@ -567,8 +660,23 @@ module _ (words : List (List ℕ)) (given : Given) where
       )
 
   -- where the stack map stops the work
+  map_stops_by : (reads : ReadsPlan words given) (engine : Engine) → engine_asked reads ≡ engine → (name : List ℕ) → map_named engine ≡ Some name → (reason : Cause)
+      → file_phase name ReadingMap given.map_file (Stop reason) → work words given (Stop reason)
+  map_stops_by reads Meaning is name named reason stopped = absurd (none_named name named)
+  map_stops_by reads (Rewriter None shows) is name named reason stopped = absurd (none_named name named)
+  map_stops_by reads (Rewriter (Some own) shows) is name named reason stopped =
+      let few = subst (λ (e : Engine). IsTrusted e (module_run reads)) is reads.reads.accepts.trusted in
+      let after = rewritten_source few.reached in
+      phase_by reads (Rewriter (Some own) shows) (Stop reason) is
+      (goes_on after (Stop reason) (rewritten after (record { reached = few.reached; drops = few.drops; rest = refl }) few)
+      (stops reason (subst (λ (n : List ℕ). file_phase n ReadingMap given.map_file (Stop reason)) (sym (one_named own name named)) stopped)))
+  map_stops_by reads (Machine None trust shows) is name named reason stopped = absurd (none_named name named)
+  map_stops_by reads (Machine (Some own) trust shows) is name named reason stopped =
+      phase_by reads (Machine (Some own) trust shows) (Stop reason) is
+      (stops reason (subst (λ (n : List ℕ). file_phase n ReadingMap given.map_file (Stop reason)) (sym (one_named own name named)) stopped))
+
   map_phase_stops : (reads : ReadsForMap words given) (reason : Cause) → file_phase reads.map_file ReadingMap given.map_file (Stop reason) → work words given (Stop reason)
-  map_phase_stops reads reason stopped = phase_by reads.reads (Machine (Some reads.map_file) reads.trust) (Stop reason) reads.engine (stops reason stopped)
+  map_phase_stops reads reason stopped = map_stops_by reads.reads (engine_asked reads.reads) refl reads.map_file reads.named reason stopped
 
   pub comes-HasSomeMapFault : HasSomeMapFault words given → ComesWith MapRefused
   comes-HasSomeMapFault has =
@@ -608,8 +716,8 @@ module _ (words : List (List ℕ)) (given : Given) where
 module _ (words : List (List ℕ)) (given : Given) (files : FilesSeen) (may : MayGiveNamed files (command_of words) given) where
   may_as : (engine : Engine) (request : RunRequest) → IsAskedFor words engine request → MayGiveAll files engine request given
   may_as _ _ (by_source request is) = subst (λ (command : Option Command). MayGiveNamed files command given) is may
-  may_as _ _ (by_run request is) = subst (λ (command : Option Command). MayGiveNamed files command given) is may
-  may_as _ _ (by_exec request map_file trust is) = subst (λ (command : Option Command). MayGiveNamed files command given) is may
+  may_as _ _ (by_run request map_file places trace is) = subst (λ (command : Option Command). MayGiveNamed files command given) is may
+  may_as _ _ (by_exec request map_file trust places trace is) = subst (λ (command : Option Command). MayGiveNamed files command given) is may
 
   may_of_run : (asks : AsksForRun words) → MayGiveAll files asks.engine asks.request given
   may_of_run asks = may_as asks.engine asks.request asks.asked
@@ -629,4 +737,4 @@ module _ (words : List (List ℕ)) (given : Given) (files : FilesSeen) (may : Ma
   Rose-gives _ (plan_gives reads is) = rose_at reads.accepts.asks.request.plan given.plan is (may_of_run reads.accepts.asks).1.1.0
   Rose-gives _ (map_gives reads is) =
       rose_at reads.map_file given.map_file is
-      (subst (λ (engine : Engine). MayGiveMap files engine given.map_file) reads.engine (may_of_run reads.reads.reads.accepts.asks).1.1.1)
+      (subst (λ (file : Option (List ℕ)). MayGiveFile files file given.map_file) reads.named (may_of_run reads.reads.reads.accepts.asks).1.1.1)

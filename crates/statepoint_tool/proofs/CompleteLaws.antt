@@ -9,14 +9,14 @@ use Rattle.statepoint_tool.specs.Complete.{IsTold, MapIsTold, RunIsTold, AllTold
 use Rattle.statepoint_tool.specs.Steps.{Step, Go, Stop, Then, goes_on, stops}
 use Rattle.statepoint_tool.specs.Taken.{Taken, Bytes, Longer, Faulty, FilesSeen, MayGive}
 use Rattle.tool_words.specs.Words.{command_of}
-use Rattle.statepoint_tool.specs.Work.{Output, Given, MayGiveMap, MayGiveAll, MayGiveNamed, command_work, show_work, check_work, rewrite_work, run_phase, run_work, work}
+use Rattle.statepoint_tool.specs.Work.{Output, Given, MayGiveMap, MayGiveAll, MayGiveNamed, command_work, show_work, check_work, rewrite_work, run_phase, run_work, showing, work}
 use Rattle.statepoint_tool.specs.declared.refusal.Refusal.{Refusal}
 use Rattle.statepoint_tool.specs.declared.refusal.Refusal.TheVariants.{Defined, WriteFault, Memory}
 use Rattle.statepoint_tool.specs.declared.engine.Engine.{Engine}
 use Rattle.statepoint_tool.specs.declared.engine.Engine.TheVariants.{Meaning, Rewriter, Machine}
 use Rattle.tool_words.specs.declared.request.RunRequest.{RunRequest}
 use Rattle.tool_words.specs.declared.request.Command.{Command}
-use Rattle.tool_words.specs.declared.request.Command.TheVariants.{Show, Rewrite, Check, Source, Run, Exec}
+use Rattle.tool_words.specs.declared.request.Command.TheVariants.{Show, Rewrite, Check, Source, Run, Exec, Gen}
 use Rattle.statepoint_tool.specs.declared.status.Status.{Status}
 use Rattle.statepoint_tool.proofs.StepLaws.{not_both}
 use Rattle.statepoint_tool.proofs.CauseLaws.{Once-work, work-ends}
@@ -34,10 +34,12 @@ same_map : (files : FilesSeen) (engine : Engine) (content : ModuleContent) (numb
     → MayGiveMap files engine given → MapIsTold files engine told → (step : Step Output) → run_phase engine content numbers lines steps told step
     → run_phase engine content numbers lines steps given step
 same_map files Meaning content numbers lines steps given told may is step due = due
-same_map files Rewriter content numbers lines steps given told may is step due = due
-same_map files (Machine None trust) content numbers lines steps given told may is step due = due
-same_map files (Machine (Some name) trust) content numbers lines steps given told may is step due =
-    subst (λ (taken : Taken). run_phase (Machine (Some name) trust) content numbers lines steps taken step) (sym (same_taken files name given told may is)) due
+same_map files (Rewriter None shows) content numbers lines steps given told may is step due = due
+same_map files (Rewriter (Some name) shows) content numbers lines steps given told may is step due =
+    subst (λ (taken : Taken). run_phase (Rewriter (Some name) shows) content numbers lines steps taken step) (sym (same_taken files name given told may is)) due
+same_map files (Machine None trust shows) content numbers lines steps given told may is step due = due
+same_map files (Machine (Some name) trust shows) content numbers lines steps given told may is step due =
+    subst (λ (taken : Taken). run_phase (Machine (Some name) trust shows) content numbers lines steps taken step) (sym (same_taken files name given told may is)) due
 
 -- what follows the module, the input and the plan
 then_same : {A : Type 0} (first : Step A → Type 0) (next other : A → Step Output → Type 0) (step : Step Output)
@@ -75,8 +77,11 @@ same_work files (Some (Check module_file)) given told may is step due =
     let code : given.module_file ≡ told.module_file = same_taken files module_file given.module_file told.module_file may is in
     subst (λ (taken : Taken). check_work module_file (record { module_file = taken; input = told.input; plan = told.plan; map_file = told.map_file }) step) (sym code) due
 same_work files (Some (Source request)) given told may is step due = same_run files Meaning request given told may is step due
-same_work files (Some (Run request)) given told may is step due = same_run files Rewriter request given told may is step due
-same_work files (Some (Exec request map_file trust)) given told may is step due = same_run files (Machine map_file trust) request given told may is step due
+same_work files (Some (Run request map_file places trace)) given told may is step due =
+    same_run files (Rewriter map_file (showing places trace)) request given told may is step due
+same_work files (Some (Exec request map_file trust places trace)) given told may is step due =
+    same_run files (Machine map_file trust (showing places trace)) request given told may is step due
+same_work files (Some (Gen seed size steps)) given told may is step due = due
 
 same_output : (one other : Output) → Go one ≡ Go other → one ≡ other
 same_output one other same = cc

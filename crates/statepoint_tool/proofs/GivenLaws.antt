@@ -4,9 +4,8 @@ use Rattle.std.specs.Prelude.{nat_le}
 use Rattle.std.proofs.lemmas.Bool.Decides.{nat_tests}
 use Rattle.tool_io.specs.Counts.{NoneFell}
 use Rattle.tool_io.proofs.CountLaws.{Rose-then-none_fell, Rose-after-none_fell}
-use Rattle.statepoint_tool.specs.Work.{MayGiveMap, MayGiveFromPlan, MayGiveFromInput}
+use Rattle.statepoint_tool.specs.Work.{MayGiveFile, MayGiveMap, MayGiveFromPlan, MayGiveFromInput, map_named}
 use Rattle.statepoint_tool.specs.declared.engine.Engine.{Engine}
-use Rattle.statepoint_tool.specs.declared.engine.Engine.TheVariants.{Meaning, Rewriter, Machine}
 use Rattle.statepoint_tool.specs.Taken.{Taken, Bytes, Longer, Faulty, FilesSeen, files_seen, MayGive}
 
 -- what told contents give
@@ -51,18 +50,21 @@ MayGive-earlier contents others before mid after name Faulty kept stayed may = R
 
 -- ---- the files of a run
 
+-- what a file gives, where one is named
+abbrev pub file_as_told : FilesSeen → Option (List ℕ) → Taken
+file_as_told files None = Bytes []
+file_as_told files (Some name) = as_told files name
+
+pub MayGiveFile-as_told : (files : FilesSeen) (file : Option (List ℕ)) → MayGiveFile files file (file_as_told files file)
+MayGiveFile-as_told files None = tt
+MayGiveFile-as_told files (Some name) = MayGive-as_told files name
+
 -- what the stack map gives that a run takes
 abbrev pub map_as_told : FilesSeen → Engine → Taken
-map_as_told files Meaning = Bytes []
-map_as_told files Rewriter = Bytes []
-map_as_told files (Machine None trust) = Bytes []
-map_as_told files (Machine (Some name) trust) = as_told files name
+map_as_told files engine = file_as_told files (map_named engine)
 
 pub MayGiveMap-as_told : (files : FilesSeen) (engine : Engine) → MayGiveMap files engine (map_as_told files engine)
-MayGiveMap-as_told files Meaning = tt
-MayGiveMap-as_told files Rewriter = tt
-MayGiveMap-as_told files (Machine None trust) = tt
-MayGiveMap-as_told files (Machine (Some name) trust) = MayGive-as_told files name
+MayGiveMap-as_told files engine = MayGiveFile-as_told files (map_named engine)
 
 abbrev pub from_plan_as_told : FilesSeen → List ℕ → Engine → Taken × Taken
 from_plan_as_told files plan engine = (as_told files plan, map_as_told files engine)
@@ -77,11 +79,12 @@ pub MayGiveFromInput-as_told : (files : FilesSeen) (input plan : List ℕ) (engi
 MayGiveFromInput-as_told files input plan engine = (MayGive-as_told files input, MayGiveFromPlan-as_told files plan engine)
 
 module _ (contents others : List ℕ → Option (List ℕ)) (before mid after : List ℕ → ℕ) (kept : others ≡ contents) (stayed : NoneFell before mid) where
+  MayGiveFile-earlier : (file : Option (List ℕ)) (given : Taken) → MayGiveFile (files_seen others mid after) file given → MayGiveFile (files_seen contents before after) file given
+  MayGiveFile-earlier None given may = tt
+  MayGiveFile-earlier (Some name) given may = MayGive-earlier contents others before mid after name given kept stayed may
+
   pub MayGiveMap-earlier : (engine : Engine) (given : Taken) → MayGiveMap (files_seen others mid after) engine given → MayGiveMap (files_seen contents before after) engine given
-  MayGiveMap-earlier Meaning given may = tt
-  MayGiveMap-earlier Rewriter given may = tt
-  MayGiveMap-earlier (Machine None trust) given may = tt
-  MayGiveMap-earlier (Machine (Some name) trust) given may = MayGive-earlier contents others before mid after name given kept stayed may
+  MayGiveMap-earlier engine given may = MayGiveFile-earlier (map_named engine) given may
 
   pub MayGiveFromPlan-earlier : (plan : List ℕ) (engine : Engine) (given : Taken × Taken) → MayGiveFromPlan (files_seen others mid after) plan engine given
       → MayGiveFromPlan (files_seen contents before after) plan engine given

@@ -15,6 +15,7 @@ use Rattle.statepoint_tool.specs.Causes.{IsTrusted}
 use Rattle.statepoint_tool.specs.Steps.{Step, Go, Stop, Then, goes_on, stops, comes_to}
 use Rattle.statepoint_tool.specs.Taken.{Taken, Bytes, Longer, Faulty, file_phase}
 use Rattle.statepoint_tool.specs.Work.{Judging, verified, said_no, Rewriting, rewritten, too_many, judged, form_of, module_phase, checked_phase, run_module_phase}
+use Rattle.ir_machine.specs.declared.run.Shows.{Shows}
 use Rattle.statepoint_tool.specs.declared.engine.Engine.{Engine}
 use Rattle.statepoint_tool.specs.declared.engine.Engine.TheVariants.{Meaning, Rewriter, Machine}
 use Rattle.statepoint_tool.specs.declared.refusal.Cause.{Cause}
@@ -57,9 +58,9 @@ Once-Judging whole _ _ (said_no one p) (said_no other q) = ap (λ (fault : Check
 
 Once-judged : (engine : Engine) (whole : LinedModule) → Once (judged engine whole)
 Once-judged Meaning whole = Once-comes_to (Go whole)
-Once-judged Rewriter whole = Once-Then (Rewriting whole.content) (λ after. comes_to (Go whole)) (Once-Rewriting whole.content) (λ (after : ModuleContent). Once-comes_to (Go whole))
-Once-judged (Machine map_file true) whole = Once-comes_to (Go whole)
-Once-judged (Machine map_file false) whole = Once-Judging whole
+Once-judged (Rewriter map_file shows) whole = Once-Then (Rewriting whole.content) (λ after. comes_to (Go whole)) (Once-Rewriting whole.content) (λ (after : ModuleContent). Once-comes_to (Go whole))
+Once-judged (Machine map_file true shows) whole = Once-comes_to (Go whole)
+Once-judged (Machine map_file false shows) whole = Once-Judging whole
 
 pub Once-checked_phase : (text : List ℕ) → Once (checked_phase text)
 Once-checked_phase text = Once-Then (module_phase text_forms.Rewritten text) Judging (Once-module_phase text_forms.Rewritten text) Once-Judging
@@ -107,22 +108,22 @@ few_by : (content : ModuleContent) (step : Step ModuleContent) (after : ModuleCo
 few_by content _ after is (rewritten own own_is few) = few
 few_by content _ after is (too_many many) = absurd (not_both after (Module TooManyRelocations) (sym is))
 
-goes_rewritten : (whole after : LinedModule) (step : Step LinedModule) → step ≡ Go after → Then (Rewriting whole.content) (λ (made : ModuleContent). comes_to (Go whole)) step → GoesOn Rewriter whole after
-goes_rewritten whole after _ is (goes_on made step first rest) =
+goes_rewritten : (map_file : Option (List ℕ)) (shows : Shows) (whole after : LinedModule) (step : Step LinedModule) → step ≡ Go after → Then (Rewriting whole.content) (λ (made : ModuleContent). comes_to (Go whole)) step → GoesOn (Rewriter map_file shows) whole after
+goes_rewritten map_file shows whole after _ is (goes_on made step first rest) =
     record { is = same-value after whole (sym is ∙ rest); trusted = few_by whole.content (Go made) made refl first }
-goes_rewritten whole after _ is (stops reason first) = absurd (not_both after reason (sym is))
+goes_rewritten map_file shows whole after _ is (stops reason first) = absurd (not_both after reason (sym is))
 
 pub trusted_of : (engine : Engine) (whole after : LinedModule) → judged engine whole (Go after) → GoesOn engine whole after
 trusted_of Meaning whole after same = record { is = same-value after whole same; trusted = tt }
-trusted_of Rewriter whole after phase = goes_rewritten whole after (Go after) refl phase
-trusted_of (Machine map_file true) whole after same = record { is = same-value after whole same; trusted = tt }
-trusted_of (Machine map_file false) whole after judging = let found = passes whole after judging in record { is = found.is; trusted = found.verified }
+trusted_of (Rewriter map_file shows) whole after phase = goes_rewritten map_file shows whole after (Go after) refl phase
+trusted_of (Machine map_file true shows) whole after same = record { is = same-value after whole same; trusted = tt }
+trusted_of (Machine map_file false shows) whole after judging = let found = passes whole after judging in record { is = found.is; trusted = found.verified }
 
 pub as-trusted : (engine : Engine) (whole : LinedModule) → IsTrusted engine whole.content → judged engine whole (Go whole)
 as-trusted Meaning whole trusted = refl
-as-trusted Rewriter whole few = goes_on (rewritten_source few.reached) (Go whole) (rewritten (rewritten_source few.reached) (record { reached = few.reached; drops = few.drops; rest = refl }) few) refl
-as-trusted (Machine map_file true) whole trusted = refl
-as-trusted (Machine map_file false) whole trusted = verified trusted
+as-trusted (Rewriter map_file shows) whole few = goes_on (rewritten_source few.reached) (Go whole) (rewritten (rewritten_source few.reached) (record { reached = few.reached; drops = few.drops; rest = refl }) few) refl
+as-trusted (Machine map_file true shows) whole trusted = refl
+as-trusted (Machine map_file false shows) whole trusted = verified trusted
 
 -- a module that is to be rewritten stops where it would have too many relocates
 pub record IsLarge (whole : LinedModule) (cause : Cause) : Type 0 where
@@ -133,7 +134,7 @@ large_by : (whole : LinedModule) (step : Step ModuleContent) (cause : Cause) →
 large_by whole _ cause is (rewritten own own_is few) = absurd (not_both own cause is)
 large_by whole _ cause is (too_many many) = record { is = (let s : stop_in ModuleContent (Module TooManyRelocations) ≡ Stop cause = is in cc); many = many }
 
-pub large : (whole : LinedModule) (cause : Cause) (step : Step LinedModule) → step ≡ Stop cause → judged Rewriter whole step → IsLarge whole cause
+pub large : (whole : LinedModule) (cause : Cause) (step : Step LinedModule) → step ≡ Stop cause → Then (Rewriting whole.content) (λ (after : ModuleContent). comes_to (Go whole)) step → IsLarge whole cause
 large whole cause _ is (goes_on made step first rest) = absurd (not_both whole cause (sym rest ∙ is))
 large whole cause _ is (stops own first) =
     let same : own ≡ cause = (let s : stop_in LinedModule own ≡ Stop cause = is in cc) in

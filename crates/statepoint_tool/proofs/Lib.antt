@@ -6,6 +6,8 @@ pub mod ReadsLaws
 pub mod JudgeLaws
 pub mod WorksLaws
 pub mod NamedLaws
+pub mod SizeLaws
+pub mod SummaryLaws
 pub mod RewriteLaws
 pub mod MachineLaws
 pub mod RunLaws

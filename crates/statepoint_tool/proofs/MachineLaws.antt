@@ -1,30 +1,35 @@
 -- Runs on the machine, as a phase of the work.
-use Rattle.std.proofs.Common.{◌≡◌, ℕ, List, [], ◌++◌, Option, Some, None, Result, refl, sym, ap, ◌∙◌, append_assoc}
+use Rattle.std.proofs.Common.{◌≡◌, ℕ, List, Option, Some, None, Result, refl, sym, ap, subst, ◌∙◌}
 use Rattle.std.specs.Prelude.{ℤ}
+use Rattle.sp_ids.specs.declared.ends.End.{End}
 use Rattle.ir_ast.specs.Modules.{ModuleContent}
 use Rattle.map_bytes.specs.Maps.{StackMap, IsMapOf}
 use Rattle.map_bytes.specs.Faults.{IsFirstFault}
 use Rattle.map_bytes.specs.declared.rules.MapFault.{MapFault}
 use Rattle.map_bytes.proofs.MapLaws as map_laws
 use Rattle.move_plan.specs.declared.plan_lines.PlanLine.{PlanLine}
-use Rattle.object_meaning.specs.Effects.{text_of as text_of_lines}
-use Rattle.object_meaning.proofs.RunLaws.{one_end}
+use Rattle.move_plan.specs.Plans.{go}
+use Rattle.object_meaning.specs.Outcomes.{Outcome}
+use Rattle.object_meaning.specs.SourceRuns.{SourceGives}
 use Rattle.machine_meaning.specs.Code.{machinery_of}
-use Rattle.machine_meaning.specs.MachineRuns.{MachineOutcome, machine_opening, machine_proceeds}
+use Rattle.machine_meaning.specs.MachineRuns.{MachineOutcome, MachineGives}
 use Rattle.machine_meaning.proofs.OutcomeLaws.{gives_one}
-use Rattle.machine_ends.proofs.EndLaws.{each_run_ends}
-use Rattle.machine_ends.proofs.PrintLaws.{printed_first}
+use Rattle.run_texts.specs.RunTexts.{RunWritesQuiet, no_frames}
+use Rattle.run_texts.proofs.TextLaws.{one_text}
 use Rattle.ir_machine.specs.declared.run.Ran.{Ran}
+use Rattle.ir_machine.specs.declared.run.Shows.{Shows}
 use Rattle.ir_machine.specs.Answers.{IsRun, WritesFront}
-use Rattle.tool_io.specs.Sink.{append_known, AppendsFront}
-use Rattle.tool_io.proofs.AppendLaws.{append_known-then, AppendsFront-front, AppendsFront-same, AppendsFront-second}
+use Rattle.moves_unseen.specs.Waits.{IsSound}
+use Rattle.runs_unseen.proofs.SeenRuns.{seen_here}
+use Rattle.sp_rewrite.proofs.RewrittenLaws.{rewriting_is_verified, rewriting_keeps_meaning}
 use Rattle.stackmap_write.specs.ModuleMaps.{map_of}
-use Rattle.statepoint_tool.specs.Answers.{Came, IsBegun, IsDone, SinkSeen, sink_seen, Works}
-use Rattle.statepoint_tool.specs.Closings.{closing_line, status_of_end}
+use Rattle.statepoint_tool.specs.Answers.{IsBegun, IsDone, SinkSeen, Works}
+use Rattle.statepoint_tool.specs.Closings.{status_of_end}
 use Rattle.statepoint_tool.specs.Steps.{Step, Go, Stop, Then, goes_on, stops, comes_to}
-use Rattle.statepoint_tool.specs.Runners.{engine_of}
-use Rattle.statepoint_tool.specs.Taken.{Bytes, FilesSeen, MayGive, file_phase}
-use Rattle.statepoint_tool.specs.Work.{MayGiveMap, run_phase, Executing, executes, executed, Output, ReadingMap, has_map, no_map}
+use Rattle.statepoint_tool.specs.Runners.{IsItself, IsRewrittenOf, engine_of, module_in}
+use Rattle.statepoint_tool.specs.Taken.{FilesSeen, file_phase}
+use Rattle.statepoint_tool.specs.Work.{MayGiveFile, MayGiveMap, map_phase, run_phase, Executing, executes, ended_with, Output, ReadingMap, has_map, no_map, Rewriting, rewritten, RunningRewritten, comes_rewritten}
+use Rattle.statepoint_tool.specs.declared.engine.Engine.TheVariants.{Rewriter}
 use Rattle.statepoint_tool.specs.declared.refusal.Cause.{Cause}
 use Rattle.statepoint_tool.specs.declared.refusal.Cause.TheVariants.{Map}
 use Rattle.statepoint_tool.specs.declared.refusal.Refusal.{Refusal}
@@ -32,16 +37,21 @@ use Rattle.statepoint_tool.specs.declared.runner.Executable.{Executable}
 use Rattle.statepoint_tool.specs.declared.runner.Executable.TheVariants.{Trusted, Checked}
 use Rattle.statepoint_tool.specs.declared.runner.Runner.TheVariants.{Machine}
 use Rattle.statepoint_tool.specs.declared.status.Status.{Status}
-use Rattle.statepoint_tool.proofs.StepLaws.{Once, stop_in, not_both}
+use Rattle.statepoint_tool.proofs.StepLaws.{Once, stop_in, same-value, not_both}
+use Rattle.statepoint_tool.proofs.WorksLaws.{Came-goes_on, Came-like}
 
 -- ---- a run has one output
 
-pub Once-Executing : (content : ModuleContent) (input : List ℤ) (plan : List PlanLine) (steps : ℕ) (map : StackMap) → Once (Executing content input plan steps map)
-Once-Executing content input plan steps map _ _ (executes one first) (executes other second) =
-    let machinery = machinery_of content map plan steps in
-    let same = one_end (machine_proceeds machinery) (machine_opening machinery input) one.end other.end first.last second.last first.run second.run in
-    ap (λ (outcome : MachineOutcome). Go (executed content outcome first.last.lines)) (gives_one machinery input one other first second)
-    ∙ ap (λ last. Go (executed content other last.lines)) same.last
+ended_as : (content : ModuleContent) (input : List ℤ) (plan : List PlanLine) (steps : ℕ) (shows : Shows) (map : StackMap) (one other : MachineOutcome) (text other_text : List ℕ)
+    → RunWritesQuiet content map input plan steps shows.places shows.trace one text → RunWritesQuiet content map input plan steps shows.places shows.trace other other_text
+    → ended_with text one.end ≡ ended_with other_text other.end
+ended_as content input plan steps shows map one other text other_text first second =
+    ap (λ (t : List ℕ). ended_with t one.end) (one_text no_frames content map input plan steps shows.places shows.trace one other text other_text first second)
+    ∙ ap (λ (outcome : MachineOutcome). ended_with other_text outcome.end) (gives_one (machinery_of content map plan steps) input one other first.gives second.gives)
+
+pub Once-Executing : (content : ModuleContent) (input : List ℤ) (plan : List PlanLine) (steps : ℕ) (shows : Shows) (map : StackMap) → Once (Executing content input plan steps shows map)
+Once-Executing content input plan steps shows map _ _ (executes one text first) (executes other other_text second) =
+    ap Go (ended_as content input plan steps shows map one other text other_text first second)
 
 -- ---- bytes are one stack map, or have one first fault
 
@@ -76,73 +86,84 @@ own_map bytes map next is _ (stops cause first) = stops cause (reads_own bytes m
 
 -- ---- what a run writes
 
-closing_of : ModuleContent → MachineOutcome → List ℕ
-closing_of content outcome = closing_line content outcome.end outcome.func outcome.steps outcome.events
-
 -- a front of what the run writes is one of the output
-pub begun-machine : (content : ModuleContent) (bytes : List ℕ) (input : List ℤ) (plan : List PlanLine) (steps : ℕ) (out : SinkSeen)
-    → WritesFront content bytes input plan steps out.old out.new → IsBegun (λ output. Then (ReadingMap bytes) (Executing content input plan steps) (Go output)) out
-unfolding closing_of
-begun-machine content bytes input plan steps out writes =
-    let machinery = machinery_of content writes.map plan steps in
-    let given = each_run_ends machinery input in
-    let whole = executed content given.outcome given.gives.last.lines in
-    let printed = printed_first machinery input writes.front.now given.outcome writes.front.reached given.gives in
-    let closing = closing_of content given.outcome in
-    record {
+pub begun-machine : (content : ModuleContent) (bytes : List ℕ) (input : List ℤ) (plan : List PlanLine) (steps : ℕ) (shows : Shows) (out : SinkSeen)
+    → WritesFront content bytes input plan steps shows out.old out.new → IsBegun (λ output. Then (ReadingMap bytes) (Executing content input plan steps shows) (Go output)) out
+begun-machine content bytes input plan steps shows out writes = record {
+  output = ended_with writes.front.text writes.front.outcome.end;
+  defined =
+      goes_on writes.map (Go (ended_with writes.front.text writes.front.outcome.end)) (has_map writes.map writes.is_map) (executes writes.front.outcome writes.front.text writes.front.writes);
+  front = writes.front.front;
+}
+
+-- all of it is the output
+pub done-machine : (content : ModuleContent) (bytes : List ℕ) (input : List ℤ) (plan : List PlanLine) (steps : ℕ) (shows : Shows) (ran : Ran) (out : SinkSeen)
+    → IsRun content bytes input plan steps shows ran out.old out.new → (status : Status) → status ≡ status_of_end ran.end
+    → IsDone status (Then (ReadingMap bytes) (Executing content input plan steps shows)) out
+done-machine content bytes input plan steps shows ran out run status is =
+    let whole = ended_with run.over.text run.over.outcome.end in record {
       output = whole;
-      defined = goes_on writes.map (Go whole) (has_map writes.map writes.is_map) (executes given.outcome given.gives);
-      front =
-          AppendsFront-front writes.front.front (printed.more ++ closing) whole.text
-          (ap (λ (text : List ℕ). text ++ closing) printed.text ∙ append_assoc (text_of_lines writes.front.now.lines) printed.more closing);
+      defined = goes_on run.map (Go whole) (has_map run.map run.is_map) (executes run.over.outcome run.over.text run.over.writes);
+      status_is = is ∙ ap (λ (answer : Ran). status_of_end answer.end) run.over.answer;
+      written = run.over.written;
     }
 
-module _ (content : ModuleContent) (bytes : List ℕ) (input : List ℤ) (plan : List PlanLine) (steps : ℕ) (ran : Ran) (old mid new : Option (List ℕ)) (before after : ℕ) (run : IsRun content bytes input plan steps ran old mid) where
-  closes : closing_line content ran.end ran.func.0 ran.steps ran.events ≡ closing_of content run.over.outcome
-  unfolding closing_of
-  closes = ap (λ (answer : Ran). closing_line content answer.end answer.func.0 answer.steps answer.events) run.over.answer
+-- ---- what runs for a module that is asked for
 
-  abbrev whole : Output
-  whole = executed content run.over.outcome run.over.gives.last.lines
+-- the machine's run of a rewritten module of a source module, over its own stack map, is the source meaning
+pub record IsMeant (content : ModuleContent) (input : List ℤ) (plan : List PlanLine) (steps : ℕ) (machine : MachineOutcome) : Type 0 where
+  pub meant : Outcome
+  pub means : SourceGives content input (go plan) steps meant
+  pub end : machine.end ≡ meant.end
 
-  comes_whole : Then (ReadingMap bytes) (Executing content input plan steps) (Go whole)
-  comes_whole = goes_on run.map (Go whole) (has_map run.map run.is_map) (executes run.over.outcome run.over.gives)
+pub meant_by : (content after : ModuleContent) → IsRewrittenOf content after → (input : List ℤ) (plan : List PlanLine) (steps : ℕ) (machine : MachineOutcome)
+    → MachineGives after (map_of after) input plan steps machine → IsMeant content input plan steps machine
+meant_by content after is input plan steps machine gives =
+    let sound : IsSound after = record {
+      target = is.executable.target;
+      bundles = is.executable.bundles;
+      verified = rewriting_is_verified content after is.source is.rewritten;
+    } in
+    let found = seen_here after sound input plan steps machine gives in record {
+      meant = found.outcome;
+      means = (rewriting_keeps_meaning content after is.source is.rewritten input (go plan) steps found.outcome).1 found.gives;
+      end = found.seen.end;
+    }
 
-  -- the whole of the output is written once the closing line is
-  pub done-machine : (status : Status) → status ≡ status_of_end ran.end → new ≡ append_known mid (closing_line content ran.end ran.func.0 ran.steps ran.events)
-      → IsDone status (Then (ReadingMap bytes) (Executing content input plan steps)) (sink_seen old new before after)
-  unfolding closing_of
-  done-machine status is closed = record {
-    output = whole;
-    defined = comes_whole;
-    status_is = is ∙ ap (λ (answer : Ran). status_of_end answer.end) run.over.answer;
-    written =
-        append_known-then old mid new (text_of_lines run.over.gives.last.lines) (closing_of content run.over.outcome) run.over.written
-        (closed ∙ ap (append_known mid) closes);
+module _ (content after : ModuleContent) (is : IsRewrittenOf content after) (input : List ℤ) (plan : List PlanLine) (steps : ℕ) (shows : Shows) where
+  rewritten_step : (step : Step Output) → Executing after input plan steps shows (map_of after) step → RunningRewritten content input plan steps shows step
+  rewritten_step _ (executes machine text writes) =
+      let found = meant_by content after is input plan steps machine writes.gives in
+      subst (λ (end : End). RunningRewritten content input plan steps shows (Go (ended_with text end))) (sym found.end)
+      (comes_rewritten found.meant found.means after is.rewritten machine text writes)
+
+  rewritten_own : (step : Step Output) → Then (comes_to (Go (map_of after))) (Executing after input plan steps shows) step → RunningRewritten content input plan steps shows step
+  rewritten_own _ (goes_on map step first rest) =
+      rewritten_step step (subst (λ (m : StackMap). Executing after input plan steps shows m step) (same-value map (map_of after) first) rest)
+  rewritten_own _ (stops cause first) = absurd (not_both (map_of after) cause (sym first))
+
+  -- so its run on the machine is what `run` is to do
+  pub works_rewritten : (map_file : Option (List ℕ)) (files : FilesSeen) (result : Result Status Refusal) (out : SinkSeen)
+      → Works (MayGiveFile files map_file) (λ given. Then (map_phase after map_file given) (Executing after input plan steps shows)) result out
+      → Works (MayGiveMap files (Rewriter map_file shows)) (run_phase (Rewriter map_file shows) content input plan steps) result out
+  works_rewritten None files result out works = record {
+    given = works.given;
+    may = works.may;
+    came = Came-like _ (RunningRewritten content input plan steps shows) result out rewritten_own works.came;
+  }
+  works_rewritten (Some name) files result out works = record {
+    given = works.given;
+    may = works.may;
+    came = Came-goes_on (Rewriting content) (λ (code : ModuleContent). Then (file_phase name ReadingMap works.given) (Executing code input plan steps shows)) after result out
+        (rewritten after is.rewritten is.few) works.came;
   }
 
-  -- and before that a front of it
-  pub begun-machine_closing : AppendsFront mid new (closing_line content ran.end ran.func.0 ran.steps ran.events)
-      → IsBegun (λ output. Then (ReadingMap bytes) (Executing content input plan steps) (Go output)) (sink_seen old new before after)
-  unfolding closing_of
-  begun-machine_closing front = record {
-    output = whole;
-    defined = comes_whole;
-    front =
-        AppendsFront-second old (text_of_lines run.over.gives.last.lines) run.over.written
-        (AppendsFront-same front (closing_of content run.over.outcome) (sym closes));
-  }
-
--- ---- a module on the machine, over its own stack map or over that in a file
-
-module _ (content : ModuleContent) (input : List ℤ) (plan : List PlanLine) (steps : ℕ) (files : FilesSeen) (result : Result Status Refusal) (out : SinkSeen) where
-  pub over_own : (executable : Executable) → Came result (Then (comes_to (Go (map_of content))) (Executing content input plan steps)) out
-      → Works (MayGiveMap files (engine_of (Machine executable None))) (run_phase (engine_of (Machine executable None)) content input plan steps) result out
-  over_own (Trusted whole) came = record { given = Bytes []; may = tt; came = came }
-  over_own (Checked whole) came = record { given = Bytes []; may = tt; came = came }
-
-  pub over_file : (executable : Executable) (name : List ℕ)
-      → Works (MayGive files name) (λ given. Then (file_phase name ReadingMap given) (Executing content input plan steps)) result out
-      → Works (MayGiveMap files (engine_of (Machine executable (Some name)))) (run_phase (engine_of (Machine executable (Some name))) content input plan steps) result out
-  over_file (Trusted whole) name works = works
-  over_file (Checked whole) name works = works
+-- and that of a rewritten module that was read
+pub works_machine : (content : ModuleContent) (executable : Executable) → IsItself content (module_in executable).content → (map_file : Option (List ℕ)) (shows : Shows)
+    → (input : List ℤ) (plan : List PlanLine) (steps : ℕ) (files : FilesSeen) (result : Result Status Refusal) (out : SinkSeen)
+    → Works (MayGiveFile files map_file) (λ given. Then (map_phase (module_in executable).content map_file given) (Executing (module_in executable).content input plan steps shows)) result out
+    → Works (MayGiveMap files (engine_of (Machine executable map_file shows))) (run_phase (engine_of (Machine executable map_file shows)) content input plan steps) result out
+works_machine content (Trusted whole) itself map_file shows input plan steps files result out works =
+    subst (λ (c : ModuleContent). Works (MayGiveFile files map_file) (λ given. Then (map_phase c map_file given) (Executing c input plan steps shows)) result out) (sym itself.same) works
+works_machine content (Checked whole) itself map_file shows input plan steps files result out works =
+    subst (λ (c : ModuleContent). Works (MayGiveFile files map_file) (λ given. Then (map_phase c map_file given) (Executing c input plan steps shows)) result out) (sym itself.same) works

@@ -9,7 +9,7 @@ use Rattle.tool_words.specs.declared.request.Part.{Part}
 use Rattle.statepoint_tool.proofs.StepLaws.{Once, Once-comes_to, Once-Then}
 
 -- a module doesn't have few and many
-few_or_many : (content : ModuleContent) → HasFewRelocates content → HasManyRelocates content → ⊥
+pub few_or_many : (content : ModuleContent) → HasFewRelocates content → HasManyRelocates content → ⊥
 few_or_many content few many =
     let same : few.reached ≡ many.reached = one_reached content few.reached many.reached few.drops many.drops in
     let within : relocates_in many.reached ≤ 4194304 = subst (λ (reached : ModuleContent). relocates_in reached ≤ 4194304) same few.few in

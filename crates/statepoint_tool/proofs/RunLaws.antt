@@ -1,5 +1,5 @@
 -- Runs by the source meaning, as a phase of the work.
-use Rattle.std.proofs.Common.{◌≡◌, ℕ, List, ◌++◌, Option, refl, sym, ap, ◌∙◌, append_assoc}
+use Rattle.std.proofs.Common.{◌≡◌, ℕ, List, ◌++◌, Option, refl, sym, ap, subst, ◌∙◌}
 use Rattle.std.specs.Prelude.{ℤ}
 use Rattle.move_plan.specs.declared.plan_lines.PlanLine.{PlanLine}
 use Rattle.move_plan.specs.Plans.{go}
@@ -8,19 +8,18 @@ use Rattle.tool_io.proofs.AppendLaws.{append_known-then, AppendsFront-front, App
 use Rattle.ir_ast.specs.Modules.{ModuleContent}
 use Rattle.ir_meaning.specs.declared.interpret.Ran.{Ran}
 use Rattle.ir_meaning.specs.References.{IsRun, WritesFrontOfRun}
-use Rattle.object_meaning.specs.Effects.{text_of}
+use Rattle.ir_machine.specs.declared.run.Shows.{Shows}
 use Rattle.object_meaning.specs.Outcomes.{Outcome, whole_text}
-use Rattle.sp_ids.specs.declared.ends.End.{End}
-use Rattle.sp_rewrite.specs.Statements.{IsRewritten}
-use Rattle.rewritten_runs.specs.Runs.{IsSourceFront, IsSourceRun}
-use Rattle.rewritten_runs.proofs.NameLaws.{names_are_kept}
-use Rattle.tool_report.specs.Closings.{closing_line as line_of_end}
 use Rattle.object_meaning.specs.SourceRuns.{source_setting}
 use Rattle.object_meaning.proofs.OutcomeLaws.{gives_one}
+use Rattle.run_texts.specs.RunTexts.{RunWritesQuiet, no_frames}
+use Rattle.run_texts.proofs.TextLaws.{one_text}
+use Rattle.sp_rewrite.proofs.RewrittenLaws.{rewriting_is_one}
+use Rattle.stackmap_write.specs.ModuleMaps.{map_of}
 use Rattle.statepoint_tool.specs.Answers.{IsBegun, IsDone, SinkSeen, sink_seen}
 use Rattle.statepoint_tool.specs.Closings.{closing_line, status_of_end}
 use Rattle.statepoint_tool.specs.Steps.{Go}
-use Rattle.statepoint_tool.specs.Work.{Running, comes, output_of}
+use Rattle.statepoint_tool.specs.Work.{Running, comes, ended_with, output_of, RunningRewritten, comes_rewritten}
 use Rattle.statepoint_tool.specs.declared.status.Status.{Status}
 use Rattle.statepoint_tool.proofs.StepLaws.{Once}
 
@@ -70,56 +69,11 @@ module _ (content : ModuleContent) (input : List ℤ) (plan : List PlanLine) (st
     front = AppendsFront-second old (whole_text run.outcome) run.written (AppendsFront-same front (closing_of content run.outcome) (sym closes));
   }
 
--- ---- runs of the rewritten module
-
-module _ (content after : ModuleContent) (rewritten : IsRewritten content after) where
-  closes_as : (end final : End) → end ≡ final → (func last : ℕ) → func ≡ last → (steps all : ℕ) → steps ≡ all → (events seen : ℕ) → events ≡ seen
-      → closing_line after end func steps events ≡ closing_line content final last all seen
-  closes_as end final one func last two steps all three events seen four =
-      ap (λ (e : End). closing_line after e func steps events) one
-      ∙ (ap (λ (f : ℕ). closing_line after final f steps events) two
-      ∙ (ap (λ (s : ℕ). closing_line after final last s events) three
-      ∙ (ap (λ (v : ℕ). closing_line after final last all v) four
-      ∙ ap (λ (name : List ℕ). line_of_end final name all seen) (names_are_kept content after rewritten last))))
-
-module _ (content after : ModuleContent) (rewritten : IsRewritten content after) (input : List ℤ) (plan : List PlanLine) (bound : ℕ) (end : End) (func steps events : ℕ) (old mid new : Option (List ℕ)) (before behind : ℕ)
-    (run : IsSourceRun content input (go plan) bound end func steps events old mid) where
-  closes_rewritten : closing_line after end func steps events ≡ closing_of content run.outcome
-  unfolding closing_of
-  closes_rewritten =
-      closes_as content after rewritten end run.outcome.end run.end_is func run.outcome.func run.func_is steps run.outcome.steps run.steps_are events run.outcome.events run.events_are
-
-  -- the whole of the output is written once the closing line is
-  pub done-rewritten : (status : Status) → status ≡ status_of_end end → new ≡ append_known mid (closing_line after end func steps events)
-      → IsDone status (Running content input plan bound) (sink_seen old new before behind)
-  unfolding closing_of
-  done-rewritten status is closed = record {
-    output = output_of content run.outcome;
-    defined = comes run.outcome run.gives;
-    status_is = is ∙ ap status_of_end run.end_is;
-    written =
-        append_known-then old mid new (whole_text run.outcome) (closing_of content run.outcome) run.written
-        (closed ∙ ap (append_known mid) closes_rewritten);
-  }
-
-  -- and before that a front of it
-  pub begun-rewritten_closing : AppendsFront mid new (closing_line after end func steps events)
-      → IsBegun (λ output. Running content input plan bound (Go output)) (sink_seen old new before behind)
-  unfolding closing_of
-  begun-rewritten_closing front = record {
-    output = output_of content run.outcome;
-    defined = comes run.outcome run.gives;
-    front = AppendsFront-second old (whole_text run.outcome) run.written (AppendsFront-same front (closing_of content run.outcome) (sym closes_rewritten));
-  }
-
--- what it has printed is a front of the output
-pub begun-rewritten : (content : ModuleContent) (input : List ℤ) (plan : List PlanLine) (bound : ℕ) (out : SinkSeen) (printed : List (List ℕ)) → IsSourceFront content input (go plan) bound printed
-    → AppendsFront out.old out.new (text_of printed) → IsBegun (λ output. Running content input plan bound (Go output)) out
-unfolding closing_of
-begun-rewritten content input plan bound out printed front written = record {
-  output = output_of content front.outcome;
-  defined = comes front.outcome front.gives;
-  front =
-      AppendsFront-front written (front.more ++ closing_of content front.outcome) (output_of content front.outcome).text
-      (ap (λ (text : List ℕ). text ++ closing_of content front.outcome) front.is ∙ append_assoc (text_of printed) front.more (closing_of content front.outcome));
-}
+-- and so has that of its rewritten module
+pub Once-RunningRewritten : (content : ModuleContent) (input : List ℤ) (plan : List PlanLine) (steps : ℕ) (shows : Shows) → Once (RunningRewritten content input plan steps shows)
+Once-RunningRewritten content input plan steps shows _ _ (comes_rewritten one first after is machine text writes) (comes_rewritten other second again also machine_too other_text other_writes) =
+    let same_after = rewriting_is_one content after again is also in
+    let writes_again = subst (λ (code : ModuleContent). RunWritesQuiet code (map_of code) input plan steps shows.places shows.trace machine text) same_after writes in
+    let same_text = one_text no_frames again (map_of again) input plan steps shows.places shows.trace machine machine_too text other_text writes_again other_writes in
+    ap (λ (t : List ℕ). Go (ended_with t one.end)) same_text
+    ∙ ap (λ (outcome : Outcome). Go (ended_with other_text outcome.end)) (gives_one (source_setting content (go plan) steps) input one other first second)

@@ -19,14 +19,17 @@ use Rattle.move_plan.specs.Plans.{IsPlanOf, go}
 use Rattle.map_bytes.specs.Maps.{StackMap}
 use Rattle.map_bytes.specs.Faults.{IsFirstFault}
 use Rattle.map_bytes.specs.declared.rules.MapFault.{MapFault}
-use Rattle.machine_meaning.specs.MachineRuns.{MachineOutcome, MachineGives}
+use Rattle.machine_meaning.specs.MachineRuns.{MachineOutcome}
+use Rattle.run_texts.specs.RunTexts.{RunWritesQuiet}
+use Rattle.stackmap_write.specs.ModuleMaps.{map_of}
+use Rattle.ir_machine.specs.declared.run.Shows.{Shows}
 use Rattle.object_meaning.specs.Outcomes.{Outcome}
 use Rattle.object_meaning.specs.SourceRuns.{SourceGives}
 use Rattle.statepoint_tool.specs.PlanFaults.{IsLeastPlanFault}
 use Rattle.statepoint_tool.specs.Steps.{Go}
 use Rattle.statepoint_tool.specs.Taken.{Taken, Bytes, Longer, Faulty}
 use Rattle.tool_words.specs.Words.{command_of}
-use Rattle.statepoint_tool.specs.Work.{Given, Output, content_of, shown, passed, written_of, output_of, form_of, map_phase, executed}
+use Rattle.statepoint_tool.specs.Work.{Given, Output, Generating, content_of, shown, showing, passed, written_of, ended_with, output_of, form_of, map_named, map_phase}
 use Rattle.statepoint_tool.specs.declared.refusal.Cause.{Cause}
 use Rattle.statepoint_tool.specs.declared.refusal.Cause.TheVariants as cause
 use Rattle.statepoint_tool.specs.declared.refusal.ModuleFault.{ModuleFault}
@@ -36,7 +39,7 @@ use Rattle.tool_words.specs.declared.request.Part.{Part}
 use Rattle.statepoint_tool.specs.declared.engine.Engine.{Engine}
 use Rattle.statepoint_tool.specs.declared.engine.Engine.TheVariants.{Meaning, Rewriter, Machine}
 use Rattle.tool_words.specs.declared.request.RunRequest.{RunRequest}
-use Rattle.tool_words.specs.declared.request.Command.TheVariants.{Show, Rewrite, Check, Source, Run, Exec}
+use Rattle.tool_words.specs.declared.request.Command.TheVariants.{Show, Rewrite, Check, Source, Run, Exec, Gen}
 use Rattle.statepoint_tool.specs.declared.status.Status.{Status}
 
 -- ---- texts of modules
@@ -80,17 +83,25 @@ pub record AsksToCheck (words : List (List ℕ)) : Type 0 where
 -- the words ask for this run: of a source module, by its meaning or rewritten, or of a rewritten one, on the machine
 pub data IsAskedFor (words : List (List ℕ)) : Engine → RunRequest → Type 0 where
   by_source : (request : RunRequest) → command_of words ≡ Some (Source request) → IsAskedFor words Meaning request
-  by_run : (request : RunRequest) → command_of words ≡ Some (Run request) → IsAskedFor words Rewriter request
-  by_exec : (request : RunRequest) (map_file : Option (List ℕ)) (trust : Bool) → command_of words ≡ Some (Exec request map_file trust)
-      → IsAskedFor words (Machine map_file trust) request
+  by_run : (request : RunRequest) (map_file : Option (List ℕ)) (places trace : Bool) → command_of words ≡ Some (Run request map_file places trace)
+      → IsAskedFor words (Rewriter map_file (showing places trace)) request
+  by_exec : (request : RunRequest) (map_file : Option (List ℕ)) (trust places trace : Bool) → command_of words ≡ Some (Exec request map_file trust places trace)
+      → IsAskedFor words (Machine map_file trust (showing places trace)) request
 
 pub record AsksForRun (words : List (List ℕ)) : Type 0 where
   pub engine : Engine
   pub request : RunRequest
   pub asked : IsAskedFor words engine request
 
+-- the words ask for the summary of a generated module and its run
+pub record AsksToGenerate (words : List (List ℕ)) : Type 0 where
+  pub seed : ℕ
+  pub size : ℕ
+  pub steps : ℕ
+  pub command : command_of words ≡ Some (Gen seed size steps)
+
 -- the module to be shown is accepted
-pub record Shows (words : List (List ℕ)) (given : Given) : Type 0 where
+pub record ReadsToShow (words : List (List ℕ)) (given : Given) : Type 0 where
   pub asks : AsksToShow words
   pub text : List ℕ
   pub taken : given.module_file ≡ Bytes text
@@ -124,9 +135,9 @@ pub record Checks (words : List (List ℕ)) (given : Given) : Type 0 where
 -- a module that is to be rewritten has few relocates, and a rewritten one that isn't trusted has no fault of the verifier
 abbrev pub IsTrusted : Engine → ModuleContent → Type 0
 IsTrusted Meaning content = ⊤
-IsTrusted Rewriter content = HasFewRelocates content
-IsTrusted (Machine map_file true) content = ⊤
-IsTrusted (Machine map_file false) content = IsVerified content
+IsTrusted (Rewriter map_file shows) content = HasFewRelocates content
+IsTrusted (Machine map_file true shows) content = ⊤
+IsTrusted (Machine map_file false shows) content = IsVerified content
 
 -- the module to be run is accepted, and trusted or verified
 pub record ReadsModule (words : List (List ℕ)) (given : Given) : Type 0 where
@@ -165,47 +176,69 @@ engine_asked reads = reads.reads.accepts.asks.engine
 abbrev pub steps_asked : {words : List (List ℕ)} {given : Given} → ReadsPlan words given → ℕ
 steps_asked reads = reads.reads.accepts.asks.request.steps
 
--- what `source` and `run` write is the source meaning
-abbrev pub RunsSource : Engine → Type 0
-RunsSource Meaning = ⊤
-RunsSource Rewriter = ⊤
-RunsSource (Machine map_file trust) = ⊥
-
--- a source module runs
+-- `source` runs a module by its meaning
 pub record Runs (words : List (List ℕ)) (given : Given) : Type 0 where
   pub reads : ReadsPlan words given
-  pub engine : RunsSource (engine_asked reads)
+  pub engine : engine_asked reads ≡ Meaning
 
--- its run over that input and under that plan gives this
-abbrev pub RunGives : {words : List (List ℕ)} {given : Given} → Runs words given → Outcome → Type 0
-RunGives runs outcome =
-    SourceGives (module_run runs.reads) runs.reads.reads.numbers (go runs.reads.plan) (steps_asked runs.reads) outcome
+-- a source module's run over that input and under that plan gives this
+abbrev pub RunGives : {words : List (List ℕ)} {given : Given} → ReadsPlan words given → Outcome → Type 0
+RunGives reads outcome = SourceGives (module_run reads) reads.reads.numbers (go reads.plan) (steps_asked reads) outcome
 
--- the module runs on the machine, over this stack map: its own, or that which the named file is
+-- `run` runs the rewritten module of a source module over its own stack map: the source meaning gives this, and the machine's run writes
+-- this text
+pub record RunsRewritten (words : List (List ℕ)) (given : Given) : Type 0 where
+  pub reads : ReadsPlan words given
+  pub shows : Shows
+  pub engine : engine_asked reads ≡ Rewriter None shows
+  pub meant : Outcome
+  pub means : RunGives reads meant
+  pub after : ModuleContent
+  pub rewritten : IsRewritten (module_run reads) after
+  pub machine : MachineOutcome
+  pub text : List ℕ
+  pub writes : RunWritesQuiet after (map_of after) reads.reads.numbers reads.plan (steps_asked reads) shows.places shows.trace machine text
+
+-- what the machine runs by itself, not as the source meaning: a rewritten module that was read, or over a given stack map the
+-- rewritten module of a source module
+abbrev pub IsExecuted : Engine → ModuleContent → ModuleContent → Type 0
+IsExecuted Meaning content code = ⊥
+IsExecuted (Rewriter None shows) content code = ⊥
+IsExecuted (Rewriter (Some name) shows) content code = IsRewritten content code
+IsExecuted (Machine map_file trust shows) content code = code ≡ content
+
+abbrev pub shown_by : Engine → Shows
+shown_by Meaning = showing false false
+shown_by (Rewriter map_file shows) = shows
+shown_by (Machine map_file trust shows) = shows
+
+-- it runs over this stack map: its own, or that which the named file is
 pub record Executes (words : List (List ℕ)) (given : Given) : Type 0 where
   pub reads : ReadsPlan words given
-  pub map_file : Option (List ℕ)
-  pub trust : Bool
-  pub engine : engine_asked reads ≡ Machine map_file trust
+  pub code : ModuleContent
+  pub runs : IsExecuted (engine_asked reads) (module_run reads) code
   pub map : StackMap
-  pub takes : map_phase (module_run reads) map_file given.map_file (Go map)
+  pub takes : map_phase code (map_named (engine_asked reads)) given.map_file (Go map)
 
--- its run over that map and that input and under that plan gives this
-abbrev pub MachineRunGives : {words : List (List ℕ)} {given : Given} → Executes words given → MachineOutcome → Type 0
-MachineRunGives runs outcome =
-    MachineGives (module_run runs.reads) runs.map runs.reads.reads.numbers runs.reads.plan (steps_asked runs.reads) outcome
+-- its run over that map and that input and under that plan gives this, and writes this text
+abbrev pub MachineWrites : {words : List (List ℕ)} {given : Given} → Executes words given → MachineOutcome → List ℕ → Type 0
+MachineWrites runs outcome text =
+    RunWritesQuiet runs.code runs.map runs.reads.reads.numbers runs.reads.plan (steps_asked runs.reads)
+    (shown_by (engine_asked runs.reads)).places (shown_by (engine_asked runs.reads)).trace outcome text
 
 -- ---- the causes
 
 -- the work comes to its end, with this output: a module is shown, or checked, or its rewritten module or the stack map of that is, or
--- it runs, and so ends by the source meaning or as the machine does
+-- it runs, and so ends by the source meaning or as the machine does, or one is generated
 pub data Ends (words : List (List ℕ)) (given : Given) : Output → Type 0 where
-  by_showing : (shows : Shows words given) → Ends words given (shown (content_of text_forms.Source shows.lines))
+  by_showing : (shows : ReadsToShow words given) → Ends words given (shown (content_of text_forms.Source shows.lines))
   by_checking : (checks : Checks words given) → Ends words given passed
   by_rewriting : (rewrites : Rewrites words given) → Ends words given (written_of rewrites.reads.asks.part rewrites.after)
-  by_running : (runs : Runs words given) (outcome : Outcome) → RunGives runs outcome → Ends words given (output_of (module_run runs.reads) outcome)
-  by_executing : (runs : Executes words given) (outcome : MachineOutcome) (gives : MachineRunGives runs outcome)
-      → Ends words given (executed (module_run runs.reads) outcome gives.last.lines)
+  by_running : (runs : Runs words given) (outcome : Outcome) → RunGives runs.reads outcome → Ends words given (output_of (module_run runs.reads) outcome)
+  by_running_rewritten : (runs : RunsRewritten words given) → Ends words given (ended_with runs.text runs.meant.end)
+  by_executing : (runs : Executes words given) (outcome : MachineOutcome) (text : List ℕ) → MachineWrites runs outcome text
+      → Ends words given (ended_with text outcome.end)
+  by_generating : (asks : AsksToGenerate words) (output : Output) → Generating asks.seed asks.size asks.steps (Go output) → Ends words given output
 
 abbrev pub EndsWith : Status → List (List ℕ) → Given → Type 0
 EndsWith status words given = (output : Output) × Ends words given output × (output.status ≡ status)
@@ -232,7 +265,8 @@ pub record TextHasFault (words : List (List ℕ)) (given : Given) (fault : Modul
 -- the words name this file as that of a module to be rewritten: to be written, or run
 pub data NamesSource (words : List (List ℕ)) : List ℕ → Type 0 where
   to_write : (asks : AsksToRewrite words) → NamesSource words asks.module_file
-  to_run_rewritten : (request : RunRequest) → command_of words ≡ Some (Run request) → NamesSource words request.code
+  to_run_rewritten : (request : RunRequest) (map_file : Option (List ℕ)) (places trace : Bool) → command_of words ≡ Some (Run request map_file places trace)
+      → NamesSource words request.code
 
 -- the module is accepted and, rewritten, would have too many relocates
 pub record IsTooLarge (words : List (List ℕ)) (given : Given) : Type 0 where
@@ -255,7 +289,8 @@ HasSomeModuleFault words given = (fault : ModuleFault) × HasModuleFault words g
 -- the words name this file as that of a module to be verified: that of `check`, or of a run that isn't trusted
 pub data NamesJudged (words : List (List ℕ)) : List ℕ → Type 0 where
   to_judge : (asks : AsksToCheck words) → NamesJudged words asks.module_file
-  to_run_judged : (request : RunRequest) (map_file : Option (List ℕ)) → command_of words ≡ Some (Exec request map_file false) → NamesJudged words request.code
+  to_run_judged : (request : RunRequest) (map_file : Option (List ℕ)) (places trace : Bool) → command_of words ≡ Some (Exec request map_file false places trace)
+      → NamesJudged words request.code
 
 -- the module is accepted, and this is the least fault that the verifier tells
 pub record HasCheckFault (words : List (List ℕ)) (given : Given) (fault : CheckFault) : Type 0 where
@@ -294,8 +329,7 @@ HasSomePlanFault words given = (fault : PlanFault) × HasPlanFault words given f
 pub record ReadsForMap (words : List (List ℕ)) (given : Given) : Type 0 where
   pub reads : ReadsPlan words given
   pub map_file : List ℕ
-  pub trust : Bool
-  pub engine : engine_asked reads ≡ Machine (Some map_file) trust
+  pub named : map_named (engine_asked reads) ≡ Some map_file
 
 -- the plan is read too, and this is the first fault of the stack map's bytes
 pub record HasMapFault (words : List (List ℕ)) (given : Given) (fault : MapFault) : Type 0 where

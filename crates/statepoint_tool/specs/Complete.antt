@@ -6,13 +6,13 @@ use Rattle.statepoint_tool.specs.Causes.{Ends}
 use Rattle.statepoint_tool.specs.Notes.{refusal_line}
 use Rattle.statepoint_tool.specs.Taken.{Taken, Bytes, FilesSeen}
 use Rattle.tool_words.specs.Words.{command_of}
-use Rattle.statepoint_tool.specs.Work.{Output, Given}
+use Rattle.statepoint_tool.specs.Work.{Output, Given, map_named, showing}
 use Rattle.statepoint_tool.specs.declared.refusal.Refusal.TheVariants.{Memory}
 use Rattle.statepoint_tool.specs.declared.engine.Engine.{Engine}
 use Rattle.statepoint_tool.specs.declared.engine.Engine.TheVariants.{Meaning, Rewriter, Machine}
 use Rattle.tool_words.specs.declared.request.RunRequest.{RunRequest}
 use Rattle.tool_words.specs.declared.request.Command.{Command}
-use Rattle.tool_words.specs.declared.request.Command.TheVariants.{Show, Rewrite, Check, Source, Run, Exec}
+use Rattle.tool_words.specs.declared.request.Command.TheVariants.{Show, Rewrite, Check, Source, Run, Exec, Gen}
 use Rattle.statepoint_tool.specs.declared.status.Status.{Status}
 use Rattle.statepoint_tool.specs.declared.status.Status.TheVariants.{WantOfMemory, WriteFault}
 
@@ -25,11 +25,12 @@ pub record IsTold (files : FilesSeen) (name : List ℕ) (given : Taken) : Type 0
   pub sure : ¬ (Rose (files.faults_before name) (files.faults_after name))
 
 -- each file that the command names is told
+abbrev pub FileIsTold : FilesSeen → Option (List ℕ) → Taken → Type 0
+FileIsTold files None given = ⊤
+FileIsTold files (Some name) given = IsTold files name given
+
 abbrev pub MapIsTold : FilesSeen → Engine → Taken → Type 0
-MapIsTold files Meaning given = ⊤
-MapIsTold files Rewriter given = ⊤
-MapIsTold files (Machine None trust) given = ⊤
-MapIsTold files (Machine (Some name) trust) given = IsTold files name given
+MapIsTold files engine given = FileIsTold files (map_named engine) given
 
 abbrev pub RunIsTold : FilesSeen → Engine → RunRequest → Given → Type 0
 RunIsTold files engine request given =
@@ -42,8 +43,9 @@ AllTold files (Some (Show module_file)) given = IsTold files module_file given.m
 AllTold files (Some (Rewrite module_file part)) given = IsTold files module_file given.module_file
 AllTold files (Some (Check module_file)) given = IsTold files module_file given.module_file
 AllTold files (Some (Source request)) given = RunIsTold files Meaning request given
-AllTold files (Some (Run request)) given = RunIsTold files Rewriter request given
-AllTold files (Some (Exec request map_file trust)) given = RunIsTold files (Machine map_file trust) request given
+AllTold files (Some (Run request map_file places trace)) given = RunIsTold files (Rewriter map_file (showing places trace)) request given
+AllTold files (Some (Exec request map_file trust places trace)) given = RunIsTold files (Machine map_file trust (showing places trace)) request given
+AllTold files (Some (Gen seed size steps)) given = ⊤
 
 -- the defined output with the defined status, and nothing said
 pub record IsWhole (output : Output) (status : Status) (out notes : SinkSeen) : Type 0 where

@@ -1,5 +1,6 @@
 -- The headline: what `run` writes is what the source means on objects that never move, and it is what the address machine does with
--- the rewritten module over the bytes of its stack map, whatever the plan moves. And what a yes of the verifier means to `exec`.
+-- the rewritten module over the bytes of its stack map, whatever the plan moves; its trace and its places are shown where they are asked
+-- for. And what a yes of the verifier means to `exec`.
 use Rattle.std.specs.Prelude.{◌≡◌, ◌≤◌, ◌⊎◌, ℕ, ℤ, List, length, Option, Some, None, Bool, true, false}
 use Rattle.sp_ids.specs.declared.ends.End.{End}
 use Rattle.sp_ids.specs.declared.ends.End.TheVariants.{Return, Trap as Traps, OutOfSteps as RanOut, Poison, LostFrame}
@@ -18,7 +19,9 @@ use Rattle.move_plan.specs.Plans.{IsPlanOf, go}
 use Rattle.object_meaning.specs.Outcomes.{Outcome}
 use Rattle.object_meaning.specs.SourceRuns.{SourceGives}
 use Rattle.object_meaning.specs.TargetRuns.{TargetGives}
-use Rattle.machine_meaning.specs.MachineRuns.{MachineOutcome, MachineGives}
+use Rattle.machine_meaning.specs.MachineRuns.{MachineOutcome}
+use Rattle.run_texts.specs.RunTexts.{RunWrites}
+use Rattle.shown_runs.specs.ShownTexts.{IsShownText}
 use Rattle.moves_unseen.specs.Statements.{IsSeen}
 use Rattle.rewritten_runs.specs.Runs.{IsRunOnMachine}
 use Rattle.sp_rewrite.specs.Relocates.{HasFewRelocates}
@@ -32,7 +35,7 @@ use Rattle.statepoint_tool.specs.Causes.{Ends, IsAccepted}
 use Rattle.statepoint_tool.specs.Complete.{AllTold, IsWhole, IsShort}
 use Rattle.statepoint_tool.specs.Steps.{Go}
 use Rattle.statepoint_tool.specs.Taken.{Bytes, FilesSeen}
-use Rattle.statepoint_tool.specs.Work.{Given, Output, content_of, executed, output_of, rewrite_work}
+use Rattle.statepoint_tool.specs.Work.{Given, Output, content_of, ended_with, rewrite_work}
 use Rattle.statepoint_tool.specs.declared.status.Status.{Status}
 use Rattle.statepoint_tool.specs.declared.status.Status.TheVariants.{Done, Trapped, OutOfSteps, Stray}
 
@@ -59,13 +62,14 @@ pub record IsToRun (words : List (List ℕ)) (given : Given) (command : RunReque
   pub plan_is : IsPlanOf plan_text plan
   pub plan_faultless : HasNoPlanFault plan_text
 
--- `run` is to run a source module, whose rewritten module has no more relocates than may be
-abbrev pub IsToRunSource : List (List ℕ) → Given → Type 0
-IsToRunSource words given = IsToRun words given Run text_forms.Source HasFewRelocates
+-- `run` is to run a source module, whose rewritten module has no more relocates than may be, over that module's own stack map, and to
+-- show places and trace or not
+abbrev pub IsToRunSource : List (List ℕ) → Given → (places trace : Bool) → Type 0
+IsToRunSource words given places trace = IsToRun words given (λ request. Run request None places trace) text_forms.Source HasFewRelocates
 
--- `exec` is to run a rewritten module in which the verifier finds no fault, over that module's own stack map
-abbrev pub IsToRunVerified : List (List ℕ) → Given → Type 0
-IsToRunVerified words given = IsToRun words given (λ request. Exec request None false) text_forms.Rewritten IsVerified
+-- `exec` is to run a rewritten module in which the verifier finds no fault, over that module's own stack map, and to show likewise
+abbrev pub IsToRunVerified : List (List ℕ) → Given → (places trace : Bool) → Type 0
+IsToRunVerified words given places trace = IsToRun words given (λ request. Exec request None false places trace) text_forms.Rewritten IsVerified
 
 -- ---- what is written
 
@@ -77,72 +81,90 @@ EndsAs RanOut status = status ≡ OutOfSteps
 EndsAs Poison status = ⊥
 EndsAs LostFrame status = ⊥
 
--- what `out` has grown by is the lines of this run of the module and the line that closes it, the status is that of its end, and nothing
--- was said; or memory was wanted after a front of that
-abbrev pub WritesRun : ModuleContent → Outcome → Status → (out notes : SinkSeen) → Type 0
-WritesRun content outcome status out notes =
-    (IsWhole (output_of content outcome) status out notes × EndsAs outcome.end status) ⊎ IsShort (output_of content outcome) status out notes
+-- what `out` has grown by is this text, the status is that of the end, and nothing was said; or memory was wanted after a front of
+-- that
+abbrev pub WritesRun : List ℕ → End → Status → (out notes : SinkSeen) → Type 0
+WritesRun text end status out notes =
+    (IsWhole (ended_with text end) status out notes × EndsAs end status) ⊎ IsShort (ended_with text end) status out notes
 
 -- ---- the headline
 
 abbrev pub text_alone : List ℕ → Output
 text_alone text = record { text = text; status = Done }
 
-pub record IsRunAsMeant {words : List (List ℕ)} {given : Given} (run : IsToRunSource words given) (status : Status) (out notes : SinkSeen) : Type 0 where
+pub record IsRunAsMeant {words : List (List ℕ)} {given : Given} {places trace : Bool} (run : IsToRunSource words given places trace) (status : Status) (out notes : SinkSeen) : Type 0 where
   -- what the source means on objects that never move, over that input, under the plan's `go` lines and in so many steps
   pub meant : Outcome
   pub means : SourceGives (content_of text_forms.Source run.lines) run.input (go run.plan) run.request.steps meant
-  -- is what was written
-  pub writes : WritesRun (content_of text_forms.Source run.lines) meant status out notes
+  -- is what was written: its lines, with those of the trace between, the line that closes it, and where its events, its objects and
+  -- the plan put the objects
+  pub text : List ℕ
+  pub shown : IsShownText (content_of text_forms.Source run.lines) run.plan places trace meant text
+  pub writes : WritesRun text meant.end status out notes
   -- the address machine runs the rewritten module, over its stack map and under all moves of the plan: it does the same, sees the same
   -- accesses, and never comes to a moved-away address or loses a frame
   pub moved : IsRunOnMachine (content_of text_forms.Source run.lines) run.input run.plan run.request.steps meant
-  -- what it prints, and the line that closes it, are those bytes
-  pub prints : executed moved.after moved.machine moved.gives.last.lines ≡ output_of (content_of text_forms.Source run.lines) meant
+  -- all those bytes are the text of its run, with trace and places
+  pub machine_writes : RunWrites moved.after (map_of moved.after) run.input run.plan run.request.steps places trace moved.machine text
   -- of that rewritten module `rewrite` writes the text
-  pub text : rewrite_work Text run.request.code given (Go (text_alone (text_of moved.after)))
+  pub module_text : rewrite_work Text run.request.code given (Go (text_alone (text_of moved.after)))
   -- and `maps --raw` the bytes of the stack map, which are that map
   pub bytes : rewrite_work MapBytes run.request.code given (Go (text_alone (map_bytes (map_of moved.after))))
   pub is_map : IsMapOf (map_bytes (map_of moved.after)) (map_of moved.after)
 
--- for every module text that the profile accepts, every input, plan and bound
+-- for every module text that the profile accepts, every input, plan and bound, with places and trace or without
 abbrev pub IsHeadline : List (List ℕ) → FilesSeen → (out notes : SinkSeen) → Status → Type 0
 IsHeadline words files out notes status =
-    (given : Given) → AllTold files (command_of words) given → (run : IsToRunSource words given) → ¬ SinkFailed out → IsRunAsMeant run status out notes
+    (given : Given) (places trace : Bool) → AllTold files (command_of words) given → (run : IsToRunSource words given places trace) → ¬ SinkFailed out
+    → IsRunAsMeant run status out notes
 
 -- ---- what a yes of the verifier means
 
-pub record IsVerifiedRun {words : List (List ℕ)} {given : Given} (run : IsToRunVerified words given) (status : Status) (out notes : SinkSeen) : Type 0 where
+pub record IsVerifiedRun {words : List (List ℕ)} {given : Given} {places trace : Bool} (run : IsToRunVerified words given places trace) (status : Status) (out notes : SinkSeen) : Type 0 where
   -- what the rewritten module means on objects that never move
   pub meant : Outcome
   pub means : TargetGives (content_of text_forms.Rewritten run.lines) run.input (go run.plan) run.request.steps meant
   -- is what was written
-  pub writes : WritesRun (content_of text_forms.Rewritten run.lines) meant status out notes
+  pub text : List ℕ
+  pub shown : IsShownText (content_of text_forms.Rewritten run.lines) run.plan places trace meant text
+  pub writes : WritesRun text meant.end status out notes
   -- and what the machine does over the module's stack map, under all moves of the plan
   pub machine : MachineOutcome
-  pub gives : MachineGives (content_of text_forms.Rewritten run.lines) (map_of (content_of text_forms.Rewritten run.lines)) run.input run.plan run.request.steps machine
   pub seen : IsSeen (content_of text_forms.Rewritten run.lines) meant machine
-  pub prints : executed (content_of text_forms.Rewritten run.lines) machine gives.last.lines ≡ output_of (content_of text_forms.Rewritten run.lines) meant
+  pub machine_writes : RunWrites (content_of text_forms.Rewritten run.lines) (map_of (content_of text_forms.Rewritten run.lines)) run.input run.plan run.request.steps places trace
+      machine text
 
 -- for every text of a rewritten module, whoever wrote it
 abbrev pub RunsVerified : List (List ℕ) → FilesSeen → (out notes : SinkSeen) → Status → Type 0
 RunsVerified words files out notes status =
-    (given : Given) → AllTold files (command_of words) given → (run : IsToRunVerified words given) → ¬ SinkFailed out → IsVerifiedRun run status out notes
+    (given : Given) (places trace : Bool) → AllTold files (command_of words) given → (run : IsToRunVerified words given places trace) → ¬ SinkFailed out
+    → IsVerifiedRun run status out notes
 
 -- the words ask for a run of a module that isn't verified, or over a stack map that isn't its own
-pub record AsksToStray (words : List (List ℕ)) : Type 0 where
-  pub request : RunRequest
-  pub map_file : Option (List ℕ)
-  pub trust : Bool
-  pub command : command_of words ≡ Some (Exec request map_file trust)
-  pub unsure : (trust ≡ true) ⊎ ((name : List ℕ) × (map_file ≡ Some name))
+pub data AsksToStray (words : List (List ℕ)) : Type 0 where
+  on_trust : (request : RunRequest) (map_file : Option (List ℕ)) (places trace : Bool) → command_of words ≡ Some (Exec request map_file true places trace)
+      → AsksToStray words
+  over_map : (request : RunRequest) (name : List ℕ) (trust places trace : Bool) → command_of words ≡ Some (Exec request (Some name) trust places trace)
+      → AsksToStray words
+  over_map_of_run : (request : RunRequest) (name : List ℕ) (places trace : Bool) → command_of words ≡ Some (Run request (Some name) places trace)
+      → AsksToStray words
 
 -- no other run ends in poison or in a lost frame
 abbrev pub StrayIsAsked : List (List ℕ) → Status → Type 0
 StrayIsAsked words status = status ≡ Stray → AsksToStray words
 
--- two plans with the same `go` lines give the same output, whatever they move
+-- two outputs show one run of a module, under these plans: the same lines of the program and the same closing line, and the same status
+pub record IsSameProgram (content : ModuleContent) (plan other_plan : List PlanLine) (places trace other_places other_trace : Bool) (output other : Output) : Type 0 where
+  pub meant : Outcome
+  pub shown : IsShownText content plan places trace meant output.text
+  pub other_shown : IsShownText content other_plan other_places other_trace meant other.text
+  pub ends : EndsAs meant.end output.status
+  pub other_ends : EndsAs meant.end other.status
+
+-- two plans with the same `go` lines give the same run, whatever they move
 abbrev pub PlansAreFree : Type 0
-PlansAreFree = (words other_words : List (List ℕ)) (given other : Given) (one : IsToRunVerified words given) (two : IsToRunVerified other_words other)
+PlansAreFree = (words other_words : List (List ℕ)) (given other : Given) (places trace other_places other_trace : Bool)
+    → (one : IsToRunVerified words given places trace) (two : IsToRunVerified other_words other other_places other_trace)
     → length one.text ≤ 16777216 → one.text ≡ two.text → one.input ≡ two.input → one.request.steps ≡ two.request.steps
-    → ((event : ℕ) → go one.plan event ≡ go two.plan event) → (output : Output) → Ends words given output → Ends other_words other output
+    → ((event : ℕ) → go one.plan event ≡ go two.plan event) → (output other_output : Output) → Ends words given output → Ends other_words other other_output
+    → IsSameProgram (content_of text_forms.Rewritten one.lines) one.plan two.plan places trace other_places other_trace output other_output

@@ -5,6 +5,7 @@ use Rattle.ir_ast.specs.Bundles.{HasNoBundle}
 use Rattle.ir_ast.specs.Modules.{ModuleContent, LinedModule}
 use Rattle.ir_cfg.specs.SourceModules.{IsSourceModule}
 use Rattle.ir_cfg.specs.TargetModules.{IsTargetModule}
+use Rattle.sp_rewrite.specs.Relocates.{HasFewRelocates}
 use Rattle.sp_rewrite.specs.Statements.{IsRewritten}
 use Rattle.statepoint_tool.specs.declared.engine.Engine.{Engine}
 use Rattle.statepoint_tool.specs.declared.engine.Engine.TheVariants as engines
@@ -20,9 +21,9 @@ module_in (Checked whole) = whole
 
 abbrev pub engine_of : Runner → Engine
 engine_of (Meaning whole) = engines.Meaning
-engine_of (Rewritten whole) = engines.Rewriter
-engine_of (Machine (Trusted whole) map_file) = engines.Machine map_file true
-engine_of (Machine (Checked whole) map_file) = engines.Machine map_file false
+engine_of (Rewritten executable map_file shows) = engines.Rewriter map_file shows
+engine_of (Machine (Trusted whole) map_file shows) = engines.Machine map_file true shows
+engine_of (Machine (Checked whole) map_file shows) = engines.Machine map_file false shows
 
 pub record IsExecutable (content : ModuleContent) : Type 0 where
   pub target : IsTargetModule content
@@ -37,6 +38,7 @@ pub record IsRewrittenOf (content after : ModuleContent) : Type 0 where
   pub source : IsSourceModule content
   pub bundles : All HasNoBundle content.funcs
   pub rewritten : IsRewritten content after
+  pub few : HasFewRelocates content
   pub executable : IsExecutable after
 
 pub record IsItself (content whole : ModuleContent) : Type 0 where
@@ -46,8 +48,8 @@ pub record IsItself (content whole : ModuleContent) : Type 0 where
 -- this runs for a module with this content
 abbrev pub RunsAs : ModuleContent → Runner → Type 0
 RunsAs content (Meaning whole) = IsOwn content whole.content
-RunsAs content (Rewritten whole) = IsRewrittenOf content whole.content
-RunsAs content (Machine executable map_file) = IsItself content (module_in executable).content
+RunsAs content (Rewritten executable map_file shows) = IsRewrittenOf content (module_in executable).content
+RunsAs content (Machine executable map_file shows) = IsItself content (module_in executable).content
 
 abbrev pub CanRun : Runner → Type 0
 CanRun runner = (content : ModuleContent) × RunsAs content runner

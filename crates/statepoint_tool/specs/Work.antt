@@ -1,7 +1,8 @@
 -- The order of work: the words; then the module is taken, read and typed; to show it, its text is written; to check it, it is
 -- verified; to rewrite it, that of its rewritten module, or that one's stack map; to run it, the input is taken and read, then the plan, and it
--- runs by the source meaning, or, a rewritten module, on the address machine over a stack map, its own or one that is taken.
-use Rattle.std.specs.Prelude.{ℕ, ℤ, ⊤, true, false, codes, List, ◌++◌, Option, Some, None, Result, Ok, Err}
+-- runs by the source meaning, or, a rewritten module, on the address machine over a stack map, its own or one that is taken. A generated
+-- module takes no file.
+use Rattle.std.specs.Prelude.{ℕ, ℤ, ⊤, Bool, true, false, codes, List, [], ◌++◌, Option, Some, None, Result, Ok, Err}
 use Rattle.ir_ast.specs.declared.modules.Form.{Form as TextForm}
 use Rattle.ir_ast.specs.declared.modules.Form.TheVariants as text_forms
 use Rattle.ir_ast.specs.Modules.{ModuleContent, LinedModule}
@@ -24,12 +25,16 @@ use Rattle.move_plan.specs.declared.plan_lines.PlanLine.{PlanLine}
 use Rattle.move_plan.specs.Inputs.{HasNoInputFault, IsFirstInputFault, IsInputOf}
 use Rattle.move_plan.specs.PlanFaults.{HasNoFault as HasNoPlanFault}
 use Rattle.move_plan.specs.Plans.{IsPlanOf, go}
-use Rattle.machine_meaning.specs.MachineRuns.{MachineOutcome, MachineGives}
-use Rattle.object_meaning.specs.Effects.{text_of as text_of_lines}
+use Rattle.machine_meaning.specs.MachineRuns.{MachineOutcome}
+use Rattle.run_texts.specs.RunTexts.{RunWritesQuiet}
+use Rattle.ir_machine.specs.declared.run.Shows.{Shows}
+use Rattle.generated_forms.specs.Modules.{generated}
+use Rattle.sp_ids.specs.declared.ends.End.{End}
 use Rattle.object_meaning.specs.Outcomes.{Outcome, whole_text}
 use Rattle.object_meaning.specs.SourceRuns.{SourceGives}
 use Rattle.statepoint_tool.specs.Closings.{closing_line, status_of_end}
 use Rattle.statepoint_tool.specs.PlanFaults.{IsLeastPlanFault}
+use Rattle.gen_report.specs.Summaries.{flipping, summary_of}
 use Rattle.statepoint_tool.specs.Steps.{Step, Go, Stop, comes_to, Then}
 use Rattle.statepoint_tool.specs.Taken.{Taken, FilesSeen, MayGive, file_phase}
 use Rattle.tool_words.specs.Words.{command_of}
@@ -42,7 +47,7 @@ use Rattle.statepoint_tool.specs.declared.engine.Engine.{Engine}
 use Rattle.statepoint_tool.specs.declared.engine.Engine.TheVariants.{Meaning, Rewriter, Machine}
 use Rattle.tool_words.specs.declared.request.RunRequest.{RunRequest}
 use Rattle.tool_words.specs.declared.request.Command.{Command}
-use Rattle.tool_words.specs.declared.request.Command.TheVariants.{Show, Rewrite, Check, Source, Run, Exec}
+use Rattle.tool_words.specs.declared.request.Command.TheVariants.{Show, Rewrite, Check, Source, Run, Exec, Gen}
 use Rattle.statepoint_tool.specs.declared.status.Status.{Status}
 use Rattle.statepoint_tool.specs.declared.status.Status.TheVariants.{Done}
 
@@ -62,12 +67,19 @@ pub record Given : Type 0 where
 abbrev pub MayGiveShown : FilesSeen → List ℕ → Given → Type 0
 MayGiveShown files module_file given = MayGive files module_file given.module_file
 
--- a stack map is taken for a run on the machine that names one
+-- the stack map that a run on the machine names
+abbrev pub map_named : Engine → Option (List ℕ)
+map_named Meaning = None
+map_named (Rewriter map_file shows) = map_file
+map_named (Machine map_file trust shows) = map_file
+
+-- it is taken where one is named
+abbrev pub MayGiveFile : FilesSeen → Option (List ℕ) → Taken → Type 0
+MayGiveFile files None given = ⊤
+MayGiveFile files (Some name) given = MayGive files name given
+
 abbrev pub MayGiveMap : FilesSeen → Engine → Taken → Type 0
-MayGiveMap files Meaning given = ⊤
-MayGiveMap files Rewriter given = ⊤
-MayGiveMap files (Machine None trust) given = ⊤
-MayGiveMap files (Machine (Some name) trust) given = MayGive files name given
+MayGiveMap files engine given = MayGiveFile files (map_named engine) given
 
 -- what a run takes behind its input, and behind its module
 abbrev pub MayGiveFromPlan : FilesSeen → (plan : List ℕ) → Engine → Taken × Taken → Type 0
@@ -114,16 +126,16 @@ pub data Rewriting (content : ModuleContent) : Step ModuleContent → Type 0 whe
 -- the form of the modules that an engine runs
 abbrev pub form_of : Engine → TextForm
 form_of Meaning = text_forms.Source
-form_of Rewriter = text_forms.Source
-form_of (Machine map_file trust) = text_forms.Rewritten
+form_of (Rewriter map_file shows) = text_forms.Source
+form_of (Machine map_file trust shows) = text_forms.Rewritten
 
 -- before a module runs: one that is to be rewritten has no more relocates than may be, and a rewritten one that isn't trusted is
 -- verified
 abbrev pub judged : Engine → LinedModule → Step LinedModule → Type 0
 judged Meaning whole = comes_to (Go whole)
-judged Rewriter whole = Then (Rewriting whole.content) (λ after. comes_to (Go whole))
-judged (Machine map_file true) whole = comes_to (Go whole)
-judged (Machine map_file false) whole = Judging whole
+judged (Rewriter map_file shows) whole = Then (Rewriting whole.content) (λ after. comes_to (Go whole))
+judged (Machine map_file true shows) whole = comes_to (Go whole)
+judged (Machine map_file false shows) whole = Judging whole
 
 abbrev pub run_module_phase : Engine → List ℕ → Step LinedModule → Type 0
 run_module_phase engine text = Then (module_phase (form_of engine) text) (judged engine)
@@ -171,14 +183,16 @@ checked_phase text = Then (module_phase text_forms.Rewritten text) Judging
 abbrev pub after_check : LinedModule → Step Output → Type 0
 after_check whole = comes_to (Go passed)
 
--- what a run writes that gives this outcome, and the status that it ends with
-abbrev pub output_of : ModuleContent → Outcome → Output
-output_of content outcome = record {
-  text = whole_text outcome ++ closing_line content outcome.end outcome.func outcome.steps outcome.events;
-  status = status_of_end outcome.end;
-}
+-- a run writes this text, and so ends
+abbrev pub ended_with : List ℕ → End → Output
+ended_with text end = record { text = text; status = status_of_end end }
 
--- a run writes what the source meaning says and ends as it does, over the input and under the `go` lines of the plan
+-- what a run by the source meaning writes that gives this outcome, and the status that it ends with
+abbrev pub output_of : ModuleContent → Outcome → Output
+output_of content outcome =
+    ended_with (whole_text outcome ++ closing_line content outcome.end outcome.func outcome.steps outcome.events) outcome.end
+
+-- such a run writes what the source meaning says and ends as it does, over the input and under the `go` lines of the plan
 pub data Running (content : ModuleContent) (input : List ℤ) (plan : List PlanLine) (steps : ℕ) : Step Output → Type 0 where
   comes : (outcome : Outcome) → SourceGives content input (go plan) steps outcome → Running content input plan steps (Go (output_of content outcome))
 
@@ -192,26 +206,33 @@ abbrev pub map_phase : ModuleContent → Option (List ℕ) → Taken → Step St
 map_phase content None given = comes_to (Go (map_of content))
 map_phase content (Some name) given = file_phase name ReadingMap given
 
--- what a run on the machine writes that gives this outcome and whose steps printed these lines, newest first, and the
--- status that it ends with
-abbrev pub executed : ModuleContent → MachineOutcome → List (List ℕ) → Output
-executed content outcome printed = record {
-  text = text_of_lines printed ++ closing_line content outcome.end outcome.func outcome.steps outcome.events;
-  status = status_of_end outcome.end;
-}
+-- a run on the machine writes the text of the machine's run, with its trace and its places where they are to be shown, and ends as
+-- it does, over the stack map, over the input and under the plan
+pub data Executing (content : ModuleContent) (input : List ℤ) (plan : List PlanLine) (steps : ℕ) (shows : Shows) (map : StackMap) : Step Output → Type 0 where
+  executes : (outcome : MachineOutcome) (text : List ℕ) → RunWritesQuiet content map input plan steps shows.places shows.trace outcome text
+      → Executing content input plan steps shows map (Go (ended_with text outcome.end))
 
--- such a run writes what the machine prints and ends as it does, over the stack map, over the input and under the plan
-pub data Executing (content : ModuleContent) (input : List ℤ) (plan : List PlanLine) (steps : ℕ) (map : StackMap) : Step Output → Type 0 where
-  executes : (outcome : MachineOutcome) (gives : MachineGives content map input plan steps outcome)
-      → Executing content input plan steps map (Go (executed content outcome gives.last.lines))
+-- a run of the rewritten module of a source module, over its own stack map, writes the text of the machine's run of it, and ends as
+-- the source meaning says
+pub data RunningRewritten (content : ModuleContent) (input : List ℤ) (plan : List PlanLine) (steps : ℕ) (shows : Shows) : Step Output → Type 0 where
+  comes_rewritten : (meant : Outcome) → SourceGives content input (go plan) steps meant → (after : ModuleContent) → IsRewritten content after
+      → (machine : MachineOutcome) (text : List ℕ) → RunWritesQuiet after (map_of after) input plan steps shows.places shows.trace machine text
+      → RunningRewritten content input plan steps shows (Go (ended_with text meant.end))
 
--- a source module runs by its meaning, a rewritten one on the machine. What `run` writes is the source meaning too: the run of
--- the rewritten module on the machine is the same
+-- a source module runs by its meaning or is rewritten, a rewritten one runs on the machine
 abbrev pub run_phase : Engine → ModuleContent → List ℤ → List PlanLine → ℕ → Taken → Step Output → Type 0
 run_phase Meaning content numbers lines steps given = Running content numbers lines steps
-run_phase Rewriter content numbers lines steps given = Running content numbers lines steps
-run_phase (Machine map_file trust) content numbers lines steps given =
-    Then (map_phase content map_file given) (Executing content numbers lines steps)
+run_phase (Rewriter None shows) content numbers lines steps given = RunningRewritten content numbers lines steps shows
+run_phase (Rewriter (Some name) shows) content numbers lines steps given =
+    Then (Rewriting content) (λ after. Then (file_phase name ReadingMap given) (Executing after numbers lines steps shows))
+run_phase (Machine map_file trust shows) content numbers lines steps given =
+    Then (map_phase content map_file given) (Executing content numbers lines steps shows)
+
+-- a generated module is rewritten and runs over no input, under a plan by which all objects move at every event; what is written is a
+-- summary, and the status is that of its end by the source meaning
+pub data Generating (seed size steps : ℕ) : Step Output → Type 0 where
+  generates : (after : ModuleContent) → IsRewritten (generated seed size) after → (meant : Outcome) → SourceGives (generated seed size) [] (go flipping) steps meant
+      → Generating seed size steps (Go (ended_with (summary_of (generated seed size) after meant) meant.end))
 
 -- the order of work of `show`
 abbrev pub show_work : List ℕ → Given → Step Output → Type 0
@@ -240,6 +261,10 @@ run_work engine request given =
     (λ (whole : LinedModule).
     after_module request.input request.plan engine whole.content request.steps (given.input, (given.plan, given.map_file)))
 
+-- what a run is to show
+abbrev pub showing : (places trace : Bool) → Shows
+showing places trace = record { places = places; trace = trace }
+
 -- the work that the words ask for
 abbrev pub command_work : Option Command → Given → Step Output → Type 0
 command_work None given = comes_to (Stop Words)
@@ -247,8 +272,9 @@ command_work (Some (Show module_file)) given = show_work module_file given
 command_work (Some (Rewrite module_file part)) given = rewrite_work part module_file given
 command_work (Some (Check module_file)) given = check_work module_file given
 command_work (Some (Source request)) given = run_work Meaning request given
-command_work (Some (Run request)) given = run_work Rewriter request given
-command_work (Some (Exec request map_file trust)) given = run_work (Machine map_file trust) request given
+command_work (Some (Run request map_file places trace)) given = run_work (Rewriter map_file (showing places trace)) request given
+command_work (Some (Exec request map_file trust places trace)) given = run_work (Machine map_file trust (showing places trace)) request given
+command_work (Some (Gen seed size steps)) given = Generating seed size steps
 
 abbrev pub work : List (List ℕ) → Given → Step Output → Type 0
 work words given = command_work (command_of words) given
@@ -260,5 +286,6 @@ MayGiveNamed files (Some (Show module_file)) given = MayGiveShown files module_f
 MayGiveNamed files (Some (Rewrite module_file part)) given = MayGiveShown files module_file given
 MayGiveNamed files (Some (Check module_file)) given = MayGiveShown files module_file given
 MayGiveNamed files (Some (Source request)) given = MayGiveAll files Meaning request given
-MayGiveNamed files (Some (Run request)) given = MayGiveAll files Rewriter request given
-MayGiveNamed files (Some (Exec request map_file trust)) given = MayGiveAll files (Machine map_file trust) request given
+MayGiveNamed files (Some (Run request map_file places trace)) given = MayGiveAll files (Rewriter map_file (showing places trace)) request given
+MayGiveNamed files (Some (Exec request map_file trust places trace)) given = MayGiveAll files (Machine map_file trust (showing places trace)) request given
+MayGiveNamed files (Some (Gen seed size steps)) given = ⊤

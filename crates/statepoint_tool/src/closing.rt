@@ -41,7 +41,7 @@ fn function_name(code: &Module, func: FuncId) -> &[u8]
 }
 
 /// The status of a run that ends so.
-fn status_of(end: End) -> Status
+pub(crate) fn status_of(end: End) -> Status
     ensures { result ≡ status_of_end end }
 {
     match end {

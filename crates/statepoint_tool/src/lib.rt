@@ -3,6 +3,7 @@
 
 mod closing;
 mod engine;
+mod generate;
 mod judging;
 mod laws;
 mod machine;
@@ -19,5 +20,5 @@ mod top;
 
 pub use laws::plans_are_free;
 pub use status::Status;
-pub use tool_words::FileName;
+pub use tool_words::{Command, FileName, WordsFault, command};
 pub use top::statepoint;

@@ -2,33 +2,31 @@
 ghost use Rattle.std.specs.Prelude.{◌≡◌, ◌≤◌, IfOk, IsErrOf};
 ghost use Rattle.std.specs.List.{All};
 ghost use Rattle.ir_ast.specs.Bundles.{HasNoBundle};
-ghost use Rattle.ir_ast.specs.Modules.{ModuleContent};
 ghost use Rattle.ir_cfg.specs.TargetModules.{IsTargetModule};
 ghost use Rattle.stackmap_write.specs.ModuleMaps.{map_of};
 ghost use Rattle.ir_machine.specs.Answers.{IsRun, WritesFront};
 ghost use Rattle.map_bytes.specs.Faults.{IsFirstFault};
 ghost use Rattle.map_bytes.specs.declared.rules.MapFault.{MapFault};
-ghost use Rattle.stackmap_view.specs.Maps.{stack_map};
 ghost use Rattle.tool_io.specs.Counts.{NoneFell, Rose};
 ghost use Rattle.statepoint_tool.specs.Answers.{Came, Works, sink_seen};
-ghost use Rattle.statepoint_tool.specs.Runners.{IsExecutable, IsRewrittenOf, engine_of, module_in};
+ghost use Rattle.statepoint_tool.specs.Runners.{module_in};
 ghost use Rattle.statepoint_tool.specs.Steps.{Go, Then, comes_to};
 ghost use Rattle.statepoint_tool.specs.Taken.{files_seen, file_phase, MayGive};
-ghost use Rattle.statepoint_tool.specs.Work.{Executing, MayGiveMap, ReadingMap, Running, run_phase};
+ghost use Rattle.statepoint_tool.specs.Work.{Executing, MayGiveFile, ReadingMap, map_phase};
 
-use crate::closing::close;
+use crate::closing::status_of;
 use crate::maps::map_of_module;
 use crate::phases::take;
 use crate::refusal::{Cause, Refusal};
-use crate::runner::{Executable, Runner};
+use crate::runner::Executable;
 use crate::status::Status;
-use ir_machine::{Ran, RunFault, SureFault, run_any, run_verified};
+use ir_machine::{Ran, RunFault, Shows, SureFault, run_any, run_verified};
 use map_bytes::MapFault;
 use move_plan::Plan;
 use stackmap_view::MapView;
 use statepoint_verify::Verified;
 use std::alloc::Global;
-use tool_io::{Failed, Files, Sink};
+use tool_io::{Files, Sink};
 use tool_words::FileName;
 
 /// Runs this rewritten module over the stack map in the file of this name, or else over its own.
@@ -39,21 +37,22 @@ pub(crate) fn run_on_machine<F: Files, O: Sink>(
     numbers: &[i64],
     plan: &Plan,
     steps: u64,
+    shows: Shows,
     files: &mut F,
     out: &mut O,
 ) -> Result<Status, Refusal>
     requires target { IsTargetModule (module_in «module».now).content }
     requires no_bundle { All HasNoBundle (module_in «module».now).content.funcs }
-    ensures works { Works (MayGiveMap (files_seen (F.contents files.old) (F.faults files.old) (F.faults files.new)) (engine_of (Runner.Machine «module».now «map»)))
-        (run_phase (engine_of (Runner.Machine «module».now «map»)) (module_in «module».now).content numbers.now plan.now steps) result
+    ensures works { Works (MayGiveFile (files_seen (F.contents files.old) (F.faults files.old) (F.faults files.new)) «map»)
+        (λ given. Then (map_phase (module_in «module».now).content «map» given) (Executing (module_in «module».now).content numbers.now plan.now steps shows)) result
         (sink_seen (O.written out.old) (O.written out.new) (O.faults out.old) (O.faults out.new)) }
     ensures kept { F.contents files.new ≡ F.contents files.old }
     ensures counted { NoneFell (F.faults files.old) (F.faults files.new) }
     ensures out_counted { O.faults out.old ≤ O.faults out.new }
 {
     match map {
-        None => run_over_own(alloc, module, numbers, plan, steps, out),
-        Some(name) => run_over_file(alloc, module, name, numbers, plan, steps, files, out),
+        None => run_over_own(alloc, module, numbers, plan, steps, shows, out),
+        Some(name) => run_over_file(alloc, module, name, numbers, plan, steps, shows, files, out),
     }
 }
 
@@ -64,16 +63,17 @@ fn run_over_own<O: Sink>(
     numbers: &[i64],
     plan: &Plan,
     steps: u64,
+    shows: Shows,
     out: &mut O,
 ) -> Result<Status, Refusal>
     requires target { IsTargetModule (module_in «module».now).content }
     requires no_bundle { All HasNoBundle (module_in «module».now).content.funcs }
-    ensures came { Came result (Then (comes_to (Go (map_of (module_in «module».now).content))) (Executing (module_in «module».now).content numbers.now plan.now steps))
+    ensures came { Came result (Then (comes_to (Go (map_of (module_in «module».now).content))) (Executing (module_in «module».now).content numbers.now plan.now steps shows))
         (sink_seen (O.written out.old) (O.written out.new) (O.faults out.old) (O.faults out.new)) }
     ensures out_counted { O.faults out.old ≤ O.faults out.new }
 {
     let bytes = map_of_module(alloc, module.module())?;
-    run_over_bytes(alloc, module, &bytes, numbers, plan, steps, out)
+    run_over_bytes(alloc, module, &bytes, numbers, plan, steps, shows, out)
 }
 
 // The run over the stack map in the file of this name.
@@ -84,21 +84,22 @@ fn run_over_file<F: Files, O: Sink>(
     numbers: &[i64],
     plan: &Plan,
     steps: u64,
+    shows: Shows,
     files: &mut F,
     out: &mut O,
 ) -> Result<Status, Refusal>
     ensures works { Works (MayGive (files_seen (F.contents files.old) (F.faults files.old) (F.faults files.new)) name)
-        (λ given. Then (file_phase name ReadingMap given) (Executing (module_in «module».now).content numbers.now plan.now steps)) result
+        (λ given. Then (file_phase name ReadingMap given) (Executing (module_in «module».now).content numbers.now plan.now steps shows)) result
         (sink_seen (O.written out.old) (O.written out.new) (O.faults out.old) (O.faults out.new)) }
     ensures kept { F.contents files.new ≡ F.contents files.old }
     ensures counted { NoneFell (F.faults files.old) (F.faults files.new) }
     ensures out_counted { O.faults out.old ≤ O.faults out.new }
 {
     let bytes = take(alloc, files, name)?;
-    run_over_bytes(alloc, module, &bytes, numbers, plan, steps, out)
+    run_over_bytes(alloc, module, &bytes, numbers, plan, steps, shows, out)
 }
 
-// The run over the stack map that these bytes are, and the line that closes it.
+// The run over the stack map that these bytes are.
 fn run_over_bytes<O: Sink>(
     alloc: Global,
     module: &Executable,
@@ -106,31 +107,22 @@ fn run_over_bytes<O: Sink>(
     numbers: &[i64],
     plan: &Plan,
     steps: u64,
+    shows: Shows,
     out: &mut O,
 ) -> Result<Status, Refusal>
-    ensures came { Came result (Then (ReadingMap bytes.now) (Executing (module_in «module».now).content numbers.now plan.now steps))
+    ensures came { Came result (Then (ReadingMap bytes.now) (Executing (module_in «module».now).content numbers.now plan.now steps shows))
         (sink_seen (O.written out.old) (O.written out.new) (O.faults out.old) (O.faults out.new)) }
     ensures out_counted { O.faults out.old ≤ O.faults out.new }
 {
-    match run_bytes(alloc, module, bytes, numbers, plan, steps, out) {
-        Ok(ran) => match close(
-            module.module(),
-            ran.end,
-            ran.func,
-            ran.steps,
-            ran.events,
-            out,
-        ) {
-            Ok(status) => Ok(status),
-            Err(Failed) => Err(Refusal::WriteFault),
-        },
+    match run_bytes(alloc, module, bytes, numbers, plan, steps, shows, out) {
+        Ok(ran) => Ok(status_of(ran.end)),
         Err(RunFault::BadMap(fault)) => Err(Refusal::Defined(Cause::Map(fault))),
         Err(RunFault::Write) => Err(Refusal::WriteFault),
         Err(RunFault::Memory) => Err(Refusal::Memory),
     }
 }
 
-// The run over the stack map that these bytes are.
+// What the run over the stack map that these bytes are answers.
 fn run_bytes<O: Sink>(
     alloc: Global,
     module: &Executable,
@@ -138,19 +130,22 @@ fn run_bytes<O: Sink>(
     numbers: &[i64],
     plan: &Plan,
     steps: u64,
+    shows: Shows,
     out: &mut O,
 ) -> Result<Ran, RunFault>
-    ensures ran { IfOk result (λ ran. IsRun (module_in «module».now).content bytes.now numbers.now plan.now steps ran (O.written out.old) (O.written out.new)) }
+    ensures ran { IfOk result (λ ran. IsRun (module_in «module».now).content bytes.now numbers.now plan.now steps shows ran (O.written out.old) (O.written out.new)) }
     ensures bad { (fault : MapFault) → result ≡ Err (RunFault.BadMap fault) → IsFirstFault bytes.now fault × (O.written out.new ≡ O.written out.old) }
-    ensures front { IsErrOf result RunFault.Memory → WritesFront (module_in «module».now).content bytes.now numbers.now plan.now steps (O.written out.old) (O.written out.new) }
-    ensures write { IsErrOf result RunFault.Write → WritesFront (module_in «module».now).content bytes.now numbers.now plan.now steps (O.written out.old) (O.written out.new) }
+    ensures front { IsErrOf result RunFault.Memory → WritesFront (module_in «module».now).content bytes.now numbers.now plan.now steps shows (O.written out.old) (O.written out.new) }
+    ensures write { IsErrOf result RunFault.Write → WritesFront (module_in «module».now).content bytes.now numbers.now plan.now steps shows (O.written out.old) (O.written out.new) }
     ensures failed { IsErrOf result RunFault.Write → Rose (O.faults out.old) (O.faults out.new) }
     ensures count { O.faults out.old ≤ O.faults out.new }
 {
     match module {
-        Executable::Trusted(read) => run_any(alloc, read, bytes, numbers, plan, steps, out),
+        Executable::Trusted(read) => {
+            run_any(alloc, read, bytes, numbers, plan, steps, shows, out)
+        }
         Executable::Checked(verified) => {
-            run_checked(alloc, verified, bytes, numbers, plan, steps, out)
+            run_checked(alloc, verified, bytes, numbers, plan, steps, shows, out)
         }
     }
 }
@@ -162,78 +157,22 @@ fn run_checked<O: Sink>(
     numbers: &[i64],
     plan: &Plan,
     steps: u64,
+    shows: Shows,
     out: &mut O,
 ) -> Result<Ran, RunFault>
-    ensures ran { IfOk result (λ ran. IsRun verified.now.content bytes.now numbers.now plan.now steps ran (O.written out.old) (O.written out.new)) }
+    ensures ran { IfOk result (λ ran. IsRun verified.now.content bytes.now numbers.now plan.now steps shows ran (O.written out.old) (O.written out.new)) }
     ensures bad { (fault : MapFault) → result ≡ Err (RunFault.BadMap fault) → IsFirstFault bytes.now fault × (O.written out.new ≡ O.written out.old) }
-    ensures front { IsErrOf result RunFault.Memory → WritesFront verified.now.content bytes.now numbers.now plan.now steps (O.written out.old) (O.written out.new) }
-    ensures write { IsErrOf result RunFault.Write → WritesFront verified.now.content bytes.now numbers.now plan.now steps (O.written out.old) (O.written out.new) }
+    ensures front { IsErrOf result RunFault.Memory → WritesFront verified.now.content bytes.now numbers.now plan.now steps shows (O.written out.old) (O.written out.new) }
+    ensures write { IsErrOf result RunFault.Write → WritesFront verified.now.content bytes.now numbers.now plan.now steps shows (O.written out.old) (O.written out.new) }
     ensures failed { IsErrOf result RunFault.Write → Rose (O.faults out.old) (O.faults out.new) }
     ensures count { O.faults out.old ≤ O.faults out.new }
 {
     match MapView::of(bytes) {
         Err(fault) => Err(RunFault::BadMap(fault)),
-        Ok(view) => match run_verified(alloc, verified, &view, numbers, plan, steps, out) {
+        Ok(view) => match run_verified(alloc, verified, &view, numbers, plan, steps, shows, out) {
             Ok(ran) => Ok(ran),
             Err(SureFault::Memory) => Err(RunFault::Memory),
             Err(SureFault::Write) => Err(RunFault::Write),
         },
-    }
-}
-
-/// Runs the rewritten module of a source module over its own stack map, and closes the run. What is written is what the source
-/// meaning says.
-pub(crate) fn run_rewritten<O: Sink>(
-    alloc: Global,
-    after: &Verified,
-    numbers: &[i64],
-    plan: &Plan,
-    steps: u64,
-    out: &mut O,
-) -> Result<Status, Refusal>
-    requires { IsExecutable after.now.content }
-    ensures came { (content : ModuleContent) → IsRewrittenOf content after.now.content →
-        Came result (Running content numbers.now plan.now steps)
-        (sink_seen (O.written out.old) (O.written out.new) (O.faults out.old) (O.faults out.new)) }
-    ensures out_counted { O.faults out.old ≤ O.faults out.new }
-{
-    let bytes = map_of_module(alloc, after.module())?;
-    match MapView::of(&bytes) {
-        Ok(view) => run_over_view(alloc, after, &view, numbers, plan, steps, out),
-        // what `write` gives is a map
-        Err(_) => unreachable!(),
-    }
-}
-
-fn run_over_view<O: Sink>(
-    alloc: Global,
-    after: &Verified,
-    view: &MapView<'_>,
-    numbers: &[i64],
-    plan: &Plan,
-    steps: u64,
-    out: &mut O,
-) -> Result<Status, Refusal>
-    requires own { stack_map view.now ≡ map_of after.now.content }
-    requires no_bundle { All HasNoBundle after.now.content.funcs }
-    ensures came { (content : ModuleContent) → IsRewrittenOf content after.now.content →
-        Came result (Running content numbers.now plan.now steps)
-        (sink_seen (O.written out.old) (O.written out.new) (O.faults out.old) (O.faults out.new)) }
-    ensures out_counted { O.faults out.old ≤ O.faults out.new }
-{
-    match run_verified(alloc, after, view, numbers, plan, steps, out) {
-        Ok(ran) => match close(
-            after.module(),
-            ran.end,
-            ran.func,
-            ran.steps,
-            ran.events,
-            out,
-        ) {
-            Ok(status) => Ok(status),
-            Err(Failed) => Err(Refusal::WriteFault),
-        },
-        Err(SureFault::Write) => Err(Refusal::WriteFault),
-        Err(SureFault::Memory) => Err(Refusal::Memory),
     }
 }

@@ -12,7 +12,7 @@ ghost use Rattle.statepoint_tool.specs.Runners.{CanRun, RunsAs, engine_of};
 
 use crate::closing::close;
 use crate::engine::Engine;
-use crate::machine::{run_on_machine, run_rewritten};
+use crate::machine::run_on_machine;
 use crate::phases::{take_input, take_module, take_plan};
 use crate::refusal::Refusal;
 use crate::runner::{Runner, runner_of};
@@ -117,10 +117,12 @@ fn run_under_plan<F: Files, O: Sink>(
 {
     match runner {
         Runner::Meaning(read) => run_by_meaning(alloc, &read, numbers, plan, steps, out),
-        Runner::Rewritten(after) => run_rewritten(alloc, &after, numbers, plan, steps, out),
-        Runner::Machine { module, map } => {
-            run_on_machine(alloc, &module, map, numbers, plan, steps, files, out)
-        }
+        Runner::Rewritten { module, map, shows } => run_on_machine(
+            alloc, &module, map, numbers, plan, steps, shows, files, out,
+        ),
+        Runner::Machine { module, map, shows } => run_on_machine(
+            alloc, &module, map, numbers, plan, steps, shows, files, out,
+        ),
     }
 }
 

@@ -14,6 +14,7 @@ use crate::judging::verified;
 use crate::refusal::Refusal;
 use crate::rewrite::rewritten;
 use ir_ast::Module;
+use ir_machine::Shows;
 use statepoint_verify::Verified;
 use std::alloc::Global;
 use tool_words::FileName;
@@ -43,12 +44,17 @@ impl Executable {
 pub(crate) enum Runner {
     /// A source module, by its meaning.
     Meaning(Module),
-    /// The rewritten module of a source module, on the machine over its own stack map.
-    Rewritten(Verified),
-    /// A rewritten module on the machine, over the stack map in the file of this name, or else over its own.
+    /// The rewritten module of a source module, on the machine over the stack map in the file of this name, or else over its own.
+    Rewritten {
+        module: Executable,
+        map: Option<FileName>,
+        shows: Shows,
+    },
+    /// The same of a rewritten module that was read.
     Machine {
         module: Executable,
         map: Option<FileName>,
+        shows: Shows,
     },
 }
 
@@ -63,20 +69,29 @@ pub(crate) fn runner_of(alloc: Global, engine: Engine, read: Module) -> Result<R
 {
     match engine {
         Engine::Meaning => Ok(Runner::Meaning(read)),
-        Engine::Rewriter => rewriting_runner(alloc, read),
-        Engine::Machine { map, trust } => machine_runner(alloc, read, map, trust),
+        Engine::Rewriter { map, shows } => rewriting_runner(alloc, read, map, shows),
+        Engine::Machine { map, trust, shows } => machine_runner(alloc, read, map, trust, shows),
     }
 }
 
-fn rewriting_runner(alloc: Global, read: Module) -> Result<Runner, Refusal>
+fn rewriting_runner(
+    alloc: Global,
+    read: Module,
+    map: Option<FileName>,
+    shows: Shows,
+) -> Result<Runner, Refusal>
     requires source { IsSourceModule read.content }
     requires no_bundle { All HasNoBundle read.content.funcs }
-    ensures judged { Agrees (λ _. read) result (judged Engine.Rewriter read) }
-    ensures engine { IfOk result (λ runner. engine_of runner ≡ Engine.Rewriter) }
+    ensures judged { Agrees (λ _. read) result (judged (Engine.Rewriter «map» shows) read) }
+    ensures engine { IfOk result (λ runner. engine_of runner ≡ Engine.Rewriter «map» shows) }
     ensures runs { IfOk result (λ runner. RunsAs read.content runner) }
 {
     let after = rewritten(alloc, read)?;
-    Ok(Runner::Rewritten(after))
+    Ok(Runner::Rewritten {
+        module: Executable::Checked(after),
+        map,
+        shows,
+    })
 }
 
 fn machine_runner(
@@ -84,33 +99,41 @@ fn machine_runner(
     read: Module,
     map: Option<FileName>,
     trust: bool,
+    shows: Shows,
 ) -> Result<Runner, Refusal>
     requires target { IsTargetModule read.content }
     requires no_bundle { All HasNoBundle read.content.funcs }
-    ensures judged { Agrees (λ _. read) result (judged (Engine.Machine «map» trust) read) }
-    ensures engine { IfOk result (λ runner. engine_of runner ≡ Engine.Machine «map» trust) }
+    ensures judged { Agrees (λ _. read) result (judged (Engine.Machine «map» trust shows) read) }
+    ensures engine { IfOk result (λ runner. engine_of runner ≡ Engine.Machine «map» trust shows) }
     ensures runs { IfOk result (λ runner. RunsAs read.content runner) }
 {
     if trust {
         Ok(Runner::Machine {
             module: Executable::Trusted(read),
             map,
+            shows,
         })
     } else {
-        checked_runner(alloc, read, map)
+        checked_runner(alloc, read, map, shows)
     }
 }
 
-fn checked_runner(alloc: Global, read: Module, map: Option<FileName>) -> Result<Runner, Refusal>
+fn checked_runner(
+    alloc: Global,
+    read: Module,
+    map: Option<FileName>,
+    shows: Shows,
+) -> Result<Runner, Refusal>
     requires target { IsTargetModule read.content }
     requires no_bundle { All HasNoBundle read.content.funcs }
-    ensures judged { Agrees (λ _. read) result (judged (Engine.Machine «map» false) read) }
-    ensures engine { IfOk result (λ runner. engine_of runner ≡ Engine.Machine «map» false) }
+    ensures judged { Agrees (λ _. read) result (judged (Engine.Machine «map» false shows) read) }
+    ensures engine { IfOk result (λ runner. engine_of runner ≡ Engine.Machine «map» false shows) }
     ensures runs { IfOk result (λ runner. RunsAs read.content runner) }
 {
     let checked = verified(alloc, read)?;
     Ok(Runner::Machine {
         module: Executable::Checked(checked),
         map,
+        shows,
     })
 }

@@ -11,6 +11,7 @@ ghost use Rattle.tool_words.specs.Words.{command_of};
 ghost use Rattle.statepoint_tool.specs.Work.{MayGiveNamed, work as work_of};
 
 use crate::engine::Engine;
+use crate::generate::generate;
 use crate::judging::check;
 use crate::notes::put_note;
 use crate::refusal::{Cause, Refusal};
@@ -18,6 +19,7 @@ use crate::rewrite::rewrite;
 use crate::run::run;
 use crate::show::show;
 use crate::status::Status;
+use ir_machine::Shows;
 use std::alloc::Global;
 use tool_io::{Failed, Files, Sink};
 use tool_words::{Command, WordsFault, command};
@@ -29,13 +31,15 @@ use tool_words::{Command, WordsFault, command};
 /// plan, and then the line that closes the run: `source` runs the module by that meaning, `run` rewrites it and runs it on the
 /// address machine over its own stack map, under the moves of the plan too, which are never noticed. `check` writes `ok` where the
 /// verifier finds no fault in a rewritten module. `exec` writes the lines that the address machine prints, which runs a rewritten
-/// module under the moves and the `go` lines of the plan, over the module's own stack map or that in the file of `--map`, and then
-/// the closing line; without `--trust` the module is verified first.
+/// module under the moves and the `go` lines of the plan, and then the closing line; without `--trust` the module is verified first.
+/// With `--map` `run` and `exec` run over the stack map in a file, and what is written is what the machine does over it. With
+/// `--trace` they write the lines of each event between, with `--places` those of the objects behind. `gen` writes a summary of a
+/// generated module and of its run.
 ///
 /// The work goes in this order: the words; the module is taken, read and typed; for `rewrite`, `maps` and `run` it is rewritten, for
 /// `check` and for `exec` without `--trust` verified; for `source`, `run` and `exec` the input is taken and read, then the plan,
-/// then the stack map where one is named, and the module runs. A run writes each line by one `put`, as it comes. A refusal puts one
-/// line on `notes`.
+/// then the stack map where one is named, and the module runs. A run writes each line by one `put`, as it comes; `gen` takes no file and
+/// writes when its run is over. A refusal puts one line on `notes`.
 ///
 /// What the files gave is what is told of them, or anything where nothing is told; a file could not be
 /// read only where a fault was counted for its name. Each status comes exactly where its cause holds over
@@ -49,8 +53,8 @@ pub fn statepoint<F: Files, O: Sink, E: Sink>(
 ) -> Status
     // The headline. For every module text that the profile accepts, every input, plan and bound, `run` writes what the source
     // meaning prints on objects that never move, and ends with its return, trap or want of steps. This is also the address
-    // machine's run of the emitted module, whose frames are found through the emitted map bytes, under that plan; no moved-away
-    // address is read.
+    // machine's run of the emitted module, whose frames are found through the emitted map bytes, under that plan, with its trace and
+    // the places of its objects where they are asked for; no moved-away address is read.
     ensures headline { IsHeadline (map string_bytes words.now)
         (files_seen (F.contents files.old) (F.faults files.old) (F.faults files.new))
         (sink_seen (O.written out.old) (O.written out.new) (O.faults out.old) (O.faults out.new))
@@ -194,14 +198,36 @@ fn work<F: Files, O: Sink>(
         Ok(Command::Rewrite { module, part }) => rewrite(alloc, module, part, files, out),
         Ok(Command::Check { module }) => check(alloc, module, files, out),
         Ok(Command::Source(request)) => run(alloc, Engine::Meaning, request, files, out),
-        Ok(Command::Run(request)) => run(alloc, Engine::Rewriter, request, files, out),
+        Ok(
+            Command::Run {
+                request,
+                map,
+                places,
+                trace,
+            },
+        ) => {
+            let shows = Shows { places, trace };
+            run(alloc, Engine::Rewriter { map, shows }, request, files, out)
+        }
         Ok(
             Command::Exec {
                 request,
                 map,
                 trust,
+                places,
+                trace,
             },
-        ) => run(alloc, Engine::Machine { map, trust }, request, files, out),
+        ) => {
+            let shows = Shows { places, trace };
+            run(
+                alloc,
+                Engine::Machine { map, trust, shows },
+                request,
+                files,
+                out,
+            )
+        }
+        Ok(Command::Gen { seed, size, steps }) => generate(alloc, seed, size, steps, out),
         Err(WordsFault::Words) => Err(Refusal::Defined(Cause::Words)),
         Err(WordsFault::Memory) => Err(Refusal::Memory),
     }

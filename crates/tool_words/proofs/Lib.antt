@@ -1,1 +1,14 @@
-pub mod StepBounds
+mod Basics
+mod CommandLaws
+mod Items
+mod NumberBounds
+mod Outcomes
+mod ReadLaws
+mod Refusals
+mod Parses
+mod Rows
+mod Rules
+mod Steps
+mod Takes
+mod Uses
+mod Worked

@@ -1,6 +1,7 @@
 //! The words of the command line: which give which command, and what each command asks for.
 #![tactic(auto)]
 
+mod reader;
 mod request;
 mod words;
 

@@ -52,6 +52,16 @@ pub struct RunRequest {
     pub steps: u64,
 }
 
+/// What the options of the command line choose. Without one of the name a stack map is the module's own.
+#[derive(Debug, Drop)]
+pub(crate) struct Options {
+    pub(crate) raw: bool,
+    pub(crate) places: bool,
+    pub(crate) trace: bool,
+    pub(crate) trust: bool,
+    pub(crate) map: Option<FileName>,
+}
+
 /// What is written of a rewritten module.
 #[derive(Clone, Copy, Debug, PartialEq, Eq)]
 pub enum Part {
@@ -80,13 +90,28 @@ pub enum Command {
     },
     /// Run the module by the source meaning, over the input and under the plan, for at most so many steps.
     Source(RunRequest),
-    /// The same, of the rewritten module. No module is rewritten yet, so that this is the run of the source meaning.
-    Run(RunRequest),
-    /// Run this rewritten module on the address machine, over the stack map in the file of this name, or else over its own. It
-    /// is verified first, unless it is trusted.
+    /// The same, of its rewritten module on the address machine, over the stack map in the file of this name, or else over its own.
+    Run {
+        request: RunRequest,
+        map: Option<FileName>,
+        /// The objects that live at the end are shown, each with its place.
+        places: bool,
+        /// What each event does is shown.
+        trace: bool,
+    },
+    /// The same, of this module, which is a rewritten one. It is verified first, unless it is trusted.
     Exec {
         request: RunRequest,
         map: Option<FileName>,
         trust: bool,
+        places: bool,
+        trace: bool,
+    },
+    /// Make the module of this seed and size, rewrite it, run it while all objects move at each event, for at most so many steps,
+    /// and write its numbers.
+    Gen {
+        seed: u64,
+        size: u32,
+        steps: u64,
     },
 }

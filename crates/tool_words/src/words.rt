@@ -1,9 +1,11 @@
-ghost use Rattle.std.specs.Prelude.{◌≡◌, Some, None, map, string_bytes, IfOk, IsErrOf};
+ghost use Rattle.std.specs.Prelude.{◌≡◌, ◌≤◌, Some, None, map, string_bytes, IfOk, IfSome, IsErrOf};
 ghost use Rattle.std.specs.Char.{is_ascii_digit};
 ghost use Rattle.std.specs.List.{list_all};
-ghost use Rattle.tool_words.specs.Words.{check_of, command_of, exec_of, exec_over, names_file, of_exec, of_exec_map, of_exec_over, of_module, of_raw, of_run, request_of, rewrite_of, show_of, steps_of};
+ghost use Rattle.tool_words.specs.Reader.{allows};
+ghost use Rattle.tool_words.specs.Words.{command_of, number_in, of_module, of_numbers, of_run, of_words, request_of};
 
-use crate::request::{Command, FileName, Part, RunRequest};
+use crate::reader::{chosen, read};
+use crate::request::{Command, FileName, Options, Part, RunRequest};
 use sp_ids::{Memory, limits};
 use std::alloc::Global;
 
@@ -31,280 +33,129 @@ pub fn command(alloc: Global, words: &[String]) -> Result<Command, WordsFault>
     ensures gives { IfOk result (λ command. command_of (map string_bytes words.now) ≡ Some command) }
     ensures none { IsErrOf result WordsFault.Words → command_of (map string_bytes words.now) ≡ None }
 {
-    match words {
-        [_program, name, module_name] => of_module(alloc, name.as_str(), module_name.as_str()),
-        [_program, name, module_name, option] => {
-            of_raw(alloc, name.as_str(), module_name.as_str(), option.as_str())
+    let Some((_program, called)) = words.split_first() else {
+        return Err(WordsFault::Words);
+    };
+    let Some(name) = called.first() else {
+        return Err(WordsFault::Words);
+    };
+    let matches = read(alloc, called)?;
+    let options = chosen(alloc, &matches)?;
+    if !allows(name.as_str(), &options) {
+        return Err(WordsFault::Words);
+    }
+    match matches.get_raw("words") {
+        Some(positional) => of_words(alloc, name.as_str(), options, positional),
+        None => Err(WordsFault::Words),
+    }
+}
+
+// Whether the command of this name has these options.
+#[tactic(auto, unfolding(crate::specs::Reader::allows))]
+fn allows(name: &str, options: &Options) -> bool
+    ensures { result ≡ allows name.now options.now }
+{
+    let on_machine = options.places || options.trace || options.map.is_some();
+    (!options.raw || name == "maps")
+        && (!on_machine || name == "run" || name == "exec")
+        && (!options.trust || name == "exec")
+}
+
+// The command of this name over these positional words.
+fn of_words(
+    alloc: Global,
+    name: &str,
+    options: Options,
+    positional: &[&str],
+) -> Result<Command, WordsFault>
+    ensures gives { IfOk result (λ command. of_words name.now options (map (λ word. word.now) positional.now) ≡ Some command) }
+    ensures none { IsErrOf result WordsFault.Words → of_words name.now options (map (λ word. word.now) positional.now) ≡ None }
+{
+    match positional {
+        [module] => of_module(alloc, name, options, module),
+        [seed, size, steps] => of_numbers(name, seed, size, steps).ok_or(WordsFault::Words),
+        [code, input, plan, steps] => {
+            let request = run_request(alloc, code, input, plan, steps)?;
+            of_run(name, options, request).ok_or(WordsFault::Words)
         }
-        [_program, name, code, input, plan, steps] => of_run(
-            alloc,
-            name.as_str(),
-            code.as_str(),
-            input.as_str(),
-            plan.as_str(),
-            steps.as_str(),
-        ),
-        [_program, name, code, input, plan, steps, trust] => of_exec(
-            alloc,
-            name.as_str(),
-            code.as_str(),
-            input.as_str(),
-            plan.as_str(),
-            steps.as_str(),
-            trust.as_str(),
-        ),
-        [_program, name, code, input, plan, steps, option, map_file] => of_exec_map(
-            alloc,
-            name.as_str(),
-            code.as_str(),
-            input.as_str(),
-            plan.as_str(),
-            steps.as_str(),
-            option.as_str(),
-            map_file.as_str(),
-        ),
-        [
-            _program,
-            name,
-            code,
-            input,
-            plan,
-            steps,
-            trust,
-            option,
-            map_file,
-        ] => of_exec_over(
-            alloc,
-            name.as_str(),
-            code.as_str(),
-            input.as_str(),
-            plan.as_str(),
-            steps.as_str(),
-            trust.as_str(),
-            option.as_str(),
-            map_file.as_str(),
-        ),
         _ => Err(WordsFault::Words),
     }
 }
 
 // The command of this name over a module.
 #[tactic(auto, unfolding(crate::specs::Words::of_module))]
-fn of_module(alloc: Global, name: &str, module_name: &str) -> Result<Command, WordsFault>
-    ensures gives { IfOk result (λ command. of_module name.now module_name.now ≡ Some command) }
-    ensures none { IsErrOf result WordsFault.Words → of_module name.now module_name.now ≡ None }
+fn of_module(
+    alloc: Global,
+    name: &str,
+    options: Options,
+    module: &str,
+) -> Result<Command, WordsFault>
+    ensures gives { IfOk result (λ command. of_module name.now options module.now ≡ Some command) }
+    ensures none { IsErrOf result WordsFault.Words → of_module name.now options module.now ≡ None }
 {
+    let module = FileName::of(alloc, module)?;
     if name == "show" {
-        show_command(alloc, module_name)
+        Ok(Command::Show { module })
     } else if name == "rewrite" {
-        rewrite_command(alloc, Part::Text, module_name)
+        Ok(Command::Rewrite {
+            module,
+            part: Part::Text,
+        })
     } else if name == "maps" {
-        rewrite_command(alloc, Part::MapText, module_name)
+        Ok(Command::Rewrite {
+            module,
+            part: if options.raw {
+                Part::MapBytes
+            } else {
+                Part::MapText
+            },
+        })
     } else if name == "check" {
-        check_command(alloc, module_name)
+        Ok(Command::Check { module })
     } else {
         Err(WordsFault::Words)
     }
 }
 
+// The command of this name over three numbers.
+#[tactic(auto, unfolding(crate::specs::Words::of_numbers))]
+fn of_numbers(name: &str, seed: &str, size: &str, steps: &str) -> Option<Command>
+    ensures { result ≡ of_numbers name.now seed.now size.now steps.now }
+{
+    if name != "gen" {
+        return None;
+    }
+    let seed = number_in(seed, 0, u64::MAX)?;
+    let size = number_in(size, 1, limits::GENERATED_FUNCTIONS as u64)? as u32;
+    let steps = number_in(steps, 0, limits::STEPS)?;
+    Some(Command::Gen { seed, size, steps })
+}
+
 // The command of this name over all that a run needs.
 #[tactic(auto, unfolding(crate::specs::Words::of_run))]
-fn of_run(
-    alloc: Global,
-    name: &str,
-    code: &str,
-    input: &str,
-    plan: &str,
-    steps: &str,
-) -> Result<Command, WordsFault>
-    ensures gives { IfOk result (λ command. of_run name.now code.now input.now plan.now steps.now ≡ Some command) }
-    ensures none { IsErrOf result WordsFault.Words → of_run name.now code.now input.now plan.now steps.now ≡ None }
+fn of_run(name: &str, options: Options, request: RunRequest) -> Option<Command>
+    ensures { result ≡ of_run name.now options request }
 {
     if name == "source" {
-        let request = run_request(alloc, code, input, plan, steps)?;
-        return Ok(Command::Source(request));
+        Some(Command::Source(request))
+    } else if name == "run" {
+        Some(Command::Run {
+            request,
+            map: options.map,
+            places: options.places,
+            trace: options.trace,
+        })
+    } else if name == "exec" {
+        Some(Command::Exec {
+            request,
+            map: options.map,
+            trust: options.trust,
+            places: options.places,
+            trace: options.trace,
+        })
+    } else {
+        None
     }
-    if name == "run" {
-        let request = run_request(alloc, code, input, plan, steps)?;
-        return Ok(Command::Run(request));
-    }
-    if name == "exec" {
-        return exec_command(alloc, code, input, plan, steps, false);
-    }
-    Err(WordsFault::Words)
-}
-
-// The command `exec` over its own stack map.
-fn exec_command(
-    alloc: Global,
-    code: &str,
-    input: &str,
-    plan: &str,
-    steps: &str,
-    trust: bool,
-) -> Result<Command, WordsFault>
-    ensures gives { IfOk result (λ command. exec_of trust code.now input.now plan.now steps.now ≡ Some command) }
-    ensures none { IsErrOf result WordsFault.Words → exec_of trust code.now input.now plan.now steps.now ≡ None }
-{
-    let request = run_request(alloc, code, input, plan, steps)?;
-    Ok(Command::Exec {
-        request,
-        map: None,
-        trust,
-    })
-}
-
-// The command that runs a rewritten module as it is, over its own stack map.
-#[tactic(auto, unfolding(crate::specs::Words::of_exec))]
-fn of_exec(
-    alloc: Global,
-    name: &str,
-    code: &str,
-    input: &str,
-    plan: &str,
-    steps: &str,
-    trust: &str,
-) -> Result<Command, WordsFault>
-    ensures gives { IfOk result (λ command. of_exec name.now code.now input.now plan.now steps.now trust.now ≡ Some command) }
-    ensures none { IsErrOf result WordsFault.Words → of_exec name.now code.now input.now plan.now steps.now trust.now ≡ None }
-{
-    if name != "exec" {
-        return Err(WordsFault::Words);
-    }
-    if trust != "--trust" {
-        return Err(WordsFault::Words);
-    }
-    exec_command(alloc, code, input, plan, steps, true)
-}
-
-// The command that runs a rewritten module over the stack map in a file.
-#[tactic(auto, unfolding(crate::specs::Words::of_exec_map))]
-fn of_exec_map(
-    alloc: Global,
-    name: &str,
-    code: &str,
-    input: &str,
-    plan: &str,
-    steps: &str,
-    option: &str,
-    map_file: &str,
-) -> Result<Command, WordsFault>
-    ensures gives { IfOk result (λ command. of_exec_map name.now code.now input.now plan.now steps.now option.now map_file.now ≡ Some command) }
-    ensures none { IsErrOf result WordsFault.Words → of_exec_map name.now code.now input.now plan.now steps.now option.now map_file.now ≡ None }
-{
-    if name != "exec" {
-        return Err(WordsFault::Words);
-    }
-    exec_over_command(alloc, code, input, plan, steps, option, map_file, false)
-}
-
-// Both.
-#[tactic(auto, unfolding(crate::specs::Words::of_exec_over))]
-fn of_exec_over(
-    alloc: Global,
-    name: &str,
-    code: &str,
-    input: &str,
-    plan: &str,
-    steps: &str,
-    trust: &str,
-    option: &str,
-    map_file: &str,
-) -> Result<Command, WordsFault>
-    ensures gives { IfOk result (λ command. of_exec_over name.now code.now input.now plan.now steps.now trust.now option.now map_file.now ≡ Some command) }
-    ensures none { IsErrOf result WordsFault.Words → of_exec_over name.now code.now input.now plan.now steps.now trust.now option.now map_file.now ≡ None }
-{
-    if name != "exec" {
-        return Err(WordsFault::Words);
-    }
-    if trust != "--trust" {
-        return Err(WordsFault::Words);
-    }
-    exec_over_command(alloc, code, input, plan, steps, option, map_file, true)
-}
-
-// The command `exec` over these words, of which the last two name a stack map.
-#[tactic(auto, unfolding(crate::specs::Words::exec_over))]
-fn exec_over_command(
-    alloc: Global,
-    code: &str,
-    input: &str,
-    plan: &str,
-    steps: &str,
-    option: &str,
-    map_file: &str,
-    trust: bool,
-) -> Result<Command, WordsFault>
-    ensures gives { IfOk result (λ command. exec_over trust code.now input.now plan.now steps.now option.now map_file.now ≡ Some command) }
-    ensures none { IsErrOf result WordsFault.Words → exec_over trust code.now input.now plan.now steps.now option.now map_file.now ≡ None }
-{
-    if option != "--map" {
-        return Err(WordsFault::Words);
-    }
-    if !may_name_file(map_file) {
-        return Err(WordsFault::Words);
-    }
-    let request = run_request(alloc, code, input, plan, steps)?;
-    Ok(Command::Exec {
-        request,
-        map: Some(FileName::of(alloc, map_file)?),
-        trust,
-    })
-}
-
-// The command `show` over this word.
-fn show_command(alloc: Global, module_name: &str) -> Result<Command, WordsFault>
-    ensures gives { IfOk result (λ command. show_of module_name.now ≡ Some command) }
-    ensures none { IsErrOf result WordsFault.Words → show_of module_name.now ≡ None }
-{
-    if !may_name_file(module_name) {
-        return Err(WordsFault::Words);
-    }
-    Ok(Command::Show {
-        module: FileName::of(alloc, module_name)?,
-    })
-}
-
-// The command `check` over this word.
-fn check_command(alloc: Global, module_name: &str) -> Result<Command, WordsFault>
-    ensures gives { IfOk result (λ command. check_of module_name.now ≡ Some command) }
-    ensures none { IsErrOf result WordsFault.Words → check_of module_name.now ≡ None }
-{
-    if !may_name_file(module_name) {
-        return Err(WordsFault::Words);
-    }
-    Ok(Command::Check {
-        module: FileName::of(alloc, module_name)?,
-    })
-}
-
-// The command of this name over a module, with this option.
-#[tactic(auto, unfolding(crate::specs::Words::of_raw))]
-fn of_raw(alloc: Global, name: &str, module_name: &str, option: &str) -> Result<Command, WordsFault>
-    ensures gives { IfOk result (λ command. of_raw name.now module_name.now option.now ≡ Some command) }
-    ensures none { IsErrOf result WordsFault.Words → of_raw name.now module_name.now option.now ≡ None }
-{
-    if name != "maps" {
-        return Err(WordsFault::Words);
-    }
-    if option != "--raw" {
-        return Err(WordsFault::Words);
-    }
-    rewrite_command(alloc, Part::MapBytes, module_name)
-}
-
-// The command that writes this of a rewritten module, over this word.
-fn rewrite_command(alloc: Global, part: Part, module_name: &str) -> Result<Command, WordsFault>
-    ensures gives { IfOk result (λ command. rewrite_of part module_name.now ≡ Some command) }
-    ensures none { IsErrOf result WordsFault.Words → rewrite_of part module_name.now ≡ None }
-{
-    if !may_name_file(module_name) {
-        return Err(WordsFault::Words);
-    }
-    Ok(Command::Rewrite {
-        module: FileName::of(alloc, module_name)?,
-        part,
-    })
 }
 
 // The run that these words ask for.
@@ -318,10 +169,7 @@ fn run_request(
     ensures gives { IfOk result (λ request. request_of code.now input.now plan.now steps.now ≡ Some request) }
     ensures none { IsErrOf result WordsFault.Words → request_of code.now input.now plan.now steps.now ≡ None }
 {
-    if !may_name_file(code) || !may_name_file(input) || !may_name_file(plan) {
-        return Err(WordsFault::Words);
-    }
-    let Some(steps) = step_bound(steps) else {
+    let Some(steps) = number_in(steps, 0, limits::STEPS) else {
         return Err(WordsFault::Words);
     };
     Ok(RunRequest {
@@ -332,27 +180,19 @@ fn run_request(
     })
 }
 
-fn may_name_file(word: &str) -> bool
-    ensures { result ≡ names_file word.now }
-{
-    match word.as_bytes() {
-        [] => false,
-        [_] => true,
-        [first, _, ..] => *first != b'-',
-    }
-}
-
-fn step_bound(word: &str) -> Option<u64>
-    ensures { result ≡ steps_of word.now }
+// A number in 1 to 20 digits, within these bounds.
+fn number_in(word: &str, least: u64, most: u64) -> Option<u64>
+    ensures value { result ≡ number_in least most word.now }
+    ensures within { IfSome result (λ number. number ≤ most) }
 {
     if word.is_empty() || word.len() > 20 || !is_digits(word) {
         return None;
     }
-    let Ok(steps) = word.parse::<u64>() else {
+    let Ok(number) = word.parse::<u64>() else {
         return None;
     };
-    if steps <= limits::STEPS {
-        Some(steps)
+    if least <= number && number <= most {
+        Some(number)
     } else {
         None
     }

@@ -1,4 +1,4 @@
-//! The cases that standard input gives, with an empty line between two of them.
+//! The cases of the file `cases`, with an empty line between two of them.
 //!
 //! The first line of a case has its remark, the bound on steps and the input's numbers, the following ones the functions of
 //! a module (`modules`).
@@ -19,7 +19,7 @@ const ROOM: usize = 1_000;
 
 pub(crate) fn show(rt: &HostRuntime) -> Result<()> {
     let alloc = rt.alloc();
-    let text = DiskFiles::new(rt).take(alloc, "/dev/stdin", FILE_BYTES)?;
+    let text = DiskFiles::new(rt).take(alloc, "cases", FILE_BYTES)?;
     let text = String::from_utf8_lossy(alloc, &text)?;
     for case in text.split("\n\n") {
         show_case(rt, case)?;

@@ -5,7 +5,7 @@ use Rattle.ir_machine.proofs.run.run.Given as goal
 
 abbrev pub invariant-loop : goal.invariant-loop
 invariant-loop g l = record {
-  follows : Follows (machinery l.program) (unprinted (seen l.initial.executor)) (seen l.executor) l.lines
+  follows : Follows (machinery l.program) l.shows.trace (unprinted (seen l.initial.executor)) (seen l.executor) l.lines
       (g.O.Sink.written l.initial.out) (g.O.Sink.written l.out);
   count : g.O.Sink.faults l.initial.out ≤ g.O.Sink.faults l.out;
 }

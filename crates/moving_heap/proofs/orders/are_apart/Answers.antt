@@ -1,21 +1,34 @@
 use Rattle.std.proofs.Common.{◌&&◌, ◌<◌, ap, sym, ◌∙◌}
 use Rattle.moving_heap.specs.declared.stands.Stand.{Stand}
 use Rattle.moving_heap.specs.Places.{apart}
-use Rattle.moving_heap.proofs.OrderLemmas.{sorted_right, all_right, apart_parts}
+use Rattle.moving_heap.specs.Orders.{then_row, targets_in}
+use Rattle.moving_heap.proofs.OrderLemmas.{sorted_left, sorted_right, all_left, all_right, apart_parts}
 use Rattle.moving_heap.proofs.orders.are_apart.Goals as goal
 
+pub chained-requires-clause-sorted : goal.chained-requires-clause-sorted
+chained-requires-clause-sorted c =
+    sorted_left (then_row c.args.stands.now (targets_in c.args.targets.now) c.args.low.now) (then_row c.args.stands.now (targets_in c.args.targets.now) c.args.high.now) c.requires.sorted
+
+pub chained-requires-clause-sizes : goal.chained-requires-clause-sizes
+chained-requires-clause-sizes c =
+    all_left (λ (stand : Stand). 0 < stand.size) (then_row c.args.stands.now (targets_in c.args.targets.now) c.args.low.now) (then_row c.args.stands.now (targets_in c.args.targets.now) c.args.high.now) c.requires.sizes
+
 pub chained-requires-then-chained-clause-sorted : goal.chained-requires-then-chained-clause-sorted
-chained-requires-then-chained-clause-sorted c = sorted_right c.args.low.now c.args.high.now c.requires.sorted
+chained-requires-then-chained-clause-sorted c =
+    sorted_right (then_row c.args.stands.now (targets_in c.args.targets.now) c.args.low.now) (then_row c.args.stands.now (targets_in c.args.targets.now) c.args.high.now) c.requires.sorted
 
 pub chained-requires-then-chained-clause-sizes : goal.chained-requires-then-chained-clause-sizes
-chained-requires-then-chained-clause-sizes c = all_right (λ (stand : Stand). 0 < stand.size) c.args.low.now c.args.high.now c.requires.sizes
+chained-requires-then-chained-clause-sizes c =
+    all_right (λ (stand : Stand). 0 < stand.size) (then_row c.args.stands.now (targets_in c.args.targets.now) c.args.low.now) (then_row c.args.stands.now (targets_in c.args.targets.now) c.args.high.now) c.requires.sizes
 
 pub returns-then-chained : goal.returns-then-chained
 returns-then-chained c =
-    c.chained-then-chained.ensures
-    ∙ sym (apart_parts c.args.low.now c.args.high.now c.requires.low c.requires.high ∙ ap (λ b. b && apart c.args.high.now) (sym c.chained.ensures ∙ c.if-chained.true))
+    let low = then_row c.args.stands.now (targets_in c.args.targets.now) c.args.low.now in
+    let high = then_row c.args.stands.now (targets_in c.args.targets.now) c.args.high.now in
+    c.chained-then-chained.ensures ∙ sym (apart_parts low high c.requires.low c.requires.high ∙ ap (λ b. b && apart high) (sym c.chained.ensures ∙ c.if-chained.true))
 
 pub returns-else-chained : goal.returns-else-chained
 returns-else-chained c =
-    c.if-chained.false
-    ∙ sym (apart_parts c.args.low.now c.args.high.now c.requires.low c.requires.high ∙ ap (λ b. b && apart c.args.high.now) (sym c.chained.ensures ∙ c.if-chained.false))
+    let low = then_row c.args.stands.now (targets_in c.args.targets.now) c.args.low.now in
+    let high = then_row c.args.stands.now (targets_in c.args.targets.now) c.args.high.now in
+    c.if-chained.false ∙ sym (apart_parts low high c.requires.low c.requires.high ∙ ap (λ b. b && apart high) (sym c.chained.ensures ∙ c.if-chained.false))

@@ -7,5 +7,5 @@ use Rattle.statepoint_tool.proofs.runner.machine_runner.Goals as goal
 
 pub returns-else-trust-clause-judged : goal.returns-else-trust-clause-judged
 returns-else-trust-clause-judged c =
-    subst (λ (trust : Bool). Agrees (λ (_ : Runner). c.args.read) c.checked_runner.result (judged (Machine c.args.map trust) c.args.read)) (sym c.if-trust.false)
+    subst (λ (trust : Bool). Agrees (λ (_ : Runner). c.args.read) c.checked_runner.result (judged (Machine c.args.map trust c.args.shows) c.args.read)) (sym c.if-trust.false)
     c.checked_runner.ensures.judged

@@ -21,5 +21,6 @@ returns-clause-runs c = record {
   source = c.requires.source;
   bundles = c.requires.no_bundle;
   rewritten = c.in_ok-after.ensures.is;
+  few = c.in_ok-after.ensures.few;
   executable = record { target = c.in_ok-after.ensures.target; bundles = c.in_ok-after.ensures.no_bundle };
 }

@@ -10,4 +10,4 @@ returns-in-Statepoint c =
     let now = c.args.self.now in let inst = c.args.inst.now in let all = machinery c.args.program.now in
     let is = sym c.op-2.ensures ∙ c.in-Statepoint.is in
     does_as c.statepoint.new.self c.statepoint.result _ _
-    (ap (λ (types : List Ty). calls_kept all now inst c.args.rest.now c.in-Statepoint.callee (length types)) c.list.ensures ∙ sym (ap (acts_at all now inst c.args.rest.now) is)) c.statepoint.ensures
+    (ap (λ (types : List Ty). calls_kept all now inst c.args.rest.insts.now c.in-Statepoint.callee (length types)) c.list.ensures ∙ sym (ap (acts_at all now inst c.args.rest.insts.now) is)) c.statepoint.ensures

@@ -1,11 +1,11 @@
 use Rattle.std.proofs.Common.{◌≡◌, ℤ, List, map, sym, ap, ◌∙◌}
 use Rattle.std.specs.Prelude.{Err}
 use Rattle.ir_ast.specs.Objects.{Datum, number}
-use Rattle.object_meaning.specs.Effects.{Effect, goes_on}
+use Rattle.object_meaning.specs.Effects.{Effect, ends, goes_on}
 use Rattle.object_meaning.specs.Registers.{operand, number_in}
 use Rattle.machine_meaning.specs.Machines.{Machine, gone_on}
 use Rattle.machine_meaning.specs.Words.{worded_operand}
-use Rattle.ir_machine.specs.Executors.{machinery, seen, still, told}
+use Rattle.ir_machine.specs.Executors.{machinery, seen, still, told, without_words}
 use Rattle.ir_machine.proofs.StepLemmas.{does_told}
 use Rattle.ir_machine.specs.Events.{or_lost}
 use Rattle.ir_machine.proofs.EventLemmas.{make_goes, make_none, make_full}
@@ -18,7 +18,9 @@ use Rattle.ir_ast.specs.declared.cells.Cell.{Cell}
 use mir.Syntax.{w64}
 use Rattle.std.specs.Prelude.{unsigned_abs}
 use mir.ValLaws.{to_z-of_z}
-use Rattle.moving_heap.specs.Heaps.{alloc_answer, with_object}
+use Rattle.moving_heap.specs.Heaps.{HeapView, alloc_answer, with_object}
+use Rattle.sp_ids.specs.declared.ends.End.TheVariants.{Trap}
+use Rattle.sp_ids.specs.declared.ends.Trap.TheVariants.{Count, Full}
 use Rattle.ir_machine.proofs.executor.Executor.make.Goals as goal
 
 pub returns-then-lost : goal.returns-then-lost
@@ -56,7 +58,8 @@ returns-in-Err-Count c =
     let of : allocating_machine (seen happened) c.args.layout c.fields_of-fields.result.now c.sign-count.result ≡ next (seen happened) =
     ap (λ (fs : List Cell). allocating_machine (seen happened) c.args.layout fs c.sign-count.result) fields
     ∙ ap (allocating_machine (seen happened) c.args.layout (fields_in c.args.program.now.code.layouts c.args.layout)) count in
-    ap told (make_none (seen happened) c.args.layout c.fields_of-fields.result.now c.sign-count.result (ap (λ (n : ℤ). alloc_answer happened.heap c.fields_of-fields.result.now n) (sym value) ∙ c.in-Err-Count.ensures.count (ap Err c.in-Err-Count.field-0-is)) ∙ of) ∙ lost
+    ap (λ (h : HeapView). let e : Effect Machine = ends (Trap Count) (without_words (record (seen happened) { heap = still h })) in e) c.in-Err-Count.ensures.kept
+    ∙ ap told (make_none (seen happened) c.args.layout c.fields_of-fields.result.now c.sign-count.result (ap (λ (n : ℤ). alloc_answer happened.heap c.fields_of-fields.result.now n) (sym value) ∙ c.in-Err-Count.ensures.count (ap Err c.in-Err-Count.field-0-is)) ∙ of) ∙ lost
 
 pub returns-in-Err-Full : goal.returns-in-Err-Full
 returns-in-Err-Full c =
@@ -70,4 +73,5 @@ returns-in-Err-Full c =
     let of : allocating_machine (seen happened) c.args.layout c.fields_of-fields.result.now c.sign-count.result ≡ next (seen happened) =
     ap (λ (fs : List Cell). allocating_machine (seen happened) c.args.layout fs c.sign-count.result) fields
     ∙ ap (allocating_machine (seen happened) c.args.layout (fields_in c.args.program.now.code.layouts c.args.layout)) count in
-    ap told (make_full (seen happened) c.args.layout c.fields_of-fields.result.now c.sign-count.result (ap (λ (n : ℤ). alloc_answer happened.heap c.fields_of-fields.result.now n) (sym value) ∙ c.in-Err-Full.ensures.full (ap Err c.in-Err-Full.field-0-is)) ∙ of) ∙ lost
+    ap (λ (h : HeapView). let e : Effect Machine = ends (Trap Full) (without_words (record (seen happened) { heap = still h })) in e) c.in-Err-Full.ensures.kept
+    ∙ ap told (make_full (seen happened) c.args.layout c.fields_of-fields.result.now c.sign-count.result (ap (λ (n : ℤ). alloc_answer happened.heap c.fields_of-fields.result.now n) (sym value) ∙ c.in-Err-Full.ensures.full (ap Err c.in-Err-Full.field-0-is)) ∙ of) ∙ lost

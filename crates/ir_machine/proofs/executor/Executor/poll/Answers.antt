@@ -21,6 +21,6 @@ returns c =
     let now = c.args.self.now in let machine = seen now in let all = machinery c.args.program.now in let happened = c.happen.new.self in
     let next : Machine → Effect Machine = λ m. goes_on (polled_machine all m) in
     let goes : goes_on (gone_on nothing (seen c.go_to.new.self)) ≡ next (seen happened) =
-    ap (λ (m : Machine). goes_on (gone_on nothing m)) (c.go_to.ensures ∙ ap (λ (to : Option ℕ). gone_to to (seen happened)) c.go.ensures) in
+    ap (λ (m : Machine). goes_on (gone_on nothing m)) (c.go_to.ensures ∙ ap (λ (to : Option ℕ). gone_to to (seen happened)) c.go_of.ensures) in
     does_told c.go_on.new.self c.go_on.result (goes_on (gone_on nothing (seen c.go_to.new.self))) _
     (ap told goes ∙ sym (c.in_ok-lost.ensures next ∙ ap (λ (b : Bool). told (or_lost b (seen happened) next)) c.if-lost.false)) c.go_on.ensures

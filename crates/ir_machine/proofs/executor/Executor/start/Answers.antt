@@ -21,7 +21,7 @@ use Rattle.ir_machine.proofs.executor.Executor.start.Goals as goal
 pub returns-then-len : goal.returns-then-len
 returns-then-len c =
     let now = c.args.self.now in let machine = seen now in let inst = c.args.inst.now in let next = now.run.frame.next in
-    let line = line_of next inst in let rest = lines_left (following next inst) c.args.rest.now in let all = machinery c.args.program.now in
+    let line = line_of next inst in let rest = lines_left (following next inst) c.args.rest.insts.now in let all = machinery c.args.program.now in
     let func = function_in (slice_get (map worded_operand c.args.operands.now) 0) in
     let many : 64 ≤ length (map waiting now.tasks.items) = omega (arith, c.len.ensures, length-map now.tasks.items waiting) in
     ap told (start_full all machine func (operand machine.state.running.registers (map worded_operand c.args.operands.now) 1) many)
@@ -29,7 +29,7 @@ returns-then-len c =
 pub returns : goal.returns
 returns c =
     let now = c.args.self.now in let machine = seen now in let inst = c.args.inst.now in let next = now.run.frame.next in
-    let line = line_of next inst in let rest = lines_left (following next inst) c.args.rest.now in let all = machinery c.args.program.now in
+    let line = line_of next inst in let rest = lines_left (following next inst) c.args.rest.insts.now in let all = machinery c.args.program.now in
     let tasks : List (Option Task) = now.tasks.items in let operands = map worded_operand c.args.operands.now in
     let few : length (map waiting tasks) < 64 = omega (arith, c.len.ensures, length-map tasks waiting) in
     let number_is : c.len-task.result ≡ length (map waiting tasks) = omega (arith, c.len-task.ensures, length-map tasks waiting) in

@@ -14,7 +14,7 @@ use Rattle.ir_machine.proofs.executor.Executor.statepoint.Goals as goal
 pub returns : goal.returns
 returns c =
     let now = c.args.self.now in let inst = c.args.inst.now in let next = now.run.frame.next in let all = machinery c.args.program.now in
-    let line = line_of next inst in let lines = lines_left (following next inst) c.args.rest.now in
+    let line = line_of next inst in let lines = lines_left (following next inst) c.args.rest.insts.now in
     let operands : map worded_operand c.front.result.now ≡ take c.args.arguments (map worded_operand inst.operands) =
     ap (map worded_operand) (c.front.ensures ∙ ap (take c.args.arguments) c.operands.ensures) ∙ sym (take-map worded_operand c.args.arguments inst.operands) in
     let kept_so : c.keep.new.words.items ≡ kept_in (map number now.run.frame.registers.items) inst c.args.arguments = rw c.as_slice.ensures.value at c.in_ok-keep.ensures in

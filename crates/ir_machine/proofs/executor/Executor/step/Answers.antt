@@ -10,11 +10,11 @@ pub returns-in-None : goal.returns-in-None
 unfolding machine_step
 returns-in-None c =
     let now = c.args.self.now in let all = machinery c.args.program.now in
-    sym (ap (λ (insts : List Instruction). told (machine_at all (seen now) (lines_left now.run.frame.next insts))) c.in-None.ensures)
+    sym (ap (λ (insts : List Instruction). told (machine_at all (seen now) (lines_left now.run.frame.next insts))) c.in-None.ensures.insts)
 
 pub returns-in-Some : goal.returns-in-Some
 unfolding machine_step
 returns-in-Some c =
     let now = c.args.self.now in let all = machinery c.args.program.now in
     does_as c.act.new.self c.act.result _ _
-    (sym (ap (λ (insts : List Instruction). machine_at all (seen now) (lines_left now.run.frame.next insts)) c.in-Some.ensures)) c.act.ensures
+    (sym (ap (λ (insts : List Instruction). machine_at all (seen now) (lines_left now.run.frame.next insts)) c.in-Some.ensures.insts)) c.act.ensures

@@ -11,8 +11,8 @@ pub returns : goal.returns
 returns c =
     let code = c.args.code.now in let func = c.args.func in let arguments = c.args.arguments.now in
     let items = c.in_ok-registers.registers.items in
-    let lines : lines_left c.first.result c.insts.result.now ≡ lines_in code func 0 =
-    ap (λ (n : ℕ). lines_left n c.insts.result.now) c.first.ensures ∙ ap (lines_left (first_register code func 0)) c.insts.ensures in
+    let lines : lines_left c.first.result c.lines.result.insts.now ≡ lines_in code func 0 =
+    ap (λ (n : ℕ). lines_left n c.lines.result.insts.now) c.first.ensures ∙ ap (lines_left (first_register code func 0)) c.lines.ensures in
     let registers : map number items ≡ map number arguments ++ replicate (register_count code func - length (map number arguments)) nothing =
     ap (λ (rs : List ℕ). map number rs) (c.in_ok-registers.ensures ∙ ap (λ (n : ℕ). arguments ++ replicate (n - length arguments) 0) c.registers.ensures)
     ∙ entered_are arguments (register_count code func) in

@@ -10,12 +10,12 @@ use Rattle.machine_frames.proofs.frames.Frame.go_on.Goals as goal
 pub returns-in-None : goal.returns-in-None
 returns-in-None c =
     let now = c.args.self.now in
-    sym (ap (λ (insts : List Instruction). gone_from c.args.stack.now (frame_of now) (lines_left now.next insts) (number c.args.answer)) c.in-None.ensures)
+    sym (ap (λ (insts : List Instruction). gone_from c.args.stack.now (frame_of now) (lines_left now.next insts) (number c.args.answer)) c.in-None.ensures.insts)
 
 pub returns-in-Some : goal.returns-in-Some
 returns-in-Some c =
-    let now = c.args.self.now in let inst = c.in-Some.parts.0.now in let rest = c.in-Some.parts.1.now in
+    let now = c.args.self.now in let inst = c.in-Some.parts.0.now in let rest = c.in-Some.parts.2.insts.now in
     on_ok_weaker c.go_behind.result
     (λ (e : frame_of c.go_behind.new.self ≡ gone_behind c.args.stack.now (frame_of now) (line_of now.next inst) (lines_left (following now.next inst) rest) (number c.args.answer) inst.op).
-    e ∙ sym (ap (λ (insts : List Instruction). gone_from c.args.stack.now (frame_of now) (lines_left now.next insts) (number c.args.answer)) c.in-Some.ensures))
+    e ∙ sym (ap (λ (insts : List Instruction). gone_from c.args.stack.now (frame_of now) (lines_left now.next insts) (number c.args.answer)) c.in-Some.ensures.insts))
     c.go_behind.ensures

@@ -12,13 +12,13 @@ use Rattle.machine_frames.proofs.frames.Frame.return_address.Goals as goal
 pub returns-in-None : goal.returns-in-None
 returns-in-None c =
     let now = c.args.self.now in
-    λ map plan bound. ap (λ (insts : List Instruction). return_to (machinery_of c.args.code.now map plan bound) (frame_of now) (lines_left now.next insts)) c.in-None.ensures
+    λ map plan bound. ap (λ (insts : List Instruction). return_to (machinery_of c.args.code.now map plan bound) (frame_of now) (lines_left now.next insts)) c.in-None.ensures.insts
 
 pub returns-in-Some : goal.returns-in-Some
 returns-in-Some c =
-    let now = c.args.self.now in let code = c.args.code.now in let inst = c.in-Some.parts.0.now in let rest = c.in-Some.parts.1.now in
+    let now = c.args.self.now in let code = c.args.code.now in let inst = c.in-Some.parts.0.now in let rest = c.in-Some.parts.2.insts.now in
     IfOk-weaker c.address_behind.result
     (λ (address : ℕ). (map : StackMap) → (plan : List PlanLine) → (bound : ℕ) → address_behind (machinery_of code map plan bound) (frame_of now) (line_of now.next inst) (lines_left (following now.next inst) rest) ≡ address)
     (λ (address : ℕ). (map : StackMap) → (plan : List PlanLine) → (bound : ℕ) → return_address (machinery_of code map plan bound) (frame_of now) ≡ address)
-    (λ address e map plan bound. ap (λ (insts : List Instruction). return_to (machinery_of code map plan bound) (frame_of now) (lines_left now.next insts)) c.in-Some.ensures ∙ e map plan bound)
+    (λ address e map plan bound. ap (λ (insts : List Instruction). return_to (machinery_of code map plan bound) (frame_of now) (lines_left now.next insts)) c.in-Some.ensures.insts ∙ e map plan bound)
     c.address_behind.ensures

@@ -1,0 +1,8 @@
+//! Generated modules: made, rewritten, run while every event moves all objects, and told of in six lines.
+#![tactic(auto)]
+
+mod counts;
+mod runs;
+mod summary;
+
+pub use summary::{Summary, summarize};

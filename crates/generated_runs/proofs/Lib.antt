@@ -1,0 +1,5 @@
+pub mod Steps
+pub mod Heaps
+pub mod Shapes
+pub mod Chain
+pub mod Main

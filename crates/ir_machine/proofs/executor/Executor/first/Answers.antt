@@ -1,0 +1,4 @@
+use Rattle.ir_machine.proofs.executor.Executor.first.Goals as goal
+
+pub returns : goal.returns
+returns c = rw c.as_slice.ensures.value at (c.first_word.ensures c.args.inst.now c.requires)

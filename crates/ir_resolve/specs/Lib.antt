@@ -1,0 +1,5 @@
+pub mod Resolved
+pub mod TextFaults
+pub mod ModuleFaults
+pub mod FaultSet
+pub mod Agreement

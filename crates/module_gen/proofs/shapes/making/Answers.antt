@@ -1,0 +1,6 @@
+use Rattle.std.proofs.Common.{refl}
+use Rattle.generated_forms.proofs.Ends.{ends_from}
+use Rattle.module_gen.proofs.shapes.making.Goals as goal
+
+pub block-requires : goal.block-requires
+block-requires c = ends_from _ refl
