@@ -1,7 +1,6 @@
 -- The limits of the profile, as quantities of all that a text says up to a line.
 use Rattle.std.specs.Prelude.{ℕ, ◌+◌, Bool, true, false, ◌&&◌, not, List, [], ◌∷◌, length, reverse, sum_by, count_by, is_some, nat_le, if◌then◌else◌}
 use Rattle.std.specs.List.{list_all, list_any, take_while}
-use Rattle.sp_ids.specs.declared.limits.TheConstants.{LAYOUTS, FUNCTIONS, FUNCTION_VALUES, MODULE_INSTRUCTIONS, LIVE_ENTRIES}
 use Rattle.ir_ast.specs.declared.modules.Form.{Form as TextForm}
 use Rattle.ir_ast.specs.declared.modules.Form.TheVariants as text_forms
 use Rattle.line_forms.specs.declared.forms.Form.{Form}
@@ -68,8 +67,8 @@ last_relocates_in says = length (take_while (has_form is_relocate) (reverse says
 -- ---- whether all is within its limit
 
 abbrev pub quantities_fit : TextForm → List Said → Bool
-quantities_fit form says = nat_le (layouts_in says) LAYOUTS && nat_le (functions_in says) FUNCTIONS && nat_le (function_values_in form says) FUNCTION_VALUES
-    && nat_le (instructions_in form says) MODULE_INSTRUCTIONS && nat_le (last_relocates_in says) LIVE_ENTRIES
+quantities_fit form says = nat_le (layouts_in says) 4096 && nat_le (functions_in says) 4096 && nat_le (function_values_in form says) 4096
+    && nat_le (instructions_in form says) 65536 && nat_le (last_relocates_in says) 16384
 
 -- what each line says by itself, and the quantities of all
 abbrev pub within_limits : TextForm → List Said → Bool
