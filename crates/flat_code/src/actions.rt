@@ -166,7 +166,7 @@ fn field_bytes(layouts: &[Layout], elem: Elem, place: Option<u32>) -> u64
             None => 0,
             Some(place) => begins_at(fields_of(layouts, layout), place),
         },
-        _ => 0,
+        Elem::Int(_) | Elem::Ptr => 0,
     }
 }
 

@@ -23,7 +23,7 @@ impl Cell {
         match *ty {
             Ty::Int(64) => Some(Cell::I64),
             Ty::Ptr => Some(Cell::Ptr),
-            _ => None,
+            Ty::Void | Ty::Int(_) | Ty::Token => None,
         }
     }
 

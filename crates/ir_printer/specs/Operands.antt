@@ -2,7 +2,7 @@
 use Rattle.std.specs.Prelude.{ℕ, List, ◌++◌, codes, decimal, slice_get, unwrap_or}
 use Rattle.sp_ids.specs.declared.ids.BlockId.{BlockId}
 use Rattle.ir_ast.specs.declared.types.Ty.{Ty}
-use Rattle.ir_ast.specs.declared.types.Ty.TheVariants.{Void, Int as Integer}
+use Rattle.ir_ast.specs.declared.types.Ty.TheVariants.{Void, Int as Integer, Ptr, Token}
 use Rattle.ir_ast.specs.declared.ops.Operand.{Operand}
 use Rattle.ir_ast.specs.declared.ops.Operand.TheVariants.{Value, Int, Null, Fun}
 use Rattle.ir_ast.specs.Insts.{Instruction}
@@ -11,7 +11,9 @@ use Rattle.ir_printer.specs.Names.{Names, function_name, block_name, value_name}
 
 abbrev pub literal_text : Ty → ℕ → List ℕ
 literal_text (Integer width) number = integer_text width number
-literal_text _ number = decimal number
+literal_text Void number = decimal number
+literal_text Ptr number = decimal number
+literal_text Token number = decimal number
 
 -- `V` of a type
 abbrev pub value_text : Names → Ty → Operand → List ℕ

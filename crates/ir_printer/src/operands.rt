@@ -20,7 +20,7 @@ impl Piece for Literal {
     fn put_into<W: PieceSink>(&self, out: &mut W) -> Result<(), Failed> {
         match self.0 {
             Ty::Int(width) => Integer(width, self.1).put_into(out),
-            _ => Decimal(self.1).put_into(out),
+            Ty::Void | Ty::Ptr | Ty::Token => Decimal(self.1).put_into(out),
         }
     }
 }

@@ -45,7 +45,9 @@ impl Piece for Shown {
     fn put_into<W: PieceSink>(&self, out: &mut W) -> Result<(), Failed> {
         match self.ty {
             Ty::Ptr => ShownPointer(self.word).put_into(out),
-            _ => SignedDecimal(sign(width_of(&self.ty), self.word.number())).put_into(out),
+            Ty::Void | Ty::Int(_) | Ty::Token => {
+                SignedDecimal(sign(width_of(&self.ty), self.word.number())).put_into(out)
+            }
         }
     }
 }
