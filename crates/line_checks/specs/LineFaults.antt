@@ -156,7 +156,7 @@ starts_at tables (given ty value) = false
 starts_at tables (function name) = is_task (at_name tables.heads tables.head_list name)
 
 abbrev pub task_starts : Tables → List Given → Bool
-task_starts tables [] = false
+task_starts tables [] = true
 task_starts tables (one ∷ passed) = starts_at tables one
 
 abbrev pub operands_fit : Form → Tables → List ℕ → List Given → Bool

@@ -260,13 +260,13 @@ fn gives_kind(passed: &Passed) -> bool
     }
 }
 
-// Whether the third operand is the kind of a cell.
+// Whether the third operand is the kind of a cell, where it is passed.
 fn checks_kind(passed: &[Passed]) -> bool
     ensures { result ≡ checks_kind (map seen_passed passed.now) }
 {
     match passed {
         [_, _, kind, ..] => gives_kind(kind),
-        _ => false,
+        [] | [_] | [_, _] => true,
     }
 }
 
@@ -388,7 +388,7 @@ impl Scope<'_, '_, '_, '_> {
     {
         match passed {
             [one, ..] => self.starts_at(one),
-            [] => false,
+            [] => true,
         }
     }
 

@@ -309,9 +309,9 @@ third_type a b c rest e = cc
 -- the kind that a own_check is passed
 kind_passed : (known : Known) (passed : List Given) → map passed_type passed ≡ Managed ∷ Managed ∷ Int 64 ∷ [] → checks_kind passed ≡ true
     → ChecksKind (map (passed_operand known) passed)
-kind_passed known [] types e = absurd (let bad : false ≡ true = e in cc)
-kind_passed known (a ∷ []) types e = absurd (let bad : false ≡ true = e in cc)
-kind_passed known (a ∷ b ∷ []) types e = absurd (let bad : false ≡ true = e in cc)
+kind_passed known [] types e = absurd (let bad : 0 ≡ 3 = ap (λ (ts : List TypeWord). length ts) types in omega (arith, bad))
+kind_passed known (a ∷ []) types e = absurd (let bad : 1 ≡ 3 = ap (λ (ts : List TypeWord). length ts) types in omega (arith, bad))
+kind_passed known (a ∷ b ∷ []) types e = absurd (let bad : 2 ≡ 3 = ap (λ (ts : List TypeWord). length ts) types in omega (arith, bad))
 kind_passed known (a ∷ b ∷ given ty (values.number literal) ∷ more) types e =
     kind_at known a b ty literal more (third_type (passed_type a) (passed_type b) ty (map passed_type more) types) e
 kind_passed known (a ∷ b ∷ given ty (values.local name) ∷ more) types e = absurd (let bad : false ≡ true = e in cc)

@@ -45,9 +45,11 @@ abbrev pub is_task : Option Head → Bool
 is_task None = false
 is_task (Some head) = head.defined && same_type head.answer Void && same_types head.parameters (Managed ∷ [])
 
+-- what isn't passed isn't judged: an external that is declared wrongly may ask for fewer operands
 abbrev pub starts_task : Scope → List Given → Bool
+starts_task scope [] = true
 starts_task scope (function name ∷ passed) = is_task (head_named scope name)
-starts_task scope _ = false
+starts_task scope (given ty value ∷ passed) = false
 
 -- the literal 0 or 1, the kind of a cell
 abbrev pub is_kind : Val → Bool
@@ -60,8 +62,10 @@ gives_kind (function name) = false
 
 -- the third operand of a check is its kind
 abbrev pub checks_kind : List Given → Bool
+checks_kind [] = true
+checks_kind (base ∷ []) = true
+checks_kind (base ∷ address ∷ []) = true
 checks_kind (base ∷ address ∷ kind ∷ passed) = gives_kind kind
-checks_kind _ = false
 
 -- what two of the externals ask of their operands; only the rewritten form has checks
 abbrev pub takes_operands : Form → Scope → List ℕ → List Given → Bool
