@@ -1,2 +1,3 @@
+pub mod WaitingStates
 pub mod Runs
 pub mod Statements
