@@ -21,7 +21,7 @@ use Rattle.machine_ends.proofs.PrintLaws.{printed_first}
 use Rattle.sp_rewrite.specs.Statements.{IsRewritten}
 use Rattle.sp_rewrite.proofs.BareLaws.{no_bundle}
 use Rattle.sp_rewrite.proofs.RewrittenLaws.{rewriting_is_target, rewriting_is_verified, rewriting_keeps_meaning}
-use Rattle.rewritten_definite.specs.Statements.{rewritten_source}
+use Rattle.rewritten_sound.specs.Definite.{rewritten_source}
 use Rattle.moves_unseen.specs.Waits.{IsSound}
 use Rattle.rewritten_runs.specs.Statements.{FrontsAreSource, SeenRunsAreSource, SourcesRunOnMachine}
 use Rattle.rewritten_runs.proofs.NameLaws.{names_are_kept}
