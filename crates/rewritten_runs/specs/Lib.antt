@@ -1,2 +1,4 @@
 pub mod Runs
 pub mod Statements
+pub mod ShownTexts
+pub mod ShownStatements

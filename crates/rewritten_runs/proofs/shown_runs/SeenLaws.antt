@@ -25,9 +25,9 @@ use Rattle.rewritten_runs.proofs.NameLaws.{names_are_kept}
 use Rattle.tool_report.specs.Closings.{closing_line}
 use Rattle.run_texts.specs.RunTexts.{RunWrites, RunWritesQuiet, run_lines}
 use Rattle.event_places.specs.Places.{sizes_of, stands_by}
-use Rattle.shown_runs.specs.ShownTexts.{IsShownText, object_lines, places_meant, places_shown}
-use Rattle.shown_runs.specs.Statements.{IsAlike, QuietIsWhole, SourcesAreShown, VerifiedAreShown}
-use Rattle.shown_runs.proofs.ShownLaws.{shown_text}
+use Rattle.rewritten_runs.specs.ShownTexts.{IsShownText, object_lines, places_meant, places_shown}
+use Rattle.rewritten_runs.specs.ShownStatements.{IsAlike, QuietIsWhole, SourcesAreShown, VerifiedAreShown}
+use Rattle.rewritten_runs.proofs.shown_runs.ShownLaws.{shown_text}
 
 same_sizes : (layouts : List ObjectLayout) (objects : List Object) (stands : List Stand) → length stands ≡ length objects
     → ((place : ℕ) (object : Object) (stand : Stand) → slice_get objects place ≡ Some object → slice_get stands place ≡ Some stand → stand.size ≡ footprint layouts object)

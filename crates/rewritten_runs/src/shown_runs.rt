@@ -1,7 +1,5 @@
 //! Laws of runs that show their trace and the places of their objects, in words of the meaning on objects alone. No code.
-#![tactic(auto)]
-
-ghost use Rattle.shown_runs.specs.Statements.{QuietIsWhole, SourcesAreShown, VerifiedAreShown};
+ghost use Rattle.rewritten_runs.specs.ShownStatements.{QuietIsWhole, SourcesAreShown, VerifiedAreShown};
 
 /// Over a module's own stack map no waiting frame shows anything: the text without what they show is the whole text of the run.
 pub fn quiet_is_whole()

@@ -24,9 +24,9 @@ use Rattle.tool_report.specs.RunLines.{place_line}
 use Rattle.run_texts.specs.RunTexts.{RunWritesQuiet, end_lines, layout_name, lines_from, place_lines}
 use Rattle.event_places.specs.Places.{sizes_of, stands_by}
 use Rattle.event_places.proofs.RunLaws.{places_are_by_events}
-use Rattle.shown_runs.specs.ShownTexts.{IsShownText, object_lines, places_meant, places_shown, program_lines}
-use Rattle.shown_runs.specs.Statements.{IsAlike}
-use Rattle.shown_runs.proofs.LineLaws.{prints_from, steps_kept}
+use Rattle.rewritten_runs.specs.ShownTexts.{IsShownText, object_lines, places_meant, places_shown, program_lines}
+use Rattle.rewritten_runs.specs.ShownStatements.{IsAlike}
+use Rattle.rewritten_runs.proofs.shown_runs.LineLaws.{prints_from, steps_kept}
 
 -- ---- places
 

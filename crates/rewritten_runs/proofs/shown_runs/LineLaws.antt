@@ -19,7 +19,7 @@ use Rattle.machine_meaning.specs.MachineRuns.{machine_proceeds}
 use Rattle.machine_meaning.specs.MachineSteps.{machine_step}
 use Rattle.tool_report.specs.RunLines.{event_line, moved_line, slot_line}
 use Rattle.run_texts.specs.RunTexts.{event_lines, line_of_move, line_of_slot, lines_from, printed_by, step_lines, trace_lines}
-use Rattle.shown_runs.specs.ShownTexts.{is_traced, program_lines}
+use Rattle.rewritten_runs.specs.ShownTexts.{is_traced, program_lines}
 
 -- ---- lines of a trace
 

@@ -14,7 +14,7 @@ use Rattle.moves_unseen.specs.Statements.{IsSeen}
 use Rattle.moves_unseen.specs.Waits.{IsSound}
 use Rattle.sp_rewrite.specs.Statements.{IsRewritten}
 use Rattle.run_texts.specs.RunTexts.{RunWrites, RunWritesQuiet}
-use Rattle.shown_runs.specs.ShownTexts.{IsShownText}
+use Rattle.rewritten_runs.specs.ShownTexts.{IsShownText}
 
 -- the machine's run gives what the meaning on objects does, as far as a text shows it, and loses no frame
 pub record IsAlike (content : ModuleContent) (meant : Outcome) (machine : MachineOutcome) : Type 0 where
