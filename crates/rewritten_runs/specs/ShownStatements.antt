@@ -7,8 +7,8 @@ use Rattle.move_plan.specs.declared.plan_lines.PlanLine.{PlanLine}
 use Rattle.moving_heap.specs.Contents.{Content}
 use Rattle.object_meaning.specs.Outcomes.{Outcome}
 use Rattle.machine_meaning.specs.MachineRuns.{MachineOutcome}
-use Rattle.event_places.specs.Places.{sizes_of}
-use Rattle.event_places.specs.Statements.{events_of, sizes_in}
+use Rattle.rewritten_runs.specs.Places.{sizes_of}
+use Rattle.rewritten_runs.specs.PlacedRuns.{events_of, sizes_in}
 use Rattle.stackmap_write.specs.ModuleMaps.{map_of}
 use Rattle.moves_unseen.specs.Statements.{IsSeen}
 use Rattle.moves_unseen.specs.Waits.{IsSound}

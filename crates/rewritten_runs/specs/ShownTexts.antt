@@ -11,7 +11,7 @@ use Rattle.object_meaning.specs.Texts.{function_name}
 use Rattle.tool_report.specs.Closings.{closing_line}
 use Rattle.tool_report.specs.RunLines.{place_line}
 use Rattle.run_texts.specs.RunTexts.{layout_name}
-use Rattle.event_places.specs.Places.{sizes_of, stands_by}
+use Rattle.rewritten_runs.specs.Places.{sizes_of, stands_by}
 
 -- a line of a trace begins with `#`; the others are the program's
 abbrev pub is_traced : List ℕ → Bool

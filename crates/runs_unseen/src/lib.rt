@@ -10,6 +10,7 @@ pub mod events_unseen;
 pub mod frames_resumed;
 pub mod frames_spilled;
 pub mod helpers_unseen;
+pub mod machine_ends;
 pub mod records_found;
 pub mod returns_unseen;
 pub mod stacks_walked;

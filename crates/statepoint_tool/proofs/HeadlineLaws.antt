@@ -22,7 +22,7 @@ use Rattle.object_meaning.proofs.EndLaws.{IsFinal}
 use Rattle.object_meaning.proofs.OutcomeLaws.{gives_final, gives_one, gives_some}
 use Rattle.machine_meaning.specs.Code.{machinery_of}
 use Rattle.machine_meaning.specs.MachineRuns.{MachineOutcome, MachineGives}
-use Rattle.machine_ends.proofs.EndLaws.{each_run_ends}
+use Rattle.runs_unseen.proofs.machine_ends.EndLaws.{each_run_ends}
 use Rattle.moves_unseen.specs.Statements.{IsSeen}
 use Rattle.moves_unseen.specs.Waits.{IsSound}
 use Rattle.runs_unseen.proofs.SeenRuns.{keeps_way, seen_here}

@@ -24,7 +24,7 @@ use Rattle.sp_rewrite.specs.Statements.{IsRewritten}
 use Rattle.rewritten_runs.proofs.NameLaws.{names_are_kept}
 use Rattle.tool_report.specs.Closings.{closing_line}
 use Rattle.run_texts.specs.RunTexts.{RunWrites, RunWritesQuiet, run_lines}
-use Rattle.event_places.specs.Places.{sizes_of, stands_by}
+use Rattle.rewritten_runs.specs.Places.{sizes_of, stands_by}
 use Rattle.rewritten_runs.specs.ShownTexts.{IsShownText, object_lines, places_meant, places_shown}
 use Rattle.rewritten_runs.specs.ShownStatements.{IsAlike, QuietIsWhole, SourcesAreShown, VerifiedAreShown}
 use Rattle.rewritten_runs.proofs.shown_runs.ShownLaws.{shown_text}

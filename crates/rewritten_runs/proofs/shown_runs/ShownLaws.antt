@@ -22,8 +22,8 @@ use Rattle.machine_meaning.specs.TrapLines.{closing_of}
 use Rattle.tool_report.specs.Closings.{closing_line}
 use Rattle.tool_report.specs.RunLines.{place_line}
 use Rattle.run_texts.specs.RunTexts.{RunWritesQuiet, end_lines, layout_name, lines_from, place_lines}
-use Rattle.event_places.specs.Places.{sizes_of, stands_by}
-use Rattle.event_places.proofs.RunLaws.{places_are_by_events}
+use Rattle.rewritten_runs.specs.Places.{sizes_of, stands_by}
+use Rattle.rewritten_runs.proofs.event_places.RunLaws.{places_are_by_events}
 use Rattle.rewritten_runs.specs.ShownTexts.{IsShownText, object_lines, places_meant, places_shown, program_lines}
 use Rattle.rewritten_runs.specs.ShownStatements.{IsAlike}
 use Rattle.rewritten_runs.proofs.shown_runs.LineLaws.{prints_from, steps_kept}

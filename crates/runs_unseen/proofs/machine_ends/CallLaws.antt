@@ -27,7 +27,7 @@ use Rattle.object_meaning.specs.Tasks.{started, with_event}
 use Rattle.machine_meaning.specs.Machines.{Machine, Machinery, address_behind, gone_on, lifted}
 use Rattle.machine_meaning.specs.MachineTasks.{allocated_machine, allocating_machine, ended_machine, handed_machine, polled_machine, pushed, switched_machine}
 use Rattle.machine_meaning.specs.MachineSteps.{at, calls, checking, denied, returns}
-use Rattle.machine_ends.proofs.EffectLaws.{LeadsOn, Leads, Fares, IsSwitched, counts_entering, fares_eventful, fares_lifted, fares_then, gone_leads, leads_input, leads_started, leads_stepped, switched_same, switched_then, switches}
+use Rattle.runs_unseen.proofs.machine_ends.EffectLaws.{LeadsOn, Leads, Fares, IsSwitched, counts_entering, fares_eventful, fares_lifted, fares_then, gone_leads, leads_input, leads_started, leads_stepped, switched_same, switched_then, switches}
 
 pub fares_denied : (bound : ℕ) (state : State) (machine : Machine) (deny : Deny) → Fares bound state (denied machine deny)
 fares_denied bound state machine denies.Null = tt

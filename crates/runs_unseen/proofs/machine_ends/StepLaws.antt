@@ -19,8 +19,8 @@ use Rattle.object_meaning.specs.States.{State}
 use Rattle.object_meaning.specs.Steps.{acts, settled}
 use Rattle.machine_meaning.specs.Machines.{Machine, Machinery, spilled}
 use Rattle.machine_meaning.specs.MachineSteps.{at, behind_step, loading_word, machine_acts, machine_at, machine_step, returns, storing_word}
-use Rattle.machine_ends.proofs.EffectLaws.{counted, fewer, Leads, Fares, fares_lifted, leads_stepped, under_bound}
-use Rattle.machine_ends.proofs.CallLaws.{CountsOn, counts_returns, fares_calls, fares_denied}
+use Rattle.runs_unseen.proofs.machine_ends.EffectLaws.{counted, fewer, Leads, Fares, fares_lifted, leads_stepped, under_bound}
+use Rattle.runs_unseen.proofs.machine_ends.CallLaws.{CountsOn, counts_returns, fares_calls, fares_denied}
 
 leads_settled : (bound : ℕ) (state : State) (line : Line) (rest : List Line) (result : Result Datum Trap) → length rest < length state.running.rest
     → Leads bound state (settled state line rest result)

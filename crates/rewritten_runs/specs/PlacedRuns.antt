@@ -8,7 +8,7 @@ use Rattle.moving_heap.specs.declared.stands.Stand.{Stand}
 use Rattle.object_meaning.specs.Traces.{Event}
 use Rattle.machine_meaning.specs.Happenings.{Happening}
 use Rattle.machine_meaning.specs.MachineRuns.{MachineOutcome, MachineGives}
-use Rattle.event_places.specs.Places.{stands_by, verdicts_by}
+use Rattle.rewritten_runs.specs.Places.{stands_by, verdicts_by}
 
 abbrev pub events_of : MachineOutcome → List Event
 events_of machine = map (λ (happening : Happening). happening.event) machine.happened

@@ -9,10 +9,10 @@ use Rattle.object_meaning.specs.Runs.{Next, Go, goes, Ends}
 use Rattle.machine_meaning.specs.Machines.{Machine, Machinery}
 use Rattle.machine_meaning.specs.MachineRuns.{machine_opening, machine_outcome, machine_proceeds}
 use Rattle.machine_meaning.specs.MachineSteps.{machine_step}
-use Rattle.machine_ends.specs.Statements.{EachRunEnds}
-use Rattle.machine_ends.proofs.LineCounts.{lines_left}
-use Rattle.machine_ends.proofs.EffectLaws.{LeadsOn, counted, tasked, fewer, stuck, Fares}
-use Rattle.machine_ends.proofs.StepLaws.{fares, step_at_end}
+use Rattle.runs_unseen.specs.MachineEnds.{EachRunEnds}
+use Rattle.runs_unseen.proofs.machine_ends.LineCounts.{lines_left}
+use Rattle.runs_unseen.proofs.machine_ends.EffectLaws.{LeadsOn, counted, tasked, fewer, stuck, Fares}
+use Rattle.runs_unseen.proofs.machine_ends.StepLaws.{fares, step_at_end}
 
 record Halted (machinery : Machinery) (start : Progress Machine) : Type 0 where
   end : End

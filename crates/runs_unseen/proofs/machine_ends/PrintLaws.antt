@@ -7,7 +7,7 @@ use Rattle.object_meaning.proofs.RunLaws.{ends_at, goes_over, not_over, same_ove
 use Rattle.machine_meaning.specs.Machines.{Machine, Machinery}
 use Rattle.machine_meaning.specs.MachineRuns.{machine_opening, machine_proceeds}
 use Rattle.machine_meaning.specs.MachineSteps.{machine_step}
-use Rattle.machine_ends.specs.Statements.{PrintedFirst, PrintsMore}
+use Rattle.runs_unseen.specs.MachineEnds.{PrintedFirst, PrintsMore}
 
 same_lines : (end other : End) (machine : Machine) (lines : List (List ℕ)) (last : Progress Machine)
     → Over end (record { state = machine; lines = lines }) ≡ Over other last → last.lines ≡ lines

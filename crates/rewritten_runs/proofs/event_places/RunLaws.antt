@@ -26,9 +26,9 @@ use Rattle.machine_meaning.specs.MachineSteps.{machine_step}
 use Rattle.machine_meaning.specs.Machines.{Machine, Machinery, spilled}
 use Rattle.machine_meaning.specs.Moving.{verdict_at}
 use Rattle.tool_io.specs.Counts.{raised}
-use Rattle.event_places.specs.Places.{moves_in, occasions, stands_behind, verdicts_behind}
-use Rattle.event_places.specs.Statements.{IsPlacedBy, PlacesAreByEvents, events_of, sizes_in}
-use Rattle.event_places.proofs.StepLaws.{Stays, Happens, GoesOn, EndsAt, Tells, step_tells}
+use Rattle.rewritten_runs.specs.Places.{moves_in, occasions, stands_behind, verdicts_behind}
+use Rattle.rewritten_runs.specs.PlacedRuns.{IsPlacedBy, PlacesAreByEvents, events_of, sizes_in}
+use Rattle.rewritten_runs.proofs.event_places.StepLaws.{Stays, Happens, GoesOn, EndsAt, Tells, step_tells}
 
 event_in : Happening → Event
 event_in happens = happens.event
