@@ -19,8 +19,8 @@ use Rattle.rewriting_forms.specs.Names.{Naming}
 use Rattle.rewriting_forms.specs.Rewritten.{names_of, place_in, rewritten_module, rewritten_with}
 use Rattle.rewriting_laws.specs.Laws.{Fits, IsNumbering}
 use Rattle.rewriting_laws.specs.Statements.{IsBefore, func_of}
-use Rattle.base_paths.specs.Statements.{HasDefiniteBases}
-use Rattle.base_relations.specs.Statements.{IsReached}
+use Rattle.base_definite.specs.Paths.{HasDefiniteBases}
+use Rattle.base_definite.specs.Relations.{IsReached}
 use Rattle.rewritten_sound.specs.LeadsOut.{PhisAreBare}
 
 -- the bases of each function of the module with bases

@@ -18,8 +18,8 @@ use Rattle.rewriting_forms.specs.Rewritten.{names_of, place_in, rewritten_with}
 use Rattle.rewriting_laws.specs.Laws.{Fits, IsNumbering, IsPlain}
 use Rattle.base_forms.specs.Polls.{placed}
 use Rattle.base_forms.specs.Based.{base_table, based}
-use Rattle.base_paths.specs.Statements.{HasDefiniteBases}
-use Rattle.base_relations.specs.Statements.{IsReached}
+use Rattle.base_definite.specs.Paths.{HasDefiniteBases}
+use Rattle.base_definite.specs.Relations.{IsReached}
 use Rattle.rewritten_sound.specs.LeadsOut.{PhisAreBare}
 use Rattle.rewritten_sound.specs.Definite.{IsReachedSource, rewritten_source}
 use Rattle.pair_facts.specs.Faults.{FaultAt, IsVerified}

@@ -46,7 +46,7 @@ use Rattle.rewriting_laws.specs.Statements.{IsBefore, func_of, no_function, rewr
 use Rattle.base_laws.specs.BeforeLiveness.{CallsInShape, IsPlainLine, PassesArguments, PhisStandFirst, arguments_of, begins_with_phi}
 use Rattle.base_laws.proofs.BlockLaws.{after_is, last_register}
 use Rattle.base_laws.proofs.NumberLaws.{definition_count}
-use Rattle.base_paths.proofs.GivesLaws.{defines_gives}
+use Rattle.base_definite.proofs.base_paths.GivesLaws.{defines_gives}
 use Rattle.rewritten_sound.specs.LeadsOut.{HasLabels, IsReadyForGroups, LeadsOut}
 use Rattle.rewritten_sound.proofs.definite.LineLaws.{given_defines, line_from, lines_length}
 use Rattle.rewritten_sound.proofs.definite.EdgeLaws.{edge_to, label_edge}

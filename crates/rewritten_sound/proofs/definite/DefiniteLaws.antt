@@ -35,8 +35,8 @@ use Rattle.rewriting_laws.proofs.LiveExact.{any_found, live_complete, live_sound
 use Rattle.rewriting_laws.proofs.LiveLaws.{any_at, table_closed}
 use Rattle.rewriting_laws.proofs.NameLemmas.{among_filter, call_or_not, is_none, is_one, line_is}
 use Rattle.base_definite.proofs.MeetLaws.{meets_or_not}
-use Rattle.base_paths.specs.Statements.{HasDefiniteBases}
-use Rattle.base_paths.proofs.UndefinedLaws.{Undefined, behind_edge, behind_line, undefined_unused}
+use Rattle.base_definite.specs.Paths.{HasDefiniteBases}
+use Rattle.base_definite.proofs.base_paths.UndefinedLaws.{Undefined, behind_edge, behind_line, undefined_unused}
 use Rattle.rewritten_sound.specs.LeadsOut.{PhisAreBare}
 use Rattle.rewritten_sound.proofs.definite.LineLaws.{gives_defines, line_from, lines_length}
 use Rattle.rewritten_sound.proofs.definite.EdgeLaws.{edge_from}

@@ -22,9 +22,9 @@ use Rattle.base_forms.specs.Polls.{placed}
 use Rattle.base_forms.specs.Based.{base_table, based, based_module}
 use Rattle.base_laws.proofs.MeaningLaws.{bases_keep_meaning, found_now}
 use Rattle.base_laws.proofs.ShapeLaws.{graph_now, in_shape}
-use Rattle.base_paths.specs.Statements.{HasDefiniteBases}
-use Rattle.base_relations.specs.Statements.{IsReached, before}
-use Rattle.base_relations.proofs.TableInstance.{table_has_bases}
+use Rattle.base_definite.specs.Paths.{HasDefiniteBases}
+use Rattle.base_definite.specs.Relations.{IsReached, before}
+use Rattle.base_definite.proofs.base_relations.TableInstance.{table_has_bases}
 use Rattle.base_definite.proofs.BasesInstance.{based_has_definite_bases}
 use Rattle.rewriting_forms.specs.Names.{naming_of}
 use Rattle.rewriting_forms.specs.Rewritten.{names_of, place_in, rewritten}

@@ -29,9 +29,9 @@ use Rattle.ir_cfg.proofs.PathLemmas.{edge_within}
 use Rattle.object_meaning.specs.Lines.{Line}
 use Rattle.rewriting_forms.specs.Numbered.{among, base_at, line_at, lines_at, named, pointers, succs}
 use Rattle.rewriting_forms.specs.Liveness.{IsEntry, IsUse, Live, any_held, PhisAgree, crosses, entry, held, is_live, is_live_after, later, live_table, used}
-use Rattle.base_paths.specs.Statements.{HasDefiniteBases}
-use Rattle.base_paths.proofs.StayLaws.{base_first, derived_high}
-use Rattle.base_paths.proofs.UndefinedLaws.{Undefined, behind_edge, behind_line, undefined_unused}
+use Rattle.base_definite.specs.Paths.{HasDefiniteBases}
+use Rattle.base_definite.proofs.base_paths.StayLaws.{base_first, derived_high}
+use Rattle.base_definite.proofs.base_paths.UndefinedLaws.{Undefined, behind_edge, behind_line, undefined_unused}
 use Rattle.rewritten_sound.specs.LeadsOut.{PhisAreBare}
 use Rattle.rewritten_sound.proofs.definite.LineLaws.{gives_defines, line_from, lines_length}
 use Rattle.rewritten_sound.proofs.definite.EdgeLaws.{counted_edge}

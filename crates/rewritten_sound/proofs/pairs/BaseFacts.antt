@@ -33,7 +33,7 @@ use Rattle.object_meaning.specs.Lines.{Line}
 use Rattle.rewriting_forms.specs.Numbered.{among, base_at, lines_at, named, pointers}
 use Rattle.rewriting_laws.proofs.NameLemmas.{among_filter, among_here, among_there, filter_among}
 use Rattle.base_laws.proofs.TypeLaws.{type_of_given}
-use Rattle.base_relations.proofs.GroupLaws.{given_at}
+use Rattle.base_definite.proofs.base_relations.GroupLaws.{given_at}
 use Rattle.rewritten_sound.proofs.definite.LineLaws.{line_from}
 use Rattle.rewritten_sound.specs.Takes.{IsOwn, IsPointer, base_of}
 use Rattle.rewritten_sound.proofs.pairs.StayFacts.{numbered, table_there}

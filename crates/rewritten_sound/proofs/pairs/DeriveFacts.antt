@@ -35,9 +35,9 @@ use Rattle.rewriting_forms.specs.Numbered.{among, base_at, gives, is_given, line
 use Rattle.rewriting_laws.specs.Laws.{IsPlain}
 use Rattle.rewriting_laws.proofs.NameLemmas.{given_is}
 use Rattle.base_laws.proofs.TypeLaws.{type_of_given}
-use Rattle.base_paths.specs.Statements.{HasDefiniteBases}
-use Rattle.base_paths.proofs.GivesLaws.{given_named}
-use Rattle.base_relations.specs.Statements.{IsReached}
+use Rattle.base_definite.specs.Paths.{HasDefiniteBases}
+use Rattle.base_definite.proofs.base_paths.GivesLaws.{given_named}
+use Rattle.base_definite.specs.Relations.{IsReached}
 use Rattle.rewritten_sound.specs.LeadsOut.{PhisAreBare}
 use Rattle.rewritten_sound.proofs.definite.LineLaws.{given_defines, line_from}
 use Rattle.rewritten_sound.proofs.definite.UsedLaws.{uses_operand}

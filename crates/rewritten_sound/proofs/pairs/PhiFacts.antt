@@ -44,9 +44,9 @@ use Rattle.rewriting_laws.specs.Laws.{Edge}
 use Rattle.rewriting_laws.proofs.LiveLaws.{any_at, table_closed}
 use Rattle.rewriting_laws.proofs.NameLemmas.{at_rest, found, given_is}
 use Rattle.base_laws.proofs.TypeLaws.{type_of_given}
-use Rattle.base_paths.specs.Statements.{HasDefiniteBases}
-use Rattle.base_paths.proofs.GivesLaws.{defines_gives, given_named, gives_at, one_text_place, one_value, stands_one}
-use Rattle.base_relations.specs.Statements.{IsReached}
+use Rattle.base_definite.specs.Paths.{HasDefiniteBases}
+use Rattle.base_definite.proofs.base_paths.GivesLaws.{defines_gives, given_named, gives_at, one_text_place, one_value, stands_one}
+use Rattle.base_definite.specs.Relations.{IsReached}
 use Rattle.rewritten_sound.specs.LeadsOut.{PhisAreBare}
 use Rattle.rewritten_sound.proofs.definite.EdgeLaws.{edge_from}
 use Rattle.rewritten_sound.proofs.definite.LineLaws.{given_defines, line_forth, line_from}

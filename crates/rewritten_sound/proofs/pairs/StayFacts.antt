@@ -28,12 +28,12 @@ use Rattle.rewriting_forms.specs.Liveness.{IsUse, Live, any_held, crosses, entry
 use Rattle.rewriting_laws.proofs.LiveExact.{any_found, live_complete, live_sound, use_from, use_is}
 use Rattle.rewriting_laws.proofs.LiveLaws.{any_at}
 use Rattle.rewriting_laws.proofs.NameLemmas.{among_filter, given_is, line_is}
-use Rattle.base_paths.specs.Comings.{Comes, over_edge, past_line, to_entry}
-use Rattle.base_paths.specs.Statements.{HasDefiniteBases}
-use Rattle.base_paths.proofs.GivesLaws.{defines_gives, given_high}
-use Rattle.base_paths.proofs.StayLaws.{base_first, derived_high}
-use Rattle.base_paths.proofs.UndefinedLaws.{Undefined, at_first, behind_line, first_time, undefined_unused}
-use Rattle.base_relations.specs.Statements.{IsReached}
+use Rattle.base_definite.specs.Comings.{Comes, over_edge, past_line, to_entry}
+use Rattle.base_definite.specs.Paths.{HasDefiniteBases}
+use Rattle.base_definite.proofs.base_paths.GivesLaws.{defines_gives, given_high}
+use Rattle.base_definite.proofs.base_paths.StayLaws.{base_first, derived_high}
+use Rattle.base_definite.proofs.base_paths.UndefinedLaws.{Undefined, at_first, behind_line, first_time, undefined_unused}
+use Rattle.base_definite.specs.Relations.{IsReached}
 use Rattle.rewritten_sound.specs.LeadsOut.{PhisAreBare}
 use Rattle.rewritten_sound.proofs.definite.LineLaws.{given_defines, gives_defines, line_from}
 use Rattle.rewritten_sound.proofs.definite.UsedLaws.{edge_block, held_used, in_table, live_defined, operand_used, phis_agree, use_undefined}

@@ -43,12 +43,12 @@ use Rattle.base_forms.proofs.DerivedLaws.{found_any, marked_derived}
 use Rattle.base_laws.proofs.LineLaws.{IsReady}
 use Rattle.base_laws.proofs.PlacedLaws.{all_placed, definitions_placed}
 use Rattle.base_laws.proofs.ReadyLaws.{renamings}
-use Rattle.base_relations.specs.Statements.{IsReached, before}
-use Rattle.base_relations.proofs.BaseLaws.{derived_back, relation}
-use Rattle.base_relations.proofs.EndLaws.{no_step}
-use Rattle.base_relations.proofs.GroupLaws.{FoundIn, found_in}
-use Rattle.base_relations.proofs.TableInstance.{all_ready, ends_here, is_here, pointers}
-use Rattle.base_relations.proofs.ValueLaws.{one_number}
+use Rattle.base_definite.specs.Relations.{IsReached, before}
+use Rattle.base_definite.proofs.base_relations.BaseLaws.{derived_back, relation}
+use Rattle.base_definite.proofs.base_relations.EndLaws.{no_step}
+use Rattle.base_definite.proofs.base_relations.GroupLaws.{FoundIn, found_in}
+use Rattle.base_definite.proofs.base_relations.TableInstance.{all_ready, ends_here, is_here, pointers}
+use Rattle.base_definite.proofs.base_relations.ValueLaws.{one_number}
 use Rattle.rewriting_forms.specs.Numbered.{lines_at}
 use Rattle.rewritten_sound.specs.Definite.{IsReachedSource}
 use Rattle.rewritten_sound.proofs.definite.LineLaws.{line_forth, line_from}

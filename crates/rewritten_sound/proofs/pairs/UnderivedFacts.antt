@@ -27,7 +27,7 @@ use Rattle.ir_ast.specs.Faults.TypeClash.{Fits, IsTyped, asked}
 use Rattle.ir_ast.proofs.BaseLemmas.{same_instruction}
 use Rattle.rewriting_forms.specs.Numbered.{named}
 use Rattle.base_laws.proofs.TypeLaws.{type_of_given}
-use Rattle.base_relations.proofs.GroupLaws.{given_at}
+use Rattle.base_definite.proofs.base_relations.GroupLaws.{given_at}
 use Rattle.rewritten_sound.proofs.definite.PieceLaws.{split_place}
 use Rattle.rewritten_sound.proofs.pairs.PhiFacts.{fits_repeated}
 

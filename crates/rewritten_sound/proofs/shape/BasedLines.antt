@@ -50,8 +50,8 @@ use Rattle.base_laws.proofs.MeaningLaws.{found_now}
 use Rattle.base_laws.proofs.PlacedLaws.{all_placed, definitions_placed}
 use Rattle.base_laws.proofs.ReadyLaws.{renamings}
 use Rattle.base_laws.proofs.TypeLaws.{IsTypedLine, compares_pointers, phi_of_pointers, select_of_pointers}
-use Rattle.base_relations.proofs.GroupLaws.{group_of, located, value_at}
-use Rattle.base_relations.proofs.TableInstance.{all_ready, is_here, pointers}
+use Rattle.base_definite.proofs.base_relations.GroupLaws.{group_of, located, value_at}
+use Rattle.base_definite.proofs.base_relations.TableInstance.{all_ready, is_here, pointers}
 use Rattle.rewritten_sound.proofs.definite.PieceLaws.{split_place}
 use Rattle.rewritten_sound.specs.WellFormed.{Carries, CarriesEntry, IsWellFormed}
 use Rattle.rewritten_sound.proofs.shape.BasedTypes.{base_fits, line_type, now_fits, type_kept}

@@ -52,8 +52,8 @@ use Rattle.base_laws.proofs.NumberLaws.{definition_count}
 use Rattle.base_laws.proofs.PlacedLaws.{definitions_placed, has_result}
 use Rattle.base_laws.proofs.ReadyLaws.{renamings}
 use Rattle.base_laws.proofs.ShapeLaws.{graph_now, in_shape}
-use Rattle.base_relations.proofs.GroupLaws.{text_is}
-use Rattle.base_relations.proofs.TableInstance.{all_ready}
+use Rattle.base_definite.proofs.base_relations.GroupLaws.{text_is}
+use Rattle.base_definite.proofs.base_relations.TableInstance.{all_ready}
 use Rattle.base_definite.proofs.NameLaws.{distinct_now, names_now}
 use Rattle.base_definite.proofs.SpreadLaws.{IsFree, base_name, same_name, spread}
 use Rattle.rewritten_sound.proofs.definite.MadeLaws.{phis_are_right}

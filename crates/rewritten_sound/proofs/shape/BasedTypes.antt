@@ -34,9 +34,9 @@ use Rattle.base_laws.proofs.LineLaws.{IsReady}
 use Rattle.base_laws.proofs.NumberLaws.{argument_keeps, number_alone, number_behind, renaming_of}
 use Rattle.base_laws.proofs.PlacedLaws.{has_result}
 use Rattle.base_laws.proofs.TypeLaws.{IsTypedLine, MarksPointers, all_given, merges_pointers, type_of_given}
-use Rattle.base_paths.proofs.GivesLaws.{gives_at}
-use Rattle.base_relations.proofs.GroupLaws.{given_at, group_of, line_number, line_stands, start_at, value_at, value_is}
-use Rattle.base_relations.proofs.ValueLaws.{merged_true}
+use Rattle.base_definite.proofs.base_paths.GivesLaws.{gives_at}
+use Rattle.base_definite.proofs.base_relations.GroupLaws.{given_at, group_of, line_number, line_stands, start_at, value_at, value_is}
+use Rattle.base_definite.proofs.base_relations.ValueLaws.{merged_true}
 use Rattle.base_definite.proofs.BasedLaws.{ends_so}
 use Rattle.base_definite.proofs.CutLaws.{results_in, take_front_of}
 use Rattle.rewritten_sound.proofs.shape.FunctionLaws.{argument_at}

@@ -33,7 +33,7 @@ use Rattle.rewriting_forms.specs.Rewritten.{Piece, block_names, is_joined, is_re
 use Rattle.rewriting_laws.proofs.ApartLaws.{names_apart}
 use Rattle.rewriting_laws.proofs.NameLemmas.{line_is}
 use Rattle.rewriting_laws.proofs.PlaceLaws.{Apart, piece_names, pieces_names}
-use Rattle.base_paths.proofs.GivesLaws.{defines_gives}
+use Rattle.base_definite.proofs.base_paths.GivesLaws.{defines_gives}
 use Rattle.rewritten_sound.proofs.definite.LineLaws.{given_defines}
 use Rattle.rewritten_sound.specs.WellFormed.{IsGroupName}
 use Rattle.rewritten_sound.proofs.definite.NowLaws.{insts_now, now, number, pieces, text}

@@ -46,7 +46,7 @@ use Rattle.ir_cfg.specs.SourceModules.{IsSourceModule}
 use Rattle.ir_cfg.specs.TargetModules.{IsTargetModule}
 use Rattle.ir_cfg.specs.TypedModules.{IsTypedFunction}
 use Rattle.definite_assign.proofs.PathLemmas.{path_ends}
-use Rattle.base_relations.specs.Statements.{IsReached}
+use Rattle.base_definite.specs.Relations.{IsReached}
 use Rattle.base_forms.specs.DerivedMarks.{derived_marks}
 use Rattle.rewritten_sound.specs.Definite.{IsReachedSource, rewritten_source}
 use Rattle.rewritten_sound.specs.WellFormed.{IsWellFormed}

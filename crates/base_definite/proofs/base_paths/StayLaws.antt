@@ -25,10 +25,10 @@ use Rattle.ir_ast.specs.Faults.PhiEdges.{is_phi}
 use Rattle.ir_ast.proofs.BaseLemmas.{same_instruction}
 use Rattle.ir_cfg.specs.DefiniteUses.{Defines, Stands, Uses, by_line, text_place}
 use Rattle.definite_assign.proofs.TextLemmas.{stands_in_text, text_next}
-use Rattle.base_paths.specs.Comings.{DefinedSince, just_now, over_edge, past_line}
-use Rattle.base_paths.specs.Statements.{BasesStay, HasDefiniteBases}
-use Rattle.base_paths.proofs.GivesLaws.{defines_gives, given_high, given_named, gives_at, one_text_place, one_value, stands_one}
-use Rattle.base_paths.proofs.UndefinedLaws.{Undefined, at_first, behind_edge, behind_line, first_time, last_defines_none, undefined_unused}
+use Rattle.base_definite.specs.Comings.{DefinedSince, just_now, over_edge, past_line}
+use Rattle.base_definite.specs.Paths.{BasesStay, HasDefiniteBases}
+use Rattle.base_definite.proofs.base_paths.GivesLaws.{defines_gives, given_high, given_named, gives_at, one_text_place, one_value, stands_one}
+use Rattle.base_definite.proofs.base_paths.UndefinedLaws.{Undefined, at_first, behind_edge, behind_line, first_time, last_defines_none, undefined_unused}
 
 -- ---- how a pointer has a base
 

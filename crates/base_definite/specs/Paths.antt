@@ -9,7 +9,7 @@ use Rattle.ir_ast.specs.Lists.{Distinct}
 use Rattle.ir_ast.specs.Values.{definition_name, definitions_of}
 use Rattle.ir_ast.specs.Bases.{Base, HasBases}
 use Rattle.ir_cfg.specs.DefiniteUses.{Uses, UsesAreDefinite}
-use Rattle.base_paths.specs.Comings.{DefinedSince}
+use Rattle.base_definite.specs.Comings.{DefinedSince}
 
 -- a function whose derived phis and selects have their bases, and whose uses are definite
 pub record HasDefiniteBases (func : Function) (merged : ℕ → ValueId) : Type 0 where

@@ -29,15 +29,15 @@ use Rattle.base_forms.specs.Lines.{merged_bases}
 use Rattle.base_forms.specs.Based.{base_line, based, insertion, kept_line}
 use Rattle.base_forms.proofs.DerivedLaws.{any_found, derived_marked, found_any, marked_derived}
 use Rattle.base_forms.proofs.OriginLaws.{origin-own, origin-step}
-use Rattle.base_paths.proofs.GivesLaws.{gives_at}
+use Rattle.base_definite.proofs.base_paths.GivesLaws.{gives_at}
 use Rattle.renaming_laws.specs.Renamed.{Renaming}
 use Rattle.base_laws.proofs.TypeLaws.{IsTypedLine, MarksPointers, all_given, phi_of_pointers, select_of_pointers}
 use Rattle.base_laws.proofs.NumberLaws.{number_alone, number_behind, renaming_of}
 use Rattle.base_laws.proofs.LineLaws.{IsReady}
-use Rattle.base_relations.specs.Statements.{before}
-use Rattle.base_relations.proofs.EndLaws.{Ends, no_step, one_step}
-use Rattle.base_relations.proofs.GroupLaws.{after_group, before_group, given_at, group_of, line_number, line_stands, located, start_at, text_split, value_at, value_is}
-use Rattle.base_relations.proofs.ValueLaws.{MergeLine, alone_one, base_line_unmarked, behind_inserted, given_there, gives_as, inserted_apart, inserted_one, mark_gives, merge_of_line, merged_false, merged_true, no_mark_own, one_number, step_alone, step_before, step_of_line, used_now}
+use Rattle.base_definite.specs.Relations.{before}
+use Rattle.base_definite.proofs.base_relations.EndLaws.{Ends, no_step, one_step}
+use Rattle.base_definite.proofs.base_relations.GroupLaws.{after_group, before_group, given_at, group_of, line_number, line_stands, located, start_at, text_split, value_at, value_is}
+use Rattle.base_definite.proofs.base_relations.ValueLaws.{MergeLine, alone_one, base_line_unmarked, behind_inserted, given_there, gives_as, inserted_apart, inserted_one, mark_gives, merge_of_line, merged_false, merged_true, no_mark_own, one_number, step_alone, step_before, step_of_line, used_now}
 
 module _ (functions : ℕ → Renaming) (number : ℕ) (func : Function) (called : Bool) (is : functions number ≡ renaming_of called func) (pointers : MarksPointers func (derived_marks func))
     (ready : All (IsReady functions func) (instructions_of func.blocks)) where

@@ -17,10 +17,10 @@ use Rattle.base_laws.proofs.TypeLaws.{IsTypedLine, MarksPointers, derived_are_po
 use Rattle.base_laws.proofs.NumberLaws.{renaming_of}
 use Rattle.base_laws.proofs.LineLaws.{IsReady}
 use Rattle.base_laws.proofs.ReadyLaws.{ready, renaming_found, renamings}
-use Rattle.base_relations.specs.Statements.{IsReached, TableHasBases, before}
-use Rattle.base_relations.proofs.EndLaws.{Ends, ends_placed, value_ends}
-use Rattle.base_relations.proofs.BaseLaws.{has_bases}
-use Rattle.base_relations.proofs.TableLaws.{is_base_table}
+use Rattle.base_definite.specs.Relations.{IsReached, TableHasBases, before}
+use Rattle.base_definite.proofs.base_relations.EndLaws.{Ends, ends_placed, value_ends}
+use Rattle.base_definite.proofs.base_relations.BaseLaws.{has_bases}
+use Rattle.base_definite.proofs.base_relations.TableLaws.{is_base_table}
 
 module _ (content : ModuleContent) (source : IsSourceModule content) (number : ℕ) (func : Function) (found : slice_get content.funcs number ≡ Some func) where
   pub is_here : renamings content number ≡ renaming_of true (placed func)

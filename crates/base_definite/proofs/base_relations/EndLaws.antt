@@ -29,12 +29,12 @@ use Rattle.ir_cfg.specs.Paths.{Path, along, at_entry}
 use Rattle.ir_cfg.proofs.PathLemmas.{edge_within}
 use Rattle.base_forms.specs.Bases.{source_of, stepped_from}
 use Rattle.base_forms.specs.Polls.{placed}
-use Rattle.base_paths.specs.Comings.{Comes, over_edge, past_line, to_entry}
-use Rattle.base_paths.proofs.GivesLaws.{defines_gives, defines_or_not}
-use Rattle.base_paths.proofs.UndefinedLaws.{Undefined, at_first, behind_edge, behind_line, last_defines_none, undefined_unused}
+use Rattle.base_definite.specs.Comings.{Comes, over_edge, past_line, to_entry}
+use Rattle.base_definite.proofs.base_paths.GivesLaws.{defines_gives, defines_or_not}
+use Rattle.base_definite.proofs.base_paths.UndefinedLaws.{Undefined, at_first, behind_edge, behind_line, last_defines_none, undefined_unused}
 use Rattle.base_laws.proofs.PlacedLaws.{definitions_placed}
-use Rattle.base_relations.specs.Statements.{IsReached}
-use Rattle.base_relations.proofs.GroupLaws.{given_at}
+use Rattle.base_definite.specs.Relations.{IsReached}
+use Rattle.base_definite.proofs.base_relations.GroupLaws.{given_at}
 
 -- a way back that ends
 pub data Ends (func : Function) : Operand → Type 0 where

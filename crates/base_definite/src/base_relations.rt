@@ -1,7 +1,5 @@
 //! Laws of the bases of the function with bases, in the manual's terms. No code.
-#![tactic(auto)]
-
-ghost use Rattle.base_relations.specs.Statements.{TableHasBases};
+ghost use Rattle.base_definite.specs.Relations.{TableHasBases};
 
 /// In each function of a source module without unreached blocks, derived phis and selects have their bases directly before
 /// them, and the table of bases has the base of each value.

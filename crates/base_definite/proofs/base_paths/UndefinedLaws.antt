@@ -12,8 +12,8 @@ use Rattle.ir_cfg.specs.Paths.{Path, along, at_entry}
 use Rattle.ir_cfg.specs.DefiniteUses.{Defines, Meets, Stands, Uses, UsesAreDefinite, in_arguments, in_earlier, in_last}
 use Rattle.definite_assign.proofs.PathLemmas.{path_ends}
 use Rattle.definite_assign.proofs.TextLemmas.{one_definition, one_home}
-use Rattle.base_paths.specs.Comings.{Comes, over_edge, past_line, to_entry}
-use Rattle.base_paths.proofs.GivesLaws.{defines_or_not}
+use Rattle.base_definite.specs.Comings.{Comes, over_edge, past_line, to_entry}
+use Rattle.base_definite.proofs.base_paths.GivesLaws.{defines_or_not}
 
 -- a path comes to this place without a definition of the value
 pub data Undefined (func : Function) (value : ℕ) : ℕ → ℕ → Type 0 where
