@@ -9,7 +9,7 @@ use Rattle.ir_lines.specs.Modules.{module_of}
 use Rattle.ir_lines.specs.Statements.{Line, lines_of}
 use Rattle.ir_printer.specs.Texts.{text_of}
 use Rattle.ir_types.specs.FaultSet.{HasNoFault}
-use Rattle.accepted_texts.proofs.Accepted.{accepted_is_source}
+use Rattle.read_back.proofs.accepted_texts.Accepted.{accepted_is_source}
 use Rattle.tool_words.specs.Words.{command_of}
 use Rattle.tool_words.specs.declared.request.Command.{Command}
 use Rattle.tool_words.specs.declared.request.Command.TheVariants.{Check, Exec, Gen, Rewrite, Run, Show, Source as SourceRun}

@@ -10,7 +10,7 @@ use Rattle.ir_printer.specs.Texts.{text_of}
 use Rattle.ir_reader.specs.Text.{readings_in}
 use Rattle.ir_types.specs.FaultSet.{HasNoFault}
 use Rattle.pair_facts.specs.Faults.{IsFault, IsVerified}
-use Rattle.accepted_texts.proofs.Accepted.{accepted_is_source}
+use Rattle.read_back.proofs.accepted_texts.Accepted.{accepted_is_source}
 use Rattle.read_back.proofs.TheLaw.{reads_back}
 use Rattle.sp_rewrite.proofs.BareLaws.{no_bundle}
 use Rattle.sp_rewrite.proofs.RewrittenLaws.{rewriting_is_target, rewriting_is_verified}

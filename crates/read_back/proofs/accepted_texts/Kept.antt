@@ -14,7 +14,7 @@ use Rattle.line_forms.specs.Forms.{slots, form_in, is_dropped_form}
 use Rattle.line_forms.specs.Slots.{Item, parse}
 use Rattle.line_forms.specs.Seen.{Said, label, line, of_form, line_at, ended}
 use Rattle.line_forms.specs.declared.forms.Form.{Form}
-use Rattle.accepted_texts.proofs.ShortLines.{LinesAreShort}
+use Rattle.read_back.proofs.accepted_texts.ShortLines.{LinesAreShort}
 
 -- a label, or a line of a form that isn't dropped, of no more bytes than this
 pub record LineIsKept (most : ℕ) (form : Form) (items : List Item) : Type 0 where

@@ -22,8 +22,8 @@ use Rattle.line_forms.specs.declared.forms.Form.TheVariants as forms
 use Rattle.line_forms.specs.declared.readings.Reading.TheVariants as readings
 use Rattle.ir_reader.specs.Limits.{guarded_fits, live_fits, said_fits, value_fits}
 use Rattle.module_laws.proofs.Formed.{went}
-use Rattle.accepted_texts.proofs.Fronts.{Leaves, guarded_few, mark_leaves, one_leaves, statepoint_type_leaves, then_leaves, word_leaves}
-use Rattle.accepted_texts.proofs.Saying.{Parts, Readable, all_back, items_of, lent, pair_first, pair_rest, parse_spoken, passed_back, passed_for, small, value_back, value_for}
+use Rattle.read_back.proofs.accepted_texts.Fronts.{Leaves, guarded_few, mark_leaves, one_leaves, statepoint_type_leaves, then_leaves, word_leaves}
+use Rattle.read_back.proofs.accepted_texts.Saying.{Parts, Readable, all_back, items_of, lent, pair_first, pair_rest, parse_spoken, passed_back, passed_for, small, value_back, value_for}
 
 -- ---- the parameters of a statepoint's callee are no more than the tokens of its line
 

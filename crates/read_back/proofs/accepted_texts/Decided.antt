@@ -10,7 +10,7 @@ use Rattle.ir_ast.specs.Insts.{Instruction}
 use Rattle.ir_cfg.specs.DefiniteUses.{Defines, Meets, in_arguments, in_earlier, in_last, text_place}
 use Rattle.ir_cfg.specs.Graphs.{Graph, graph_of}
 use Rattle.ir_cfg.specs.Paths.{Path, at_entry, along}
-use Rattle.accepted_texts.proofs.ShortLines.{less_or_not}
+use Rattle.read_back.proofs.accepted_texts.ShortLines.{less_or_not}
 
 abbrev Decided : Type 0 → Type 0
 Decided P = P ⊎ (¬ P)

@@ -1,8 +1,6 @@
 //! The law that a text that is accepted stands for a module of its form. No code.
-#![tactic(auto)]
-
 ghost use Rattle.ir_ast.specs.declared.modules.Form.{Form};
-ghost use Rattle.accepted_texts.specs.Statements.{AcceptedIsOf};
+ghost use Rattle.read_back.specs.AcceptedTexts.{AcceptedIsOf};
 
 use std::alloc::Global;
 

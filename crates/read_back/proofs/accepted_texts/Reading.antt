@@ -18,11 +18,11 @@ use Rattle.line_forms.specs.declared.forms.Form.{Form}
 use Rattle.line_forms.specs.declared.forms.Form.TheVariants as forms
 use Rattle.line_forms.specs.declared.readings.Reading.TheVariants as readings
 use Rattle.module_laws.proofs.Runs.{IsOwn, Runs, readings-run}
-use Rattle.accepted_texts.specs.Statements.{Needs}
-use Rattle.accepted_texts.proofs.Saying.{Readable, lent, line_is_read}
-use Rattle.accepted_texts.proofs.ShortLines.{text_is_short}
-use Rattle.accepted_texts.proofs.Statepoints.{statepoint_is_read}
-use Rattle.accepted_texts.proofs.Kept.{AllKept, IsKept, LineIsKept, readings_kept}
+use Rattle.read_back.specs.AcceptedTexts.{Needs}
+use Rattle.read_back.proofs.accepted_texts.Saying.{Readable, lent, line_is_read}
+use Rattle.read_back.proofs.accepted_texts.ShortLines.{text_is_short}
+use Rattle.read_back.proofs.accepted_texts.Statepoints.{statepoint_is_read}
+use Rattle.read_back.proofs.accepted_texts.Kept.{AllKept, IsKept, LineIsKept, readings_kept}
 
 -- a line of a form is read: of a statepoint only texts of the rewritten form have lines, and for these there is an allocator
 module _ (most : ℕ) (short : most ≤ 16777216) where

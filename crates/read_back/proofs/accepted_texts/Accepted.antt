@@ -20,9 +20,9 @@ use Rattle.ir_reader.specs.Raws.{Readings}
 use Rattle.ir_types.specs.FaultSet.{HasNoFault, plain, not_definite}
 use Rattle.module_laws.specs.TextFunctions.{IsTextFunction}
 use Rattle.module_laws.proofs.TypedTexts.{whole_functions, whole_typed}
-use Rattle.accepted_texts.specs.Statements.{AcceptedIsOf, Needs}
-use Rattle.accepted_texts.proofs.Decided.{meets_or_not}
-use Rattle.accepted_texts.proofs.Reading.{was_read}
+use Rattle.read_back.specs.AcceptedTexts.{AcceptedIsOf, Needs}
+use Rattle.read_back.proofs.accepted_texts.Decided.{meets_or_not}
+use Rattle.read_back.proofs.accepted_texts.Reading.{was_read}
 
 -- ---- uses are definite where no path misses a definition
 
