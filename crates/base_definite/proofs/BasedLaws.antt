@@ -24,14 +24,14 @@ use Rattle.base_forms.specs.Lines.{operand_at}
 use Rattle.base_forms.specs.Based.{base_line, based, based_blocks, based_insts, check, compared, kept_line, lines_for, negation, same_call}
 use Rattle.renaming_laws.specs.Renamed.{Renaming}
 use Rattle.definite_assign.proofs.TextLemmas.{stands_in_text}
-use Rattle.base_paths.proofs.GivesLaws.{defines_gives}
+use Rattle.base_definite.proofs.base_paths.GivesLaws.{defines_gives}
 use Rattle.base_laws.proofs.TypeLaws.{MarksPointers}
 use Rattle.base_laws.proofs.NumberLaws.{number_alone, number_behind, renaming_of}
 use Rattle.base_laws.proofs.LineLaws.{IsReady}
 use Rattle.base_laws.proofs.BlockLaws.{after_append}
 use Rattle.base_laws.proofs.FormLaws.{based_append, edges_based}
-use Rattle.base_relations.proofs.GroupLaws.{start_number, text_now, value_is}
-use Rattle.base_relations.proofs.ValueLaws.{merged_false, merged_true}
+use Rattle.base_definite.proofs.base_relations.GroupLaws.{start_number, text_now, value_is}
+use Rattle.base_definite.proofs.base_relations.ValueLaws.{merged_false, merged_true}
 use Rattle.base_definite.proofs.CutLaws.{get_middle_of, number_cut, results_append, results_in, take_front_of, take_next, take_whole, text_take}
 use Rattle.base_definite.proofs.ExpandLaws.{Expands}
 

@@ -30,14 +30,14 @@ use Rattle.base_forms.specs.Lines.{merged_bases}
 use Rattle.base_forms.specs.Based.{base_line, based, based_insts, insertion, kept_line, lines_for}
 use Rattle.base_forms.proofs.OriginLaws.{origin-own, origin-step}
 use Rattle.renaming_laws.specs.Renamed.{Renaming}
-use Rattle.base_paths.proofs.GivesLaws.{defines_gives}
-use Rattle.base_paths.proofs.UndefinedLaws.{Undefined, at_first, behind_edge, behind_line, last_defines_none}
+use Rattle.base_definite.proofs.base_paths.GivesLaws.{defines_gives}
+use Rattle.base_definite.proofs.base_paths.UndefinedLaws.{Undefined, at_first, behind_edge, behind_line, last_defines_none}
 use Rattle.base_laws.proofs.TypeLaws.{IsTypedLine, MarksPointers}
 use Rattle.base_laws.proofs.NumberLaws.{argument_keeps, renaming_of}
 use Rattle.base_laws.proofs.LineLaws.{IsReady}
-use Rattle.base_relations.proofs.GroupLaws.{found_in}
-use Rattle.base_relations.proofs.ValueLaws.{MergeLine, alone_one, behind_inserted, gives_as, given_there, inserted_one, merge_of_line, step_before}
-use Rattle.base_relations.proofs.EndLaws.{argument_below}
+use Rattle.base_definite.proofs.base_relations.GroupLaws.{found_in}
+use Rattle.base_definite.proofs.base_relations.ValueLaws.{MergeLine, alone_one, behind_inserted, gives_as, given_there, inserted_one, merge_of_line, step_before}
+use Rattle.base_definite.proofs.base_relations.EndLaws.{argument_below}
 use Rattle.base_definite.proofs.MeetLaws.{meets_or_not}
 use Rattle.base_definite.proofs.ExpandLaws.{Expands, NoneHere, at_entry_none, none_here, one_more, over_edge_none}
 use Rattle.base_definite.proofs.BasedLaws.{base_defines, based_at, expands_bases, group_defines, offset, offset_is, offset_same, value_there}

@@ -23,11 +23,11 @@ use Rattle.base_laws.proofs.NumberLaws.{definition_count}
 use Rattle.base_laws.proofs.PlacedLaws.{definitions_placed, has_result}
 use Rattle.base_laws.proofs.ReadyLaws.{renamings}
 use Rattle.base_laws.proofs.ShapeLaws.{in_shape}
-use Rattle.base_paths.specs.Comings.{DefinedSince}
-use Rattle.base_paths.specs.Statements.{HasDefiniteBases}
-use Rattle.base_paths.proofs.StayLaws.{bases_stay}
-use Rattle.base_relations.specs.Statements.{IsReached, before}
-use Rattle.base_relations.proofs.TableInstance.{all_ready, table_has_bases}
+use Rattle.base_definite.specs.Comings.{DefinedSince}
+use Rattle.base_definite.specs.Paths.{HasDefiniteBases}
+use Rattle.base_definite.proofs.base_paths.StayLaws.{bases_stay}
+use Rattle.base_definite.specs.Relations.{IsReached, before}
+use Rattle.base_definite.proofs.base_relations.TableInstance.{all_ready, table_has_bases}
 use Rattle.base_definite.specs.Statements.{BasedBasesStay, BasedHasDefiniteBases}
 use Rattle.base_definite.proofs.SpreadLaws.{IsFree}
 use Rattle.base_definite.proofs.NameLaws.{distinct_now}

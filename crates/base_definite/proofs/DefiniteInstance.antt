@@ -14,7 +14,7 @@ use Rattle.ir_cfg.specs.TypedModules.{IsTypedFunction}
 use Rattle.base_forms.specs.Polls.{placed}
 use Rattle.base_forms.specs.Based.{based, based_module}
 use Rattle.base_laws.proofs.ReadyLaws.{renamings}
-use Rattle.base_relations.proofs.TableInstance.{all_ready, definite_here, is_here, pointers}
+use Rattle.base_definite.proofs.base_relations.TableInstance.{all_ready, definite_here, is_here, pointers}
 use Rattle.base_definite.specs.Statements.{BasedIsDefinite}
 use Rattle.base_definite.proofs.PolledUses.{none_undefined}
 use Rattle.base_definite.proofs.BasedUses.{based_definite}

@@ -7,7 +7,7 @@ use Rattle.ir_ast.specs.Blocks.{BasicBlock}
 use Rattle.ir_ast.specs.Funcs.{Function}
 use Rattle.ir_cfg.specs.DefiniteUses.{Defines}
 use Rattle.ir_cfg.specs.Graphs.{Edge, Graph, graph_of}
-use Rattle.base_paths.proofs.UndefinedLaws.{Undefined, at_first, behind_edge, behind_line}
+use Rattle.base_definite.proofs.base_paths.UndefinedLaws.{Undefined, at_first, behind_edge, behind_line}
 
 -- the lines for the line at a place of a block begin at an offset of the block; the last of them defines what it defines
 pub record Expands (func other : Function) (now : ℕ → ℕ) : Type 0 where

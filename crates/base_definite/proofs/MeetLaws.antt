@@ -11,8 +11,8 @@ use Rattle.ir_cfg.specs.Graphs.{graph_of}
 use Rattle.ir_cfg.specs.Paths.{Path, along, at_entry}
 use Rattle.ir_cfg.proofs.PathLemmas.{edge_within}
 use Rattle.definite_assign.proofs.PathLemmas.{path_ends}
-use Rattle.base_paths.proofs.GivesLaws.{defines_or_not}
-use Rattle.base_paths.proofs.UndefinedLaws.{Undefined, at_first, behind_edge, behind_line}
+use Rattle.base_definite.proofs.base_paths.GivesLaws.{defines_or_not}
+use Rattle.base_definite.proofs.base_paths.UndefinedLaws.{Undefined, at_first, behind_edge, behind_line}
 
 module _ (func : Function) (value : ℕ) where
   meets_later : (path : List ℕ) (place later : ℕ) → place ≤ later → Meets func value path place → Meets func value path later

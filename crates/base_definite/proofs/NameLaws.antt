@@ -24,8 +24,8 @@ use Rattle.renaming_laws.proofs.ListLaws.{all_first, all_rest}
 use Rattle.base_laws.proofs.PlacedLaws.{has_result}
 use Rattle.base_laws.proofs.LineLaws.{IsReady}
 use Rattle.base_laws.proofs.BlockLaws.{given_append, given_by}
-use Rattle.base_relations.proofs.GroupLaws.{text_is}
-use Rattle.base_relations.proofs.ValueLaws.{merged_false, merged_true}
+use Rattle.base_definite.proofs.base_relations.GroupLaws.{text_is}
+use Rattle.base_definite.proofs.base_relations.ValueLaws.{merged_false, merged_true}
 use Rattle.base_definite.proofs.CutLaws.{take_front_of}
 use Rattle.base_definite.proofs.SpreadLaws.{IsFree, base_name, distinct_spread, inserted_names, same_name, spread}
 

@@ -11,7 +11,7 @@ use Rattle.ir_ast.specs.Operands.{values_used}
 use Rattle.ir_ast.specs.Faults.PhiEdges.{is_phi}
 use Rattle.ir_cfg.specs.DefiniteUses.{Uses, UsesAreDefinite, by_entry, by_line, text_place}
 use Rattle.base_forms.specs.Polls.{placed}
-use Rattle.base_paths.proofs.UndefinedLaws.{Undefined, undefined_unused}
+use Rattle.base_definite.proofs.base_paths.UndefinedLaws.{Undefined, undefined_unused}
 use Rattle.base_definite.proofs.ExpandLaws.{Expands, none_here}
 use Rattle.base_definite.proofs.PolledLaws.{IsSourceLine, expands_polls, source_line}
 

@@ -26,7 +26,7 @@ use Rattle.base_forms.specs.Lines.{merged_bases, numbered_name, operand_at}
 use Rattle.base_forms.specs.Based.{base_line, check, compared, insertion, kept_line, lines_for, negation, rank_of, same_call}
 use Rattle.base_forms.proofs.OriginLaws.{origin-own}
 use Rattle.renaming_laws.proofs.ListLaws.{all_first, all_rest}
-use Rattle.base_relations.proofs.ValueLaws.{merged_false, merged_true, used_now}
+use Rattle.base_definite.proofs.base_relations.ValueLaws.{merged_false, merged_true, used_now}
 
 module _ (func : Function) (marks : List Bool) where
   -- what has a value for its base is a value

@@ -1,1 +1,4 @@
+pub mod Comings
+pub mod Paths
+pub mod Relations
 pub mod Statements

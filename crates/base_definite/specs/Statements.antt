@@ -9,9 +9,9 @@ use Rattle.ir_cfg.specs.DefiniteUses.{Uses, UsesAreDefinite}
 use Rattle.ir_cfg.specs.SourceModules.{IsSourceModule}
 use Rattle.base_forms.specs.Polls.{placed}
 use Rattle.base_forms.specs.Based.{based, based_module}
-use Rattle.base_paths.specs.Comings.{DefinedSince}
-use Rattle.base_paths.specs.Statements.{HasDefiniteBases}
-use Rattle.base_relations.specs.Statements.{IsReached, before}
+use Rattle.base_definite.specs.Comings.{DefinedSince}
+use Rattle.base_definite.specs.Paths.{HasDefiniteBases}
+use Rattle.base_definite.specs.Relations.{IsReached, before}
 
 -- in the module with bases every path to a use meets the definition before it
 abbrev pub BasedIsDefinite : Type 0

@@ -1,7 +1,11 @@
-//! The laws that uses and bases stay definite in the function with bases. No code.
+//! The laws that the bases of the function with bases are those of the manual's relation, and that uses and bases stay definite there.
+//! No code.
 #![tactic(auto)]
 
 ghost use Rattle.base_definite.specs.Statements.{BasedBasesStay, BasedHasDefiniteBases, BasedIsDefinite};
+
+pub mod base_paths;
+pub mod base_relations;
 
 /// In the module with polls and bases of a source module every path to a use meets the definition before it.
 pub fn based_is_definite()

@@ -23,7 +23,7 @@ use Rattle.machine_meaning.specs.MachineSteps.{machine_step}
 use Rattle.machine_meaning.specs.MachineRuns.{MachineOutcome, MachineGives, machine_outcome, machine_proceeds, machine_opening}
 use Rattle.machine_meaning.specs.TrapLines.{closing_of}
 use Rattle.machine_meaning.proofs.SettledLaws.{IsSoundAfter, step_sound}
-use Rattle.machine_ends.proofs.EndLaws.{each_run_ends}
+use Rattle.runs_unseen.proofs.machine_ends.EndLaws.{each_run_ends}
 use Rattle.stackmap_write.specs.ModuleMaps.{map_of}
 use Rattle.moves_unseen.specs.Waits.{IsSound}
 use Rattle.runs_unseen.proofs.MapLaws.{names_nothing}

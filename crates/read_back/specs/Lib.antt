@@ -1,2 +1,3 @@
 pub mod Said
 pub mod ReadsBack
+pub mod AcceptedTexts

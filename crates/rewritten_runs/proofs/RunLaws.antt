@@ -15,13 +15,13 @@ use Rattle.machine_meaning.specs.Code.{machinery_of}
 use Rattle.machine_meaning.specs.MachineRuns.{MachineOutcome}
 use Rattle.machine_meaning.specs.Machines.{Machinery}
 use Rattle.machine_meaning.specs.TrapLines.{closing_of}
-use Rattle.machine_ends.specs.Statements.{PrintsMore}
-use Rattle.machine_ends.proofs.EndLaws.{each_run_ends}
-use Rattle.machine_ends.proofs.PrintLaws.{printed_first}
+use Rattle.runs_unseen.specs.MachineEnds.{PrintsMore}
+use Rattle.runs_unseen.proofs.machine_ends.EndLaws.{each_run_ends}
+use Rattle.runs_unseen.proofs.machine_ends.PrintLaws.{printed_first}
 use Rattle.sp_rewrite.specs.Statements.{IsRewritten}
 use Rattle.sp_rewrite.proofs.BareLaws.{no_bundle}
 use Rattle.sp_rewrite.proofs.RewrittenLaws.{rewriting_is_target, rewriting_is_verified, rewriting_keeps_meaning}
-use Rattle.rewritten_definite.specs.Statements.{rewritten_source}
+use Rattle.rewritten_sound.specs.Definite.{rewritten_source}
 use Rattle.moves_unseen.specs.Waits.{IsSound}
 use Rattle.rewritten_runs.specs.Statements.{FrontsAreSource, SeenRunsAreSource, SourcesRunOnMachine}
 use Rattle.rewritten_runs.proofs.NameLaws.{names_are_kept}

@@ -3,6 +3,9 @@
 
 ghost use Rattle.rewritten_runs.specs.Statements.{FrontsAreSource, NamesAreKept, SeenRunsAreSource, SourcesRunOnMachine};
 
+pub mod event_places;
+pub mod shown_runs;
+
 /// Whatever the run of a source module gives on objects that never move, the run of its rewritten module on the machine gives,
 /// over the rewritten module's own stack map and under all moves of the plan.
 pub fn sources_run_on_machine()

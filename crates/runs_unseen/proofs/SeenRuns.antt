@@ -28,7 +28,7 @@ use Rattle.machine_meaning.specs.MachineRuns.{accesses_from as accesses_there}
 use Rattle.machine_meaning.specs.Machines.{Machine, Machinery}
 use Rattle.machine_meaning.specs.TrapLines.{closing_of}
 use Rattle.machine_meaning.proofs.OutcomeLaws.{gives_one as machine_gives_one}
-use Rattle.machine_ends.proofs.PrintLaws.{printed_first}
+use Rattle.runs_unseen.proofs.machine_ends.PrintLaws.{printed_first}
 use Rattle.moves_unseen.specs.Objects.{AreHeld}
 use Rattle.moves_unseen.specs.Statements.{IsSeen, MovesAreUnseen}
 use Rattle.moves_unseen.specs.Waits.{IsSound}

@@ -1,20 +1,20 @@
--- The laws of the lines that wait, return, or took effect before, each proved in a crate of its own.
+-- The laws of the lines that wait, return, or took effect before, each proved in a module of its own.
 use Rattle.std.proofs.Common.{refl}
 use Rattle.move_plan.specs.Plans.{go}
 use Rattle.object_meaning.specs.TargetRuns.{target_setting}
 use Rattle.stackmap_write.specs.ModuleMaps.{map_of}
 use Rattle.machine_meaning.specs.Code.{machinery_of}
 use Rattle.moves_unseen.specs.Waits.{CallsFollow, HelpersFollow, NewObjectsFollow, PollsFollow, ReturnsFollow, SkipsFollow, TasksFollow}
-use Rattle.frames_spilled.proofs.SpillLaws.{spills}
-use Rattle.frames_spilled.proofs.WaitLaws.{waits}
-use Rattle.calls_unseen.proofs.CallSteps as calling
-use Rattle.calls_unseen.proofs.StatesWaiting.{states_wait}
-use Rattle.calls_unseen.proofs.TaskSteps as starting
-use Rattle.events_unseen.proofs.ObjectSteps as making
-use Rattle.events_unseen.proofs.PollSteps as polling
-use Rattle.helpers_unseen.proofs.HelperSteps as helping
-use Rattle.helpers_unseen.proofs.SkipLaws.{skip_follows}
-use Rattle.returns_unseen.proofs.ReturnSteps.{return_follows}
+use Rattle.runs_unseen.proofs.frames_spilled.SpillLaws.{spills}
+use Rattle.runs_unseen.proofs.frames_spilled.WaitLaws.{waits}
+use Rattle.runs_unseen.proofs.calls_unseen.CallSteps as calling
+use Rattle.runs_unseen.proofs.calls_unseen.StatesWaiting.{states_wait}
+use Rattle.runs_unseen.proofs.calls_unseen.TaskSteps as starting
+use Rattle.runs_unseen.proofs.events_unseen.ObjectSteps as making
+use Rattle.runs_unseen.proofs.events_unseen.PollSteps as polling
+use Rattle.runs_unseen.proofs.helpers_unseen.HelperSteps as helping
+use Rattle.runs_unseen.proofs.helpers_unseen.SkipLaws.{skip_follows}
+use Rattle.runs_unseen.proofs.returns_unseen.ReturnSteps.{return_follows}
 
 pub calls_follow : CallsFollow
 calls_follow = calling.calls_follow (states_wait waits spills)

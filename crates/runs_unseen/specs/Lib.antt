@@ -1,2 +1,4 @@
+pub mod WaitingStates
+pub mod MachineEnds
 pub mod Runs
 pub mod Statements

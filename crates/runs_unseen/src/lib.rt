@@ -5,6 +5,16 @@ ghost use Rattle.moves_unseen.specs.Statements.{MovesAreUnseen};
 ghost use Rattle.moves_unseen.specs.Waits.{AllLinesFollow};
 ghost use Rattle.runs_unseen.specs.Statements.{AnswersAreSeen, FrontsAreSeen, MachineRunsAreSeen, MapsNameNothing, MovesAreFree, RunsKeepTheirWay};
 
+pub mod calls_unseen;
+pub mod events_unseen;
+pub mod frames_resumed;
+pub mod frames_spilled;
+pub mod helpers_unseen;
+pub mod machine_ends;
+pub mod records_found;
+pub mod returns_unseen;
+pub mod stacks_walked;
+
 /// Each line that is executed is one step of the target meaning and one of the machine, and the relation holds behind it.
 pub fn lines_follow()
     ensures { AllLinesFollow }

@@ -11,7 +11,7 @@ use Rattle.ir_cfg.specs.SourceModules.{IsSourceModule}
 use Rattle.ir_cfg.specs.Unreached.{ModuleDropsUnreached}
 use Rattle.base_forms.specs.Polls.{placed, placed_module}
 use Rattle.rewrite_passes.specs.Before.{BeforeGroups, CanHaveGroups, made_of, relocates_of, rewritten_of}
-use Rattle.rewritten_definite.specs.Statements.{rewritten_source}
+use Rattle.rewritten_sound.specs.Definite.{rewritten_source}
 use Rattle.sp_rewrite.specs.Relocates.{HasFewRelocates, HasManyRelocates, relocates_in}
 use Rattle.sp_rewrite.specs.Statements.{IsRewritten}
 use Rattle.sp_rewrite.proofs.MakingLaws.{functions_are_ready}

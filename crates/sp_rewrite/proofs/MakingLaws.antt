@@ -20,11 +20,11 @@ use Rattle.rewriting_forms.specs.Rewritten.{rewritten}
 use Rattle.rewriting_laws.specs.Laws.{IsReached}
 use Rattle.rewriting_laws.specs.Statements.{IsBefore, no_function}
 use Rattle.rewriting_laws.proofs.Whole.{now_get}
-use Rattle.rewritten_definite.specs.Statements.{IsReachedSource, base_tables, rewritten_source}
-use Rattle.rewritten_definite.proofs.Instance.{based_is_before}
+use Rattle.rewritten_sound.specs.Definite.{IsReachedSource, base_tables, rewritten_source}
+use Rattle.rewritten_sound.proofs.definite.Instance.{based_is_before}
 use Rattle.poll_place.specs.Ready.{IsReady}
 use Rattle.poll_place.proofs.ReadyLemmas.{sources_are_ready}
-use Rattle.rewritten_shape.proofs.TargetLaws.{based_is_target, rewritten_is_target}
+use Rattle.rewritten_sound.proofs.shape.TargetLaws.{based_is_target, rewritten_is_target}
 use Rattle.rewrite_passes.specs.Before.{CanBeMade, CanHaveGroups, made_of}
 use Rattle.sp_rewrite.specs.Before.{FunctionsAreReady}
 use Rattle.sp_rewrite.proofs.RewrittenLaws.{reached_source}

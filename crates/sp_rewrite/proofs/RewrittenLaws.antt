@@ -18,10 +18,10 @@ use Rattle.base_forms.specs.Based.{base_table, based}
 use Rattle.pair_facts.specs.Faults.{IsVerified}
 use Rattle.rewriting_forms.specs.Rewritten.{rewritten, rewritten_funcs}
 use Rattle.rewriting_laws.specs.Statements.{no_function}
-use Rattle.rewritten_definite.specs.Statements.{IsReachedSource, base_tables, rewritten_source}
-use Rattle.rewritten_definite.proofs.Instance.{rewritten_keeps_meaning}
-use Rattle.rewritten_pairs.proofs.TakesFacts.{source_is_verified}
-use Rattle.rewritten_shape.proofs.TargetLaws.{rewritten_is_target}
+use Rattle.rewritten_sound.specs.Definite.{IsReachedSource, base_tables, rewritten_source}
+use Rattle.rewritten_sound.proofs.definite.Instance.{rewritten_keeps_meaning}
+use Rattle.rewritten_sound.proofs.pairs.TakesFacts.{source_is_verified}
+use Rattle.rewritten_sound.proofs.shape.TargetLaws.{rewritten_is_target}
 use Rattle.unreached_laws.proofs.MeaningLaws.{unreached_are_no_matter}
 use Rattle.unreached_laws.proofs.ReachedLaws.{unreached_are_gone}
 use Rattle.sp_rewrite.specs.Statements.{RewritingIsByFunction, RewritingIsOne, RewritingIsTarget, RewritingIsVerified, RewritingKeepsMeaning}

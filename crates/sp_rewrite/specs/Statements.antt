@@ -11,7 +11,7 @@ use Rattle.base_forms.specs.Polls.{placed}
 use Rattle.base_forms.specs.Based.{base_table, based}
 use Rattle.pair_facts.specs.Faults.{IsVerified}
 use Rattle.rewriting_forms.specs.Rewritten.{rewritten}
-use Rattle.rewritten_definite.specs.Statements.{rewritten_source}
+use Rattle.rewritten_sound.specs.Definite.{rewritten_source}
 
 -- without its unreached blocks, with polls, bases and checks, and with a statepoint and its relocates in place of each call that isn't
 -- of a leaf

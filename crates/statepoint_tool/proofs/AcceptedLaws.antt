@@ -9,8 +9,8 @@ use Rattle.ir_lines.specs.Statements.{Line}
 use Rattle.ir_types.specs.FaultSet.{HasNoFault}
 use Rattle.moves_unseen.specs.Waits.{IsSound}
 use Rattle.pair_facts.specs.Faults.{IsVerified}
-use Rattle.accepted_texts.specs.Statements.{Needs}
-use Rattle.accepted_texts.proofs.Accepted.{accepted_is_of}
+use Rattle.read_back.specs.AcceptedTexts.{Needs}
+use Rattle.read_back.proofs.accepted_texts.Accepted.{accepted_is_of}
 use Rattle.statepoint_tool.specs.Causes.{IsAccepted}
 use Rattle.statepoint_tool.specs.Complete.{IsTold}
 use Rattle.statepoint_tool.specs.Taken.{Taken, Bytes, FilesSeen, MayGive}

@@ -18,7 +18,7 @@ use Rattle.statepoint_tool.specs.Causes.{IsAccepted, AsksToShow, AsksToCheck, As
 use Rattle.sp_rewrite.specs.Relocates.{HasFewRelocates, HasManyRelocates}
 use Rattle.sp_rewrite.specs.Statements.{IsRewritten}
 use Rattle.sp_rewrite.proofs.RewrittenLaws.{rewriting_is_one}
-use Rattle.rewritten_definite.specs.Statements.{rewritten_source}
+use Rattle.rewritten_sound.specs.Definite.{rewritten_source}
 use Rattle.object_meaning.specs.Outcomes.{Outcome}
 use Rattle.object_meaning.specs.SourceRuns.{source_setting}
 use Rattle.object_meaning.proofs.OutcomeLaws.{gives_one}

@@ -22,13 +22,13 @@ use Rattle.object_meaning.proofs.EndLaws.{IsFinal}
 use Rattle.object_meaning.proofs.OutcomeLaws.{gives_final, gives_one, gives_some}
 use Rattle.machine_meaning.specs.Code.{machinery_of}
 use Rattle.machine_meaning.specs.MachineRuns.{MachineOutcome, MachineGives}
-use Rattle.machine_ends.proofs.EndLaws.{each_run_ends}
+use Rattle.runs_unseen.proofs.machine_ends.EndLaws.{each_run_ends}
 use Rattle.moves_unseen.specs.Statements.{IsSeen}
 use Rattle.moves_unseen.specs.Waits.{IsSound}
 use Rattle.runs_unseen.proofs.SeenRuns.{keeps_way, seen_here}
 use Rattle.run_texts.specs.RunTexts.{RunWritesQuiet, run_lines}
-use Rattle.shown_runs.specs.ShownTexts.{IsShownText}
-use Rattle.shown_runs.proofs.SeenLaws.{quiet_is_whole, sources_are_shown, verified_are_shown}
+use Rattle.rewritten_runs.specs.ShownTexts.{IsShownText}
+use Rattle.rewritten_runs.proofs.shown_runs.SeenLaws.{quiet_is_whole, sources_are_shown, verified_are_shown}
 use Rattle.rewritten_runs.specs.Runs.{IsRunOnMachine}
 use Rattle.rewritten_runs.proofs.RunLaws.{sources_run_on_machine}
 use Rattle.sp_rewrite.specs.Statements.{IsRewritten}

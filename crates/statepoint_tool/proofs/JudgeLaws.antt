@@ -2,7 +2,7 @@
 use Rattle.std.proofs.Common.{◌≡◌, ◌∙◌, inl, inr, ℕ, Bool, true, false, List, Option, refl, sym, ap, subst, arith}
 use Rattle.ir_ast.specs.declared.modules.Form.TheVariants as text_forms
 use Rattle.ir_ast.specs.Modules.{LinedModule, ModuleContent}
-use Rattle.rewritten_definite.specs.Statements.{rewritten_source}
+use Rattle.rewritten_sound.specs.Definite.{rewritten_source}
 use Rattle.sp_rewrite.specs.Relocates.{HasFewRelocates, HasManyRelocates}
 use Rattle.ir_lines.specs.Statements.{Line}
 use Rattle.ir_lines.specs.Modules.{module_of}

@@ -16,3 +16,5 @@ pub mod AnswerLaws
 pub mod CompleteLaws
 pub mod AcceptedLaws
 pub mod HeadlineLaws
+pub mod PassLaws
+pub mod CommandLaws

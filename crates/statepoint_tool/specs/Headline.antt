@@ -21,7 +21,7 @@ use Rattle.object_meaning.specs.SourceRuns.{SourceGives}
 use Rattle.object_meaning.specs.TargetRuns.{TargetGives}
 use Rattle.machine_meaning.specs.MachineRuns.{MachineOutcome}
 use Rattle.run_texts.specs.RunTexts.{RunWrites}
-use Rattle.shown_runs.specs.ShownTexts.{IsShownText}
+use Rattle.rewritten_runs.specs.ShownTexts.{IsShownText}
 use Rattle.moves_unseen.specs.Statements.{IsSeen}
 use Rattle.rewritten_runs.specs.Runs.{IsRunOnMachine}
 use Rattle.sp_rewrite.specs.Relocates.{HasFewRelocates}

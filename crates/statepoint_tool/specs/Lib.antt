@@ -11,3 +11,5 @@ pub mod Causes
 pub mod Statuses
 pub mod Complete
 pub mod Headline
+pub mod Passes
+pub mod Commands

@@ -9,6 +9,7 @@ mod laws;
 mod machine;
 mod maps;
 mod notes;
+mod passes;
 mod phases;
 mod refusal;
 mod rewrite;
@@ -19,6 +20,9 @@ mod status;
 mod top;
 
 pub use laws::plans_are_free;
+pub use passes::{
+    accepted_texts_pass, rewritten_texts_pass, verifier_refuses_none, written_texts_are_ok,
+};
 pub use status::Status;
 pub use tool_words::{Command, FileName, WordsFault, command};
 pub use top::statepoint;

@@ -1,5 +1,0 @@
-use Rattle.events_unseen.proofs.PollSteps as laws
-use Rattle.events_unseen.proofs.polls_follow.Goals as goal
-
-pub returns : goal.returns
-returns c = λ content sound plan bound state extra related line rest is due. laws.polls_follow content sound plan bound state extra related line rest is due

@@ -1,6 +1,0 @@
-use Rattle.frames_spilled.proofs.SpillLaws as laws
-use Rattle.frames_spilled.proofs.spills_are.Goals as goal
-
-pub returns : goal.returns
-returns c = λ content sound machinery state extra running line rest is id callee types op_is.
-    laws.spills content sound machinery state extra running line rest is id callee types op_is

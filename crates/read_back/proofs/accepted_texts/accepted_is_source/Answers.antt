@@ -1,0 +1,5 @@
+use Rattle.read_back.proofs.accepted_texts.Accepted as laws
+use Rattle.read_back.proofs.accepted_texts.accepted_is_source.Goals as goal
+
+pub returns : goal.returns
+returns c = laws.accepted_is_source

@@ -1,5 +1,0 @@
-use Rattle.records_found.proofs.WaitingLaws as laws
-use Rattle.records_found.proofs.records_are_found.Goals as goal
-
-pub returns : goal.returns
-returns c = λ content sound plan bound stands frame held waiting. laws.record_is_found content sound plan bound stands frame held waiting

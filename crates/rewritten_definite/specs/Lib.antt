@@ -1,2 +1,0 @@
-pub mod LeadsOut
-pub mod Statements

@@ -1,5 +1,0 @@
-use Rattle.rewritten_pairs.proofs.Verdict as laws
-use Rattle.rewritten_pairs.proofs.fitting_is_verified.Goals as goal
-
-pub returns : goal.returns
-returns c = laws.fitting_is_verified

@@ -1,0 +1,136 @@
+-- The lines of a trace begin with `#`, and those that a program prints don't.
+use Rattle.std.proofs.Common.{◌≡◌, ℕ, ℤ, zero, suc, pos, negsuc, Bool, true, false, List, [], ◌∷◌, ◌++◌, map, reverse, cond, refl, sym, ap, ◌∙◌, append_assoc, append-nil, arith}
+use Rattle.std.specs.Prelude.{◌+◌, ◌==◌, ◌/◌, ◌%◌, nat_lt, not, filter}
+use Rattle.std.specs.Fmt.{digits, digits_onto, digit_glyph, signed_decimal}
+use Rattle.std.specs.List.{flat_map}
+use Rattle.std.proofs.lemmas.Bool.Decides.{nat_tests}
+use Rattle.std.proofs.lemmas.List.{reverse-append}
+use Rattle.std.proofs.lemmas.List.Elements.{filter-append}
+use Rattle.sp_ids.specs.Numbers.{signed}
+use Rattle.sp_ids.specs.declared.ends.End.{End}
+use Rattle.object_meaning.specs.Effects.{Effect, goes_on, prints, ends, Progress, after, newline, printed_line}
+use Rattle.object_meaning.specs.Runs.{Next, Go, End as Over, advance, goes}
+use Rattle.object_meaning.specs.Tasks.{with_event}
+use Rattle.object_meaning.specs.Traces.{done_at, traced}
+use Rattle.object_meaning.proofs.RunLaws.{goes_over, not_over, same_over, traced_over}
+use Rattle.machine_meaning.specs.Happenings.{Happening, ObjectMove, SlotChange, happenings_at}
+use Rattle.machine_meaning.specs.Machines.{Machine, Machinery}
+use Rattle.machine_meaning.specs.MachineRuns.{machine_proceeds}
+use Rattle.machine_meaning.specs.MachineSteps.{machine_step}
+use Rattle.tool_report.specs.RunLines.{event_line, moved_line, slot_line}
+use Rattle.run_texts.specs.RunTexts.{event_lines, line_of_move, line_of_slot, lines_from, printed_by, step_lines, trace_lines}
+use Rattle.rewritten_runs.specs.ShownTexts.{is_traced, program_lines}
+
+-- ---- lines of a trace
+
+none_of : {X : Type 0} (line : X → List ℕ) → ((x : X) → is_traced (line x) ≡ true) → (xs : List X) → program_lines (map line xs) ≡ []
+none_of line traced_so [] = refl
+none_of line traced_so (x ∷ xs) = ap (λ (is : Bool). cond (not is) (line x ∷ program_lines (map line xs)) (program_lines (map line xs))) (traced_so x) ∙ none_of line traced_so xs
+
+move_traced : (move : ObjectMove) → is_traced (line_of_move move) ≡ true
+unfolding moved_line
+move_traced move = refl
+
+slot_traced : (slot : SlotChange) → is_traced (line_of_slot slot) ≡ true
+unfolding slot_line
+slot_traced slot = refl
+
+event_dropped : (number : ℕ) (one : Happening) → program_lines (event_lines number one) ≡ []
+unfolding event_line
+event_dropped number one =
+    filter-append (λ (line : List ℕ). not (is_traced line)) (map line_of_move one.moves) (map line_of_slot one.slots)
+    ∙ (ap (λ (lines : List (List ℕ)). lines ++ program_lines (map line_of_slot one.slots)) (none_of line_of_move move_traced one.moves)
+    ∙ none_of line_of_slot slot_traced one.slots)
+
+events_dropped : (number : ℕ) (happened : List Happening) → program_lines (flat_map (event_lines number) happened) ≡ []
+events_dropped number [] = refl
+events_dropped number (one ∷ rest) =
+    filter-append (λ (line : List ℕ). not (is_traced line)) (event_lines number one) (flat_map (event_lines number) rest)
+    ∙ (ap (λ (lines : List (List ℕ)). lines ++ program_lines (flat_map (event_lines number) rest)) (event_dropped number one) ∙ events_dropped number rest)
+
+-- ---- numbers
+
+digit_plain : (n : ℕ) (below : Bool) → nat_lt (n % 10) 10 ≡ below → (cond below (48 + n % 10) (87 + n % 10) == 35) ≡ false
+digit_plain n true is = grind (arith, nat_tests)
+digit_plain n false is = grind (arith, nat_tests)
+
+digits_by : (count n : ℕ) (acc rest : List ℕ) (last : Bool) → n / 10 == 0 ≡ last → is_traced (digits_onto count 10 false (n / 10) (digit_glyph false (n % 10) ∷ acc) ++ rest) ≡ false
+    → is_traced (cond last (digit_glyph false (n % 10) ∷ acc) (digits_onto count 10 false (n / 10) (digit_glyph false (n % 10) ∷ acc)) ++ rest) ≡ false
+digits_by count n acc rest true is more = digit_plain n (nat_lt (n % 10) 10) refl
+digits_by count n acc rest false is more = more
+
+digits_plain : (count n : ℕ) (acc rest : List ℕ) → is_traced (acc ++ rest) ≡ false → is_traced (digits_onto count 10 false n acc ++ rest) ≡ false
+digits_plain zero n acc rest plain = plain
+digits_plain (suc count) n acc rest plain =
+    digits_by count n acc rest (n / 10 == 0) refl (digits_plain count (n / 10) (digit_glyph false (n % 10) ∷ acc) rest (digit_plain n (nat_lt (n % 10) 10) refl))
+
+number_plain : (z : ℤ) → is_traced (signed_decimal z ++ newline) ≡ false
+unfolding digits
+number_plain (pos n) = digits_plain 64 n [] newline refl
+number_plain (negsuc n) = refl
+
+printed_plain : (word : ℕ) → is_traced (printed_line word) ≡ false
+unfolding printed_line
+printed_plain word = number_plain (signed 64 word)
+
+-- ---- steps
+
+printed_kept : (effect : Effect Machine) → program_lines (printed_by effect) ≡ printed_by effect
+printed_kept (goes_on machine) = refl
+printed_kept (prints word machine) = ap (λ (is : Bool). cond (not is) (printed_line word ∷ []) []) (printed_plain word)
+printed_kept (ends end machine) = refl
+
+step_kept : (machinery : Machinery) (trace : Bool) (machine : Machine) → program_lines (step_lines machinery trace machine) ≡ step_lines machinery false machine
+step_kept machinery true machine =
+    filter-append (λ (line : List ℕ). not (is_traced line)) (trace_lines machinery machine) (printed_by (machine_step machinery machine))
+    ∙ (ap (λ (lines : List (List ℕ)). lines ++ program_lines (printed_by (machine_step machinery machine)))
+    (events_dropped (with_event machine.state).events (happenings_at machinery machine machine.state.running.rest)) ∙ printed_kept (machine_step machinery machine))
+step_kept machinery false machine = printed_kept (machine_step machinery machine)
+
+module _ (machinery : Machinery) (trace : Bool) where
+  abbrev shown_at : Progress Machine → List (List ℕ)
+  shown_at progress = step_lines machinery trace progress.state
+
+  done_kept : (next : Next End (Progress Machine)) → program_lines (done_at shown_at next) ≡ done_at (λ (progress : Progress Machine). step_lines machinery false progress.state) next
+  done_kept (Go progress) = step_kept machinery trace progress.state
+  done_kept (Over end last) = refl
+
+  -- without the lines of the trace, the steps write what they print
+  pub steps_kept : (count : ℕ) (next : Next End (Progress Machine)) → program_lines (lines_from machinery trace count next) ≡ lines_from machinery false count next
+  steps_kept zero next = refl
+  steps_kept (suc count) next =
+      let step = machine_proceeds machinery in
+      filter-append (λ (line : List ℕ). not (is_traced line)) (done_at shown_at next) (traced shown_at step count (advance step next))
+      ∙ (ap (λ (lines : List (List ℕ)). lines ++ program_lines (traced shown_at step count (advance step next))) (done_kept next)
+      ∙ ap (λ (lines : List (List ℕ)). done_at (λ (progress : Progress Machine). step_lines machinery false progress.state) next ++ lines) (steps_kept count (advance step next)))
+
+-- ---- what the steps print, in order
+
+same_lines : (end other : End) (machine : Machine) (lines : List (List ℕ)) (last : Progress Machine)
+    → Over end (record { state = machine; lines = lines }) ≡ Over other last → last.lines ≡ lines
+same_lines end other machine lines last is = sym (ap (λ (p : Progress Machine). p.lines) (same_over end other (record { state = machine; lines = lines }) last is).last)
+
+abbrev behind_effect : Machinery → ℕ → List (List ℕ) → Effect Machine → List (List ℕ)
+behind_effect machinery count lines effect = printed_by effect ++ lines_from machinery false count (after lines effect)
+
+prints_all : (machinery : Machinery) (count : ℕ) (lines : List (List ℕ)) (effect : Effect Machine) (end : End) (last : Progress Machine)
+    → goes (machine_proceeds machinery) count (after lines effect) ≡ Over end last → reverse last.lines ≡ reverse lines ++ behind_effect machinery count lines effect
+unfolding machine_proceeds
+prints_all machinery zero lines (goes_on machine) end last is = absurd (not_over end last (record { state = machine; lines = lines }) (sym is))
+prints_all machinery (suc count) lines (goes_on machine) end last is = prints_all machinery count lines (machine_step machinery machine) end last is
+prints_all machinery zero lines (prints word machine) end last is =
+    absurd (not_over end last (record { state = machine; lines = printed_line word ∷ lines }) (sym is))
+prints_all machinery (suc count) lines (prints word machine) end last is =
+    let more = behind_effect machinery count (printed_line word ∷ lines) (machine_step machinery machine) in
+    prints_all machinery count (printed_line word ∷ lines) (machine_step machinery machine) end last is
+    ∙ (ap (λ (front : List (List ℕ)). front ++ more) (reverse-append (printed_line word ∷ []) lines) ∙ append_assoc (reverse lines) (printed_line word ∷ []) more)
+prints_all machinery count lines (ends other machine) end last is =
+    let same = same_lines other end machine lines last (sym (goes_over (machine_proceeds machinery) count other (record { state = machine; lines = lines })) ∙ is) in
+    let none = traced_over (λ (progress : Progress Machine). step_lines machinery false progress.state) (machine_proceeds machinery) count other (record { state = machine; lines = lines }) in
+    ap reverse same ∙ (sym (append-nil (reverse lines)) ∙ ap (λ (more : List (List ℕ)). reverse lines ++ more) (sym none))
+
+pub prints_from : (machinery : Machinery) (count : ℕ) (now : Progress Machine) (end : End) (last : Progress Machine)
+    → goes (machine_proceeds machinery) count (Go now) ≡ Over end last → reverse last.lines ≡ reverse now.lines ++ lines_from machinery false count (Go now)
+unfolding machine_proceeds
+prints_from machinery zero now end last is = absurd (not_over end last now (sym is))
+prints_from machinery (suc count) now end last is = prints_all machinery count now.lines (machine_step machinery now.state) end last is

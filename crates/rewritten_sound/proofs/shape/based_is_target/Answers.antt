@@ -1,0 +1,5 @@
+use Rattle.rewritten_sound.proofs.shape.TargetLaws as laws
+use Rattle.rewritten_sound.proofs.shape.based_is_target.Goals as goal
+
+pub returns : goal.returns
+returns c = laws.based_is_target

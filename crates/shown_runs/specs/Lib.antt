@@ -1,2 +1,0 @@
-pub mod ShownTexts
-pub mod Statements

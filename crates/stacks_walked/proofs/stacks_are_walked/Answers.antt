@@ -1,6 +1,0 @@
-use Rattle.stacks_walked.proofs.WalkLaws as laws
-use Rattle.stacks_walked.proofs.stacks_are_walked.Goals as goal
-
-pub returns : goal.returns
-returns c = λ content sound plan bound stands settled lines flip some frames helds waiting.
-    laws.stacks_walked content sound plan bound stands settled lines flip some frames helds waiting
