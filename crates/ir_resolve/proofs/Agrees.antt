@@ -1,7 +1,8 @@
 -- The sets agree where what is left of code 18 does: all else is one of the text alone, or is shown.
-use Rattle.std.proofs.Common.{◌≡◌, ◌≢◌, ◌⊎◌, inl, inr, ℕ, List, refl, sym, subst, arith}
+use Rattle.std.proofs.Common.{◌≡◌, ◌≢◌, ◌⊎◌, inl, inr, ℕ, Bool, true, false, ◌&&◌, List, [], ◌∷◌, refl, sym, subst, arith}
 use Rattle.std.specs.Prelude.{Some}
-use Rattle.std.specs.List.{Contains}
+use Rattle.std.specs.List.{AllByRecursion, Contains}
+use Rattle.std.proofs.lemmas.List.Elements.{All-from_recursion, recursion_from_All}
 use Rattle.ir_ast.specs.declared.modules.Form.{Form}
 use Rattle.ir_ast.specs.declared.modules.Form.TheVariants.{Source, Rewritten}
 use Rattle.ir_lines.specs.Statements.{Line}
@@ -13,7 +14,13 @@ use Rattle.ir_resolve.specs.TextFaults as text
 use Rattle.ir_resolve.specs.ModuleFaults.{HasModuleFault, Breaks, IsTypedBesidesCalls, CaseAgain, PhiIsWrong}
 use Rattle.ir_ast.specs.Faults.GroupShape.{ShapeOf}
 use Rattle.list_laws.proofs.Contents.{contains_middle}
-use Rattle.ir_lines.specs.Statements.{switch_case}
+use Rattle.ir_lines.specs.Statements.{Statement, switch_case, cast}
+use Rattle.ir_lines.specs.ReadLines.{IsReadLines}
+use Rattle.ir_lines.specs.TextLines.{IsTextLines, is_formed}
+use Rattle.line_parts.specs.Parts.{is_cast_type}
+use Rattle.ir_resolve.proofs.Values.{IsReadCast}
+use Rattle.ir_resolve.proofs.TextsRead.{cases_follow, cases_spell, types_read}
+use Rattle.ir_resolve.proofs.PhiPlaces.{phis_stand}
 use Rattle.ir_lines.specs.Faults.TypeClash.{CaseClash, by_line, by_case, number_said, case_numbers}
 use Rattle.ir_lines.specs.Faults.GroupShape.{GroupShape}
 use Rattle.ir_resolve.proofs.Spelled.{misspelled_covered, case_width_clashes, miscounted_misshapes}
@@ -142,3 +149,35 @@ rest_of_source lines = record {
   groups_resolved = λ line is f. absurd (let bad : Source ≡ Rewritten = is in cc);
   groups_spelled = λ line is f. absurd (let bad : Source ≡ Rewritten = is in cc);
 }
+
+-- ---- what the laws ask of lines
+
+and-left : (a b : Bool) → (a && b) ≡ true → a ≡ true
+and-left true b e = refl
+and-left false b e = e
+
+and-right : (a b : Bool) → (a && b) ≡ true → b ≡ true
+and-right true b e = e
+and-right false b e = absurd (let bad : false ≡ true = e in cc)
+
+read_cast : (s : Statement) → is_formed s ≡ true → IsReadCast s
+read_cast (cast result op from value to) e = (and-left (is_cast_type from) (is_cast_type to) e, and-right (is_cast_type from) (is_cast_type to) e)
+read_cast _ e = tt
+
+all_casts : (ls : List Line) → AllByRecursion (λ l. is_formed l.says ≡ true) ls → AllByRecursion (λ l. IsReadCast l.says) ls
+all_casts [] all = tt
+all_casts (l ∷ ls) all = (read_cast l.says all.0, all_casts ls all.1)
+
+-- the lines of a text that was read
+pub lines_stand : (form : Form) (lines : List Line) → IsReadLines form lines → IsTextLines form lines → LinesStand lines
+lines_stand form lines read placed = record {
+  cases = cases_follow form lines read;
+  literals = cases_spell form lines read;
+  phis = phis_stand form lines placed;
+  types = types_read form lines read (All-from_recursion (λ (l : Line). IsReadCast l.says) lines
+      (all_casts lines (recursion_from_All (λ (l : Line). is_formed l.says ≡ true) lines placed.formed)));
+}
+
+-- in a text of the source form that was read the two sets have the same least member
+pub source_agrees : (lines : List Line) → IsReadLines Source lines → IsTextLines Source lines → FaultsAgree Source lines
+source_agrees lines read placed = faults_agree Source lines (lines_stand Source lines read placed) (rest_of_source lines)

@@ -46,7 +46,7 @@ use Rattle.ir_resolve.proofs.Types.{TypesRead}
 
 -- ---- the first place of a name
 
-place_split : (names : List (List ℕ)) (name : List ℕ) (v : ℕ) → place_in names name ≡ Some v
+pub place_split : (names : List (List ℕ)) (name : List ℕ) (v : ℕ) → place_in names name ≡ Some v
     → (slice_get names v ≡ Some name) × ¬ Contains (take v names) name
 place_split [] name v e = absurd (none-some v e)
 place_split (x ∷ xs) name v e = by (bytes_eq name x) refl v (sym (position-cons (bytes_eq name) x xs) ∙ e) (place_split xs name)
@@ -76,7 +76,7 @@ place_split (x ∷ xs) name v e = by (bytes_eq name x) refl v (sym (position-con
     by false is v f ih =
         later (place_in xs name) refl v (sym (ap (λ (c : Bool). cond c (Some 0) (option_map suc (place_in xs name))) is) ∙ f) is ih
 
-place_first : (before : List (List ℕ)) (name : List ℕ) (behind : List (List ℕ)) → ¬ Contains before name → place_in (before ++ name ∷ behind) name ≡ Some (length before)
+pub place_first : (before : List (List ℕ)) (name : List ℕ) (behind : List (List ℕ)) → ¬ Contains before name → place_in (before ++ name ∷ behind) name ≡ Some (length before)
 place_first [] name behind none =
     position-cons (bytes_eq name) name behind ∙ ap (λ (b : Bool). cond b (Some 0) (option_map suc (place_in behind name))) (bytes_eq-self name)
 place_first (x ∷ xs) name behind none =
@@ -88,12 +88,12 @@ place_first (x ∷ xs) name behind none =
     by true is = absurd (none (subst (Contains (x ∷ xs)) (sym (bytes_eq-same name x is)) (contains_first x xs)))
     by false is = ap (λ (b : Bool). cond b (Some 0) (Some (suc (length xs)))) is
 
-number-first : (before : List (List ℕ)) (name : List ℕ) (behind : List (List ℕ)) → ¬ Contains before name → length before < 2 ^ 32 - 1
+pub number-first : (before : List (List ℕ)) (name : List ℕ) (behind : List (List ℕ)) → ¬ Contains before name → length before < 2 ^ 32 - 1
     → number_in (before ++ name ∷ behind) name ≡ length before
 number-first before name behind none few =
     ap number_of (place_first before name behind none) ∙ (let e : min (length before) (2 ^ 32 - 1) ≡ length before = omega arith in e)
 
-number_place : (names : List (List ℕ)) (name : List ℕ) (v : ℕ) → number_in names name ≡ v → v < 2 ^ 32 - 1 → place_in names name ≡ Some v
+pub number_place : (names : List (List ℕ)) (name : List ℕ) (v : ℕ) → number_in names name ≡ v → v < 2 ^ 32 - 1 → place_in names name ≡ Some v
 number_place names name v e few = by (place_in names name) refl
   where
     by : (o : Option ℕ) → place_in names name ≡ o → place_in names name ≡ Some v
@@ -102,13 +102,13 @@ number_place names name v e few = by (place_in names name) refl
 
 -- ---- results, one by one
 
-abbrev has_result : Instruction → Bool
+abbrev pub has_result : Instruction → Bool
 has_result inst = is_some inst.result
 
 abbrev outs : List Spot → List defs.Definition
 outs spots = map outcome (filter has_result (map (λ (spot : Spot). spot.inst) spots))
 
-abbrev results : List Line → List Naming
+abbrev pub results : List Line → List Naming
 results ls = flat_map (λ l. result_named l.number (gives l.says)) ls
 
 outs-said : (line : ℕ) (cases : List ℕ) (o : Option Instruction) (rest : List Spot) → outs (spot_said line cases o ++ rest) ≡ outs (spot_said line cases o) ++ outs rest
@@ -322,31 +322,31 @@ merge_said known rest _ e = unused e
 
 -- ---- the place of a result
 
-abbrev bare : List Line → Definition → Known
+abbrev pub bare : List Line → Definition → Known
 bare lines func = known_of (map uncast_line lines) (uncast_in func)
 
-abbrev made_of : List Line → Definition → Function
+abbrev pub made_of : List Line → Definition → Function
 made_of lines func = function_of (bare lines func) (uncast_in func)
 
-abbrev names_of : List Naming → List (List ℕ)
+abbrev pub names_of : List Naming → List (List ℕ)
 names_of ns = map (λ one. one.name) ns
 
 abbrev arguments_of : Definition → List defs.Definition
 arguments_of func = map argument (map argument_of (arguments_named func.line [] func.arguments))
 
-names-are : (lines : List Line) (func : Definition) → (bare lines func).values ≡ names_of (values_of func)
+pub names-are : (lines : List Line) (func : Definition) → (bare lines func).values ≡ names_of (values_of func)
 names-are lines func = ap names_of (values-same func)
 
 defs-are : (lines : List Line) (func : Definition)
     → defs.definitions_of (made_of lines func) ≡ arguments_of func ++ outs (spots_of (bare lines func) (map uncast_line func.body))
 defs-are lines func = ap (λ (is : List Instruction). arguments_of func ++ map outcome (filter has_result is)) (function_insts (bare lines func) (uncast_in func))
 
-results-append : (a b : List Line) → results (a ++ b) ≡ results a ++ results b
+pub results-append : (a b : List Line) → results (a ++ b) ≡ results a ++ results b
 results-append [] b = refl
 results-append (l ∷ a) b =
     ap (λ (ns : List Naming). result_named l.number (gives l.says) ++ ns) (results-append a b) ∙ sym (append_assoc (result_named l.number (gives l.says)) (results a) (results b))
 
-names-split : (func : Definition) (before : List Line) (l : Line) (after : List Line) → func.body ≡ before ++ l ∷ after
+pub names-split : (func : Definition) (before : List Line) (l : Line) (after : List Line) → func.body ≡ before ++ l ∷ after
     → names_of (values_of func) ≡ names_of (values_before func before) ++ (names_of (result_named l.number (gives l.says)) ++ names_of (results after))
 names-split func before l after whole =
     let args = arguments_named func.line [] func.arguments in
@@ -385,7 +385,7 @@ gives_name n (Some pair) name within = elim (contains_cons pair.0 name [] within
   | inr none ↦ absurd (contains_none name none)
 ]
 
-few_before : (func : Definition) (vb rest : List (List ℕ)) (name : List ℕ) → names_of (values_of func) ≡ vb ++ name ∷ rest → length (values_of func) < 2 ^ 32
+pub few_before : (func : Definition) (vb rest : List (List ℕ)) (name : List ℕ) → names_of (values_of func) ≡ vb ++ name ∷ rest → length (values_of func) < 2 ^ 32
     → length vb < 2 ^ 32 - 1
 few_before func vb rest name is few =
     let a = length-map (values_of func) (λ (one : Naming). one.name) in
@@ -430,7 +430,7 @@ derive_in lines func few _ (by_merge name operand what st is uses d) =
 
 -- ---- from the module
 
-get_either : {A : Type 0} (xs ys : List A) (v : ℕ) (y : A) → slice_get (xs ++ ys) v ≡ Some y
+pub get_either : {A : Type 0} (xs ys : List A) (v : ℕ) (y : A) → slice_get (xs ++ ys) v ≡ Some y
     → (slice_get xs v ≡ Some y) ⊎ ((k : ℕ) × ((v ≡ length xs + k) × (slice_get ys k ≡ Some y)))
 get_either [] ys v y e = inr (v, (omega arith, e))
 get_either (x ∷ xs) ys zero y e = inl e
@@ -443,7 +443,7 @@ one_name : (n : ℕ) (o : Option (List ℕ × TypeWord)) → length (result_name
 one_name n None e = absurd (omega arith)
 one_name n (Some pair) e = (pair.0, refl)
 
-take_front : {A : Type 0} (xs ys : List A) → take (length xs) (xs ++ ys) ≡ xs
+pub take_front : {A : Type 0} (xs ys : List A) → take (length xs) (xs ++ ys) ≡ xs
 take_front [] ys = refl
 take_front {A} (x ∷ xs) ys = ap (λ (zs : List A). x ∷ zs) (take_front xs ys)
 

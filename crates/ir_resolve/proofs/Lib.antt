@@ -19,7 +19,9 @@ pub mod Laws
 pub mod Spelled
 pub mod Least
 pub mod Derivations
+pub mod Fronts
 pub mod TextsRead
-pub mod Agrees
 pub mod PhiPlaces
+pub mod Groups
+pub mod Agrees
 pub mod Samples

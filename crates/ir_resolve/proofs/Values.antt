@@ -44,9 +44,9 @@ value_type (Int width) = tys.Int width
 value_type Managed = tys.Ptr
 value_type Plain = tys.Void
 
--- a cast answers a type that a value may have
+-- a cast takes and answers a type that a value may have
 abbrev pub IsReadCast : Statement → Type 0
-IsReadCast (cast result op from value to) = is_cast_type to ≡ true
+IsReadCast (cast result op from value to) = (is_cast_type from ≡ true) × (is_cast_type to ≡ true)
 IsReadCast _ = ⊤
 
 pub value_type-is : (ty : TypeWord) → IsValueType ty → value_type ty ≡ type_of ty
@@ -99,7 +99,7 @@ one_result known rest n line cases (load result ty address) read of_cast = one_t
 one_result known rest n line cases (call None answer callee passed) read of_cast = refl
 one_result known rest n line cases (call (Some result) answer callee passed) read of_cast = one_type _ _ (sym (value_type-is answer read.0.1))
 one_result known rest n line cases (gc_result result ty token) read of_cast = one_type _ _ (sym (value_type-is ty read.1))
-one_result known rest n line cases (cast result op from value to) read of_cast = one_type _ _ (cast_type-is to of_cast)
+one_result known rest n line cases (cast result op from value to) read of_cast = one_type _ _ (cast_type-is to of_cast.1)
 one_result known rest n line cases _ read of_cast = refl
 
 all_results : (known : Known) (ls : List Line) → AllByRecursion (λ l. SaysRead l.says) ls → AllByRecursion (λ l. IsReadCast l.says) ls
