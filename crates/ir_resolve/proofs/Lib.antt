@@ -23,5 +23,7 @@ pub mod Fronts
 pub mod TextsRead
 pub mod PhiPlaces
 pub mod Groups
+pub mod Tokens
+pub mod GroupFaults
 pub mod Agrees
 pub mod Samples

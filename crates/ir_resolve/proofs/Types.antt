@@ -54,18 +54,18 @@ use Rattle.ir_resolve.proofs.Rules.{LayoutAt, LayoutIs, to_rule, from_rule}
 
 -- ---- booleans
 
-or-left : (a b : Bool) → (a || b) ≡ false → a ≡ false
+pub or-left : (a b : Bool) → (a || b) ≡ false → a ≡ false
 or-left false b e = refl
 or-left true b e = e
 
-or-right : (a b : Bool) → (a || b) ≡ false → b ≡ false
+pub or-right : (a b : Bool) → (a || b) ≡ false → b ≡ false
 or-right false b e = e
 or-right true b e = absurd (let bad : true ≡ false = e in cc)
 
 neither : (a b : Bool) → a ≡ false → b ≡ false → (a || b) ≡ false
 neither a b e f = ap (λ (x : Bool). x || b) e ∙ f
 
-inside : (b : Bool) → not b ≡ false → b ≡ true
+pub inside : (b : Bool) → not b ≡ false → b ≡ true
 inside true e = refl
 inside false e = absurd (let bad : true ≡ false = e in cc)
 
@@ -287,7 +287,7 @@ some_both : {P Q R : Instruction → Type 0} (o : Option Instruction) → IfSome
 some_both None p q f = tt
 some_both (Some inst) p q f = f inst p q
 
-select_same : (form : Form) (scope : Scope) (s : Statement) → keeps_rule form scope s ≡ true → SameTypes s
+pub select_same : (form : Form) (scope : Scope) (s : Statement) → keeps_rule form scope s ≡ true → SameTypes s
 select_same form scope (select result condition left_ty left right_ty right) e = sym (types_one left_ty right_ty e)
   where
     types_one : (a b : TypeWord) → same_type a b ≡ true → a ≡ b
@@ -314,7 +314,7 @@ typed_plain form lines func env rest behind s read plain clash unknown =
     (to_rule form (bare_scope form lines func) known scope refl (map uncast_line rest) s (layout_is form lines func env s names.layouts) rule)
     (λ inst f r. record { operands = f all; rule = r })
 
-typed_said : (form : Form) (lines : List Line) (func : Definition) → TypesRead lines func → (rest : List Line) → AllByRecursion (λ l. SaysRead l.says) rest
+pub typed_said : (form : Form) (lines : List Line) (func : Definition) → TypesRead lines func → (rest : List Line) → AllByRecursion (λ l. SaysRead l.says) rest
     → (s : Statement) → SaysRead s → clashes form (scope_of lines func) s ≡ false → names_unknown (scope_of lines func) s ≡ false
     → IfSome (instruction_said (bare_known lines func) (map uncast_line rest) (uncast s)) (IsTypedBesidesCalls (bare_scope form lines func))
 typed_said form lines func env rest behind (cast result op from value to) read clash unknown = record { operands = tt; rule = tt }
@@ -397,7 +397,7 @@ broken_said form lines func env rest s read spelled unknown clash = broken_plain
 
 -- ---- the law
 
-split_read : (P : Line → Type 0) (before : List Line) (l : Line) (after : List Line) → AllByRecursion P (before ++ l ∷ after) → P l × AllByRecursion P after
+pub split_read : (P : Line → Type 0) (before : List Line) (l : Line) (after : List Line) → AllByRecursion P (before ++ l ∷ after) → P l × AllByRecursion P after
 split_read P [] l after all = (all.0, all.1)
 split_read P (k ∷ before) l after all = split_read P before l after all.1
 

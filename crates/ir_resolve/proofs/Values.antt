@@ -141,7 +141,7 @@ IsKnownUse scope _ = ⊤
 abbrev pub types_in : Scope → List Ty
 types_in scope = map (λ one. value_type one.ty) scope.values
 
-same_type-is : (a b : TypeWord) → same_type a b ≡ true → a ≡ b
+pub same_type-is : (a b : TypeWord) → same_type a b ≡ true → a ≡ b
 same_type-is Void Void e = refl
 same_type-is (Int width) (Int other) e = ap Int ((Decides-eqb width other).0 e)
 same_type-is Managed Managed e = refl
