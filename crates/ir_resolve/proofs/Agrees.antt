@@ -1,8 +1,8 @@
--- The sets agree where what is left of code 18 does: all else is one of the text alone, or is shown.
-use Rattle.std.proofs.Common.{◌≡◌, ◌≢◌, ◌⊎◌, inl, inr, ℕ, Bool, true, false, ◌&&◌, List, [], ◌∷◌, refl, sym, subst, arith}
-use Rattle.std.specs.Prelude.{Some}
-use Rattle.std.specs.List.{AllByRecursion, Contains}
-use Rattle.std.proofs.lemmas.List.Elements.{All-from_recursion, recursion_from_All}
+-- The sets agree, code by code, in each text that was read; so they have one least fault, and the one is empty where the other is.
+use Rattle.std.proofs.Common.{◌≡◌, ◌≢◌, ◌⊎◌, inl, inr, ℕ, ◌≤◌, Bool, true, false, not, cond, ◌&&◌, List, [], ◌∷◌, ◌++◌, refl, sym, subst, arith}
+use Rattle.std.specs.Prelude.{Some, take_while}
+use Rattle.std.specs.List.{All, AllByRecursion, Contains}
+use Rattle.std.proofs.lemmas.List.Elements.{All-nil, All-cons, All-contains, All-from_recursion, recursion_from_All}
 use Rattle.ir_ast.specs.declared.modules.Form.{Form}
 use Rattle.ir_ast.specs.declared.modules.Form.TheVariants.{Source, Rewritten}
 use Rattle.ir_lines.specs.Statements.{Line}
@@ -12,23 +12,26 @@ use Rattle.ir_resolve.specs.Resolved.{resolved}
 use Rattle.ir_resolve.specs.TextFaults.{HasTextFault}
 use Rattle.ir_resolve.specs.TextFaults as text
 use Rattle.ir_resolve.specs.ModuleFaults.{HasModuleFault, Breaks, IsTypedBesidesCalls, CaseAgain, PhiIsWrong}
-use Rattle.ir_ast.specs.Faults.GroupShape.{ShapeOf}
 use Rattle.list_laws.proofs.Contents.{contains_middle}
-use Rattle.ir_lines.specs.Statements.{Statement, switch_case, cast}
+use Rattle.ir_lines.specs.Statements.{Statement, define, switch_case, cast}
 use Rattle.ir_lines.specs.ReadLines.{IsReadLines}
 use Rattle.ir_lines.specs.TextLines.{IsTextLines, is_formed}
 use Rattle.line_parts.specs.Parts.{is_cast_type}
 use Rattle.ir_resolve.proofs.Values.{IsReadCast}
 use Rattle.ir_resolve.proofs.TextsRead.{cases_follow, cases_spell, types_read}
-use Rattle.ir_resolve.proofs.PhiPlaces.{phis_stand}
+use Rattle.ir_resolve.proofs.PhiPlaces.{BodyStands, bodies, phis_stand}
+use Rattle.ir_resolve.proofs.GroupFaults.{Grouped, groups_resolved, groups_spelled}
+use Rattle.ir_resolve.proofs.Least.{least_resolved, none_resolved, none_plain}
+use Rattle.ir_resolve.specs.Statements.{Rise, AreRead, FaultsCover, LeastIsOne, NoneInBoth}
+use Rattle.ir_reader.specs.declared.states.Place.TheVariants as places
+use Rattle.std.proofs.lemmas.List.Sums.{take_while-cons}
 use Rattle.ir_lines.specs.Faults.TypeClash.{CaseClash, by_line, by_case, number_said, case_numbers}
-use Rattle.ir_lines.specs.Faults.GroupShape.{GroupShape}
 use Rattle.ir_resolve.proofs.Spelled.{misspelled_covered, case_width_clashes, miscounted_misshapes}
 use Rattle.ir_resolve.specs.ModuleFaults as broken
 use Rattle.ir_resolve.specs.FaultSet.{HasResolvedFault, of_text, of_module}
 use Rattle.ir_resolve.specs.Agreement.{Covered, FaultsAgree}
 use Rattle.ir_resolve.proofs.Entries.{CasesFollow}
-use Rattle.ir_lines.specs.Sections.{Definition, definitions_of}
+use Rattle.ir_lines.specs.Sections.{Definition, definition_said, definitions_of, is_close}
 use Rattle.ir_resolve.proofs.Derivations.{derived_in_resolved, derived_in_lines}
 use Rattle.ir_resolve.proofs.Types.{TypesRead, type_resolved, type_spelled}
 use Rattle.ir_resolve.proofs.Cases.{CasesSpell}
@@ -45,19 +48,16 @@ OfLines form lines line code = ¬ (¬ Covered (HasPlainFault form lines) line co
 shown : (form : Form) (lines : List Line) (line code : ℕ) → HasPlainFault form lines line code → OfLines form lines line code
 shown form lines line code has none = none (itself (HasPlainFault form lines) line code has)
 
--- what is left: what the lines have of this code the resolved text covers, and the lines cover what breaks the rules of its module
-pub record RestAgrees (form : Form) (lines : List Line) : Type 0 where
-  pub groups_resolved : (line : ℕ) → form ≡ Rewritten → GroupShape lines line → Covered (HasResolvedFault form lines) line 18
-  pub groups_spelled : (line : ℕ) → form ≡ Rewritten → Breaks (resolved form lines) line (λ func place inst. ShapeOf func place inst inst.op)
-      → OfLines form lines line 18
-
--- cases are literals and stand behind their `switch`, phis stand in front of their block, and types and counts are such as
--- in each text that was read
-pub record LinesStand (lines : List Line) : Type 0 where
+-- cases are literals and stand behind their `switch`, phis stand in front of their block, a block goes on until its
+-- terminator, lines rise, and types and counts are such as in each text that was read
+pub record LinesStand (form : Form) (lines : List Line) : Type 0 where
   pub cases : CasesFollow lines
   pub literals : CasesSpell lines
   pub phis : PhisStand lines
-  pub types : (func : Definition) → Contains (definitions_of lines) func → TypesRead lines func
+  pub groups : (func : Definition) → Contains (definitions_of lines) func → Grouped form lines func
+
+types_of : (form : Form) (lines : List Line) → LinesStand form lines → (func : Definition) → Contains (definitions_of lines) func → TypesRead lines func
+types_of form lines stand func defined = (stand.groups func defined).env
 
 from_case : (form : Form) (lines : List Line) (line : ℕ) → CaseClash lines line → HasResolvedFault form lines line 5
 from_case form lines line clash = by clash.wrong
@@ -83,28 +83,28 @@ from_case form lines line clash = by clash.wrong
     }))
     by (inr again) = of_module (broken.case_again (case_in_resolved form lines line (record { clash = clash; value = again.0; said = again.1; again = again.2 })))
 
-from_lines : (form : Form) (lines : List Line) → LinesStand lines → RestAgrees form lines → (line code : ℕ) → HasPlainFault form lines line code
+from_lines : (form : Form) (lines : List Line) → LinesStand form lines → (line code : ℕ) → HasPlainFault form lines line code
     → Covered (HasResolvedFault form lines) line code
-from_lines form lines stand rest line code (plain.name_twice f) = itself (HasResolvedFault form lines) line 3 (of_text (text.name_twice f))
-from_lines form lines stand rest line code (plain.unknown_name f) = itself (HasResolvedFault form lines) line 4 (of_text (text.unknown_name f))
-from_lines form lines stand rest line code (plain.type_clash (by_line f)) = type_resolved form lines line stand.types f
-from_lines form lines stand rest line code (plain.type_clash (by_case f)) = itself (HasResolvedFault form lines) line 5 (from_case form lines line f)
-from_lines form lines stand rest line code (plain.entry_has_pred f) =
+from_lines form lines stand line code (plain.name_twice f) = itself (HasResolvedFault form lines) line 3 (of_text (text.name_twice f))
+from_lines form lines stand line code (plain.unknown_name f) = itself (HasResolvedFault form lines) line 4 (of_text (text.unknown_name f))
+from_lines form lines stand line code (plain.type_clash (by_line f)) = type_resolved form lines line (types_of form lines stand) f
+from_lines form lines stand line code (plain.type_clash (by_case f)) = itself (HasResolvedFault form lines) line 5 (from_case form lines line f)
+from_lines form lines stand line code (plain.entry_has_pred f) =
     itself (HasResolvedFault form lines) line 6 (of_module (broken.entry_has_pred (entry_in_resolved form lines line stand.cases f)))
-from_lines form lines stand rest line code (plain.phi_edges f) =
+from_lines form lines stand line code (plain.phi_edges f) =
     itself (HasResolvedFault form lines) line 7 (of_module (broken.phi_edges (phi_in_resolved form lines line stand.cases stand.phis f)))
-from_lines form lines stand rest line code (plain.derived_escapes is f) =
-    itself (HasResolvedFault form lines) line 9 (of_module (broken.derived_escapes is (derived_in_resolved form lines line stand.types f)))
-from_lines form lines stand rest line code (plain.no_strategy f) = itself (HasResolvedFault form lines) line 10 (of_text (text.no_strategy f))
-from_lines form lines stand rest line code (plain.no_main f) =
+from_lines form lines stand line code (plain.derived_escapes is f) =
+    itself (HasResolvedFault form lines) line 9 (of_module (broken.derived_escapes is (derived_in_resolved form lines line (types_of form lines stand) f)))
+from_lines form lines stand line code (plain.no_strategy f) = itself (HasResolvedFault form lines) line 10 (of_text (text.no_strategy f))
+from_lines form lines stand line code (plain.no_main f) =
     itself (HasResolvedFault form lines) line 11 (of_module (broken.no_main f.at_no_line (main_in_resolved form lines line f)))
-from_lines form lines stand rest line code (plain.unknown_extern f) = itself (HasResolvedFault form lines) line 12 (of_text (text.unknown_extern f))
-from_lines form lines stand rest line code (plain.bad_layout f) = itself (HasResolvedFault form lines) line 13 (of_text (text.bad_layout f))
-from_lines form lines stand rest line code (plain.reserved f) = itself (HasResolvedFault form lines) line 14 (of_text (text.reserved f))
-from_lines form lines stand rest line code (plain.pointer_order f) =
+from_lines form lines stand line code (plain.unknown_extern f) = itself (HasResolvedFault form lines) line 12 (of_text (text.unknown_extern f))
+from_lines form lines stand line code (plain.bad_layout f) = itself (HasResolvedFault form lines) line 13 (of_text (text.bad_layout f))
+from_lines form lines stand line code (plain.reserved f) = itself (HasResolvedFault form lines) line 14 (of_text (text.reserved f))
+from_lines form lines stand line code (plain.pointer_order f) =
     itself (HasResolvedFault form lines) line 15 (of_module (broken.pointer_order (order_in_resolved form lines line f)))
-from_lines form lines stand rest line code (plain.pointer_cast f) = itself (HasResolvedFault form lines) line 16 (of_text (text.pointer_cast f))
-from_lines form lines stand rest line code (plain.group_shape is f) = rest.groups_resolved line is f
+from_lines form lines stand line code (plain.pointer_cast f) = itself (HasResolvedFault form lines) line 16 (of_text (text.pointer_cast f))
+from_lines form lines stand line code (plain.group_shape is f) = groups_resolved form lines line stand.groups is f
 
 from_text : (form : Form) (lines : List Line) → (line code : ℕ) → HasTextFault form lines line code → OfLines form lines line code
 from_text form lines line code (text.name_twice f) = shown form lines line 3 (plain.name_twice f)
@@ -118,36 +118,29 @@ from_text form lines line code (text.reserved f) = shown form lines line 14 (pla
 from_text form lines line code (text.pointer_cast f) = shown form lines line 16 (plain.pointer_cast f)
 from_text form lines line code (text.miscounted is f) = shown form lines line 18 (miscounted_misshapes form lines line is f)
 
-from_module : (form : Form) (lines : List Line) → LinesStand lines → RestAgrees form lines → (line code : ℕ) → HasModuleFault (resolved form lines) line code
+from_module : (form : Form) (lines : List Line) → LinesStand form lines → (line code : ℕ) → HasModuleFault (resolved form lines) line code
     → OfLines form lines line code
-from_module form lines stand rest line code (broken.type_clash f) = type_spelled form lines line stand.types f
-from_module form lines stand rest line code (broken.case_again f) =
+from_module form lines stand line code (broken.type_clash f) = type_spelled form lines line (types_of form lines stand) f
+from_module form lines stand line code (broken.case_again f) =
     shown form lines line 5 (plain.type_clash (by_case (case_in_lines form lines line stand.literals f).clash))
-from_module form lines stand rest line code (broken.entry_has_pred f) = shown form lines line 6 (plain.entry_has_pred (entry_in_lines form lines line f))
-from_module form lines stand rest line code (broken.phi_edges f) =
+from_module form lines stand line code (broken.entry_has_pred f) = shown form lines line 6 (plain.entry_has_pred (entry_in_lines form lines line f))
+from_module form lines stand line code (broken.phi_edges f) =
     λ none. phi_in_lines form lines line stand.cases f (λ found. none (itself (HasPlainFault form lines) line 7 (plain.phi_edges found)))
-from_module form lines stand rest line code (broken.derived_escapes is f) =
-    λ none. derived_in_lines form lines line stand.types f (λ found. none (itself (HasPlainFault form lines) line 9 (plain.derived_escapes is found)))
-from_module form lines stand rest line code (broken.no_main at none) =
+from_module form lines stand line code (broken.derived_escapes is f) =
+    λ none. derived_in_lines form lines line (types_of form lines stand) f (λ found. none (itself (HasPlainFault form lines) line 9 (plain.derived_escapes is found)))
+from_module form lines stand line code (broken.no_main at none) =
     shown form lines line 11 (subst (λ (l : ℕ). HasPlainFault form lines l 11) (sym at) (plain.no_main (main_in_lines form lines none)))
-from_module form lines stand rest line code (broken.pointer_order f) = shown form lines line 15 (plain.pointer_order (order_in_lines form lines line f))
-from_module form lines stand rest line code (broken.group_shape is f) = rest.groups_spelled line is f
+from_module form lines stand line code (broken.pointer_order f) = shown form lines line 15 (plain.pointer_order (order_in_lines form lines line f))
+from_module form lines stand line code (broken.group_shape is f) = groups_spelled form lines line stand.groups is f
 
-from_resolved : (form : Form) (lines : List Line) → LinesStand lines → RestAgrees form lines → (line code : ℕ) → HasResolvedFault form lines line code → OfLines form lines line code
-from_resolved form lines stand rest line code (of_text f) = from_text form lines line code f
-from_resolved form lines stand rest line code (of_module f) = from_module form lines stand rest line code f
+from_resolved : (form : Form) (lines : List Line) → LinesStand form lines → (line code : ℕ) → HasResolvedFault form lines line code → OfLines form lines line code
+from_resolved form lines stand line code (of_text f) = from_text form lines line code f
+from_resolved form lines stand line code (of_module f) = from_module form lines stand line code f
 
-pub faults_agree : (form : Form) (lines : List Line) → LinesStand lines → RestAgrees form lines → FaultsAgree form lines
-faults_agree form lines stand rest = record {
-  resolved_cover = from_lines form lines stand rest;
-  lines_cover = from_resolved form lines stand rest;
-}
-
--- the source form has no statepoint groups, so nothing is left
-pub rest_of_source : (lines : List Line) → RestAgrees Source lines
-rest_of_source lines = record {
-  groups_resolved = λ line is f. absurd (let bad : Source ≡ Rewritten = is in cc);
-  groups_spelled = λ line is f. absurd (let bad : Source ≡ Rewritten = is in cc);
+pub faults_agree : (form : Form) (lines : List Line) → LinesStand form lines → FaultsAgree form lines
+faults_agree form lines stand = record {
+  resolved_cover = from_lines form lines stand;
+  lines_cover = from_resolved form lines stand;
 }
 
 -- ---- what the laws ask of lines
@@ -168,16 +161,65 @@ all_casts : (ls : List Line) → AllByRecursion (λ l. is_formed l.says ≡ true
 all_casts [] all = tt
 all_casts (l ∷ ls) all = (read_cast l.says all.0, all_casts ls all.1)
 
+rise_first : (from to : ℕ) → from ≤ to → (ls : List Line) → Rise to ls → Rise from ls
+rise_first from to low [] rise = tt
+rise_first from to low (l ∷ ls) rise = ((let first = rise.0 in omega arith), rise.1)
+
+-- the lines of a body rise, being lines of the text in its order
+rise_taken : (from : ℕ) (ls : List Line) → Rise from ls → Rise from (take_while (λ l. not (is_close l.says)) ls)
+rise_taken from [] rise = tt
+rise_taken from (l ∷ ls) rise =
+    subst (Rise from) (sym (take_while-cons (λ (one : Line). not (is_close one.says)) l ls)) (by (is_close l.says) (rise_taken l.number ls rise.1))
+  where
+    by : (b : Bool) → Rise l.number (take_while (λ k. not (is_close k.says)) ls) → Rise from (cond (not b) (l ∷ take_while (λ k. not (is_close k.says)) ls) [])
+    by true ih = tt
+    by false ih = (rise.0, ih)
+
+abbrev BodyRises : Definition → Type 0
+BodyRises func = Rise 0 func.body
+
+one_rises : (n : ℕ) (s : Statement) (ls : List Line) → Rise 0 ls → All BodyRises (definitions_of ls) → All BodyRises (definition_said n s ls ++ definitions_of ls)
+one_rises n (define answer name arguments strategy) ls rise ih =
+    All-cons BodyRises (record {
+      line = n;
+      answer = answer;
+      name = name;
+      arguments = arguments;
+      strategy = strategy;
+      body = take_while (λ l. not (is_close l.says)) ls;
+    }) (definitions_of ls) (rise_taken 0 ls rise) ih
+one_rises n _ ls rise ih = ih
+
+bodies_rise : (lines : List Line) → Rise 0 lines → All BodyRises (definitions_of lines)
+bodies_rise [] rise = All-nil BodyRises
+bodies_rise (l ∷ ls) rise =
+    let more = rise_first 0 l.number rise.0 ls rise.1 in one_rises l.number l.says ls more (bodies_rise ls more)
+
 -- the lines of a text that was read
-pub lines_stand : (form : Form) (lines : List Line) → IsReadLines form lines → IsTextLines form lines → LinesStand lines
-lines_stand form lines read placed = record {
-  cases = cases_follow form lines read;
-  literals = cases_spell form lines read;
-  phis = phis_stand form lines placed;
-  types = types_read form lines read (All-from_recursion (λ (l : Line). IsReadCast l.says) lines
-      (all_casts lines (recursion_from_All (λ (l : Line). is_formed l.says ≡ true) lines placed.formed)));
+pub lines_stand : (form : Form) (lines : List Line) → AreRead form lines → LinesStand form lines
+lines_stand form lines are = record {
+  cases = cases_follow form lines are.read;
+  literals = cases_spell form lines are.read;
+  phis = phis_stand form lines are.placed;
+  groups = λ func defined. record {
+    env = types_read form lines are.read (All-from_recursion (λ (l : Line). IsReadCast l.says) lines
+        (all_casts lines (recursion_from_All (λ (l : Line). is_formed l.says ≡ true) lines are.placed.formed))) func defined;
+    stand = All-contains BodyStands (definitions_of lines) func (bodies places.Top lines are.placed.placed) defined;
+    rise = λ is. All-contains BodyRises (definitions_of lines) func (bodies_rise lines (are.order is)) defined;
+  };
 }
 
--- in a text of the source form that was read the two sets have the same least member
+-- in a text that was read the two sets have the same least member
+pub read_agree : FaultsCover
+read_agree form lines are = faults_agree form lines (lines_stand form lines are)
+
+-- of the source form nothing is asked of numbers of lines
 pub source_agrees : (lines : List Line) → IsReadLines Source lines → IsTextLines Source lines → FaultsAgree Source lines
-source_agrees lines read placed = faults_agree Source lines (lines_stand Source lines read placed) (rest_of_source lines)
+source_agrees lines read placed =
+    read_agree Source lines (record { read = read; placed = placed; order = λ is. absurd (let bad : Source ≡ Rewritten = is in cc) })
+
+pub read_least : LeastIsOne
+read_least form lines are line code = least_resolved form lines (read_agree form lines are) line code
+
+pub read_none : NoneInBoth
+read_none form lines are = (none_resolved form lines (read_agree form lines are), none_plain form lines (read_agree form lines are))

@@ -1,11 +1,11 @@
 -- Code 18: a line of a statepoint group is out of shape exactly where its instruction is, unless it has a fault before.
-use Rattle.std.proofs.Common.{◌≡◌, ◌≢◌, ◌∙◌, ◌⊎◌, inl, inr, ℕ, zero, suc, ◌<◌, ◌≤◌, ◌+◌, ◌-◌, ◌*◌, ◌^◌, ◌%◌, Bool, true, false, not, ◌||◌, ◌&&◌, if◌then◌else◌, List, [], ◌∷◌, ◌++◌, map, length, take, drop, refl, ap, sym, subst, arith, append_assoc}
-use Rattle.std.specs.Prelude.{Option, Some, None, IfSome, is_none, slice_get, option_map, filter_map, nat_lt, nat_le, ⊤}
+use Rattle.std.proofs.Common.{◌≡◌, ◌≢◌, ◌∙◌, inl, inr, ℕ, zero, suc, ◌<◌, ◌≤◌, ◌+◌, ◌-◌, ◌*◌, ◌^◌, ◌%◌, Bool, true, false, not, ◌||◌, ◌&&◌, if◌then◌else◌, List, [], ◌∷◌, ◌++◌, map, length, take, drop, refl, ap, sym, subst, arith, append_assoc}
+use Rattle.std.specs.Prelude.{Option, Some, IfSome, is_none, slice_get, option_map, filter_map, nat_lt, nat_le}
 use Rattle.std.specs.List.{AllByRecursion, AllZip, Contains, list_any}
 use Rattle.std.proofs.Math.Nat.{mod-eq_of_lt}
 use Rattle.std.proofs.Math.Seq.{drop-append_seam}
 use Rattle.std.proofs.lemmas.Nat.{mod-mul-add}
-use Rattle.std.proofs.lemmas.List.{length-map, map-append}
+use Rattle.std.proofs.lemmas.List.{length-map}
 use Rattle.std.proofs.lemmas.Bool.{leb-true}
 use Rattle.std.proofs.lemmas.Option.{slice_get_within, same_Some, none-some, slice_get-map}
 use Rattle.std.proofs.lemmas.Bool.Decides.{Decides-eqb, Decides-ltb, not_from_Decides}
@@ -33,28 +33,28 @@ use Rattle.line_parts.specs.Parts as values
 use Rattle.line_parts.specs.Lists.{Given}
 use Rattle.group_parts.specs.Statepoints.{Guarded}
 use Rattle.ir_lines.specs.Statements.{Line, Statement, statepoint, gc_result, gc_relocate}
-use Rattle.ir_lines.specs.Parts.{uses, passed_value, live_use, token_use, index_use, values_named, targets, entry_labels, functions_named, layouts_named}
+use Rattle.ir_lines.specs.Parts.{passed_value, live_use, token_use, index_use, values_named, targets, entry_labels, functions_named, layouts_named}
 use Rattle.ir_lines.specs.Places.{number_in}
 use Rattle.ir_lines.specs.Sections.{Definition, Naming, definitions_of, values_of}
 use Rattle.ir_lines.specs.Scope.{Scope, scope_of, value_named, block_named, head_named, layout_named}
-use Rattle.ir_lines.specs.Types.{same_type, is_within, literal_fits, fits}
-use Rattle.ir_lines.specs.Modules.{Known, known_of, type_of, given_type, passed_operand, used_operand, wrapped, instruction, function_of, instruction_said}
-use Rattle.ir_lines.specs.InBody.{InBody}
+use Rattle.ir_lines.specs.Types.{same_type, is_within, fits}
+use Rattle.ir_lines.specs.Modules.{Known, known_of, type_of, given_type, passed_operand, used_operand, wrapped, instruction, function_of}
 use Rattle.ir_lines.specs.PlainFaults.{HasPlainFault, ComesFirst}
 use Rattle.ir_lines.specs.PlainFaults as plain
 use Rattle.ir_lines.specs.Faults.UnknownName.{names_unknown}
 use Rattle.ir_lines.specs.Faults.TypeClash.{misfits, keeps_rule, clashes, is_field}
 use Rattle.ir_lines.specs.Faults.TypeClash as clash
-use Rattle.ir_lines.specs.Faults.GroupShape.{Group, ResultIsWrong, RelocateIsWrong, PartIsWrong, WrongPart, GroupShape, misshapes, apart, late, other_type, is_entry, base_outside, derived_outside, derived_null, by_line, by_part}
+use Rattle.ir_lines.specs.Faults.GroupShape.{Group, ResultIsWrong, RelocateIsWrong, PartIsWrong, WrongPart, GroupShape, apart, late, other_type, is_entry, base_outside, derived_outside, derived_null, by_line, by_part}
 use Rattle.ir_lines.specs.ReadLines.{IsValueType, SaysRead}
 use Rattle.ir_lines.proofs.LawNames.{stands, stands_below, number-is, split_at}
-use Rattle.ir_resolve.specs.Resolved.{uncast, uncast_line, spots_of, resolved}
+use Rattle.ir_resolve.specs.Resolved.{uncast_line, spots_of, resolved}
 use Rattle.ir_resolve.specs.TextFaults.{miscounts}
 use Rattle.ir_resolve.specs.TextFaults as text
 use Rattle.ir_resolve.specs.ModuleFaults.{Breaks, IsTypedBesidesCalls}
 use Rattle.ir_resolve.specs.ModuleFaults as broken
 use Rattle.ir_resolve.specs.FaultSet.{HasResolvedFault, of_text, of_module}
 use Rattle.ir_resolve.specs.Agreement.{Covered}
+use Rattle.ir_resolve.specs.Statements.{Rise}
 use Rattle.ir_resolve.proofs.Places.{spot_of, stands_at}
 use Rattle.ir_resolve.proofs.Casts.{uncast_in, defined_before, definitions-same}
 use Rattle.ir_resolve.proofs.Spelled.{or-first}
@@ -62,8 +62,8 @@ use Rattle.ir_resolve.proofs.Values.{IsReadCast, same_type-is}
 use Rattle.ir_resolve.proofs.Types.{TypesRead, type_resolved, typed_said, split_read, or-left, or-right, inside}
 use Rattle.ir_resolve.proofs.Derivations.{bare, made_of, names-are}
 use Rattle.ir_resolve.proofs.Fronts.{said_at, front, spot_at, spot_there}
-use Rattle.ir_resolve.proofs.Groups.{are_parts, point, point_made, group_made, group_said, one_group}
-use Rattle.ir_resolve.proofs.Tokens.{NoPart, misshapes_clash, live_misfits, plain_in_shape}
+use Rattle.ir_resolve.proofs.Groups.{point, group_made, group_said, one_group}
+use Rattle.ir_resolve.proofs.Tokens.{misshapes_clash, live_misfits, plain_in_shape}
 use Rattle.ir_resolve.proofs.PhiPlaces.{StandsIn}
 
 -- ---- numbers of entries
@@ -102,11 +102,6 @@ place_of_entry place count few e below = by place.negative place.magnitude e bel
         absurd (omega arith)
 
 -- ---- lines in order
-
--- the numbers of lines don't fall
-abbrev pub Rise : ℕ → List Line → Type 0
-Rise from [] = ⊤
-Rise from (l ∷ ls) = (from ≤ l.number) × Rise l.number ls
 
 rise_later : (from : ℕ) (before : List Line) (l : Line) (after : List Line) → Rise from (before ++ l ∷ after) → from ≤ l.number
 rise_later from [] l after rise = rise.0
@@ -187,7 +182,6 @@ not-true false h = refl
 record Where (lines : List Line) (func : Definition) (before : List Line) (l : Line) (after : List Line) : Type 0 where
   env : TypesRead lines func
   stand : StandsIn places.Entry func.body
-  rise : Rise 0 func.body
   whole : func.body ≡ before ++ l ∷ after
 
 abbrev place_at : List Line → Definition → List Line → Line → List Line → ℕ
@@ -375,18 +369,18 @@ relocate_right lines func before n result token base derived after w fit right l
 
 -- ---- the laws
 
--- what is known of the definitions of a text that was read
-pub record Grouped (lines : List Line) (func : Definition) : Type 0 where
+-- what is known of a definition of a text that was read
+pub record Grouped (form : Form) (lines : List Line) (func : Definition) : Type 0 where
   pub env : TypesRead lines func
   pub stand : StandsIn places.Entry func.body
-  pub rise : Rise 0 func.body
+  pub rise : form ≡ Rewritten → Rise 0 func.body
 
 weaker : (Has : ℕ → ℕ → Type 0) (line : ℕ) → Covered Has line 5 → Covered Has line 18
 weaker Has line covered = record {
   first_line = covered.first_line;
   first_code = covered.first_code;
   has = covered.has;
-  first = elim covered.first [ | inl less ↦ inl less | inr same ↦ inr (same.0, (let small = same.1 in omega arith)) ];
+  first = elim covered.first [ inl less ↦ inl less | inr same ↦ inr (same.0, (let small = same.1 in omega arith)) ];
 }
 
 part_broken : (form : Form) (lines : List Line) (func : Definition) (before : List Line) (n : ℕ) (what : Statement) (after : List Line)
@@ -404,8 +398,7 @@ part_broken form lines func before n (gc_relocate result token base derived) aft
     let base_fits = not (is_within 32 base) in
     let derived_fits = not (is_within 32 derived) in
     let uses_fit : misfits scope what ≡ false = or-left (misfits scope what) (not (keeps_rule form scope what)) fit in
-    let numbers : (base_fits || (derived_fits || false)) ≡ false = or-right (not (fits scope Void (values.local token))) (base_fits || (derived_fits || false)) uses_fit in
-    (
+    let numbers : (base_fits || (derived_fits || false)) ≡ false = or-right (not (fits scope Void (values.local token))) (base_fits || (derived_fits || false)) uses_fit in (
       relocate_made (bare lines func) result token base derived,
       refl,
       relocate_broken lines func before n result token base derived after w (inside (is_within 32 base) (or-left base_fits (derived_fits || false) numbers))
@@ -418,13 +411,13 @@ there : (lines : List Line) (func : Definition) → Contains (definitions_of lin
 there lines func defined =
     subst (λ (ds : List Definition). Contains ds (uncast_in func)) (sym (definitions-same lines)) (contains_map uncast_in (definitions_of lines) func defined)
 
-part_in_resolved : (form : Form) (lines : List Line) (line : ℕ) → (f : WrongPart lines line) → Grouped lines f.func → names_unknown (scope_of lines f.func) f.what ≡ false
+part_in_resolved : (form : Form) (lines : List Line) (line : ℕ) → (f : WrongPart lines line) → Grouped form lines f.func → names_unknown (scope_of lines f.func) f.what ≡ false
     → clashes form (scope_of lines f.func) f.what ≡ false → Breaks (resolved form lines) line (λ func place inst. ShapeOf func place inst inst.op)
 part_in_resolved form lines line f grouped known fit =
     let func = f.func in
     let names = bare lines func in
     let l : Line = record { number = line; says = f.what } in
-    let w : Where lines func f.before l f.after = record { env = grouped.env; stand = grouped.stand; rise = grouped.rise; whole = f.whole } in
+    let w : Where lines func f.before l f.after = record { env = grouped.env; stand = grouped.stand; whole = f.whole } in
     let read : SaysRead f.what = (split_read (λ (k : Line). SaysRead k.says) f.before l f.after (subst (AllByRecursion (λ k. SaysRead k.says)) f.whole grouped.env.says)).0 in
     let b = part_broken form lines func f.before line f.what f.after w read known fit f.wrong in
     let place = place_at lines func f.before l f.after in
@@ -439,7 +432,7 @@ part_in_resolved form lines line f grouped known fit =
     }
 
 -- each fault of code 18 has one of the resolved text that comes first
-pub groups_resolved : (form : Form) (lines : List Line) (line : ℕ) → ((func : Definition) → Contains (definitions_of lines) func → Grouped lines func)
+pub groups_resolved : (form : Form) (lines : List Line) (line : ℕ) → ((func : Definition) → Contains (definitions_of lines) func → Grouped form lines func)
     → form ≡ Rewritten → GroupShape lines line → Covered (HasResolvedFault form lines) line 18
 groups_resolved form lines line grouped is (by_line f) =
     let func = f.func in
@@ -452,11 +445,11 @@ groups_resolved form lines line grouped is (by_line f) =
     let of_cast = (split_read (λ (l : Line). IsReadCast l.says) before f.found after (subst (AllByRecursion (λ l. IsReadCast l.says)) whole env.casts)).0 in
     elim (misshapes_clash form (scope_of lines func) f.found.says read of_cast f.faulty) [
       | inl count ↦ record {
-          first_line = line;
-          first_code = 18;
-          has = of_text (text.miscounted is (record { func = func; defined = f.defined; found = f.found; inside = f.inside; number = f.number; faulty = count }));
-          first = inr (refl, omega arith);
-        }
+        first_line = line;
+        first_code = 18;
+        has = of_text (text.miscounted is (record { func = func; defined = f.defined; found = f.found; inside = f.inside; number = f.number; faulty = count }));
+        first = inr (refl, omega arith);
+      }
       | inr wrong ↦ weaker (HasResolvedFault form lines) line (type_resolved form lines line (λ g defined. (grouped g defined).env)
           (record { func = func; defined = f.defined; found = f.found; inside = f.inside; number = f.number; faulty = wrong }))
     ]
@@ -502,7 +495,7 @@ shape_right lines func before n what after w inst said typed right fit = λ lack
     (place_at lines func before (record { number = n; says = what }) after) typed)
 
 -- and that an instruction is out of shape without a fault of the lines that comes first is refuted
-pub groups_spelled : (form : Form) (lines : List Line) (line : ℕ) → ((func : Definition) → Contains (definitions_of lines) func → Grouped lines func)
+pub groups_spelled : (form : Form) (lines : List Line) (line : ℕ) → ((func : Definition) → Contains (definitions_of lines) func → Grouped form lines func)
     → form ≡ Rewritten → Breaks (resolved form lines) line (λ func place inst. ShapeOf func place inst inst.op)
     → ¬ (¬ Covered (HasPlainFault form lines) line 18)
 groups_spelled form lines line grouped is fault none =
@@ -546,12 +539,12 @@ groups_spelled form lines line grouped is fault none =
     }) in
     let typed = subst (λ (o : Option Instruction). IfSome o (IsTypedBesidesCalls (made.scope_of (resolved form lines).whole.content (made_of lines func)))) at.said
     (typed_said form lines func own.env at.after reads.1 at.line.says reads.0 fit unknown) in
-    let w : Where lines func at.before at.line at.after = record { env = own.env; stand = own.stand; rise = own.rise; whole = at.whole } in
+    let w : Where lines func at.before at.line at.after = record { env = own.env; stand = own.stand; whole = at.whole } in
     let live : (token : List ℕ) (g : Group func at.before token) → list_any (λ entry. not (fits scope Managed entry)) g.live ≡ false =
     λ token g. not-true (list_any (λ (entry : Val). not (fits scope Managed entry)) g.live) (λ e.
     (let split = point_split lines func at.before at.line at.after w token g in
     let sp = point g.number token g.made g.live in
-    let order : g.number ≤ at.line.number = rise_behind 0 g.earlier sp g.parts at.line at.after (subst (Rise 0) split own.rise) in
+    let order : g.number ≤ at.line.number = rise_behind 0 g.earlier sp g.parts at.line at.after (subst (Rise 0) split (own.rise is)) in
     none (record {
       first_line = g.number;
       first_code = 5;

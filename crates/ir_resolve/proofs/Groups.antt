@@ -1,10 +1,10 @@
 -- The group of a token: lines end with it exactly where the instructions before the place do in the resolved text.
-use Rattle.std.proofs.Common.{◌≡◌, ◌∙◌, ◌⊎◌, inl, inr, ℕ, zero, suc, ◌<◌, ◌+◌, ◌-◌, ◌^◌, Bool, true, false, ◌&&◌, ◌==◌, List, [], ◌∷◌, ◌++◌, map, length, take, refl, ap, sym, subst, arith, append_assoc, length-append}
+use Rattle.std.proofs.Common.{◌≡◌, ◌∙◌, ℕ, zero, suc, ◌<◌, ◌+◌, ◌-◌, ◌^◌, Bool, true, false, ◌&&◌, ◌==◌, List, [], ◌∷◌, ◌++◌, map, length, take, refl, ap, sym, subst, arith, append_assoc, length-append}
 use Rattle.std.specs.Prelude.{Option, Some, None, IfSome, slice_get}
 use Rattle.std.specs.List.{AllByRecursion, Contains, list_all}
 use Rattle.std.specs.Str.{bytes_eq}
 use Rattle.std.proofs.lemmas.List.{length-map}
-use Rattle.std.proofs.lemmas.Option.{same_Some, none-some}
+use Rattle.std.proofs.lemmas.Option.{same_Some}
 use Rattle.std.proofs.lemmas.Bool.Decides.{Decides-eqb}
 use Rattle.name_chains.proofs.Places.{bytes_eq-same, bytes_eq-self}
 use Rattle.list_laws.proofs.Places.{get_past, get_middle}
@@ -29,11 +29,11 @@ use Rattle.ir_lines.specs.Places.{number_in}
 use Rattle.ir_lines.specs.Sections.{Definition, Naming, values_before, values_of}
 use Rattle.ir_lines.specs.Modules.{Known, type_of, given_type, passed_operand, used_operand, callee_of, wrapped, binary_of, conversion_of, instruction, instruction_said}
 use Rattle.ir_lines.specs.Faults.GroupShape.{Group, is_part}
-use Rattle.ir_lines.specs.TextLines.{Goes, place_behind, behind_instruction}
+use Rattle.ir_lines.specs.TextLines.{place_behind, behind_instruction}
 use Rattle.ir_lines.specs.ReadLines.{is_instruction}
 use Rattle.ir_resolve.specs.Resolved.{uncast, uncast_line}
-use Rattle.ir_resolve.proofs.Derivations.{place_split, number-first, number_place, names-split, get_either, take_front, few_before, names-are, bare, made_of, names_of, results}
-use Rattle.ir_resolve.proofs.Fronts.{said_at, insts_said, insts, front, front-append, front_at, insts_split, number-at}
+use Rattle.ir_resolve.proofs.Derivations.{place_split, number-first, number_place, names-split, take_front, few_before, names-are, bare, made_of, names_of, results}
+use Rattle.ir_resolve.proofs.Fronts.{insts_said, insts, front, front-append, front_at, insts_split, number-at}
 use Rattle.ir_resolve.proofs.PhiPlaces.{StandsIn, after}
 
 abbrev pub are_parts : List ℕ → List Line → Bool

@@ -10,7 +10,7 @@ use Rattle.ir_reader.specs.declared.states.Place.{Place}
 use Rattle.ir_reader.specs.declared.states.Place.TheVariants as places
 use Rattle.line_parts.specs.declared.readings.TypeWord.{TypeWord}
 use Rattle.line_parts.specs.Parts.{Val}
-use Rattle.ir_lines.specs.Statements.{Line, Statement, layout, declare, define, close, label, phi, jump, branch, switch, switch_case, switch_end, ret_void, ret, unreachable, cast}
+use Rattle.ir_lines.specs.Statements.{Line, Statement, layout, declare, define, close, label, phi, jump, branch, switch, switch_case, switch_end, ret_void, ret, unreachable}
 use Rattle.ir_lines.specs.Sections.{Definition, BlockLines, definition_said, definitions_of, is_close, is_label, label_said, until_label, block_at, labelled_blocks, first_block, blocks_of, count_numbered}
 use Rattle.ir_lines.specs.ReadLines.{is_instruction}
 use Rattle.ir_lines.specs.TextLines.{IsTextLines, Stand, Goes, place_behind, behind_instruction, behind_head, behind_closed, behind_case}

@@ -34,7 +34,7 @@ use Rattle.ir_lines.specs.Scope.{Scope, value_named}
 use Rattle.ir_lines.specs.Types.{same_type, naming_fits, fits}
 use Rattle.ir_lines.specs.Modules.{Known, type_of, given_type, passed_type, passed_operand, used_operand, entry_operand, case_values, binary_of, conversion_of, instruction_said}
 use Rattle.ir_lines.specs.Faults.TypeClash.{misfits, keeps_rule, clashes}
-use Rattle.ir_lines.specs.Faults.GroupShape.{is_token, names_token, uses_token, is_count, statepoint_is_wrong, misshapes}
+use Rattle.ir_lines.specs.Faults.GroupShape.{is_token, names_token, uses_token, is_count, misshapes}
 use Rattle.ir_lines.specs.ReadLines.{IsValueType, IsReadPassed, SaysRead}
 use Rattle.ir_resolve.specs.Resolved.{uncast}
 use Rattle.ir_resolve.specs.TextFaults.{miscounts}
