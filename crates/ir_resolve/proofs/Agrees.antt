@@ -1,42 +1,38 @@
 -- The sets agree, code by code, in each text that was read; so they have one least fault, and the one is empty where the other is.
-use Rattle.std.proofs.Common.{◌≡◌, ◌≢◌, ◌⊎◌, inl, inr, ℕ, ◌≤◌, Bool, true, false, not, cond, ◌&&◌, List, [], ◌∷◌, ◌++◌, refl, sym, subst, arith}
-use Rattle.std.specs.Prelude.{Some, take_while}
-use Rattle.std.specs.List.{All, AllByRecursion, Contains}
-use Rattle.std.proofs.lemmas.List.Elements.{All-nil, All-cons, All-contains, All-from_recursion, recursion_from_All}
+use Rattle.std.proofs.Common.{◌≡◌, ◌≢◌, ◌⊎◌, inl, inr, ℕ, List, refl, sym, subst, arith}
+use Rattle.std.specs.Prelude.{Some}
+use Rattle.std.specs.List.{Contains}
+use Rattle.std.proofs.lemmas.List.Elements.{All-contains}
+use Rattle.list_laws.proofs.Contents.{contains_middle}
 use Rattle.ir_ast.specs.declared.modules.Form.{Form}
 use Rattle.ir_ast.specs.declared.modules.Form.TheVariants.{Source, Rewritten}
-use Rattle.ir_lines.specs.Statements.{Line}
-use Rattle.ir_lines.specs.PlainFaults.{HasPlainFault, ComesFirst}
+use Rattle.ir_reader.specs.declared.states.Place.TheVariants as places
+use Rattle.ir_lines.specs.Statements.{Line, switch_case}
+use Rattle.ir_lines.specs.Sections.{Definition, definitions_of}
+use Rattle.ir_lines.specs.ReadLines.{IsReadLines}
+use Rattle.ir_lines.specs.TextLines.{IsTextLines}
+use Rattle.ir_lines.specs.PlainFaults.{HasPlainFault}
 use Rattle.ir_lines.specs.PlainFaults as plain
+use Rattle.ir_lines.specs.Faults.TypeClash.{CaseClash, by_line, by_case, number_said, case_numbers}
 use Rattle.ir_resolve.specs.Resolved.{resolved}
 use Rattle.ir_resolve.specs.TextFaults.{HasTextFault}
 use Rattle.ir_resolve.specs.TextFaults as text
-use Rattle.ir_resolve.specs.ModuleFaults.{HasModuleFault, Breaks, IsTypedBesidesCalls, CaseAgain, PhiIsWrong}
-use Rattle.list_laws.proofs.Contents.{contains_middle}
-use Rattle.ir_lines.specs.Statements.{Statement, define, switch_case, cast}
-use Rattle.ir_lines.specs.ReadLines.{IsReadLines}
-use Rattle.ir_lines.specs.TextLines.{IsTextLines, is_formed}
-use Rattle.line_parts.specs.Parts.{is_cast_type}
-use Rattle.ir_resolve.proofs.Values.{IsReadCast}
-use Rattle.ir_resolve.proofs.TextsRead.{cases_follow, cases_spell, types_read}
-use Rattle.ir_resolve.proofs.PhiPlaces.{BodyStands, bodies, phis_stand}
-use Rattle.ir_resolve.proofs.GroupFaults.{Grouped, groups_resolved, groups_spelled}
-use Rattle.ir_resolve.proofs.Least.{least_resolved, none_resolved, none_plain}
-use Rattle.ir_resolve.specs.Statements.{Rise, AreRead, FaultsCover, LeastIsOne, NoneInBoth}
-use Rattle.ir_reader.specs.declared.states.Place.TheVariants as places
-use Rattle.std.proofs.lemmas.List.Sums.{take_while-cons}
-use Rattle.ir_lines.specs.Faults.TypeClash.{CaseClash, by_line, by_case, number_said, case_numbers}
-use Rattle.ir_resolve.proofs.Spelled.{misspelled_covered, case_width_clashes, miscounted_misshapes}
+use Rattle.ir_resolve.specs.ModuleFaults.{HasModuleFault}
 use Rattle.ir_resolve.specs.ModuleFaults as broken
 use Rattle.ir_resolve.specs.FaultSet.{HasResolvedFault, of_text, of_module}
 use Rattle.ir_resolve.specs.Agreement.{Covered, FaultsAgree}
+use Rattle.ir_resolve.specs.Statements.{AreRead, FaultsCover, LeastIsOne, NoneInBoth}
 use Rattle.ir_resolve.proofs.Entries.{CasesFollow}
-use Rattle.ir_lines.specs.Sections.{Definition, definition_said, definitions_of, is_close}
-use Rattle.ir_resolve.proofs.Derivations.{derived_in_resolved, derived_in_lines}
-use Rattle.ir_resolve.proofs.Types.{TypesRead, type_resolved, type_spelled}
 use Rattle.ir_resolve.proofs.Cases.{CasesSpell}
 use Rattle.ir_resolve.proofs.CastPhis.{PhisStand}
+use Rattle.ir_resolve.proofs.Spelled.{misspelled_covered, case_width_clashes, miscounted_misshapes}
+use Rattle.ir_resolve.proofs.Types.{TypesRead, type_resolved, type_spelled}
+use Rattle.ir_resolve.proofs.Derivations.{derived_in_resolved, derived_in_lines}
 use Rattle.ir_resolve.proofs.Laws.{case_in_resolved, case_in_lines, entry_in_resolved, entry_in_lines, phi_in_resolved, phi_in_lines, order_in_resolved, order_in_lines, main_in_resolved, main_in_lines}
+use Rattle.ir_resolve.proofs.GroupFaults.{Grouped, groups_resolved, groups_spelled}
+use Rattle.ir_resolve.proofs.Least.{least_resolved, none_resolved, none_plain}
+use Rattle.ir_resolve.proofs.TextsRead.{cases_follow, cases_spell, types_read, body_rises}
+use Rattle.ir_resolve.proofs.PhiPlaces.{BodyStands, bodies, phis_stand}
 
 -- a fault covers itself
 itself : (Has : ℕ → ℕ → Type 0) (line code : ℕ) → Has line code → Covered Has line code
@@ -143,57 +139,7 @@ faults_agree form lines stand = record {
   lines_cover = from_resolved form lines stand;
 }
 
--- ---- what the laws ask of lines
-
-and-left : (a b : Bool) → (a && b) ≡ true → a ≡ true
-and-left true b e = refl
-and-left false b e = e
-
-and-right : (a b : Bool) → (a && b) ≡ true → b ≡ true
-and-right true b e = e
-and-right false b e = absurd (let bad : false ≡ true = e in cc)
-
-read_cast : (s : Statement) → is_formed s ≡ true → IsReadCast s
-read_cast (cast result op from value to) e = (and-left (is_cast_type from) (is_cast_type to) e, and-right (is_cast_type from) (is_cast_type to) e)
-read_cast _ e = tt
-
-all_casts : (ls : List Line) → AllByRecursion (λ l. is_formed l.says ≡ true) ls → AllByRecursion (λ l. IsReadCast l.says) ls
-all_casts [] all = tt
-all_casts (l ∷ ls) all = (read_cast l.says all.0, all_casts ls all.1)
-
-rise_first : (from to : ℕ) → from ≤ to → (ls : List Line) → Rise to ls → Rise from ls
-rise_first from to low [] rise = tt
-rise_first from to low (l ∷ ls) rise = ((let first = rise.0 in omega arith), rise.1)
-
--- the lines of a body rise, being lines of the text in its order
-rise_taken : (from : ℕ) (ls : List Line) → Rise from ls → Rise from (take_while (λ l. not (is_close l.says)) ls)
-rise_taken from [] rise = tt
-rise_taken from (l ∷ ls) rise =
-    subst (Rise from) (sym (take_while-cons (λ (one : Line). not (is_close one.says)) l ls)) (by (is_close l.says) (rise_taken l.number ls rise.1))
-  where
-    by : (b : Bool) → Rise l.number (take_while (λ k. not (is_close k.says)) ls) → Rise from (cond (not b) (l ∷ take_while (λ k. not (is_close k.says)) ls) [])
-    by true ih = tt
-    by false ih = (rise.0, ih)
-
-abbrev BodyRises : Definition → Type 0
-BodyRises func = Rise 0 func.body
-
-one_rises : (n : ℕ) (s : Statement) (ls : List Line) → Rise 0 ls → All BodyRises (definitions_of ls) → All BodyRises (definition_said n s ls ++ definitions_of ls)
-one_rises n (define answer name arguments strategy) ls rise ih =
-    All-cons BodyRises (record {
-      line = n;
-      answer = answer;
-      name = name;
-      arguments = arguments;
-      strategy = strategy;
-      body = take_while (λ l. not (is_close l.says)) ls;
-    }) (definitions_of ls) (rise_taken 0 ls rise) ih
-one_rises n _ ls rise ih = ih
-
-bodies_rise : (lines : List Line) → Rise 0 lines → All BodyRises (definitions_of lines)
-bodies_rise [] rise = All-nil BodyRises
-bodies_rise (l ∷ ls) rise =
-    let more = rise_first 0 l.number rise.0 ls rise.1 in one_rises l.number l.says ls more (bodies_rise ls more)
+-- ---- texts that were read
 
 -- the lines of a text that was read
 pub lines_stand : (form : Form) (lines : List Line) → AreRead form lines → LinesStand form lines
@@ -202,10 +148,9 @@ lines_stand form lines are = record {
   literals = cases_spell form lines are.read;
   phis = phis_stand form lines are.placed;
   groups = λ func defined. record {
-    env = types_read form lines are.read (All-from_recursion (λ (l : Line). IsReadCast l.says) lines
-        (all_casts lines (recursion_from_All (λ (l : Line). is_formed l.says ≡ true) lines are.placed.formed))) func defined;
+    env = types_read form lines are.read are.placed func defined;
     stand = All-contains BodyStands (definitions_of lines) func (bodies places.Top lines are.placed.placed) defined;
-    rise = λ is. All-contains BodyRises (definitions_of lines) func (bodies_rise lines (are.order is)) defined;
+    rise = λ is. body_rises lines (are.order is) func defined;
   };
 }
 
