@@ -37,6 +37,7 @@ use Rattle.ir_lines.specs.Modules.{Known, known_of, argument_of, operand_in, ent
 use Rattle.ir_lines.specs.Faults.DerivedEscapes.{StandsFor, Derived, by_step, by_merge, DerivedEscapes}
 use Rattle.ir_resolve.specs.Resolved.{Spot, case_lines, spot_said, spots_of, uncast, uncast_line, resolved}
 use Rattle.ir_resolve.specs.ModuleFaults.{Breaks}
+use Rattle.ir_resolve.proofs.Booleans.{never}
 use Rattle.ir_resolve.proofs.Bodies.{function_insts}
 use Rattle.ir_resolve.proofs.Places.{spot_of, stands_at}
 use Rattle.ir_resolve.proofs.Casts.{uncast_in, values-same, definitions-same, defined_before}
@@ -76,7 +77,7 @@ place_split (x ∷ xs) name v e = by (bytes_eq name x) refl v (sym (position-con
     by false is v f ih =
         later (place_in xs name) refl v (sym (ap (λ (c : Bool). cond c (Some 0) (option_map suc (place_in xs name))) is) ∙ f) is ih
 
-pub place_first : (before : List (List ℕ)) (name : List ℕ) (behind : List (List ℕ)) → ¬ Contains before name → place_in (before ++ name ∷ behind) name ≡ Some (length before)
+place_first : (before : List (List ℕ)) (name : List ℕ) (behind : List (List ℕ)) → ¬ Contains before name → place_in (before ++ name ∷ behind) name ≡ Some (length before)
 place_first [] name behind none =
     position-cons (bytes_eq name) name behind ∙ ap (λ (b : Bool). cond b (Some 0) (option_map suc (place_in behind name))) (bytes_eq-self name)
 place_first (x ∷ xs) name behind none =
@@ -278,12 +279,9 @@ record SameKind (names : List (List ℕ)) (s : Statement) (inst : Instruction) :
   merge : made.is_merge inst.op ≡ is_merge s
   used : is_merge s ≡ true → values_used inst ≡ map (number_in names) (values_named s)
 
-unused : {A : Type 0} → false ≡ true → A
-unused e = absurd (let bad : false ≡ true = e in cc)
-
 kind_same : (known : Known) (rest : List Line) (s : Statement) → IfSome (instruction_said known rest (uncast s)) (SameKind known.values s)
-kind_same known rest (binary result op width left right) = record { step = (binary_plain op).0; merge = (binary_plain op).1; used = λ e. unused e }
-kind_same known rest (convert result op width value to) = record { step = (conversion_plain op to).0; merge = (conversion_plain op to).1; used = λ e. unused e }
+kind_same known rest (binary result op width left right) = record { step = (binary_plain op).0; merge = (binary_plain op).1; used = λ e. never e }
+kind_same known rest (convert result op width value to) = record { step = (conversion_plain op to).0; merge = (conversion_plain op to).1; used = λ e. never e }
 kind_same known rest (select result condition left_ty left right_ty right) = record {
   step = refl;
   merge = refl;
@@ -302,8 +300,8 @@ kind_same known rest close = tt
 kind_same known rest (says.label name) = tt
 kind_same known rest (switch_case width value to) = tt
 kind_same known rest switch_end = tt
-kind_same known rest (cast result op from value to) = record { step = refl; merge = refl; used = λ e. unused e }
-kind_same known rest _ = record { step = refl; merge = refl; used = λ e. unused e }
+kind_same known rest (cast result op from value to) = record { step = refl; merge = refl; used = λ e. never e }
+kind_same known rest _ = record { step = refl; merge = refl; used = λ e. never e }
 
 record Given_by (said : Option Instruction) : Type 0 where
   inst : Instruction
@@ -313,12 +311,12 @@ record Given_by (said : Option Instruction) : Type 0 where
 step_said : (known : Known) (rest : List Line) (s : Statement) → is_step s ≡ true → Given_by (instruction_said known rest (uncast s))
 step_said known rest (scalar_step result element address width index) e = record { inst = _; is = refl; has = refl }
 step_said known rest (layout_step result named address width index place) e = record { inst = _; is = refl; has = refl }
-step_said known rest _ e = unused e
+step_said known rest _ e = never e
 
 merge_said : (known : Known) (rest : List Line) (s : Statement) → is_merge s ≡ true → Given_by (instruction_said known rest (uncast s))
 merge_said known rest (phi result ty entries) e = record { inst = _; is = refl; has = refl }
 merge_said known rest (select result condition left_ty left right_ty right) e = record { inst = _; is = refl; has = refl }
-merge_said known rest _ e = unused e
+merge_said known rest _ e = never e
 
 -- ---- the place of a result
 
@@ -341,7 +339,7 @@ defs-are : (lines : List Line) (func : Definition)
     → defs.definitions_of (made_of lines func) ≡ arguments_of func ++ outs (spots_of (bare lines func) (map uncast_line func.body))
 defs-are lines func = ap (λ (is : List Instruction). arguments_of func ++ map outcome (filter has_result is)) (function_insts (bare lines func) (uncast_in func))
 
-pub results-append : (a b : List Line) → results (a ++ b) ≡ results a ++ results b
+results-append : (a b : List Line) → results (a ++ b) ≡ results a ++ results b
 results-append [] b = refl
 results-append (l ∷ a) b =
     ap (λ (ns : List Naming). result_named l.number (gives l.says) ++ ns) (results-append a b) ∙ sym (append_assoc (result_named l.number (gives l.says)) (results a) (results b))
@@ -430,7 +428,7 @@ derive_in lines func few _ (by_merge name operand what st is uses d) =
 
 -- ---- from the module
 
-pub get_either : {A : Type 0} (xs ys : List A) (v : ℕ) (y : A) → slice_get (xs ++ ys) v ≡ Some y
+get_either : {A : Type 0} (xs ys : List A) (v : ℕ) (y : A) → slice_get (xs ++ ys) v ≡ Some y
     → (slice_get xs v ≡ Some y) ⊎ ((k : ℕ) × ((v ≡ length xs + k) × (slice_get ys k ≡ Some y)))
 get_either [] ys v y e = inr (v, (omega arith, e))
 get_either (x ∷ xs) ys zero y e = inl e

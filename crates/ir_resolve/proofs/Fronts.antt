@@ -14,11 +14,8 @@ use Rattle.ir_lines.specs.Modules.{Known, argument_of, instruction_said}
 use Rattle.ir_resolve.specs.Resolved.{Spot, case_lines, spot_said, spots_of, uncast, uncast_line}
 use Rattle.ir_resolve.proofs.Bodies.{function_insts}
 use Rattle.ir_resolve.proofs.Casts.{uncast_in}
+use Rattle.ir_resolve.proofs.Phis.{insts_said}
 use Rattle.ir_resolve.proofs.Derivations.{bare, made_of, has_result, results, take_front}
-
-abbrev pub insts_said : Option Instruction → List Instruction
-insts_said None = []
-insts_said (Some inst) = inst ∷ []
 
 -- the instruction of a line with those behind it, where it has one
 abbrev pub said_at : Known → Line → List Line → Option Instruction

@@ -55,11 +55,11 @@ use Rattle.ir_resolve.specs.ModuleFaults as broken
 use Rattle.ir_resolve.specs.FaultSet.{HasResolvedFault, of_text, of_module}
 use Rattle.ir_resolve.specs.Agreement.{Covered}
 use Rattle.ir_resolve.specs.Statements.{Rise}
+use Rattle.ir_resolve.proofs.Booleans.{true-false, not-true, not-false, inside, or-first, or-left, or-right}
 use Rattle.ir_resolve.proofs.Places.{spot_of, stands_at}
 use Rattle.ir_resolve.proofs.Casts.{uncast_in, defined_before, definitions-same}
-use Rattle.ir_resolve.proofs.Spelled.{or-first}
 use Rattle.ir_resolve.proofs.Values.{IsReadCast, same_type-is}
-use Rattle.ir_resolve.proofs.Types.{TypesRead, type_resolved, typed_said, split_read, or-left, or-right, inside}
+use Rattle.ir_resolve.proofs.Types.{TypesRead, type_resolved, typed_said, split_read}
 use Rattle.ir_resolve.proofs.Derivations.{bare, made_of, names-are}
 use Rattle.ir_resolve.proofs.Fronts.{said_at, front, spot_at, spot_there}
 use Rattle.ir_resolve.proofs.Groups.{point, group_made, group_said, one_group}
@@ -171,13 +171,6 @@ same_answers Managed Plain read e = absurd (cc)
 same_answers Void other read e = absurd read
 same_answers Plain other read e = absurd read
 
-true-false : (b : Bool) → b ≡ true → b ≡ false → ⊥
-true-false b t f = let bad : true ≡ false = sym t ∙ f in cc
-
-not-true : (b : Bool) → ¬ (b ≡ true) → b ≡ false
-not-true true h = absurd (h refl)
-not-true false h = refl
-
 -- where a line of a function stands
 record Where (lines : List Line) (func : Definition) (before : List Line) (l : Line) (after : List Line) : Type 0 where
   env : TypesRead lines func
@@ -238,10 +231,6 @@ result_broken lines func before n result ty token after w read named wrong shape
               other
         ]
 
-is_true : (b : Bool) → ¬ (b ≡ false) → b ≡ true
-is_true true h = refl
-is_true false h = absurd (h refl)
-
 result_right : (lines : List Line) (func : Definition) (before : List Line) (n : ℕ) (result : List ℕ) (ty : TypeWord) (token : List ℕ) (after : List Line)
     → Where lines func before (result_line n result ty token) after → ¬ ResultIsWrong func before token ty
     → ¬ (¬ ResultInShape (made_of lines func) (place_at lines func before (result_line n result ty token) after) (result_made (bare lines func) result ty token))
@@ -249,7 +238,7 @@ result_right lines func before n result ty token after w right lacks =
     right (apart (λ g.
     (let m = group_made lines func w.env.few before (result_line n result ty token ∷ after) w.whole token g in
     let none : g.parts ≡ [] = empty g.parts (λ some. right (late g some)) in
-    let same : ty ≡ g.made.signature.answer = same_type-is ty g.made.signature.answer (is_true (same_type ty g.made.signature.answer) (λ e. right (other_type g e))) in
+    let same : ty ≡ g.made.signature.answer = same_type-is ty g.made.signature.answer (not-false (same_type ty g.made.signature.answer) (λ e. right (other_type g e))) in
     let at = m.place_is in
     let count : length g.parts ≡ 0 = ap length none in
     lacks (record {
@@ -348,8 +337,8 @@ relocate_right lines func before n result token base derived after w fit right l
     let entries : entries_of m.group.statepoint ≡ L = ap entries_of m.point_is ∙ dropped_first g.made.passed known L in
     let size : length (entries_of m.group.statepoint) ≡ length g.live = ap length entries ∙ live_count known g.live in
     let few = few_live lines func before l after w token g in
-    let b = entry_place base (length g.live) few (is_true (is_entry base g.live) (λ e. right (base_outside g e))) in
-    let d = entry_place derived (length g.live) few (is_true (is_entry derived g.live) (λ e. right (derived_outside g e))) in
+    let b = entry_place base (length g.live) few (not-false (is_entry base g.live) (λ e. right (base_outside g e))) in
+    let d = entry_place derived (length g.live) few (not-false (is_entry derived g.live) (λ e. right (derived_outside g e))) in
     let v = get_some g.live derived.magnitude d.1 in
     let value = entry_value (scope_of lines func) known v.0 (entry_fits (scope_of lines func) g.live derived.magnitude v.0 (fit g) v.1)
     (λ e. right (derived_null g (v.1 ∙ ap Some e))) in

@@ -1,5 +1,5 @@
 -- The group of a token: lines end with it exactly where the instructions before the place do in the resolved text.
-use Rattle.std.proofs.Common.{◌≡◌, ◌∙◌, ℕ, zero, suc, ◌<◌, ◌+◌, ◌-◌, ◌^◌, Bool, true, false, ◌&&◌, ◌==◌, List, [], ◌∷◌, ◌++◌, map, length, take, refl, ap, sym, subst, arith, append_assoc, length-append}
+use Rattle.std.proofs.Common.{◌≡◌, ◌∙◌, ℕ, zero, suc, ◌<◌, ◌+◌, ◌-◌, ◌^◌, Bool, true, false, ◌==◌, List, [], ◌∷◌, ◌++◌, map, length, take, refl, ap, sym, subst, arith, append_assoc, length-append}
 use Rattle.std.specs.Prelude.{Option, Some, None, IfSome, slice_get}
 use Rattle.std.specs.List.{AllByRecursion, Contains, list_all}
 use Rattle.std.specs.Str.{bytes_eq}
@@ -32,8 +32,10 @@ use Rattle.ir_lines.specs.Faults.GroupShape.{Group, is_part}
 use Rattle.ir_lines.specs.TextLines.{place_behind, behind_instruction}
 use Rattle.ir_lines.specs.ReadLines.{is_instruction}
 use Rattle.ir_resolve.specs.Resolved.{uncast, uncast_line}
+use Rattle.ir_resolve.proofs.Booleans.{never, and-left, and-right, both}
 use Rattle.ir_resolve.proofs.Derivations.{place_split, number-first, number_place, names-split, take_front, few_before, names-are, bare, made_of, names_of, results}
-use Rattle.ir_resolve.proofs.Fronts.{insts_said, insts, front, front-append, front_at, insts_split, number-at}
+use Rattle.ir_resolve.proofs.Fronts.{insts, front, front-append, front_at, insts_split, number-at}
+use Rattle.ir_resolve.proofs.Phis.{insts_said}
 use Rattle.ir_resolve.proofs.PhiPlaces.{StandsIn, after}
 
 abbrev pub are_parts : List ℕ → List Line → Bool
@@ -73,9 +75,6 @@ record PointSaid (known : Known) (s : Statement) (inst : Instruction) : Type 0 w
   says : s ≡ statepoint result called live
   is : inst ≡ point_made known result called live
 
-no_point : {A : Type 0} → false ≡ true → A
-no_point e = absurd (let bad : false ≡ true = e in cc)
-
 binary_point : (op : Binary) → is_statepoint (binary_of op) ≡ false
 binary_point Add = refl
 binary_point _ = refl
@@ -87,8 +86,8 @@ conversion_point _ to = refl
 point_said : (known : Known) (behind : List Line) (s : Statement)
     → IfSome (instruction_said known behind (uncast s)) (λ inst. is_statepoint inst.op ≡ true → PointSaid known s inst)
 point_said known behind (statepoint result called live) = λ e. record { result = result; called = called; live = live; says = refl; is = refl }
-point_said known behind (binary result op width left right) = λ e. no_point (sym (binary_point op) ∙ e)
-point_said known behind (convert result op width value to) = λ e. no_point (sym (conversion_point op to) ∙ e)
+point_said known behind (binary result op width left right) = λ e. never (sym (binary_point op) ∙ e)
+point_said known behind (convert result op width value to) = λ e. never (sym (conversion_point op to) ∙ e)
 point_said known behind (layout name fields) = tt
 point_said known behind (declare answer name parameters) = tt
 point_said known behind (define answer name arguments strategy) = tt
@@ -96,8 +95,8 @@ point_said known behind close = tt
 point_said known behind (says.label name) = tt
 point_said known behind (switch_case width value to) = tt
 point_said known behind switch_end = tt
-point_said known behind (cast result op from value to) = λ e. no_point e
-point_said known behind _ = λ e. no_point e
+point_said known behind (cast result op from value to) = λ e. never e
+point_said known behind _ = λ e. never e
 
 -- the line of a part
 record IsPartLine (known : Known) (number : ℕ) (s : Statement) : Type 0 where
@@ -131,8 +130,8 @@ part_line known number behind (gc_relocate result token base derived) = λ e. re
   numbered = (Decides-eqb (number_in known.values token) number).0 e;
   goes = refl;
 }
-part_line known number behind (binary result op width left right) = λ e. no_point (sym (binary_part op number _) ∙ e)
-part_line known number behind (convert result op width value to) = λ e. no_point (sym (conversion_part op to number _) ∙ e)
+part_line known number behind (binary result op width left right) = λ e. never (sym (binary_part op number _) ∙ e)
+part_line known number behind (convert result op width value to) = λ e. never (sym (conversion_part op to number _) ∙ e)
 part_line known number behind (layout name fields) = tt
 part_line known number behind (declare answer name parameters) = tt
 part_line known number behind (define answer name arguments strategy) = tt
@@ -140,32 +139,21 @@ part_line known number behind close = tt
 part_line known number behind (says.label name) = tt
 part_line known number behind (switch_case width value to) = tt
 part_line known number behind switch_end = tt
-part_line known number behind (cast result op from value to) = λ e. no_point e
-part_line known number behind _ = λ e. no_point e
+part_line known number behind (cast result op from value to) = λ e. never e
+part_line known number behind _ = λ e. never e
 
 has_instruction : (known : Known) (behind : List Line) (s : Statement) → is_instruction s ≡ true → (inst : Instruction) × (instruction_said known behind (uncast s) ≡ Some inst)
-has_instruction known behind (layout name fields) e = no_point e
-has_instruction known behind (declare answer name parameters) e = no_point e
-has_instruction known behind (define answer name arguments strategy) e = no_point e
-has_instruction known behind close e = no_point e
-has_instruction known behind (says.label name) e = no_point e
-has_instruction known behind (switch_case width value to) e = no_point e
-has_instruction known behind switch_end e = no_point e
+has_instruction known behind (layout name fields) e = never e
+has_instruction known behind (declare answer name parameters) e = never e
+has_instruction known behind (define answer name arguments strategy) e = never e
+has_instruction known behind close e = never e
+has_instruction known behind (says.label name) e = never e
+has_instruction known behind (switch_case width value to) e = never e
+has_instruction known behind switch_end e = never e
 has_instruction known behind (cast result op from value to) e = (_, refl)
 has_instruction known behind _ e = (_, refl)
 
 -- ---- the parts of a group
-
-and-left : (a b : Bool) → (a && b) ≡ true → a ≡ true
-and-left true b e = refl
-and-left false b e = e
-
-and-right : (a b : Bool) → (a && b) ≡ true → b ≡ true
-and-right true b e = e
-and-right false b e = no_point e
-
-both : (a b : Bool) → a ≡ true → b ≡ true → (a && b) ≡ true
-both a b e f = ap (λ (x : Bool). x && b) e ∙ f
 
 abbrev pub AreParts : ℕ → List Instruction → Type 0
 AreParts number is = AllByRecursion (λ inst. is_part_made number inst ≡ true) is

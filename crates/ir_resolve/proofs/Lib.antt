@@ -1,3 +1,4 @@
+pub mod Booleans
 pub mod Bodies
 pub mod Places
 pub mod Spots

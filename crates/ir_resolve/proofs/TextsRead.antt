@@ -1,5 +1,5 @@
 -- Lines as a reader gives them have what the laws ask of them, but for what stands before a phi.
-use Rattle.std.proofs.Common.{◌≡◌, ℕ, suc, ◌+◌, ◌≤◌, Bool, true, false, not, cond, ◌&&◌, if◌then◌else◌, List, [], ◌∷◌, ◌++◌, length, refl, ap, sym, subst, arith, length-append}
+use Rattle.std.proofs.Common.{◌≡◌, ℕ, suc, ◌+◌, ◌≤◌, Bool, true, false, not, cond, if◌then◌else◌, List, [], ◌∷◌, ◌++◌, length, refl, ap, sym, subst, arith, length-append}
 use Rattle.std.specs.Prelude.{Option, Some, None, slice_get, flat_map, take_while, count_by}
 use Rattle.std.specs.List.{All, AllByRecursion, Contains}
 use Rattle.std.proofs.lemmas.List.Elements.{All-nil, All-cons, All-append, All-contains, All-head, All-tail, All-take, All-from_recursion, recursion_from_All}
@@ -14,6 +14,7 @@ use Rattle.ir_lines.specs.Sections.{Definition, LayoutLine, layout_said, layouts
 use Rattle.ir_lines.specs.ReadLines.{IsReadHead, IsReadArgument, SaysRead, IsReadFunction, IsReadLines, is_instruction, instruction_count}
 use Rattle.ir_lines.specs.TextLines.{IsTextLines, is_formed}
 use Rattle.ir_resolve.specs.Statements.{Rise}
+use Rattle.ir_resolve.proofs.Booleans.{and-left, and-right}
 use Rattle.ir_resolve.proofs.Entries.{CasesFollow}
 use Rattle.ir_resolve.proofs.Cases.{CasesSpell}
 use Rattle.ir_resolve.proofs.Values.{IsReadCast}
@@ -110,14 +111,6 @@ behind_says P [] l after all = all.1
 behind_says P (k ∷ before) l after all = behind_says P before l after all.1
 
 -- ---- casts
-
-and-left : (a b : Bool) → (a && b) ≡ true → a ≡ true
-and-left true b e = refl
-and-left false b e = e
-
-and-right : (a b : Bool) → (a && b) ≡ true → b ≡ true
-and-right true b e = e
-and-right false b e = absurd (let bad : false ≡ true = e in cc)
 
 read_cast : (s : Statement) → is_formed s ≡ true → IsReadCast s
 read_cast (cast result op from value to) e = (and-left (is_cast_type from) (is_cast_type to) e, and-right (is_cast_type from) (is_cast_type to) e)

@@ -38,7 +38,7 @@ use Rattle.ir_lines.specs.Faults.GroupShape.{is_token, names_token, uses_token, 
 use Rattle.ir_lines.specs.ReadLines.{IsValueType, IsReadPassed, SaysRead}
 use Rattle.ir_resolve.specs.Resolved.{uncast}
 use Rattle.ir_resolve.specs.TextFaults.{miscounts}
-use Rattle.ir_resolve.proofs.Spelled.{or-first, or-second}
+use Rattle.ir_resolve.proofs.Booleans.{or-first, or-second}
 use Rattle.ir_resolve.proofs.Values.{IsReadCast}
 use Rattle.ir_resolve.proofs.Zips.{SameTypes, binary_asked, conversion_asked}
 use Rattle.ir_resolve.proofs.Types.{select_same}

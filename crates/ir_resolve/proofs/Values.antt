@@ -1,6 +1,6 @@
 -- A cast's default keeps each value in its place: in the resolved text a name has the number and the type that it has
 -- on lines. So an operand that has a name, or a literal within its type, fits exactly where its value does on lines.
-use Rattle.std.proofs.Common.{◌≡◌, ◌∙◌, ℕ, ◌<◌, ◌^◌, ◌-◌, ◌%◌, Bool, true, false, not, cond, if◌then◌else◌, List, [], ◌∷◌, ◌++◌, map, length, refl, ap, sym, subst, arith, mod-lt}
+use Rattle.std.proofs.Common.{◌≡◌, ◌∙◌, ℕ, ◌<◌, ◌^◌, ◌-◌, ◌%◌, Bool, true, false, cond, if◌then◌else◌, List, [], ◌∷◌, ◌++◌, map, length, refl, ap, sym, subst, arith, mod-lt}
 use Rattle.std.specs.Prelude.{Option, Some, None, is_some, is_none, filter, flat_map, slice_get, option_map, ⊤}
 use Rattle.std.specs.List.{AllByRecursion}
 use Rattle.std.proofs.lemmas.List.{map-append}
@@ -34,6 +34,7 @@ use Rattle.ir_lines.specs.ReadLines.{IsValueType, IsReadArgument, SaysRead}
 use Rattle.ir_lines.proofs.LawNames.{stands, number-is}
 use Rattle.ir_resolve.specs.Resolved.{Spot, case_lines, spot_said, spots_of, uncast, uncast_line}
 use Rattle.ir_resolve.specs.TextFaults.{is_outside}
+use Rattle.ir_resolve.proofs.Booleans.{inside}
 use Rattle.ir_resolve.proofs.Bodies.{function_insts}
 use Rattle.ir_resolve.proofs.Casts.{uncast_in}
 
@@ -195,10 +196,6 @@ fits_resolved scope few _ (values.truth said) plain e known = absurd (let bad : 
 fits_resolved scope few Managed values.null plain e known = refl
 fits_resolved scope few Plain values.null plain e known = absurd plain
 fits_resolved scope few _ values.null plain e known = absurd (let bad : false ≡ true = e in cc)
-
-inside : (b : Bool) → not b ≡ false → b ≡ true
-inside true e = refl
-inside false e = absurd (let bad : true ≡ false = e in cc)
 
 pub fits_spelled : (scope : Scope) → length scope.values < 2 ^ 32 → (ty : TypeWord) (v : Val) → is_outside ty v ≡ false → IsKnownUse scope v
     → Fits (types_in scope) (operand_in (value_names scope) ty v) (value_type ty) → fits scope ty v ≡ true
