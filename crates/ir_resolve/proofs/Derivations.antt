@@ -37,6 +37,7 @@ use Rattle.ir_lines.specs.Modules.{Known, known_of, argument_of, operand_in, ent
 use Rattle.ir_lines.specs.Faults.DerivedEscapes.{StandsFor, Derived, by_step, by_merge, DerivedEscapes}
 use Rattle.ir_resolve.specs.Resolved.{Spot, case_lines, spot_said, spots_of, uncast, uncast_line, resolved}
 use Rattle.ir_resolve.specs.ModuleFaults.{Breaks}
+use Rattle.ir_resolve.proofs.Booleans.{never}
 use Rattle.ir_resolve.proofs.Bodies.{function_insts}
 use Rattle.ir_resolve.proofs.Places.{spot_of, stands_at}
 use Rattle.ir_resolve.proofs.Casts.{uncast_in, values-same, definitions-same, defined_before}
@@ -46,7 +47,7 @@ use Rattle.ir_resolve.proofs.Types.{TypesRead}
 
 -- ---- the first place of a name
 
-place_split : (names : List (List ℕ)) (name : List ℕ) (v : ℕ) → place_in names name ≡ Some v
+pub place_split : (names : List (List ℕ)) (name : List ℕ) (v : ℕ) → place_in names name ≡ Some v
     → (slice_get names v ≡ Some name) × ¬ Contains (take v names) name
 place_split [] name v e = absurd (none-some v e)
 place_split (x ∷ xs) name v e = by (bytes_eq name x) refl v (sym (position-cons (bytes_eq name) x xs) ∙ e) (place_split xs name)
@@ -88,12 +89,12 @@ place_first (x ∷ xs) name behind none =
     by true is = absurd (none (subst (Contains (x ∷ xs)) (sym (bytes_eq-same name x is)) (contains_first x xs)))
     by false is = ap (λ (b : Bool). cond b (Some 0) (Some (suc (length xs)))) is
 
-number-first : (before : List (List ℕ)) (name : List ℕ) (behind : List (List ℕ)) → ¬ Contains before name → length before < 2 ^ 32 - 1
+pub number-first : (before : List (List ℕ)) (name : List ℕ) (behind : List (List ℕ)) → ¬ Contains before name → length before < 2 ^ 32 - 1
     → number_in (before ++ name ∷ behind) name ≡ length before
 number-first before name behind none few =
     ap number_of (place_first before name behind none) ∙ (let e : min (length before) (2 ^ 32 - 1) ≡ length before = omega arith in e)
 
-number_place : (names : List (List ℕ)) (name : List ℕ) (v : ℕ) → number_in names name ≡ v → v < 2 ^ 32 - 1 → place_in names name ≡ Some v
+pub number_place : (names : List (List ℕ)) (name : List ℕ) (v : ℕ) → number_in names name ≡ v → v < 2 ^ 32 - 1 → place_in names name ≡ Some v
 number_place names name v e few = by (place_in names name) refl
   where
     by : (o : Option ℕ) → place_in names name ≡ o → place_in names name ≡ Some v
@@ -102,13 +103,13 @@ number_place names name v e few = by (place_in names name) refl
 
 -- ---- results, one by one
 
-abbrev has_result : Instruction → Bool
+abbrev pub has_result : Instruction → Bool
 has_result inst = is_some inst.result
 
 abbrev outs : List Spot → List defs.Definition
 outs spots = map outcome (filter has_result (map (λ (spot : Spot). spot.inst) spots))
 
-abbrev results : List Line → List Naming
+abbrev pub results : List Line → List Naming
 results ls = flat_map (λ l. result_named l.number (gives l.says)) ls
 
 outs-said : (line : ℕ) (cases : List ℕ) (o : Option Instruction) (rest : List Spot) → outs (spot_said line cases o ++ rest) ≡ outs (spot_said line cases o) ++ outs rest
@@ -278,12 +279,9 @@ record SameKind (names : List (List ℕ)) (s : Statement) (inst : Instruction) :
   merge : made.is_merge inst.op ≡ is_merge s
   used : is_merge s ≡ true → values_used inst ≡ map (number_in names) (values_named s)
 
-unused : {A : Type 0} → false ≡ true → A
-unused e = absurd (let bad : false ≡ true = e in cc)
-
 kind_same : (known : Known) (rest : List Line) (s : Statement) → IfSome (instruction_said known rest (uncast s)) (SameKind known.values s)
-kind_same known rest (binary result op width left right) = record { step = (binary_plain op).0; merge = (binary_plain op).1; used = λ e. unused e }
-kind_same known rest (convert result op width value to) = record { step = (conversion_plain op to).0; merge = (conversion_plain op to).1; used = λ e. unused e }
+kind_same known rest (binary result op width left right) = record { step = (binary_plain op).0; merge = (binary_plain op).1; used = λ e. never e }
+kind_same known rest (convert result op width value to) = record { step = (conversion_plain op to).0; merge = (conversion_plain op to).1; used = λ e. never e }
 kind_same known rest (select result condition left_ty left right_ty right) = record {
   step = refl;
   merge = refl;
@@ -302,8 +300,8 @@ kind_same known rest close = tt
 kind_same known rest (says.label name) = tt
 kind_same known rest (switch_case width value to) = tt
 kind_same known rest switch_end = tt
-kind_same known rest (cast result op from value to) = record { step = refl; merge = refl; used = λ e. unused e }
-kind_same known rest _ = record { step = refl; merge = refl; used = λ e. unused e }
+kind_same known rest (cast result op from value to) = record { step = refl; merge = refl; used = λ e. never e }
+kind_same known rest _ = record { step = refl; merge = refl; used = λ e. never e }
 
 record Given_by (said : Option Instruction) : Type 0 where
   inst : Instruction
@@ -313,28 +311,28 @@ record Given_by (said : Option Instruction) : Type 0 where
 step_said : (known : Known) (rest : List Line) (s : Statement) → is_step s ≡ true → Given_by (instruction_said known rest (uncast s))
 step_said known rest (scalar_step result element address width index) e = record { inst = _; is = refl; has = refl }
 step_said known rest (layout_step result named address width index place) e = record { inst = _; is = refl; has = refl }
-step_said known rest _ e = unused e
+step_said known rest _ e = never e
 
 merge_said : (known : Known) (rest : List Line) (s : Statement) → is_merge s ≡ true → Given_by (instruction_said known rest (uncast s))
 merge_said known rest (phi result ty entries) e = record { inst = _; is = refl; has = refl }
 merge_said known rest (select result condition left_ty left right_ty right) e = record { inst = _; is = refl; has = refl }
-merge_said known rest _ e = unused e
+merge_said known rest _ e = never e
 
 -- ---- the place of a result
 
-abbrev bare : List Line → Definition → Known
+abbrev pub bare : List Line → Definition → Known
 bare lines func = known_of (map uncast_line lines) (uncast_in func)
 
-abbrev made_of : List Line → Definition → Function
+abbrev pub made_of : List Line → Definition → Function
 made_of lines func = function_of (bare lines func) (uncast_in func)
 
-abbrev names_of : List Naming → List (List ℕ)
+abbrev pub names_of : List Naming → List (List ℕ)
 names_of ns = map (λ one. one.name) ns
 
 abbrev arguments_of : Definition → List defs.Definition
 arguments_of func = map argument (map argument_of (arguments_named func.line [] func.arguments))
 
-names-are : (lines : List Line) (func : Definition) → (bare lines func).values ≡ names_of (values_of func)
+pub names-are : (lines : List Line) (func : Definition) → (bare lines func).values ≡ names_of (values_of func)
 names-are lines func = ap names_of (values-same func)
 
 defs-are : (lines : List Line) (func : Definition)
@@ -346,7 +344,7 @@ results-append [] b = refl
 results-append (l ∷ a) b =
     ap (λ (ns : List Naming). result_named l.number (gives l.says) ++ ns) (results-append a b) ∙ sym (append_assoc (result_named l.number (gives l.says)) (results a) (results b))
 
-names-split : (func : Definition) (before : List Line) (l : Line) (after : List Line) → func.body ≡ before ++ l ∷ after
+pub names-split : (func : Definition) (before : List Line) (l : Line) (after : List Line) → func.body ≡ before ++ l ∷ after
     → names_of (values_of func) ≡ names_of (values_before func before) ++ (names_of (result_named l.number (gives l.says)) ++ names_of (results after))
 names-split func before l after whole =
     let args = arguments_named func.line [] func.arguments in
@@ -385,7 +383,7 @@ gives_name n (Some pair) name within = elim (contains_cons pair.0 name [] within
   | inr none ↦ absurd (contains_none name none)
 ]
 
-few_before : (func : Definition) (vb rest : List (List ℕ)) (name : List ℕ) → names_of (values_of func) ≡ vb ++ name ∷ rest → length (values_of func) < 2 ^ 32
+pub few_before : (func : Definition) (vb rest : List (List ℕ)) (name : List ℕ) → names_of (values_of func) ≡ vb ++ name ∷ rest → length (values_of func) < 2 ^ 32
     → length vb < 2 ^ 32 - 1
 few_before func vb rest name is few =
     let a = length-map (values_of func) (λ (one : Naming). one.name) in
@@ -443,7 +441,7 @@ one_name : (n : ℕ) (o : Option (List ℕ × TypeWord)) → length (result_name
 one_name n None e = absurd (omega arith)
 one_name n (Some pair) e = (pair.0, refl)
 
-take_front : {A : Type 0} (xs ys : List A) → take (length xs) (xs ++ ys) ≡ xs
+pub take_front : {A : Type 0} (xs ys : List A) → take (length xs) (xs ++ ys) ≡ xs
 take_front [] ys = refl
 take_front {A} (x ∷ xs) ys = ap (λ (zs : List A). x ∷ zs) (take_front xs ys)
 

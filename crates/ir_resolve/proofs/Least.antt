@@ -6,8 +6,8 @@ use Rattle.std.proofs.lemmas.Bool.Decides.{Decides-eqb, Decides-ltb, not_from_De
 use Rattle.ir_ast.specs.declared.modules.Form.{Form}
 use Rattle.ir_lines.specs.Statements.{Line}
 use Rattle.ir_lines.specs.PlainFaults.{HasPlainFault, IsLeastPlainFault, HasNoPlainFault, ComesFirst}
-use Rattle.ir_resolve.specs.FaultSet.{HasResolvedFault, IsLeastResolvedFault, HasNoResolvedFault}
-use Rattle.ir_resolve.specs.Agreement.{FaultsAgree}
+use Rattle.ir_resolve.specs.FaultSet.{HasResolvedFault, HasNoResolvedFault}
+use Rattle.ir_resolve.specs.Agreement.{IsLeast, FaultsAgree}
 
 -- ---- the order of faults
 
@@ -54,7 +54,7 @@ before_all form lines agree line code least l c fault =
     not_first (then line code covered.first_line covered.first_code l c (least covered.first_line covered.first_code covered.has) covered.first)))
 
 pub least_resolved : (form : Form) (lines : List Line) → FaultsAgree form lines → (line code : ℕ) → IsLeastPlainFault form lines line code
-    → IsLeastResolvedFault form lines line code
+    → IsLeast (HasResolvedFault form lines) line code
 least_resolved form lines agree line code plain =
     let covered = agree.resolved_cover line code plain.is in
     let least = before_all form lines agree line code plain.least in

@@ -1,3 +1,4 @@
+pub mod Booleans
 pub mod Bodies
 pub mod Places
 pub mod Spots
@@ -19,7 +20,11 @@ pub mod Laws
 pub mod Spelled
 pub mod Least
 pub mod Derivations
+pub mod Fronts
 pub mod TextsRead
-pub mod Agrees
 pub mod PhiPlaces
+pub mod Groups
+pub mod Tokens
+pub mod GroupFaults
+pub mod Agrees
 pub mod Samples

@@ -18,26 +18,13 @@ use Rattle.ir_lines.specs.Statements.{Line}
 use Rattle.ir_lines.specs.Sections.{Definition, definitions_of, arguments_named}
 use Rattle.ir_lines.specs.Modules.{known_of, type_of, argument_of, function_of, module_of}
 use Rattle.ir_lines.specs.Faults.NoMain.{NoMain, is_main, takes_nothing, is_status}
+use Rattle.ir_resolve.proofs.Booleans.{true-false, not-true, and-left, and-right, both}
 
 abbrev is_named : Definition → Bool
 is_named func = bytes_eq func.name (codes "main")
 
 abbrev made : List Line → Definition → Function
 made lines func = function_of (known_of lines func) func
-
-true-false : (b : Bool) → b ≡ true → b ≡ false → ⊥
-true-false b t f = let bad : true ≡ false = sym t ∙ f in cc
-
-and-left : (a b : Bool) → (a && b) ≡ true → a ≡ true
-and-left true b e = refl
-and-left false b e = e
-
-and-right : (a b : Bool) → (a && b) ≡ true → b ≡ true
-and-right true b e = e
-and-right false b e = absurd (let bad : false ≡ true = e in cc)
-
-both : (a b : Bool) → a ≡ true → b ≡ true → (a && b) ≡ true
-both a b e f = ap (λ (x : Bool). x && b) e ∙ f
 
 -- ---- from the lines
 
@@ -173,7 +160,3 @@ main_spelled form lines none = record {
   at_no_line = refl;
   lacks = not-true (is_main (find is_named (definitions_of lines))) (λ is. none (has_main form lines is));
 }
-  where
-    not-true : (b : Bool) → ¬ (b ≡ true) → b ≡ false
-    not-true true h = absurd (h refl)
-    not-true false h = refl

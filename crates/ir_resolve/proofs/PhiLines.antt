@@ -23,10 +23,11 @@ use Rattle.ir_lines.specs.Faults.PointerCast.{is_cast}
 use Rattle.ir_lines.specs.ReadLines.{is_instruction}
 use Rattle.ir_resolve.specs.Resolved.{stands_for}
 use Rattle.ir_resolve.specs.ModuleFaults.{PhiIsWrong}
+use Rattle.ir_resolve.proofs.Booleans.{true-false}
 use Rattle.ir_resolve.proofs.Entries.{CasesFollow}
 use Rattle.ir_resolve.proofs.Places.{map_get}
 use Rattle.ir_resolve.proofs.Edges.{edges-same}
-use Rattle.ir_resolve.proofs.Phis.{insts_said, numbers_said, insts-cons, numbers-cons, phi_line, true-false, entries_counted, line-of, phi_made}
+use Rattle.ir_resolve.proofs.Phis.{insts_said, numbers_said, insts-cons, numbers-cons, phi_line, entries_counted, line-of, phi_made}
 
 -- ---- the instructions before a line
 

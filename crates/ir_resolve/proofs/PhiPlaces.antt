@@ -1,49 +1,44 @@
 -- In a text that was read only instructions stand before a phi in its block: a block goes on until its terminator.
-use Rattle.std.proofs.Common.{◌≡◌, ◌∙◌, ◌⊎◌, inl, inr, ℕ, Bool, true, false, not, cond, if◌then◌else◌, ◌&&◌, List, [], ◌∷◌, ◌++◌, refl, sym, subst}
+use Rattle.std.proofs.Common.{◌≡◌, ◌∙◌, ◌⊎◌, inl, inr, ℕ, Bool, true, false, not, cond, if◌then◌else◌, List, [], ◌∷◌, ◌++◌, refl, sym, subst}
 use Rattle.std.specs.Prelude.{Option, Some, take_while, decimal, ⊤}
 use Rattle.std.specs.List.{All, AllByRecursion}
-use Rattle.std.proofs.lemmas.List.Elements.{All-nil, All-cons, All-append, All-contains, All-from_recursion, recursion_from_All}
+use Rattle.std.proofs.lemmas.List.Elements.{All-nil, All-cons, All-append, All-contains}
 use Rattle.std.proofs.lemmas.List.Sums.{take_while-cons}
 use Rattle.std.proofs.lemmas.Option.{same_Some}
 use Rattle.ir_ast.specs.declared.modules.Form.{Form}
 use Rattle.ir_reader.specs.declared.states.Place.{Place}
 use Rattle.ir_reader.specs.declared.states.Place.TheVariants as places
 use Rattle.line_parts.specs.declared.readings.TypeWord.{TypeWord}
-use Rattle.line_parts.specs.Parts.{Val, is_cast_type}
-use Rattle.ir_lines.specs.Statements.{Line, Statement, layout, declare, define, close, label, phi, jump, branch, switch, switch_case, switch_end, ret_void, ret, unreachable, cast}
+use Rattle.line_parts.specs.Parts.{Val}
+use Rattle.ir_lines.specs.Statements.{Line, Statement, layout, declare, define, close, label, phi, jump, branch, switch, switch_case, switch_end, ret_void, ret, unreachable}
 use Rattle.ir_lines.specs.Sections.{Definition, BlockLines, definition_said, definitions_of, is_close, is_label, label_said, until_label, block_at, labelled_blocks, first_block, blocks_of, count_numbered}
-use Rattle.ir_lines.specs.ReadLines.{IsReadLines, is_instruction}
-use Rattle.ir_lines.specs.TextLines.{IsTextLines, Stand, Goes, place_behind, behind_instruction, behind_head, behind_closed, behind_case, is_formed}
+use Rattle.ir_lines.specs.ReadLines.{is_instruction}
+use Rattle.ir_lines.specs.TextLines.{IsTextLines, Stand, Goes, place_behind, behind_instruction, behind_head, behind_closed, behind_case}
 use Rattle.ir_resolve.proofs.CastPhis.{PhisStand}
-use Rattle.ir_resolve.proofs.Values.{IsReadCast}
-use Rattle.ir_resolve.proofs.TextsRead.{cases_follow, cases_spell, types_read}
-use Rattle.ir_ast.specs.declared.modules.Form.TheVariants.{Source}
-use Rattle.ir_resolve.specs.Agreement.{FaultsAgree}
-use Rattle.ir_resolve.proofs.Agrees.{LinesStand, faults_agree, rest_of_source}
 
 -- ---- the lines of a body, and those of a block
 
 -- each line stands where it may, and none is a closing brace
-abbrev InBody : Place → List Line → Type 0
-InBody place [] = ⊤
-InBody place (l ∷ ls) = (is_close l.says ≡ false) × Goes (place_behind place l.says) (λ next. InBody next ls)
+abbrev pub StandsIn : Place → List Line → Type 0
+StandsIn place [] = ⊤
+StandsIn place (l ∷ ls) = (is_close l.says ≡ false) × Goes (place_behind place l.says) (λ next. StandsIn next ls)
 
 -- and none is a label
 abbrev InBlock : Place → List Line → Type 0
 InBlock place [] = ⊤
 InBlock place (l ∷ ls) = (is_close l.says ≡ false) × (is_label l.says ≡ false) × Goes (place_behind place l.says) (λ next. InBlock next ls)
 
-in_body : (place : Place) (ls : List Line) → Stand place ls → InBody place (take_while (λ l. not (is_close l.says)) ls)
+in_body : (place : Place) (ls : List Line) → Stand place ls → StandsIn place (take_while (λ l. not (is_close l.says)) ls)
 in_body place [] stand = tt
 in_body place (l ∷ ls) stand =
-    subst (InBody place) (sym (take_while-cons (λ (one : Line). not (is_close one.says)) l ls)) (by (is_close l.says) refl (in_body stand.next ls stand.more))
+    subst (StandsIn place) (sym (take_while-cons (λ (one : Line). not (is_close one.says)) l ls)) (by (is_close l.says) refl (in_body stand.next ls stand.more))
   where
-    by : (b : Bool) → is_close l.says ≡ b → InBody stand.next (take_while (λ k. not (is_close k.says)) ls)
-        → InBody place (cond (not b) (l ∷ take_while (λ k. not (is_close k.says)) ls) [])
+    by : (b : Bool) → is_close l.says ≡ b → StandsIn stand.next (take_while (λ k. not (is_close k.says)) ls)
+        → StandsIn place (cond (not b) (l ∷ take_while (λ k. not (is_close k.says)) ls) [])
     by true e ih = tt
     by false e ih = (e, record { next = stand.next; is = stand.is; more = ih })
 
-in_block : (place : Place) (ls : List Line) → InBody place ls → InBlock place (until_label ls)
+in_block : (place : Place) (ls : List Line) → StandsIn place ls → InBlock place (until_label ls)
 in_block place [] stand = tt
 in_block place (l ∷ ls) stand =
     subst (InBlock place) (sym (take_while-cons (λ (one : Line). not (is_label one.says)) l ls)) (by (is_label l.says) refl (in_block stand.1.next ls stand.1.more))
@@ -60,8 +55,8 @@ entry-is places.Block next answer name arguments strategy e = absurd (cc)
 entry-is places.Closed next answer name arguments strategy e = absurd (cc)
 entry-is places.Cases next answer name arguments strategy e = absurd (cc)
 
-abbrev BodyStands : Definition → Type 0
-BodyStands func = InBody places.Entry func.body
+abbrev pub BodyStands : Definition → Type 0
+BodyStands func = StandsIn places.Entry func.body
 
 one_body : (place next : Place) (n : ℕ) (s : Statement) (ls : List Line) → place_behind place s ≡ Some next → Stand next ls → All BodyStands (definitions_of ls)
     → All BodyStands (definition_said n s ls ++ definitions_of ls)
@@ -76,7 +71,7 @@ one_body place next n (define answer name arguments strategy) ls e stand ih =
     }) (definitions_of ls) (in_body places.Entry ls (subst (λ (p : Place). Stand p ls) (sym (entry-is place next answer name arguments strategy e)) stand)) ih
 one_body place next n _ ls e stand ih = ih
 
-bodies : (place : Place) (lines : List Line) → Stand place lines → All BodyStands (definitions_of lines)
+pub bodies : (place : Place) (lines : List Line) → Stand place lines → All BodyStands (definitions_of lines)
 bodies place [] stand = All-nil BodyStands
 bodies place (l ∷ ls) stand = one_body place stand.next l.number l.says ls stand.is stand.more (bodies stand.next ls stand.more)
 
@@ -93,18 +88,18 @@ block-is places.Block next name e = absurd (cc)
 block-is places.Closed next name e = same_Some places.Block next e
 block-is places.Cases next name e = absurd (cc)
 
-one_block : (place next : Place) (n : ℕ) (s : Statement) (ls : List Line) → place_behind place s ≡ Some next → InBody next ls → All BlockStands (labelled_blocks ls)
+one_block : (place next : Place) (n : ℕ) (s : Statement) (ls : List Line) → place_behind place s ≡ Some next → StandsIn next ls → All BlockStands (labelled_blocks ls)
     → All BlockStands (block_at n (label_said s) ls ++ labelled_blocks ls)
 one_block place next n (label name) ls e stand ih =
     All-cons BlockStands (record { line = n; name = name; lines = until_label ls }) (labelled_blocks ls)
-    (inr (in_block places.Block ls (subst (λ (p : Place). InBody p ls) (sym (block-is place next name e)) stand))) ih
+    (inr (in_block places.Block ls (subst (λ (p : Place). StandsIn p ls) (sym (block-is place next name e)) stand))) ih
 one_block place next n _ ls e stand ih = ih
 
-labelled : (place : Place) (ls : List Line) → InBody place ls → All BlockStands (labelled_blocks ls)
+labelled : (place : Place) (ls : List Line) → StandsIn place ls → All BlockStands (labelled_blocks ls)
 labelled place [] stand = All-nil BlockStands
 labelled place (l ∷ ls) stand = one_block place stand.1.next l.number l.says ls stand.1.is stand.1.more (labelled stand.1.next ls stand.1.more)
 
-first : (func : Definition) (body : List Line) → InBody places.Entry body → All BlockStands (first_block func body)
+first : (func : Definition) (body : List Line) → StandsIn places.Entry body → All BlockStands (first_block func body)
 first func [] stand = All-nil BlockStands
 first func (l ∷ ls) stand = by (is_label l.says)
   where
@@ -115,12 +110,12 @@ first func (l ∷ ls) stand = by (is_label l.says)
 
 -- ---- before a phi
 
-data After (next : Place) : Type 0 where
+pub data After (next : Place) : Type 0 where
   goes_on : places.Block ≡ next → After next
   ends : places.Closed ≡ next → After next
   opens : places.Cases ≡ next → After next
 
-after : (s : Statement) (next : Place) → behind_instruction s ≡ Some next → After next × (is_instruction s ≡ true)
+pub after : (s : Statement) (next : Place) → behind_instruction s ≡ Some next → After next × (is_instruction s ≡ true)
 after (layout name fields) next e = absurd (cc)
 after (declare answer name parameters) next e = absurd (cc)
 after (define answer name arguments strategy) next e = absurd (cc)
@@ -199,31 +194,3 @@ phis_stand form lines read func defined block inside before n result ty entries 
     either : InBlock places.Entry block.lines ⊎ InBlock places.Block block.lines → InBlock places.Block block.lines
     either (inl entry) = from_entry block.lines entry
     either (inr other) = other
-
--- ---- what the laws ask of lines
-
-and-right : (a b : Bool) → (a && b) ≡ true → b ≡ true
-and-right true b e = e
-and-right false b e = absurd (let bad : false ≡ true = e in cc)
-
-read_cast : (s : Statement) → is_formed s ≡ true → IsReadCast s
-read_cast (cast result op from value to) e = and-right (is_cast_type from) (is_cast_type to) e
-read_cast _ e = tt
-
-all_casts : (ls : List Line) → AllByRecursion (λ l. is_formed l.says ≡ true) ls → AllByRecursion (λ l. IsReadCast l.says) ls
-all_casts [] all = tt
-all_casts (l ∷ ls) all = (read_cast l.says all.0, all_casts ls all.1)
-
--- the lines of a text that was read
-pub lines_stand : (form : Form) (lines : List Line) → IsReadLines form lines → IsTextLines form lines → LinesStand lines
-lines_stand form lines read placed = record {
-  cases = cases_follow form lines read;
-  literals = cases_spell form lines read;
-  phis = phis_stand form lines placed;
-  types = types_read form lines read (All-from_recursion (λ (l : Line). IsReadCast l.says) lines
-      (all_casts lines (recursion_from_All (λ (l : Line). is_formed l.says ≡ true) lines placed.formed)));
-}
-
--- in a text of the source form that was read the two sets have the same least member
-pub source_agrees : (lines : List Line) → IsReadLines Source lines → IsTextLines Source lines → FaultsAgree Source lines
-source_agrees lines read placed = faults_agree Source lines (lines_stand Source lines read placed) (rest_of_source lines)

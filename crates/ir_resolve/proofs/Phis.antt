@@ -39,6 +39,7 @@ use Rattle.ir_lines.specs.Faults.PhiEdges.{PhiEdges, late, uncounted, differ}
 use Rattle.ir_lines.specs.Faults.PhiEdges as wrong
 use Rattle.ir_resolve.specs.Resolved.{stands_for}
 use Rattle.ir_resolve.specs.ModuleFaults.{PhiIsWrong}
+use Rattle.ir_resolve.proofs.Booleans.{true-false}
 use Rattle.ir_resolve.proofs.Entries.{CasesFollow}
 use Rattle.ir_resolve.proofs.Places.{get_mapped, map_get}
 use Rattle.ir_resolve.proofs.Edges.{edges-same}
@@ -160,9 +161,6 @@ binary_no_phi _ = refl
 conversion_no_phi : (op : Conversion) (to : ℕ) → right.is_phi (conversion_of op to) ≡ false
 conversion_no_phi Trunc to = refl
 conversion_no_phi _ to = refl
-
-pub true-false : (b : Bool) → b ≡ true → b ≡ false → ⊥
-true-false b t f = let bad : true ≡ false = sym t ∙ f in cc
 
 abbrev PhiOr : Statement → Instruction → Type 0
 PhiOr s inst = right.is_phi inst.op ≡ true → PhiSaid s

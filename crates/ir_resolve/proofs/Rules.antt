@@ -29,17 +29,8 @@ use Rattle.ir_lines.specs.ReadLines.{IsValueType, IsAnswerType, SaysRead}
 use Rattle.ir_ast.specs.declared.modules.Form.{Form}
 use Rattle.ir_resolve.specs.TextFaults.{is_below_zero, says_wrong}
 use Rattle.ir_resolve.specs.ModuleFaults.{RuleBesidesCalls}
-
-inside : (b : Bool) → not b ≡ false → b ≡ true
-inside true e = refl
-inside false e = absurd (let bad : true ≡ false = e in cc)
-
-and-right : (a b : Bool) → (a && b) ≡ true → b ≡ true
-and-right true b e = e
-and-right false b e = absurd (let bad : false ≡ true = e in cc)
-
-both : (a b : Bool) → a ≡ true → b ≡ true → (a && b) ≡ true
-both a b e f = ap (λ (x : Bool). x && b) e ∙ f
+use Rattle.ir_resolve.proofs.Values.{same_type-is}
+use Rattle.ir_resolve.proofs.Booleans.{inside, and-right, both}
 
 -- ---- widths
 
@@ -86,13 +77,6 @@ cell_from ty r = by ty r.0 r.1
     by Plain cells.Ptr e = absurd (cc)
 
 -- ---- answers
-
-same_type-is : (a b : TypeWord) → same_type a b ≡ true → a ≡ b
-same_type-is Void Void e = refl
-same_type-is (Int width) (Int other) e = ap Int ((Decides-eqb width other).0 e)
-same_type-is Managed Managed e = refl
-same_type-is Plain Plain e = refl
-same_type-is _ _ e = absurd (let bad : false ≡ true = e in cc)
 
 answer_from : (a b : TypeWord) → IsAnswerType a → IsAnswerType b → type_of a ≡ type_of b → same_type a b ≡ true
 answer_from Void Void x y e = refl

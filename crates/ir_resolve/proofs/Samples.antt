@@ -3,15 +3,19 @@ use Rattle.std.proofs.Common.{◌≡◌, ℕ, ◌+◌, Bool, true, false, ◌||�
 use Rattle.std.specs.Prelude.{Some, None, Option, slice_get, codes}
 use Rattle.std.specs.List.{Contains, list_any}
 use Rattle.std.specs.Str.{bytes_eq}
+use Rattle.std.proofs.lemmas.Option.{same_Some}
+use Rattle.sp_ids.specs.declared.ids.ValueId.{ValueId}
 use Rattle.name_chains.proofs.Places.{bytes_eq-self}
 use Rattle.list_laws.proofs.Contents.{contains_get, contains_first, contains_none, contains_cons}
 use Rattle.ir_ast.specs.declared.modules.Form.TheVariants.{Source, Rewritten}
 use Rattle.ir_ast.specs.declared.types.Ty.TheVariants as tys
+use Rattle.ir_ast.specs.declared.ops.Operand.TheVariants as operands
 use Rattle.ir_ast.specs.declared.ops.Pred.TheVariants.{Ult}
 use Rattle.ir_ast.specs.Insts.{Instruction}
 use Rattle.ir_ast.specs.Funcs.{Function, instructions_of}
 use Rattle.ir_ast.specs.Values.{value_types}
 use Rattle.ir_ast.specs.Derived.{by_step}
+use Rattle.ir_ast.specs.Faults.GroupShape.{Group, entries_of}
 use Rattle.line_tokens.specs.declared.literals.Literal.{Literal}
 use Rattle.line_tokens.specs.declared.words.Binary.TheVariants.{Add}
 use Rattle.line_tokens.specs.declared.words.Cast.TheVariants.{PtrToInt}
@@ -19,7 +23,7 @@ use Rattle.line_parts.specs.declared.readings.TypeWord.TheVariants as types
 use Rattle.line_parts.specs.Parts.{Val}
 use Rattle.line_parts.specs.Parts as values
 use Rattle.line_parts.specs.Lists.{given}
-use Rattle.ir_lines.specs.Statements.{Statement, Line, layout, declare, define, close, label, binary, compare, phi, scalar_step, store, call, jump, switch, switch_case, switch_end, ret, cast, statepoint, gc_result}
+use Rattle.ir_lines.specs.Statements.{Statement, Line, layout, declare, define, close, label, binary, compare, phi, scalar_step, store, call, jump, switch, switch_case, switch_end, ret, cast, statepoint, gc_result, gc_relocate}
 use Rattle.ir_lines.specs.Sections.{Definition, Naming, definitions_of, layouts_of, cases_of}
 use Rattle.ir_lines.specs.Scope.{Scope, scope_of}
 use Rattle.ir_lines.specs.InBody.{InBody, InText}
@@ -353,3 +357,36 @@ breaks_18 = group_shape refl (record {
   where
     before_all : (head : ℕ) → Rattle.std.specs.Prelude.◌<◌ head 0 → ⊥
     before_all head less = omega arith
+
+-- `null` isn't relocated
+abbrev moving : List Line
+moving = text_of (
+    statepoint (codes "t") (record {
+      id = plain 0;
+      signature = record { answer = types.Void; parameters = [] };
+      callee = codes "main";
+      count = plain 0;
+      passed = [];
+    }) (values.null ∷ [])
+    ∷ gc_relocate (codes "p") (codes "t") (plain 0) (plain 0)
+    ∷ end
+    ∷ []
+    )
+
+no_entry : (func : Function) (point : Instruction) → slice_get (instructions_of func.blocks) 0 ≡ Some point → slice_get (entries_of point) 0 ≡ Some operands.Null
+    → (token : ℕ) (group : Group func token 1) (derived : ℕ) → 0 ≡ derived → (value : ValueId)
+    → slice_get (entries_of group.statepoint) derived ≡ Some (operands.Value value) → ⊥
+no_entry func point first null token group derived is value entry =
+    let head : 0 ≡ group.head = (let below = group.before in omega arith) in
+    let same : point ≡ group.statepoint = same_Some point group.statepoint (sym first ∙ ap (slice_get (instructions_of func.blocks)) head ∙ group.stands) in
+    let bad : operands.Null ≡ operands.Value value = same_Some operands.Null (operands.Value value)
+    (sym null ∙ ap (λ (inst : Instruction). slice_get (entries_of inst) 0) same ∙ ap (slice_get (entries_of group.statepoint)) is ∙ entry) in
+    cc
+
+breaks_18_by_null : HasModuleFault (resolved Rewritten moving) 4 18
+breaks_18_by_null = group_shape refl (record {
+  at = stood (resolved Rewritten moving) _ refl 1 _ refl;
+  its = refl;
+  breaks = λ shape. (let given : 0 ≡ shape.derived = (let os = shape.operands in cc) in
+      no_entry _ _ refl refl shape.token.0 shape.group shape.derived given shape.derived_entry.0 shape.derived_entry.1);
+})

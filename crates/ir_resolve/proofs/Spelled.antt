@@ -23,13 +23,7 @@ use Rattle.ir_lines.specs.Faults.GroupShape as shapes
 use Rattle.ir_lines.specs.Faults.GroupShape.{misshapes, statepoint_is_wrong, uses_token}
 use Rattle.ir_resolve.specs.TextFaults.{is_outside, is_below_zero, says_wrong, misspells, CaseOfOtherWidth, miscounts}
 use Rattle.ir_resolve.specs.Agreement.{Covered}
-
-or-first : (a b : Bool) → a ≡ true → (a || b) ≡ true
-or-first a b e = ap (λ (x : Bool). x || b) e
-
-or-second : (a b : Bool) → b ≡ true → (a || b) ≡ true
-or-second true b e = refl
-or-second false b e = e
+use Rattle.ir_resolve.proofs.Booleans.{or-first, or-second}
 
 any-weaker : {A : Type 0} (p q : A → Bool) → ((x : A) → p x ≡ true → q x ≡ true) → (xs : List A) → list_any p xs ≡ true → list_any q xs ≡ true
 any-weaker p q f [] e = e

@@ -1,16 +1,20 @@
 -- Lines as a reader gives them have what the laws ask of them, but for what stands before a phi.
-use Rattle.std.proofs.Common.{◌≡◌, ℕ, suc, ◌+◌, ◌≤◌, Bool, true, false, not, cond, if◌then◌else◌, List, [], ◌∷◌, ◌++◌, length, refl, ap, subst, arith, length-append}
+use Rattle.std.proofs.Common.{◌≡◌, ℕ, suc, ◌+◌, ◌≤◌, Bool, true, false, not, cond, if◌then◌else◌, List, [], ◌∷◌, ◌++◌, length, refl, ap, sym, subst, arith, length-append}
 use Rattle.std.specs.Prelude.{Option, Some, None, slice_get, flat_map, take_while, count_by}
 use Rattle.std.specs.List.{All, AllByRecursion, Contains}
-use Rattle.std.proofs.lemmas.List.Elements.{All-nil, All-cons, All-append, All-contains, All-head, All-tail, All-take, recursion_from_All}
-use Rattle.std.proofs.lemmas.List.Sums.{sum_by-cons}
+use Rattle.std.proofs.lemmas.List.Elements.{All-nil, All-cons, All-append, All-contains, All-head, All-tail, All-take, All-from_recursion, recursion_from_All}
+use Rattle.std.proofs.lemmas.List.Sums.{sum_by-cons, take_while-cons}
 use Rattle.std.proofs.lemmas.Option.{same_Some, none-some}
 use Rattle.ir_ast.specs.declared.modules.Form.{Form}
 use Rattle.line_parts.specs.Lists.{Named}
-use Rattle.ir_lines.specs.Statements.{Line, Statement, layout, define, call, switch, switch_case}
+use Rattle.line_parts.specs.Parts.{is_cast_type}
+use Rattle.ir_lines.specs.Statements.{Line, Statement, layout, define, call, switch, switch_case, cast}
 use Rattle.ir_lines.specs.Parts.{gives}
 use Rattle.ir_lines.specs.Sections.{Definition, LayoutLine, layout_said, layouts_of, definition_said, definitions_of, is_close, is_case, cases_of, arguments_named, result_named, values_of}
 use Rattle.ir_lines.specs.ReadLines.{IsReadHead, IsReadArgument, SaysRead, IsReadFunction, IsReadLines, is_instruction, instruction_count}
+use Rattle.ir_lines.specs.TextLines.{IsTextLines, is_formed}
+use Rattle.ir_resolve.specs.Statements.{Rise}
+use Rattle.ir_resolve.proofs.Booleans.{and-left, and-right}
 use Rattle.ir_resolve.proofs.Entries.{CasesFollow}
 use Rattle.ir_resolve.proofs.Cases.{CasesSpell}
 use Rattle.ir_resolve.proofs.Values.{IsReadCast}
@@ -106,6 +110,55 @@ behind_says : (P : Statement → Type 0) (before : List Line) (l : Line) (after 
 behind_says P [] l after all = all.1
 behind_says P (k ∷ before) l after all = behind_says P before l after all.1
 
+-- ---- casts
+
+read_cast : (s : Statement) → is_formed s ≡ true → IsReadCast s
+read_cast (cast result op from value to) e = (and-left (is_cast_type from) (is_cast_type to) e, and-right (is_cast_type from) (is_cast_type to) e)
+read_cast _ e = tt
+
+all_casts : (ls : List Line) → AllByRecursion (λ l. is_formed l.says ≡ true) ls → AllByRecursion (λ l. IsReadCast l.says) ls
+all_casts [] all = tt
+all_casts (l ∷ ls) all = (read_cast l.says all.0, all_casts ls all.1)
+
+-- ---- numbers of lines
+
+rise_first : (from to : ℕ) → from ≤ to → (ls : List Line) → Rise to ls → Rise from ls
+rise_first from to low [] rise = tt
+rise_first from to low (l ∷ ls) rise = ((let first = rise.0 in omega arith), rise.1)
+
+-- the lines of a body rise, being lines of the text in its order
+rise_taken : (from : ℕ) (ls : List Line) → Rise from ls → Rise from (take_while (λ l. not (is_close l.says)) ls)
+rise_taken from [] rise = tt
+rise_taken from (l ∷ ls) rise =
+    subst (Rise from) (sym (take_while-cons (λ (one : Line). not (is_close one.says)) l ls)) (by (is_close l.says) (rise_taken l.number ls rise.1))
+  where
+    by : (b : Bool) → Rise l.number (take_while (λ k. not (is_close k.says)) ls) → Rise from (cond (not b) (l ∷ take_while (λ k. not (is_close k.says)) ls) [])
+    by true ih = tt
+    by false ih = (rise.0, ih)
+
+abbrev BodyRises : Definition → Type 0
+BodyRises func = Rise 0 func.body
+
+one_rises : (n : ℕ) (s : Statement) (ls : List Line) → Rise 0 ls → All BodyRises (definitions_of ls) → All BodyRises (definition_said n s ls ++ definitions_of ls)
+one_rises n (define answer name arguments strategy) ls rise ih =
+    All-cons BodyRises (record {
+      line = n;
+      answer = answer;
+      name = name;
+      arguments = arguments;
+      strategy = strategy;
+      body = take_while (λ l. not (is_close l.says)) ls;
+    }) (definitions_of ls) (rise_taken 0 ls rise) ih
+one_rises n _ ls rise ih = ih
+
+bodies_rise : (lines : List Line) → Rise 0 lines → All BodyRises (definitions_of lines)
+bodies_rise [] rise = All-nil BodyRises
+bodies_rise (l ∷ ls) rise =
+    let more = rise_first 0 l.number rise.0 ls rise.1 in one_rises l.number l.says ls more (bodies_rise ls more)
+
+pub body_rises : (lines : List Line) → Rise 0 lines → (func : Definition) → Contains (definitions_of lines) func → Rise 0 func.body
+body_rises lines rise func defined = All-contains BodyRises (definitions_of lines) func (bodies_rise lines rise) defined
+
 -- ---- the premises of the laws
 
 pub cases_follow : (form : Form) (lines : List Line) → IsReadLines form lines → CasesFollow lines
@@ -118,10 +171,12 @@ cases_spell form lines read func defined before behind n width value default who
     (behind_says SaysRead before (record { number = n; says = switch width value default }) behind (subst (AllByRecursion (λ l. SaysRead l.says)) whole body))
     k (record { number = m; says = switch_case other case to }) there
 
-pub types_read : (form : Form) (lines : List Line) → IsReadLines form lines → All (λ l. IsReadCast l.says) lines → (func : Definition) → Contains (definitions_of lines) func
+pub types_read : (form : Form) (lines : List Line) → IsReadLines form lines → IsTextLines form lines → (func : Definition) → Contains (definitions_of lines) func
     → TypesRead lines func
-types_read form lines read casts func defined =
+types_read form lines read placed func defined =
     let says = says_of SaysRead lines read.says func defined in
+    let casts : All (λ (l : Line). IsReadCast l.says) lines = All-from_recursion (λ (l : Line). IsReadCast l.says) lines
+    (all_casts lines (recursion_from_All (λ (l : Line). is_formed l.says ≡ true) lines placed.formed)) in
     let head : IsReadHead func.answer func.name func.arguments = says.head in
     let counted = (All-contains (IsReadFunction form) (definitions_of lines) func read.functions defined).few_instructions in
     let few = head.few in

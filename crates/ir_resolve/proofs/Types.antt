@@ -44,33 +44,16 @@ use Rattle.ir_resolve.specs.ModuleFaults.{Breaks, IsTypedBesidesCalls, RuleBesid
 use Rattle.ir_resolve.specs.ModuleFaults as broken
 use Rattle.ir_resolve.specs.FaultSet.{HasResolvedFault, of_text, of_module}
 use Rattle.ir_resolve.specs.Agreement.{Covered}
+use Rattle.ir_resolve.proofs.Booleans.{true-false, not-true, inside, outside, or-left, or-right, neither}
 use Rattle.ir_resolve.proofs.Places.{spot_of, stands_at}
 use Rattle.ir_resolve.proofs.Casts.{uncast_in, values-same, defined_before, definitions-same}
 use Rattle.ir_resolve.proofs.CastPhis.{split_map}
 use Rattle.ir_resolve.proofs.Cases.{behind_spot, spot_behind}
-use Rattle.ir_resolve.proofs.Values.{IsReadCast, IsKnownUse, IsNoPlain, types_in, types_resolved, fits_resolved, fits_spelled}
+use Rattle.ir_resolve.proofs.Values.{same_type-is, IsReadCast, IsKnownUse, IsNoPlain, types_in, types_resolved, fits_resolved, fits_spelled}
 use Rattle.ir_resolve.proofs.Zips.{AllFit, SameTypes, CasesFit, to_operands, from_operands}
 use Rattle.ir_resolve.proofs.Rules.{LayoutAt, LayoutIs, to_rule, from_rule}
 
 -- ---- booleans
-
-or-left : (a b : Bool) → (a || b) ≡ false → a ≡ false
-or-left false b e = refl
-or-left true b e = e
-
-or-right : (a b : Bool) → (a || b) ≡ false → b ≡ false
-or-right false b e = e
-or-right true b e = absurd (let bad : true ≡ false = e in cc)
-
-neither : (a b : Bool) → a ≡ false → b ≡ false → (a || b) ≡ false
-neither a b e f = ap (λ (x : Bool). x || b) e ∙ f
-
-inside : (b : Bool) → not b ≡ false → b ≡ true
-inside true e = refl
-inside false e = absurd (let bad : true ≡ false = e in cc)
-
-outside : (b : Bool) → b ≡ true → not b ≡ false
-outside b e = ap not e
 
 -- ---- uses
 
@@ -287,15 +270,8 @@ some_both : {P Q R : Instruction → Type 0} (o : Option Instruction) → IfSome
 some_both None p q f = tt
 some_both (Some inst) p q f = f inst p q
 
-select_same : (form : Form) (scope : Scope) (s : Statement) → keeps_rule form scope s ≡ true → SameTypes s
-select_same form scope (select result condition left_ty left right_ty right) e = sym (types_one left_ty right_ty e)
-  where
-    types_one : (a b : TypeWord) → same_type a b ≡ true → a ≡ b
-    types_one Void Void e = refl
-    types_one (Int width) (Int other) e = ap Int ((Rattle.std.proofs.lemmas.Bool.Decides.Decides-eqb width other).0 e)
-    types_one Managed Managed e = refl
-    types_one Plain Plain e = refl
-    types_one _ _ e = absurd (let bad : false ≡ true = e in cc)
+pub select_same : (form : Form) (scope : Scope) (s : Statement) → keeps_rule form scope s ≡ true → SameTypes s
+select_same form scope (select result condition left_ty left right_ty right) e = sym (same_type-is left_ty right_ty e)
 select_same form scope _ e = tt
 
 typed_plain : (form : Form) (lines : List Line) (func : Definition) → TypesRead lines func → (rest : List Line) → AllByRecursion (λ l. SaysRead l.says) rest
@@ -314,7 +290,7 @@ typed_plain form lines func env rest behind s read plain clash unknown =
     (to_rule form (bare_scope form lines func) known scope refl (map uncast_line rest) s (layout_is form lines func env s names.layouts) rule)
     (λ inst f r. record { operands = f all; rule = r })
 
-typed_said : (form : Form) (lines : List Line) (func : Definition) → TypesRead lines func → (rest : List Line) → AllByRecursion (λ l. SaysRead l.says) rest
+pub typed_said : (form : Form) (lines : List Line) (func : Definition) → TypesRead lines func → (rest : List Line) → AllByRecursion (λ l. SaysRead l.says) rest
     → (s : Statement) → SaysRead s → clashes form (scope_of lines func) s ≡ false → names_unknown (scope_of lines func) s ≡ false
     → IfSome (instruction_said (bare_known lines func) (map uncast_line rest) (uncast s)) (IsTypedBesidesCalls (bare_scope form lines func))
 typed_said form lines func env rest behind (cast result op from value to) read clash unknown = record { operands = tt; rule = tt }
@@ -364,9 +340,6 @@ sound_none form scope known rest (cast result op from value to) read f e =
     neither (not (fits scope from value) || false) false (ap (λ (b : Bool). b || false) (or-right (is_outside from value || false) (not (fits scope from value)) f)) refl
 sound_none form scope known rest _ read f e = absurd (cc)
 
-true-false : (b : Bool) → b ≡ true → b ≡ false → ⊥
-true-false b t f = let bad : true ≡ false = sym t ∙ f in cc
-
 record BrokenBy (form : Form) (lines : List Line) (func : Definition) (said : Option Instruction) : Type 0 where
   inst : Instruction
   is : said ≡ Some inst
@@ -397,7 +370,7 @@ broken_said form lines func env rest s read spelled unknown clash = broken_plain
 
 -- ---- the law
 
-split_read : (P : Line → Type 0) (before : List Line) (l : Line) (after : List Line) → AllByRecursion P (before ++ l ∷ after) → P l × AllByRecursion P after
+pub split_read : (P : Line → Type 0) (before : List Line) (l : Line) (after : List Line) → AllByRecursion P (before ++ l ∷ after) → P l × AllByRecursion P after
 split_read P [] l after all = (all.0, all.1)
 split_read P (k ∷ before) l after all = split_read P before l after all.1
 
@@ -438,10 +411,6 @@ type_spelled form lines line envs fault none =
     (typed_said form lines func env l.after reads.1 l.one.says reads.0 clash unknown) in
     fault.breaks (subst (λ (f : Function). IsTypedBesidesCalls (made.scope_of (resolved form lines).whole.content f) fault.at.inst) made_is
     (subst (IsTypedBesidesCalls (bare_scope form lines func)) s.inst typed))
-  where
-    not-true : (b : Bool) → ¬ (b ≡ true) → b ≡ false
-    not-true true h = absurd (h refl)
-    not-true false h = refl
 
 pub type_resolved : (form : Form) (lines : List Line) (line : ℕ) → ((func : Definition) → Contains (definitions_of lines) func → TypesRead lines func)
     → InBody lines line (clashes form) → Covered (HasResolvedFault form lines) line 5

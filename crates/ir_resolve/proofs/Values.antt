@@ -1,6 +1,6 @@
 -- A cast's default keeps each value in its place: in the resolved text a name has the number and the type that it has
 -- on lines. So an operand that has a name, or a literal within its type, fits exactly where its value does on lines.
-use Rattle.std.proofs.Common.{◌≡◌, ◌∙◌, ℕ, ◌<◌, ◌^◌, ◌-◌, ◌%◌, Bool, true, false, not, cond, if◌then◌else◌, List, [], ◌∷◌, ◌++◌, map, length, refl, ap, sym, subst, arith, mod-lt}
+use Rattle.std.proofs.Common.{◌≡◌, ◌∙◌, ℕ, ◌<◌, ◌^◌, ◌-◌, ◌%◌, Bool, true, false, cond, if◌then◌else◌, List, [], ◌∷◌, ◌++◌, map, length, refl, ap, sym, subst, arith, mod-lt}
 use Rattle.std.specs.Prelude.{Option, Some, None, is_some, is_none, filter, flat_map, slice_get, option_map, ⊤}
 use Rattle.std.specs.List.{AllByRecursion}
 use Rattle.std.proofs.lemmas.List.{map-append}
@@ -34,6 +34,7 @@ use Rattle.ir_lines.specs.ReadLines.{IsValueType, IsReadArgument, SaysRead}
 use Rattle.ir_lines.proofs.LawNames.{stands, number-is}
 use Rattle.ir_resolve.specs.Resolved.{Spot, case_lines, spot_said, spots_of, uncast, uncast_line}
 use Rattle.ir_resolve.specs.TextFaults.{is_outside}
+use Rattle.ir_resolve.proofs.Booleans.{inside}
 use Rattle.ir_resolve.proofs.Bodies.{function_insts}
 use Rattle.ir_resolve.proofs.Casts.{uncast_in}
 
@@ -44,9 +45,9 @@ value_type (Int width) = tys.Int width
 value_type Managed = tys.Ptr
 value_type Plain = tys.Void
 
--- a cast answers a type that a value may have
+-- a cast takes and answers a type that a value may have
 abbrev pub IsReadCast : Statement → Type 0
-IsReadCast (cast result op from value to) = is_cast_type to ≡ true
+IsReadCast (cast result op from value to) = (is_cast_type from ≡ true) × (is_cast_type to ≡ true)
 IsReadCast _ = ⊤
 
 pub value_type-is : (ty : TypeWord) → IsValueType ty → value_type ty ≡ type_of ty
@@ -99,7 +100,7 @@ one_result known rest n line cases (load result ty address) read of_cast = one_t
 one_result known rest n line cases (call None answer callee passed) read of_cast = refl
 one_result known rest n line cases (call (Some result) answer callee passed) read of_cast = one_type _ _ (sym (value_type-is answer read.0.1))
 one_result known rest n line cases (gc_result result ty token) read of_cast = one_type _ _ (sym (value_type-is ty read.1))
-one_result known rest n line cases (cast result op from value to) read of_cast = one_type _ _ (cast_type-is to of_cast)
+one_result known rest n line cases (cast result op from value to) read of_cast = one_type _ _ (cast_type-is to of_cast.1)
 one_result known rest n line cases _ read of_cast = refl
 
 all_results : (known : Known) (ls : List Line) → AllByRecursion (λ l. SaysRead l.says) ls → AllByRecursion (λ l. IsReadCast l.says) ls
@@ -141,7 +142,7 @@ IsKnownUse scope _ = ⊤
 abbrev pub types_in : Scope → List Ty
 types_in scope = map (λ one. value_type one.ty) scope.values
 
-same_type-is : (a b : TypeWord) → same_type a b ≡ true → a ≡ b
+pub same_type-is : (a b : TypeWord) → same_type a b ≡ true → a ≡ b
 same_type-is Void Void e = refl
 same_type-is (Int width) (Int other) e = ap Int ((Decides-eqb width other).0 e)
 same_type-is Managed Managed e = refl
@@ -195,10 +196,6 @@ fits_resolved scope few _ (values.truth said) plain e known = absurd (let bad : 
 fits_resolved scope few Managed values.null plain e known = refl
 fits_resolved scope few Plain values.null plain e known = absurd plain
 fits_resolved scope few _ values.null plain e known = absurd (let bad : false ≡ true = e in cc)
-
-inside : (b : Bool) → not b ≡ false → b ≡ true
-inside true e = refl
-inside false e = absurd (let bad : true ≡ false = e in cc)
 
 pub fits_spelled : (scope : Scope) → length scope.values < 2 ^ 32 → (ty : TypeWord) (v : Val) → is_outside ty v ≡ false → IsKnownUse scope v
     → Fits (types_in scope) (operand_in (value_names scope) ty v) (value_type ty) → fits scope ty v ≡ true

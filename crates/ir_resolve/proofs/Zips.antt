@@ -29,11 +29,11 @@ FitsIn types names used = Fits types (operand_in names used.1 used.0) (value_typ
 abbrev pub AllFit : List Ty → List (List ℕ) → List (Val × TypeWord) → Type 0
 AllFit types names us = AllByRecursion (FitsIn types names) us
 
-binary_asked : (op : Binary) (ty : Ty) (count : ℕ) → asked (binary_of op) ty count ≡ replicate count ty
+pub binary_asked : (op : Binary) (ty : Ty) (count : ℕ) → asked (binary_of op) ty count ≡ replicate count ty
 binary_asked Add ty count = refl
 binary_asked _ ty count = refl
 
-conversion_asked : (op : Conversion) (to : ℕ) (ty : Ty) (count : ℕ) → asked (conversion_of op to) ty count ≡ replicate count ty
+pub conversion_asked : (op : Conversion) (to : ℕ) (ty : Ty) (count : ℕ) → asked (conversion_of op to) ty count ≡ replicate count ty
 conversion_asked Trunc to ty count = refl
 conversion_asked _ to ty count = refl
 

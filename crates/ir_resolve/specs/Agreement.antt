@@ -5,6 +5,11 @@ use Rattle.ir_lines.specs.Statements.{Line}
 use Rattle.ir_lines.specs.PlainFaults.{HasPlainFault, ComesFirst}
 use Rattle.ir_resolve.specs.FaultSet.{HasResolvedFault}
 
+-- the least of a set of faults
+pub record IsLeast (Has : ℕ → ℕ → Type 0) (line code : ℕ) : Type 0 where
+  pub is : Has line code
+  pub least : (other_line other_code : ℕ) → Has other_line other_code → ComesFirst line code other_line other_code
+
 -- a fault of the set comes first
 pub record Covered (Has : ℕ → ℕ → Type 0) (line code : ℕ) : Type 0 where
   pub first_line : ℕ

@@ -2,7 +2,6 @@
 use Rattle.std.specs.Prelude.{ℕ, List}
 use Rattle.ir_ast.specs.declared.modules.Form.{Form}
 use Rattle.ir_lines.specs.Statements.{Line}
-use Rattle.ir_lines.specs.PlainFaults.{ComesFirst}
 use Rattle.ir_resolve.specs.Resolved.{resolved}
 use Rattle.ir_resolve.specs.TextFaults.{HasTextFault}
 use Rattle.ir_resolve.specs.ModuleFaults.{HasModuleFault}
@@ -10,10 +9,6 @@ use Rattle.ir_resolve.specs.ModuleFaults.{HasModuleFault}
 pub data HasResolvedFault (form : Form) (lines : List Line) (line code : ℕ) : Type 0 where
   of_text : HasTextFault form lines line code → HasResolvedFault form lines line code
   of_module : HasModuleFault (resolved form lines) line code → HasResolvedFault form lines line code
-
-pub record IsLeastResolvedFault (form : Form) (lines : List Line) (line code : ℕ) : Type 0 where
-  pub is : HasResolvedFault form lines line code
-  pub least : (other_line other_code : ℕ) → HasResolvedFault form lines other_line other_code → ComesFirst line code other_line other_code
 
 abbrev pub HasNoResolvedFault : Form → List Line → Type 0
 HasNoResolvedFault form lines = (line code : ℕ) → ¬ HasResolvedFault form lines line code

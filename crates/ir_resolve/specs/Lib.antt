@@ -3,3 +3,4 @@ pub mod TextFaults
 pub mod ModuleFaults
 pub mod FaultSet
 pub mod Agreement
+pub mod Statements
