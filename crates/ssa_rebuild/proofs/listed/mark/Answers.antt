@@ -8,3 +8,6 @@ loop-marks-preserved c v =
 
 pub returns : goal.returns
 returns c = marks_set c.args.marks.now.items c.loop-marks.marks.items c.args.value.0 (omega (arith, c.loop-marks-test.false, c.len.ensures)) c.loop-marks.invariant
+
+pub loop-marks-smaller : goal.loop-marks-smaller
+loop-marks-smaller c = omega (arith, c.in_ok-push.ensures.len, c.loop-marks-test.true, c.len.ensures)
