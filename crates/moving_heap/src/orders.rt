@@ -218,12 +218,17 @@ fn chained(order: &[u32], stands: &[Stand], targets: &[Moved]) -> bool
     requires sizes { All (λ stand. 0 < stand.size) (then_row stands.now (targets_in targets.now) order.now) }
     ensures { result ≡ apart (then_row stands.now (targets_in targets.now) order.now) }
 {
-    for place in 1..order.len() {
-        let before = then_at(stands, targets, order[place - 1]);
-        let here = then_at(stands, targets, order[place]);
+    let mut before = Stand {
+        number: 0,
+        size: 0,
+        address: 0,
+    };
+    for place in order {
+        let here = then_at(stands, targets, *place);
         if u64::from(before.size) > here.address - before.address {
             return false;
         }
+        before = here;
     }
     true
 }
