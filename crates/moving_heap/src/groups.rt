@@ -9,7 +9,7 @@ ghost use Rattle.moving_heap.specs.Orders.{targets_in, sent_by, leaves_at, ranks
 ghost use Rattle.moving_heap.specs.Settled.{IsNumbered, AreSettled, AreRanked};
 
 use crate::orders::Order;
-use crate::stands::{Moved, Stand, Verdict, target_in, then_at};
+use crate::stands::{Moved, Stand, Stands, Verdict, target_in, then_at};
 use move_plan::Move;
 
 // Whether the target of an object is one.
@@ -26,7 +26,7 @@ fn flip_start(event: u64) -> u64
 }
 
 // The targets by the move lines; none, where a line names no object, or one that another line names, or has 0 as its target.
-fn name_targets(targets: &mut [Moved], stands: &[Stand], lines: &[Move]) -> bool
+fn name_targets(targets: &mut [Moved], stands: &Stands, lines: &[Move]) -> bool
     requires numbered { IsNumbered stands.now }
     requires resting { targets.old ≡ map resting stands.now }
     ensures answer { IsTrue result → (exist stands.now lines.now && differ lines.now) ≡ true }
@@ -52,7 +52,7 @@ fn name_targets(targets: &mut [Moved], stands: &[Stand], lines: &[Move]) -> bool
 }
 
 // A flip lays the others side by side.
-fn flip(targets: &mut [Moved], stands: &[Stand], start: u64)
+fn flip(targets: &mut [Moved], stands: &Stands, start: u64)
     requires some { 0 < start }
     requires room { start + sum_by (λ stand. stand.size) stands.now < 2 ^ 64 }
     requires same { length targets.old ≡ length stands.now }
@@ -60,7 +60,8 @@ fn flip(targets: &mut [Moved], stands: &[Stand], start: u64)
     ensures olds { map (λ move. move.old) targets.new ≡ map (λ move. move.old) targets.old }
 {
     let mut at = start;
-    for (place, stand) in stands.iter().enumerate() {
+    for place in 0..stands.len() {
+        let stand = stands.at(place);
         if targets[place].new == 0 {
             targets[place].new = at;
             at += u64::from(stand.size);
@@ -69,12 +70,13 @@ fn flip(targets: &mut [Moved], stands: &[Stand], start: u64)
 }
 
 // Whether all targets fit.
-fn all_fit(targets: &[Moved], stands: &[Stand]) -> bool
+fn all_fit(targets: &[Moved], stands: &Stands) -> bool
     requires same { length targets.now ≡ length stands.now }
     ensures { result ≡ all_fit stands.now (targets_in targets.now) }
 {
-    for (place, stand) in stands.iter().enumerate() {
-        if !fits_or_stays(*stand, target_in(targets[place])) {
+    for place in 0..stands.len() {
+        let stand = stands.at(place);
+        if !fits_or_stays(stand, target_in(targets[place])) {
             return false;
         }
     }
@@ -109,7 +111,7 @@ pub(crate) fn judge(
     next: &mut Order,
     leaving: &mut Vec<u32>,
     targets: &mut [Moved],
-    stands: &[Stand],
+    stands: &Stands,
     order: &Order,
     lines: &[Move],
     event: Option<u64>,
@@ -149,7 +151,7 @@ pub(crate) fn judge(
 fn arrange(
     next: &mut Order,
     leaving: &mut Vec<u32>,
-    stands: &[Stand],
+    stands: &Stands,
     targets: &[Moved],
     order: &Order,
 )
@@ -171,7 +173,7 @@ fn arrange(
 }
 
 // A flip, where the event has one.
-fn flip_at(targets: &mut [Moved], stands: &[Stand], event: Option<u64>)
+fn flip_at(targets: &mut [Moved], stands: &Stands, event: Option<u64>)
     requires room { sum_by (λ stand. stand.size) stands.now ≤ 67108864 }
     requires same { length targets.old ≡ length stands.now }
     ensures targets { targets_in targets.new ≡ flipped_at event stands.now (targets_in targets.old) }

@@ -1,8 +1,11 @@
 //! Objects where they stand, and their moves.
 
-ghost use Rattle.std.specs.Prelude.{◌≡◌};
+ghost use Rattle.std.specs.Prelude.{◌≡◌, ◌<◌, ◌^◌, length};
 ghost use Rattle.moving_heap.specs.Places.{sent};
 ghost use Rattle.moving_heap.specs.Orders.{stand_at, target_in, targets_in, target_of, then_at};
+ghost use Rattle.moving_heap.specs.Settled.{numbered};
+
+use std::marker::Model;
 
 /// An object by its number, from 1, with its footprint in bytes and its address.
 #[derive(Clone, Copy, Debug, PartialEq, Eq)]
@@ -30,18 +33,59 @@ pub enum Verdict {
     Illegal,
 }
 
-/// An object by its place among all, from 0.
-pub(crate) fn stand_at(stands: &[Stand], place: u32) -> Stand
-    ensures { result ≡ stand_at stands.now place }
-{
-    let place = place as usize;
-    if place < stands.len() {
-        stands[place]
-    } else {
-        Stand {
-            number: 0,
-            size: 0,
-            address: 0,
+/// Objects by their addresses and the bytes of their footprints; their numbers follow from their places. Contracts see the
+/// objects.
+#[derive(Drop)]
+pub(crate) struct Stands<'a> {
+    addresses: &'a [u64],
+    sizes: &'a [u32],
+}
+
+impl<'a> Model for Stands<'a> {
+    ghost use Rattle.std.specs.Prelude.{◌≡◌, ◌<◌, ◌^◌, List, length};
+    ghost use Rattle.moving_heap.specs.Settled.{numbered};
+    ghost use Rattle.moving_heap.specs.declared.stands.Stand.{Stand};
+
+    ghost Value = { List Stand };
+
+    ghost view = { λ stands. numbered 0 stands.addresses.now stands.sizes.now };
+
+    ghost invariant = { λ stands. (length stands.sizes.now ≡ length stands.addresses.now) × (length stands.addresses.now < 2 ^ 32) };
+}
+
+impl<'a> Stands<'a> {
+    /// The objects that have these addresses and sizes.
+    pub(crate) fn of(addresses: &'a [u64], sizes: &'a [u32]) -> Stands<'a>
+        requires same { length sizes.now ≡ length addresses.now }
+        requires few { length addresses.now < 2 ^ 32 }
+        ensures { result ≡ numbered 0 addresses.now sizes.now }
+    {
+        Stands { addresses, sizes }
+    }
+
+    /// How many there are.
+    pub(crate) fn len(&self) -> usize
+        ensures { result ≡ length self.now }
+    {
+        self.addresses.len()
+    }
+
+    /// An object by its place among all, from 0.
+    pub(crate) fn at(&self, place: usize) -> Stand
+        ensures { result ≡ stand_at self.now place }
+    {
+        if place < self.addresses.len() {
+            Stand {
+                number: (place + 1) as u32,
+                size: self.sizes[place],
+                address: self.addresses[place],
+            }
+        } else {
+            Stand {
+                number: 0,
+                size: 0,
+                address: 0,
+            }
         }
     }
 }
@@ -83,9 +127,9 @@ pub(crate) fn sent(stand: Stand, target: Option<u64>) -> Stand
 }
 
 /// An object by its place, at its target if it has one.
-pub(crate) fn then_at(stands: &[Stand], targets: &[Moved], place: u32) -> Stand
+pub(crate) fn then_at(stands: &Stands, targets: &[Moved], place: u32) -> Stand
     ensures { result ≡ then_at stands.now (targets_in targets.now) place }
 {
-    let stand = stand_at(stands, place);
+    let stand = stands.at(place as usize);
     sent(stand, target_of(targets, stand))
 }
