@@ -1,10 +1,12 @@
 //! Objects where they stand, and their moves.
 
-ghost use Rattle.std.specs.Prelude.{◌≡◌, ◌<◌, ◌^◌, length};
+ghost use Rattle.std.specs.Prelude.{◌≡◌, length};
 ghost use Rattle.moving_heap.specs.Places.{sent};
 ghost use Rattle.moving_heap.specs.Orders.{stand_at, target_in, targets_in, target_of, then_at};
-ghost use Rattle.moving_heap.specs.Settled.{numbered};
+ghost use Rattle.moving_heap.specs.Contents.{sizes_of};
+ghost use Rattle.moving_heap.specs.Settled.{AreSettled, numbered};
 
+use crate::cells::Cells;
 use std::marker::Model;
 
 /// An object by its number, from 1, with its footprint in bytes and its address.
@@ -33,34 +35,35 @@ pub enum Verdict {
     Illegal,
 }
 
-/// Objects by their addresses and the bytes of their footprints; their numbers follow from their places. Contracts see the
-/// objects.
+/// Objects by their addresses; their numbers follow from their places, and their footprints from their cells. Contracts see
+/// the objects.
 #[derive(Drop)]
 pub(crate) struct Stands<'a> {
     addresses: &'a [u64],
-    sizes: &'a [u32],
+    cells: &'a Cells,
 }
 
 impl<'a> Model for Stands<'a> {
-    ghost use Rattle.std.specs.Prelude.{◌≡◌, ◌<◌, ◌^◌, List, length};
-    ghost use Rattle.moving_heap.specs.Settled.{numbered};
+    ghost use Rattle.std.specs.Prelude.{◌≡◌, List, length};
+    ghost use Rattle.moving_heap.specs.Contents.{sizes_of};
+    ghost use Rattle.moving_heap.specs.Settled.{AreSettled, numbered};
     ghost use Rattle.moving_heap.specs.declared.stands.Stand.{Stand};
 
     ghost Value = { List Stand };
 
-    ghost view = { λ stands. numbered 0 stands.addresses.now stands.sizes.now };
+    ghost view = { λ stands. numbered 0 stands.addresses.now (sizes_of stands.cells.now) };
 
-    ghost invariant = { λ stands. (length stands.sizes.now ≡ length stands.addresses.now) × (length stands.addresses.now < 2 ^ 32) };
+    ghost invariant = { λ stands. (length stands.cells.now ≡ length stands.addresses.now) × AreSettled (numbered 0 stands.addresses.now (sizes_of stands.cells.now)) };
 }
 
 impl<'a> Stands<'a> {
-    /// The objects that have these addresses and sizes.
-    pub(crate) fn of(addresses: &'a [u64], sizes: &'a [u32]) -> Stands<'a>
-        requires same { length sizes.now ≡ length addresses.now }
-        requires few { length addresses.now < 2 ^ 32 }
-        ensures { result ≡ numbered 0 addresses.now sizes.now }
+    /// The objects that have these addresses and cells.
+    pub(crate) fn of(addresses: &'a [u64], cells: &'a Cells) -> Stands<'a>
+        requires same { length cells.now ≡ length addresses.now }
+        requires settled { AreSettled (numbered 0 addresses.now (sizes_of cells.now)) }
+        ensures { result ≡ numbered 0 addresses.now (sizes_of cells.now) }
     {
-        Stands { addresses, sizes }
+        Stands { addresses, cells }
     }
 
     /// How many there are.
@@ -77,7 +80,7 @@ impl<'a> Stands<'a> {
         if place < self.addresses.len() {
             Stand {
                 number: (place + 1) as u32,
-                size: self.sizes[place],
+                size: self.cells.size(place),
                 address: self.addresses[place],
             }
         } else {
