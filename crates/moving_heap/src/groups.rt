@@ -4,7 +4,7 @@ ghost use Rattle.std.specs.Prelude.{◌≡◌, ◌+◌, ◌<◌, ◌≤◌, ◌^
 ghost use Rattle.std.specs.List.{sum_by, list_all, All};
 ghost use Rattle.std.specs.List.Sorted.{IsPermutation, IsNonDecreasingBy};
 ghost use Rattle.std.specs.Option.{option_map_or};
-ghost use Rattle.moving_heap.specs.Places.{line_targets, group_targets, exist, differ, all_fit, verdict, flipped, flipped_at, flip_start, fits, moves_none, moved, is_legal, no_lines};
+ghost use Rattle.moving_heap.specs.Places.{line_targets, group_targets, exist, differ, all_fit, verdict, flipped, flipped_at, fits, moves_none, moved, is_legal, no_lines};
 ghost use Rattle.moving_heap.specs.Orders.{targets_in, sent_by, leaves_at, ranks, then_row, then_ranks, resting, IsLow, IsHigh};
 ghost use Rattle.moving_heap.specs.Settled.{IsNumbered, AreSettled, AreRanked};
 
@@ -17,12 +17,6 @@ fn fits(stand: Stand, to: u64) -> bool
     ensures { result ≡ fits stand to }
 {
     to % 8 == 0 && to >= 1 << 40 && to <= 1 << 46 && u64::from(stand.size) <= (1 << 46) - to
-}
-
-fn flip_start(event: u64) -> u64
-    ensures { result ≡ flip_start event }
-{
-    if event % 2 == 0 { 1 << 45 } else { 1 << 44 }
 }
 
 // The targets by the move lines; none, where a line names no object, or one that another line names, or has 0 as its target.
@@ -180,6 +174,7 @@ fn flip_at(targets: &mut [Moved], stands: &Stands, event: Option<u64>)
     ensures olds { map (λ move. move.old) targets.new ≡ map (λ move. move.old) targets.old }
 {
     if let Some(event) = event {
-        flip(targets, stands, flip_start(event));
+        let start = if event % 2 == 0 { 1 << 45 } else { 1 << 44 };
+        flip(targets, stands, start);
     }
 }

@@ -68,7 +68,11 @@ impl Order {
         ensures { slice_get (ranks stands.now self.now) rank ≡ Some result }
     {
         let (low, high) = self.parts();
-        at_rank(low, high, stands, rank)
+        if rank < low.len() {
+            stands.at(low[rank] as usize)
+        } else {
+            stands.at(high[rank - low.len()] as usize)
+        }
     }
 
     /// How many stand at or before an address.
@@ -79,7 +83,11 @@ impl Order {
         ensures above { (k : ℕ) → (d : Stand) → result ≤ k → k < length (ranks stands.now self.now) → word < (slice_index_or (ranks stands.now self.now) k d).address }
     {
         let (low, high) = self.parts();
-        count_in(low, high, stands, word)
+        if word < 1 << 40 {
+            count_to(low, stands, word)
+        } else {
+            low.len() + count_to(high, stands, word)
+        }
     }
 
     /// Whether no two of them overlap, each at its target.
@@ -91,7 +99,7 @@ impl Order {
         ensures { result ≡ apart (then_ranks stands.now (targets_in targets.now) self.now) }
     {
         let (low, high) = self.parts();
-        are_apart(low, high, stands, targets)
+        chained(low, stands, targets) && chained(high, stands, targets)
     }
 
     /// Room for so many objects.
@@ -129,13 +137,7 @@ impl Order {
     }
 
     /// Becomes the order of those objects that have no target, and of those that leave for theirs.
-    pub(crate) fn fill(
-        &mut self,
-        from: &Order,
-        leaving: &[u32],
-        stands: &Stands,
-        targets: &[Moved],
-    )
+    pub(crate) fn fill(&mut self, from: &Order, leaving: &[u32], stands: &Stands, targets: &[Moved])
         requires room { length (filter (stays (targets_in targets.now)) (ranks stands.now from.now)) + length leaving.now ≤ self.old.room }
         requires ranked { AreRanked stands.now from.now }
         requires leaving_sorted { IsNonDecreasingBy (λ stand. stand.address) (then_row stands.now (targets_in targets.now) leaving.now) }
@@ -151,33 +153,6 @@ impl Order {
         merge(&mut self.places, high, leaving, stands, targets);
         self.high = self.places.len();
         keep(&mut self.places, low, stands, targets);
-    }
-}
-
-fn at_rank(low: &[u32], high: &[u32], stands: &Stands, rank: usize) -> Stand
-    requires { rank < length low.now + length high.now }
-    ensures { slice_get (row stands.now low.now ++ row stands.now high.now) rank ≡ Some result }
-{
-    if rank < low.len() {
-        stands.at(low[rank] as usize)
-    } else {
-        stands.at(high[rank - low.len()] as usize)
-    }
-}
-
-// How many of all stand at or before an address.
-fn count_in(low: &[u32], high: &[u32], stands: &Stands, word: u64) -> usize
-    requires sorted { IsNonDecreasingBy (λ stand. stand.address) (row stands.now low.now ++ row stands.now high.now) }
-    requires low { All IsLow (row stands.now low.now) }
-    requires high { All IsHigh (row stands.now high.now) }
-    ensures within { result ≤ length (row stands.now low.now ++ row stands.now high.now) }
-    ensures below { (k : ℕ) → (d : Stand) → k < result → (slice_index_or (row stands.now low.now ++ row stands.now high.now) k d).address ≤ word }
-    ensures above { (k : ℕ) → (d : Stand) → result ≤ k → k < length (row stands.now low.now ++ row stands.now high.now) → word < (slice_index_or (row stands.now low.now ++ row stands.now high.now) k d).address }
-{
-    if word < 1 << 40 {
-        count_to(low, stands, word)
-    } else {
-        low.len() + count_to(high, stands, word)
     }
 }
 
@@ -200,16 +175,6 @@ fn count_to(order: &[u32], stands: &Stands, word: u64) -> usize
         }
     }
     low
-}
-
-fn are_apart(low: &[u32], high: &[u32], stands: &Stands, targets: &[Moved]) -> bool
-    requires sorted { IsNonDecreasingBy (λ stand. stand.address) (then_row stands.now (targets_in targets.now) low.now ++ then_row stands.now (targets_in targets.now) high.now) }
-    requires sizes { All (λ stand. 0 < stand.size) (then_row stands.now (targets_in targets.now) low.now ++ then_row stands.now (targets_in targets.now) high.now) }
-    requires low { All IsLow (then_row stands.now (targets_in targets.now) low.now) }
-    requires high { All IsHigh (then_row stands.now (targets_in targets.now) high.now) }
-    ensures { result ≡ apart (then_row stands.now (targets_in targets.now) low.now ++ then_row stands.now (targets_in targets.now) high.now) }
-{
-    chained(low, stands, targets) && chained(high, stands, targets)
 }
 
 // Whether objects in the order of their addresses are apart, each at its target.

@@ -1,7 +1,6 @@
 //! Objects where they stand, and their moves.
 
 ghost use Rattle.std.specs.Prelude.{◌≡◌, length};
-ghost use Rattle.moving_heap.specs.Places.{sent};
 ghost use Rattle.moving_heap.specs.Orders.{stand_at, target_in, targets_in, target_of, then_at};
 ghost use Rattle.moving_heap.specs.Contents.{sizes_of};
 ghost use Rattle.moving_heap.specs.Settled.{AreSettled, numbered};
@@ -116,23 +115,16 @@ pub(crate) fn target_of(targets: &[Moved], stand: Stand) -> Option<u64>
     }
 }
 
-/// An object at its target.
-pub(crate) fn sent(stand: Stand, target: Option<u64>) -> Stand
-    ensures { result ≡ sent stand target }
+/// An object by its place, at its target if it has one.
+pub(crate) fn then_at(stands: &Stands, targets: &[Moved], place: u32) -> Stand
+    ensures { result ≡ then_at stands.now (targets_in targets.now) place }
 {
-    match target {
+    let stand = stands.at(place as usize);
+    match target_of(targets, stand) {
         None => stand,
         Some(to) => Stand {
             address: to,
             ..stand
         },
     }
-}
-
-/// An object by its place, at its target if it has one.
-pub(crate) fn then_at(stands: &Stands, targets: &[Moved], place: u32) -> Stand
-    ensures { result ≡ then_at stands.now (targets_in targets.now) place }
-{
-    let stand = stands.at(place as usize);
-    sent(stand, target_of(targets, stand))
 }
