@@ -145,11 +145,6 @@ kept_moves (move ∷ moves) (stand ∷ stands) e =
 
 -- ---- objects followed by their moves
 
-first_of_drop : {X : Type 0} (n : ℕ) (xs : List X) (d : X) → get_or xs n d ≡ get_or (drop n xs) 0 d
-first_of_drop zero xs d = refl
-first_of_drop (suc n) [] d = refl
-first_of_drop (suc n) (x ∷ xs) d = first_of_drop n xs d
-
 misses : (moves : List Moved) (stand : Stand) (stands : List Stand) → ((k : ℕ) (d : Moved) → k < length moves → (get_or moves k d).old ≡ stand.address → ⊥)
     → followed moves (stand ∷ stands) ≡ stand ∷ followed moves stands
 misses [] stand stands none = refl
@@ -166,34 +161,6 @@ followed_is (stand ∷ stands) (None ∷ targets) apart =
     (λ k d l e. let at = old_of stands targets k d l in
     apart zero (suc at.0) stand (omega arith) (above at.0 (length stands) at.1) (λ q. let no : ⊥ = omega arith in no) (sym e ∙ at.2 stand))
     ∙ ap (λ (l : List Stand). stand ∷ l) (followed_is stands targets (pairs_tail (λ one other. one.address ≢ other.address) stand stands apart))
-
-pub follow_hit : (moves : List Moved) (stands : List Stand) (next i : ℕ) (d : Moved) (e : Stand) → next < length moves → i < length stands → (get_or moves next d).old ≡ (get_or stands i e).address
-    → take i stands ++ followed (drop next moves) (drop i stands)
-    ≡ take (i + 1) (set stands i (record (get_or stands i e) { address = (get_or moves next d).new }))
-    ++ followed (drop (next + 1) moves) (drop (i + 1) (set stands i (record (get_or stands i e) { address = (get_or moves next d).new })))
-follow_hit moves stands next i d e l m same =
-    let new : Stand = record (get_or stands i e) { address = (get_or moves next d).new } in
-    rw (drop_more moves next d l, drop_more stands i e m, eq-eqb (get_or moves next d).old (get_or stands i e).address same)
-    (sym (append_assoc (take i stands) (new ∷ []) (followed (drop (next + 1) moves) (drop (i + 1) stands)))
-    ∙ ap (λ front. front ++ followed (drop (next + 1) moves) (drop (i + 1) stands)) (sym (take_more_set stands i new m))
-    ∙ ap (λ rest. take (i + 1) (set stands i new) ++ followed (drop (next + 1) moves) rest) (sym (drop-set-lt (i + 1) stands i new (omega arith))))
-
-follow_other : (moves : List Moved) (stand : Stand) (stands : List Stand) → ((d : Moved) → 0 < length moves → (get_or moves 0 d).old ≡ stand.address → ⊥)
-    → followed moves (stand ∷ stands) ≡ stand ∷ followed moves stands
-follow_other [] stand stands none = refl
-follow_other (move ∷ moves) stand stands none = rw (ne_eqb move.old stand.address (none move (omega arith))) refl
-
-pub follow_miss : (moves : List Moved) (stands : List Stand) (next i : ℕ) (e : Stand) → i < length stands
-    → ((d : Moved) → next < length moves → (get_or moves next d).old ≡ (get_or stands i e).address → ⊥)
-    → take i stands ++ followed (drop next moves) (drop i stands) ≡ take (i + 1) stands ++ followed (drop next moves) (drop (i + 1) stands)
-follow_miss moves stands next i e m none =
-    let size = length-drop next moves in
-    ap (λ (rest : List Stand). take i stands ++ followed (drop next moves) rest) (drop_more stands i e m)
-    ∙ ap (λ (rest : List Stand). take i stands ++ rest)
-    (follow_other (drop next moves) (get_or stands i e) (drop (i + 1) stands)
-    (λ d some same. none d (omega arith) (ap (λ (move : Moved). move.old) (first_of_drop next moves d) ∙ same)))
-    ∙ sym (append_assoc (take i stands) (get_or stands i e ∷ []) (followed (drop next moves) (drop (i + 1) stands)))
-    ∙ ap (λ (front : List Stand). front ++ followed (drop next moves) (drop (i + 1) stands)) (sym (take_more stands i e m))
 
 -- ---- what is pending after a verdict
 
@@ -223,10 +190,6 @@ range_more a (suc n) = let e : (a + 1) + n ≡ a + suc n = omega arith in let f 
 
 pub places_more : (n : ℕ) → range_with_len 0 (n + 1) ≡ range_with_len 0 n ++ n ∷ []
 places_more n = range_more 0 n ∙ ap (λ (k : ℕ). range_with_len 0 n ++ k ∷ []) (let e : 0 + n ≡ n = omega arith in e)
-
-pub followed_none : (moves : List Moved) → followed moves [] ≡ []
-followed_none [] = refl
-followed_none (move ∷ moves) = refl
 
 pub are_sorted : (moves : List Moved) (stands : List Stand) (targets : List (Option ℕ)) (places sorted : List ℕ) → AreSettled stands → moves ≡ moves_of stands targets → places ≡ range_with_len 0 (length moves)
     → IsPermutation places sorted → IsNonDecreasingBy (λ place. (move_at moves place).old) sorted → AreMoves moves (map (move_at moves) sorted)

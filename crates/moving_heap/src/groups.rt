@@ -4,12 +4,12 @@ ghost use Rattle.std.specs.Prelude.{◌≡◌, ◌+◌, ◌<◌, ◌≤◌, ◌^
 ghost use Rattle.std.specs.List.{sum_by, list_all, All};
 ghost use Rattle.std.specs.List.Sorted.{IsPermutation, IsNonDecreasingBy};
 ghost use Rattle.std.specs.Option.{option_map_or};
-ghost use Rattle.moving_heap.specs.Places.{line_targets, group_targets, exist, differ, all_fit, verdict, flipped, flipped_at, flip_start, fits, moves_none, moved, is_legal, no_lines};
+ghost use Rattle.moving_heap.specs.Places.{line_targets, group_targets, exist, differ, all_fit, verdict, flipped, flipped_at, fits, moves_none, moved, is_legal, no_lines};
 ghost use Rattle.moving_heap.specs.Orders.{targets_in, sent_by, leaves_at, ranks, then_row, then_ranks, resting, IsLow, IsHigh};
 ghost use Rattle.moving_heap.specs.Settled.{IsNumbered, AreSettled, AreRanked};
 
 use crate::orders::Order;
-use crate::stands::{Moved, Stand, Verdict, target_in, then_at};
+use crate::stands::{Moved, Stand, Stands, Verdict, target_in, then_at};
 use move_plan::Move;
 
 // Whether the target of an object is one.
@@ -19,14 +19,8 @@ fn fits(stand: Stand, to: u64) -> bool
     to % 8 == 0 && to >= 1 << 40 && to <= 1 << 46 && u64::from(stand.size) <= (1 << 46) - to
 }
 
-fn flip_start(event: u64) -> u64
-    ensures { result ≡ flip_start event }
-{
-    if event % 2 == 0 { 1 << 45 } else { 1 << 44 }
-}
-
 // The targets by the move lines; none, where a line names no object, or one that another line names, or has 0 as its target.
-fn name_targets(targets: &mut [Moved], stands: &[Stand], lines: &[Move]) -> bool
+fn name_targets(targets: &mut [Moved], stands: &Stands, lines: &[Move]) -> bool
     requires numbered { IsNumbered stands.now }
     requires resting { targets.old ≡ map resting stands.now }
     ensures answer { IsTrue result → (exist stands.now lines.now && differ lines.now) ≡ true }
@@ -52,7 +46,7 @@ fn name_targets(targets: &mut [Moved], stands: &[Stand], lines: &[Move]) -> bool
 }
 
 // A flip lays the others side by side.
-fn flip(targets: &mut [Moved], stands: &[Stand], start: u64)
+fn flip(targets: &mut [Moved], stands: &Stands, start: u64)
     requires some { 0 < start }
     requires room { start + sum_by (λ stand. stand.size) stands.now < 2 ^ 64 }
     requires same { length targets.old ≡ length stands.now }
@@ -60,7 +54,8 @@ fn flip(targets: &mut [Moved], stands: &[Stand], start: u64)
     ensures olds { map (λ move. move.old) targets.new ≡ map (λ move. move.old) targets.old }
 {
     let mut at = start;
-    for (place, stand) in stands.iter().enumerate() {
+    for place in 0..stands.len() {
+        let stand = stands.at(place);
         if targets[place].new == 0 {
             targets[place].new = at;
             at += u64::from(stand.size);
@@ -69,12 +64,13 @@ fn flip(targets: &mut [Moved], stands: &[Stand], start: u64)
 }
 
 // Whether all targets fit.
-fn all_fit(targets: &[Moved], stands: &[Stand]) -> bool
+fn all_fit(targets: &[Moved], stands: &Stands) -> bool
     requires same { length targets.now ≡ length stands.now }
     ensures { result ≡ all_fit stands.now (targets_in targets.now) }
 {
-    for (place, stand) in stands.iter().enumerate() {
-        if !fits_or_stays(*stand, target_in(targets[place])) {
+    for place in 0..stands.len() {
+        let stand = stands.at(place);
+        if !fits_or_stays(stand, target_in(targets[place])) {
             return false;
         }
     }
@@ -109,7 +105,7 @@ pub(crate) fn judge(
     next: &mut Order,
     leaving: &mut Vec<u32>,
     targets: &mut [Moved],
-    stands: &[Stand],
+    stands: &Stands,
     order: &Order,
     lines: &[Move],
     event: Option<u64>,
@@ -149,7 +145,7 @@ pub(crate) fn judge(
 fn arrange(
     next: &mut Order,
     leaving: &mut Vec<u32>,
-    stands: &[Stand],
+    stands: &Stands,
     targets: &[Moved],
     order: &Order,
 )
@@ -171,13 +167,14 @@ fn arrange(
 }
 
 // A flip, where the event has one.
-fn flip_at(targets: &mut [Moved], stands: &[Stand], event: Option<u64>)
+fn flip_at(targets: &mut [Moved], stands: &Stands, event: Option<u64>)
     requires room { sum_by (λ stand. stand.size) stands.now ≤ 67108864 }
     requires same { length targets.old ≡ length stands.now }
     ensures targets { targets_in targets.new ≡ flipped_at event stands.now (targets_in targets.old) }
     ensures olds { map (λ move. move.old) targets.new ≡ map (λ move. move.old) targets.old }
 {
     if let Some(event) = event {
-        flip(targets, stands, flip_start(event));
+        let start = if event % 2 == 0 { 1 << 45 } else { 1 << 44 };
+        flip(targets, stands, start);
     }
 }

@@ -5,12 +5,12 @@ ghost use Rattle.std.specs.List.{range_with_len};
 ghost use Rattle.std.specs.List.Sorted.{IsNonDecreasingBy};
 ghost use Rattle.moving_heap.specs.Places.{new_address, verdict, group_moves};
 ghost use Rattle.moving_heap.specs.Orders.{resting};
-ghost use Rattle.moving_heap.specs.Settled.{AreSettled, AreRanked, IsDue, followed, move_at};
+ghost use Rattle.moving_heap.specs.Settled.{AreSettled, AreRanked, IsDue, move_at, sent_on};
 ghost use Rattle.moving_heap.specs.declared.stands.Moved.{Moved};
 
 use crate::groups::judge;
 use crate::orders::Order;
-use crate::stands::{Moved, Stand, Verdict};
+use crate::stands::{Moved, Stands, Verdict};
 use move_plan::Move;
 use sp_ids::Memory;
 use std::alloc::Global;
@@ -106,7 +106,7 @@ impl Moves {
     pub(crate) fn ready(
         &mut self,
         next: &mut Order,
-        stands: &[Stand],
+        stands: &Stands,
         order: &Order,
         lines: &[Move],
         event: Option<u64>,
@@ -150,13 +150,14 @@ impl Moves {
 }
 
 // A move for each object, to no place.
-fn rest(list: &mut Vec<Moved>, stands: &[Stand])
+fn rest(list: &mut Vec<Moved>, stands: &Stands)
     requires empty { list.old.items ≡ [] }
     requires room { length stands.now ≤ vec_capacity list.old }
     ensures moves { list.new.items ≡ map resting stands.now }
     ensures capacity { vec_capacity list.old ≤ vec_capacity list.new }
 {
-    for stand in stands {
+    for place in 0..stands.len() {
+        let stand = stands.at(place);
         let _ = list.push(Moved {
             old: stand.address,
             new: 0,
@@ -210,14 +211,14 @@ fn first_from(moves: &[Moved], sorted: &[u32], old: u64) -> usize
     low
 }
 
-/// The objects after the moves, which stand in the order of the objects.
-pub(crate) fn follow(stands: &mut [Stand], moves: &[Moved])
-    ensures { stands.new ≡ followed moves.now stands.old }
+/// The addresses after the moves, which stand in the order of the objects.
+pub(crate) fn follow(addresses: &mut [u64], moves: &[Moved])
+    ensures { addresses.new ≡ sent_on moves.now addresses.old }
 {
     let mut next = 0;
-    for stand in stands.iter_mut() {
-        if next < moves.len() && moves[next].old == stand.address {
-            stand.address = moves[next].new;
+    for address in addresses.iter_mut() {
+        if next < moves.len() && moves[next].old == *address {
+            *address = moves[next].new;
             next += 1;
         }
     }

@@ -8,7 +8,7 @@ ghost use Rattle.moving_heap.specs.Orders.{targets_in, stays, stays_at, leaves_a
 ghost use Rattle.moving_heap.specs.Settled.{AreRanked};
 ghost use Rattle.moving_heap.specs.declared.stands.Stand.{Stand};
 
-use crate::stands::{Moved, Stand, stand_at, target_of, then_at};
+use crate::stands::{Moved, Stand, Stands, target_of, then_at};
 use sp_ids::Memory;
 use std::alloc::Global;
 use std::marker::Model;
@@ -63,27 +63,35 @@ impl Order {
     }
 
     /// The object with this place in the order.
-    pub(crate) fn at(&self, stands: &[Stand], rank: usize) -> Stand
+    pub(crate) fn at(&self, stands: &Stands, rank: usize) -> Stand
         requires { rank < length self.now.low + length self.now.high }
         ensures { slice_get (ranks stands.now self.now) rank ≡ Some result }
     {
         let (low, high) = self.parts();
-        at_rank(low, high, stands, rank)
+        if rank < low.len() {
+            stands.at(low[rank] as usize)
+        } else {
+            stands.at(high[rank - low.len()] as usize)
+        }
     }
 
     /// How many stand at or before an address.
-    pub(crate) fn count_to(&self, stands: &[Stand], word: u64) -> usize
+    pub(crate) fn count_to(&self, stands: &Stands, word: u64) -> usize
         requires { AreRanked stands.now self.now }
         ensures within { result ≤ length (ranks stands.now self.now) }
         ensures below { (k : ℕ) → (d : Stand) → k < result → (slice_index_or (ranks stands.now self.now) k d).address ≤ word }
         ensures above { (k : ℕ) → (d : Stand) → result ≤ k → k < length (ranks stands.now self.now) → word < (slice_index_or (ranks stands.now self.now) k d).address }
     {
         let (low, high) = self.parts();
-        count_in(low, high, stands, word)
+        if word < 1 << 40 {
+            count_to(low, stands, word)
+        } else {
+            low.len() + count_to(high, stands, word)
+        }
     }
 
     /// Whether no two of them overlap, each at its target.
-    pub(crate) fn is_apart(&self, stands: &[Stand], targets: &[Moved]) -> bool
+    pub(crate) fn is_apart(&self, stands: &Stands, targets: &[Moved]) -> bool
         requires sorted { IsNonDecreasingBy (λ stand. stand.address) (then_ranks stands.now (targets_in targets.now) self.now) }
         requires sizes { All (λ stand. 0 < stand.size) (then_ranks stands.now (targets_in targets.now) self.now) }
         requires low { All IsLow (then_row stands.now (targets_in targets.now) self.now.low) }
@@ -91,7 +99,7 @@ impl Order {
         ensures { result ≡ apart (then_ranks stands.now (targets_in targets.now) self.now) }
     {
         let (low, high) = self.parts();
-        are_apart(low, high, stands, targets)
+        chained(low, stands, targets) && chained(high, stands, targets)
     }
 
     /// Room for so many objects.
@@ -118,7 +126,7 @@ impl Order {
     }
 
     /// Adds those that have a target.
-    pub(crate) fn gather(&self, leaving: &mut Vec<u32>, stands: &[Stand], targets: &[Moved])
+    pub(crate) fn gather(&self, leaving: &mut Vec<u32>, stands: &Stands, targets: &[Moved])
         requires { length leaving.old.items + length (filter (leaves_at stands.now (targets_in targets.now)) (self.now.low ++ self.now.high)) ≤ vec_capacity leaving.old }
         ensures leavers { leaving.new.items ≡ leaving.old.items ++ filter (leaves_at stands.now (targets_in targets.now)) (self.now.low ++ self.now.high) }
         ensures capacity { vec_capacity leaving.old ≤ vec_capacity leaving.new }
@@ -129,13 +137,7 @@ impl Order {
     }
 
     /// Becomes the order of those objects that have no target, and of those that leave for theirs.
-    pub(crate) fn fill(
-        &mut self,
-        from: &Order,
-        leaving: &[u32],
-        stands: &[Stand],
-        targets: &[Moved],
-    )
+    pub(crate) fn fill(&mut self, from: &Order, leaving: &[u32], stands: &Stands, targets: &[Moved])
         requires room { length (filter (stays (targets_in targets.now)) (ranks stands.now from.now)) + length leaving.now ≤ self.old.room }
         requires ranked { AreRanked stands.now from.now }
         requires leaving_sorted { IsNonDecreasingBy (λ stand. stand.address) (then_row stands.now (targets_in targets.now) leaving.now) }
@@ -154,35 +156,8 @@ impl Order {
     }
 }
 
-fn at_rank(low: &[u32], high: &[u32], stands: &[Stand], rank: usize) -> Stand
-    requires { rank < length low.now + length high.now }
-    ensures { slice_get (row stands.now low.now ++ row stands.now high.now) rank ≡ Some result }
-{
-    if rank < low.len() {
-        stand_at(stands, low[rank])
-    } else {
-        stand_at(stands, high[rank - low.len()])
-    }
-}
-
-// How many of all stand at or before an address.
-fn count_in(low: &[u32], high: &[u32], stands: &[Stand], word: u64) -> usize
-    requires sorted { IsNonDecreasingBy (λ stand. stand.address) (row stands.now low.now ++ row stands.now high.now) }
-    requires low { All IsLow (row stands.now low.now) }
-    requires high { All IsHigh (row stands.now high.now) }
-    ensures within { result ≤ length (row stands.now low.now ++ row stands.now high.now) }
-    ensures below { (k : ℕ) → (d : Stand) → k < result → (slice_index_or (row stands.now low.now ++ row stands.now high.now) k d).address ≤ word }
-    ensures above { (k : ℕ) → (d : Stand) → result ≤ k → k < length (row stands.now low.now ++ row stands.now high.now) → word < (slice_index_or (row stands.now low.now ++ row stands.now high.now) k d).address }
-{
-    if word < 1 << 40 {
-        count_to(low, stands, word)
-    } else {
-        low.len() + count_to(high, stands, word)
-    }
-}
-
 // How many of these stand at or before an address.
-fn count_to(order: &[u32], stands: &[Stand], word: u64) -> usize
+fn count_to(order: &[u32], stands: &Stands, word: u64) -> usize
     requires { IsNonDecreasingBy (λ stand. stand.address) (row stands.now order.now) }
     ensures within { result ≤ length (row stands.now order.now) }
     ensures below { (k : ℕ) → (d : Stand) → k < result → (slice_index_or (row stands.now order.now) k d).address ≤ word }
@@ -192,7 +167,7 @@ fn count_to(order: &[u32], stands: &[Stand], word: u64) -> usize
     let mut high = order.len();
     while low < high {
         let middle = low + (high - low) / 2;
-        let stand = stand_at(stands, order[middle]);
+        let stand = stands.at(order[middle] as usize);
         if stand.address <= word {
             low = middle + 1;
         } else {
@@ -202,60 +177,55 @@ fn count_to(order: &[u32], stands: &[Stand], word: u64) -> usize
     low
 }
 
-fn are_apart(low: &[u32], high: &[u32], stands: &[Stand], targets: &[Moved]) -> bool
-    requires sorted { IsNonDecreasingBy (λ stand. stand.address) (then_row stands.now (targets_in targets.now) low.now ++ then_row stands.now (targets_in targets.now) high.now) }
-    requires sizes { All (λ stand. 0 < stand.size) (then_row stands.now (targets_in targets.now) low.now ++ then_row stands.now (targets_in targets.now) high.now) }
-    requires low { All IsLow (then_row stands.now (targets_in targets.now) low.now) }
-    requires high { All IsHigh (then_row stands.now (targets_in targets.now) high.now) }
-    ensures { result ≡ apart (then_row stands.now (targets_in targets.now) low.now ++ then_row stands.now (targets_in targets.now) high.now) }
-{
-    chained(low, stands, targets) && chained(high, stands, targets)
-}
-
 // Whether objects in the order of their addresses are apart, each at its target.
-fn chained(order: &[u32], stands: &[Stand], targets: &[Moved]) -> bool
+fn chained(order: &[u32], stands: &Stands, targets: &[Moved]) -> bool
     requires sorted { IsNonDecreasingBy (λ stand. stand.address) (then_row stands.now (targets_in targets.now) order.now) }
     requires sizes { All (λ stand. 0 < stand.size) (then_row stands.now (targets_in targets.now) order.now) }
     ensures { result ≡ apart (then_row stands.now (targets_in targets.now) order.now) }
 {
-    for place in 1..order.len() {
-        let before = then_at(stands, targets, order[place - 1]);
-        let here = then_at(stands, targets, order[place]);
+    let mut before = Stand {
+        number: 0,
+        size: 0,
+        address: 0,
+    };
+    for place in order {
+        let here = then_at(stands, targets, *place);
         if u64::from(before.size) > here.address - before.address {
             return false;
         }
+        before = here;
     }
     true
 }
 
 // Adds those that have a target.
-fn gather(leaving: &mut Vec<u32>, run: &[u32], stands: &[Stand], targets: &[Moved])
+fn gather(leaving: &mut Vec<u32>, run: &[u32], stands: &Stands, targets: &[Moved])
     requires { length leaving.old.items + length (filter (leaves_at stands.now (targets_in targets.now)) run.now) ≤ vec_capacity leaving.old }
     ensures leavers { leaving.new.items ≡ leaving.old.items ++ filter (leaves_at stands.now (targets_in targets.now)) run.now }
     ensures capacity { vec_capacity leaving.old ≤ vec_capacity leaving.new }
 {
     for place in run {
-        if target_of(targets, stand_at(stands, *place)).is_some() {
+        if target_of(targets, stands.at(*place as usize)).is_some() {
             let _ = leaving.push(*place);
         }
     }
 }
 
 // Adds those that have no target.
-fn keep(next: &mut Vec<u32>, run: &[u32], stands: &[Stand], targets: &[Moved])
+fn keep(next: &mut Vec<u32>, run: &[u32], stands: &Stands, targets: &[Moved])
     requires { length next.old.items + length (filter (stays_at stands.now (targets_in targets.now)) run.now) ≤ vec_capacity next.old }
     ensures stayers { next.new.items ≡ next.old.items ++ filter (stays_at stands.now (targets_in targets.now)) run.now }
     ensures capacity { vec_capacity next.old ≤ vec_capacity next.new }
 {
     for place in run {
-        if target_of(targets, stand_at(stands, *place)).is_none() {
+        if target_of(targets, stands.at(*place as usize)).is_none() {
             let _ = next.push(*place);
         }
     }
 }
 
 // Those of a run that have no target, and those that leave, together in the order of their addresses.
-fn merge(next: &mut Vec<u32>, run: &[u32], leaving: &[u32], stands: &[Stand], targets: &[Moved])
+fn merge(next: &mut Vec<u32>, run: &[u32], leaving: &[u32], stands: &Stands, targets: &[Moved])
     requires empty { next.old.items ≡ [] }
     requires room { length (filter (stays (targets_in targets.now)) (row stands.now run.now)) + length leaving.now ≤ vec_capacity next.old }
     requires sorted { IsNonDecreasingBy (λ stand. stand.address) (row stands.now run.now) }
@@ -267,7 +237,7 @@ fn merge(next: &mut Vec<u32>, run: &[u32], leaving: &[u32], stands: &[Stand], ta
     let mut place = 0;
     let mut taken = 0;
     while place < run.len() {
-        let stand = stand_at(stands, run[place]);
+        let stand = stands.at(run[place] as usize);
         if taken < leaving.len()
             && then_at(stands, targets, leaving[taken]).address < stand.address
         {

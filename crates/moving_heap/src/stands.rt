@@ -1,8 +1,12 @@
 //! Objects where they stand, and their moves.
 
-ghost use Rattle.std.specs.Prelude.{◌≡◌};
-ghost use Rattle.moving_heap.specs.Places.{sent};
+ghost use Rattle.std.specs.Prelude.{◌≡◌, length};
 ghost use Rattle.moving_heap.specs.Orders.{stand_at, target_in, targets_in, target_of, then_at};
+ghost use Rattle.moving_heap.specs.Contents.{sizes_of};
+ghost use Rattle.moving_heap.specs.Settled.{AreSettled, numbered};
+
+use crate::cells::Cells;
+use std::marker::Model;
 
 /// An object by its number, from 1, with its footprint in bytes and its address.
 #[derive(Clone, Copy, Debug, PartialEq, Eq)]
@@ -30,18 +34,60 @@ pub enum Verdict {
     Illegal,
 }
 
-/// An object by its place among all, from 0.
-pub(crate) fn stand_at(stands: &[Stand], place: u32) -> Stand
-    ensures { result ≡ stand_at stands.now place }
-{
-    let place = place as usize;
-    if place < stands.len() {
-        stands[place]
-    } else {
-        Stand {
-            number: 0,
-            size: 0,
-            address: 0,
+/// Objects by their addresses; their numbers follow from their places, and their footprints from their cells. Contracts see
+/// the objects.
+#[derive(Drop)]
+pub(crate) struct Stands<'a> {
+    addresses: &'a [u64],
+    cells: &'a Cells,
+}
+
+impl<'a> Model for Stands<'a> {
+    ghost use Rattle.std.specs.Prelude.{◌≡◌, List, length};
+    ghost use Rattle.moving_heap.specs.Contents.{sizes_of};
+    ghost use Rattle.moving_heap.specs.Settled.{AreSettled, numbered};
+    ghost use Rattle.moving_heap.specs.declared.stands.Stand.{Stand};
+
+    ghost Value = { List Stand };
+
+    ghost view = { λ stands. numbered 0 stands.addresses.now (sizes_of stands.cells.now) };
+
+    ghost invariant = { λ stands. (length stands.cells.now ≡ length stands.addresses.now) × AreSettled (numbered 0 stands.addresses.now (sizes_of stands.cells.now)) };
+}
+
+impl<'a> Stands<'a> {
+    /// The objects that have these addresses and cells.
+    pub(crate) fn of(addresses: &'a [u64], cells: &'a Cells) -> Stands<'a>
+        requires same { length cells.now ≡ length addresses.now }
+        requires settled { AreSettled (numbered 0 addresses.now (sizes_of cells.now)) }
+        ensures { result ≡ numbered 0 addresses.now (sizes_of cells.now) }
+    {
+        Stands { addresses, cells }
+    }
+
+    /// How many there are.
+    pub(crate) fn len(&self) -> usize
+        ensures { result ≡ length self.now }
+    {
+        self.addresses.len()
+    }
+
+    /// An object by its place among all, from 0.
+    pub(crate) fn at(&self, place: usize) -> Stand
+        ensures { result ≡ stand_at self.now place }
+    {
+        if place < self.addresses.len() {
+            Stand {
+                number: (place + 1) as u32,
+                size: self.cells.size(place),
+                address: self.addresses[place],
+            }
+        } else {
+            Stand {
+                number: 0,
+                size: 0,
+                address: 0,
+            }
         }
     }
 }
@@ -69,23 +115,16 @@ pub(crate) fn target_of(targets: &[Moved], stand: Stand) -> Option<u64>
     }
 }
 
-/// An object at its target.
-pub(crate) fn sent(stand: Stand, target: Option<u64>) -> Stand
-    ensures { result ≡ sent stand target }
+/// An object by its place, at its target if it has one.
+pub(crate) fn then_at(stands: &Stands, targets: &[Moved], place: u32) -> Stand
+    ensures { result ≡ then_at stands.now (targets_in targets.now) place }
 {
-    match target {
+    let stand = stands.at(place as usize);
+    match target_of(targets, stand) {
         None => stand,
         Some(to) => Stand {
             address: to,
             ..stand
         },
     }
-}
-
-/// An object by its place, at its target if it has one.
-pub(crate) fn then_at(stands: &[Stand], targets: &[Moved], place: u32) -> Stand
-    ensures { result ≡ then_at stands.now (targets_in targets.now) place }
-{
-    let stand = stand_at(stands, place);
-    sent(stand, target_of(targets, stand))
 }

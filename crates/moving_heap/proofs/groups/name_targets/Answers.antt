@@ -63,7 +63,7 @@ loop-line-preserved c =
       named = λ k l. ap (λ (t : List (Option ℕ)). get_or t k None) (targets_set c.loop-line.targets (line.obj - 1) line.to unmoved here c.if-line-eq0-2.false)
           ∙ named_more c.args.lines.now (targets_in c.loop-line.targets) (length c.args.stands.now) c.loop-line.line-index (line.obj - 1) line empty c.loop-line-test.true refl
           size place inside free c.loop-line.invariant.named k l;
-      exist = exist_more c.args.stands.now c.args.lines.now c.loop-line.line-index line empty c.loop-line-test.true refl c.loop-line.invariant.exist (omega arith) c.if-line-stands.false;
+      exist = exist_more c.args.stands.now c.args.lines.now c.loop-line.line-index line empty c.loop-line-test.true refl c.loop-line.invariant.exist (omega arith) (omega (arith, c.len.ensures, c.if-line-len.false));
       differ = differ_more c.args.lines.now c.loop-line.line-index line empty c.loop-line-test.true refl c.loop-line.invariant.differ
           (unnamed_here c.args.lines.now (targets_in c.loop-line.targets) c.loop-line.line-index (line.obj - 1) line place free named);
       same = length-set c.loop-line.targets (line.obj - 1) _ ∙ c.loop-line.invariant.same;

@@ -19,7 +19,7 @@ pub loop-low-preserved-then-stand-word : goal.loop-low-preserved-then-stand-word
 loop-low-preserved-then-stand-word c =
     let middle = c.loop-low.low + (c.loop-low.high - c.loop-low.low) / 2 in
     let size = row-length c.args.stands.now c.args.order.now in
-    let here = ap (λ (s : Stand). s.address) (row_get c.args.stands.now c.args.order.now middle nowhere (omega arith) ∙ sym c.stand_at-stand.ensures) in
+    let here = ap (λ (s : Stand). s.address) (row_get c.args.stands.now c.args.order.now middle nowhere (omega arith) ∙ sym c.at-stand.ensures) in
     record {
       within = omega arith;
       end = c.loop-low.invariant.end;
@@ -31,7 +31,7 @@ pub loop-low-preserved : goal.loop-low-preserved
 loop-low-preserved c =
     let middle = c.loop-low.low + (c.loop-low.high - c.loop-low.low) / 2 in
     let size = row-length c.args.stands.now c.args.order.now in
-    let here = ap (λ (s : Stand). s.address) (row_get c.args.stands.now c.args.order.now middle nowhere (omega arith) ∙ sym c.stand_at-stand.ensures) in
+    let here = ap (λ (s : Stand). s.address) (row_get c.args.stands.now c.args.order.now middle nowhere (omega arith) ∙ sym c.at-stand.ensures) in
     record {
       within = omega arith;
       end = omega arith;

@@ -13,7 +13,7 @@ loop-place-preserved c =
     let here = get_or c.args.run.now c.loop-place.place-index 0 in
     let p = leaves_at c.args.stands.now (targets_in c.args.targets.now) in
     let rest = filter (leaves_at c.args.stands.now (targets_in c.args.targets.now)) (drop (c.loop-place.place-index + 1) c.args.run.now) in
-    let object = ap is_some (c.target_of.ensures ∙ ap (target_of (targets_in c.args.targets.now)) c.stand_at.ensures) in
+    let object = ap is_some (c.target_of.ensures ∙ ap (target_of (targets_in c.args.targets.now)) c.at.ensures) in
     elim c.if-is_some.branch [
       | then-is_some w ↦ (
           let yes : leaves_at c.args.stands.now (targets_in c.args.targets.now) here ≡ true = sym object ∙ sym c.is_some.ensures ∙ w.if-is_some.true in

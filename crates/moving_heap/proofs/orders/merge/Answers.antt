@@ -36,7 +36,7 @@ loop-place-preserved-then-then_at-stand c =
       merged = rw (items, then_push stands targets c.loop-place.next.items p) (merged_leaving targets run leaving next c.loop-place.place c.loop-place.taken leaves c.loop-place.invariant.merged c.requires.leaving_sorted within is
           (λ k d le lk.
           let up = c.requires.sorted c.loop-place.place k d le lk in
-          let same = ap (λ (s : Stand). s.address) (row_get stands c.args.run.now c.loop-place.place d c.loop-place-test.true ∙ sym c.stand_at-stand.ensures) in
+          let same = ap (λ (s : Stand). s.address) (row_get stands c.args.run.now c.loop-place.place d c.loop-place-test.true ∙ sym c.at-stand.ensures) in
           let here = ap (λ (s : Stand). s.address) c.then_at.ensures in omega (arith, c.if-then_at-stand.true)));
       within = omega (arith, c.if-taken-leaving.true);
       capacity = omega (arith, c.push.ensures.capacity, c.loop-place.invariant.capacity);
@@ -56,14 +56,14 @@ loop-place-preserved c =
     let made = then-length stands targets c.loop-place.next.items in
     let here : c.loop-place.place < length run = omega (arith, c.loop-place-test.true) in
     let is = sym (row_get stands c.args.run.now c.loop-place.place stays c.loop-place-test.true) in
-    let object = ap is_some (c.target_of.ensures ∙ ap (target_of (targets_in c.args.targets.now)) c.stand_at-stand.ensures) in
+    let object = ap is_some (c.target_of.ensures ∙ ap (target_of (targets_in c.args.targets.now)) c.at-stand.ensures) in
     let lower : (k : ℕ) (d : Stand) → c.loop-place.taken ≤ k → k < length (then_row c.args.stands.now (targets_in c.args.targets.now) c.args.leaving.now)
     → (stand_at c.args.stands.now (get_or c.args.run.now c.loop-place.place 0)).address ≤ (get_or (then_row c.args.stands.now (targets_in c.args.targets.now) c.args.leaving.now) k d).address =
     λ k d le lk. (elim c.else-taken-leaving.branch [
       | else-taken-leaving-via-then-taken-leaving+else-then_at-stand w ↦ (
           let up = c.requires.leaving_sorted c.loop-place.taken k d le lk in
           let same = ap (λ (s : Stand). s.address) (then_get stands targets c.args.leaving.now c.loop-place.taken d w.if-taken-leaving.true ∙ sym w.then_at.ensures) in
-          let at = ap (λ (s : Stand). s.address) c.stand_at-stand.ensures in omega (arith, w.if-then_at-stand.false))
+          let at = ap (λ (s : Stand). s.address) c.at-stand.ensures in omega (arith, w.if-then_at-stand.false))
       | else-taken-leaving-via-else-taken-leaving w ↦ (let no = w.if-taken-leaving.false in absurd (omega arith))
     ]) in
     elim c.if-is_none.branch [
