@@ -7,7 +7,7 @@ use std::fmt;
 
 /// A place where the module that was made isn't the expected one.
 #[derive(Clone, Copy)]
-pub enum Difference {
+pub(crate) enum Difference {
     Form,
     Layouts,
     /// So many functions came, and so many were expected.

@@ -1,4 +1,4 @@
-use Rattle.base_texts.proofs.passes.polled.Goals as goal
+use Rattle.pass_texts.proofs.passes.polled.Goals as goal
 
 pub place-requires : goal.place-requires
 place-requires c = (c.sources_are_ready.ensures c.args.source.content c.requires).room

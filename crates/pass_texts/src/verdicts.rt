@@ -2,15 +2,17 @@
 
 use crate::cases::{Case, Expected};
 use crate::differences::{Difference, differences};
+use crate::passes::why;
 use crate::texts::{Refused, prints, rewritten_of};
 use ir_ast::Module;
 use sp_ids::Memory;
+use sp_rewrite::RewriteFault;
 use std::alloc::{AllocError, Global};
 use std::io;
 
 /// What becomes of an expected text.
 #[derive(Drop)]
-pub enum Verdict {
+pub(crate) enum Verdict {
     /// The text stands for a module that prints it, and at these places the module that came isn't that one.
     Compared(Vec<Difference>),
     /// The module of the expected text is another text when it is printed.
@@ -21,6 +23,8 @@ pub enum Verdict {
     NoModule(Refused),
     /// No pass has this word.
     NoPass,
+    /// The pass gave no module.
+    NotMade(RewriteFault),
     Memory,
 }
 
@@ -37,7 +41,7 @@ impl From<AllocError> for Verdict {
 }
 
 /// What becomes of the text where this module came.
-pub fn judged(alloc: Global, made: &Module, text: &[u8]) -> Verdict {
+pub(crate) fn judged(alloc: Global, made: &Module, text: &[u8]) -> Verdict {
     match compared(alloc, made, text) {
         Ok(verdict) => verdict,
         Err(verdict) => verdict,
@@ -56,7 +60,7 @@ fn compared(alloc: Global, made: &Module, text: &[u8]) -> Result<Verdict, Verdic
 }
 
 /// Says what is wrong with a text of a case of the file `name`, a line for each difference. Gives whether nothing is.
-pub fn told(
+pub(crate) fn told(
     rt: &impl Print,
     name: &str,
     case: &Case,
@@ -83,6 +87,7 @@ pub fn told(
         Verdict::NoSource(refused) => println!(rt; "{name}:{case}: no source module: {refused}")?,
         Verdict::NoModule(refused) => println!(rt; "{name}:{case}: {word}: no module: {refused}")?,
         Verdict::NoPass => println!(rt; "{name}:{case}: {word}: no such pass")?,
+        Verdict::NotMade(fault) => println!(rt; "{name}:{case}: {word}: {}", why(*fault))?,
         Verdict::Memory => println!(rt; "{name}:{case}: {word}: {Memory}")?,
     }
     Ok(false)

@@ -1,7 +1,7 @@
 use Rattle.ir_ast.specs.Funcs.{content_of}
 use Rattle.poll_place.specs.Ready.{IsReady}
 use Rattle.poll_place.proofs.PlacedLemmas.{all_under}
-use Rattle.base_texts.proofs.passes.with_bases.Goals as goal
+use Rattle.pass_texts.proofs.passes.with_bases.Goals as goal
 
 pub all_with_bases-requires : goal.all_with_bases-requires
 all_with_bases-requires c =

@@ -1,21 +1,30 @@
-//! Puts polls and bases into the modules of texts, and judges files of cases: source modules with the texts of what must
-//! come of them.
+//! Puts polls and bases into the modules of texts, or rewrites them with statepoints, and judges files of cases: source
+//! modules with the texts of what must come of them.
 #![tactic(auto)]
 
+mod cases;
 mod commands;
+mod differences;
 mod judging;
 mod passes;
+mod same;
+mod tallies;
+mod texts;
+mod verdicts;
 
+use cases::{Refusal, cases_of};
 use commands::{Command, command_of};
 use judging::judge;
-use pass_cases::{Refusal, Tally, cases_of, count_of, source_of};
-use passes::{Pass, after};
+use passes::{Pass, after, why};
 use sp_ids::limits::FILE_BYTES;
 use std::process::ExitCode;
 use std::{env, io};
+use tallies::Tally;
+use texts::{count_of, source_of};
 use tool_io::{DiskFiles, Files};
 
-const USAGE: &str = "usage: base_texts typed|reached|polls|bases FILE, or base_texts judge FILE..";
+const USAGE: &str =
+    "usage: pass_texts typed|reached|polls|bases|rewritten FILE, or pass_texts judge FILE..";
 
 /// How a run ends.
 #[derive(Clone, Copy)]
@@ -23,7 +32,7 @@ enum End {
     Done,
     // some case doesn't hold
     Fails,
-    // the words, a file or a text couldn't be read
+    // the words, a file or a text couldn't be read, or a module couldn't be worked on
     Refused,
 }
 
@@ -69,13 +78,13 @@ fn tell_text(rt: &HostRuntime, pass: Pass, text: &[u8]) -> io::Result<End> {
                 println!(rt; "{} instructions", count_of(&made))?;
                 Ok(End::Done)
             }
-            Err(memory) => {
-                println!(rt; "{memory}")?;
+            Err(fault) => {
+                println!(rt; "{}", why(fault))?;
                 Ok(End::Refused)
             }
         },
-        Err(fault) => {
-            println!(rt; "{fault}")?;
+        Err(refused) => {
+            println!(rt; "{refused}")?;
             Ok(End::Refused)
         }
     }

@@ -19,7 +19,7 @@ const MOST_PRINTED: usize = 1_000_000;
 
 /// Why a text stands for no module.
 #[derive(Clone, Copy)]
-pub enum Refused {
+pub(crate) enum Refused {
     /// Its first fault, also one of reading.
     Fault(Fault),
     /// It is longer than any text may be.
@@ -57,7 +57,7 @@ impl From<TypeFault> for Refused {
 }
 
 /// The source module that a text stands for.
-pub fn source_of(alloc: Global, text: &[u8]) -> Result<Module, Refused>
+pub(crate) fn source_of(alloc: Global, text: &[u8]) -> Result<Module, Refused>
     ensures { IfOk result (λ whole. IsSourceModule whole.content) }
 {
     if text.len() as u64 > FILE_BYTES {
@@ -92,7 +92,7 @@ pub(crate) fn prints(alloc: Global, program: &Module, text: &[u8]) -> Result<boo
 }
 
 /// How many instructions the module has.
-pub fn count_of(program: &Module) -> usize {
+pub(crate) fn count_of(program: &Module) -> usize {
     let mut count: usize = 0;
     for func in program.funcs() {
         for block in func.blocks() {

@@ -9,20 +9,20 @@ use std::fmt;
 
 /// The text of a module that must come of a source module by the pass of this word, or of one that must not.
 #[derive(Drop)]
-pub struct Expected<'a> {
-    pub word: &'a str,
-    pub comes: bool,
-    pub text: Vec<u8>,
+pub(crate) struct Expected<'a> {
+    pub(crate) word: &'a str,
+    pub(crate) comes: bool,
+    pub(crate) text: Vec<u8>,
 }
 
 /// A source module, and what must come of it.
 #[derive(Drop)]
-pub struct Case<'a> {
+pub(crate) struct Case<'a> {
     /// Its line in the file of cases.
-    pub line: usize,
-    pub name: &'a str,
-    pub source: Vec<u8>,
-    pub expected: Vec<Expected<'a>>,
+    pub(crate) line: usize,
+    pub(crate) name: &'a str,
+    pub(crate) source: Vec<u8>,
+    pub(crate) expected: Vec<Expected<'a>>,
 }
 
 impl fmt::Display for Case<'_> {
@@ -33,7 +33,7 @@ impl fmt::Display for Case<'_> {
 
 /// Why a file of cases can't be read.
 #[derive(Clone, Copy)]
-pub enum Unread {
+pub(crate) enum Unread {
     /// A line opens no part, or none that may stand there.
     Head,
     /// Memory that was wanted and could not be had.
@@ -63,9 +63,9 @@ impl<T: Drop> From<AllocFailed<T>> for Unread {
 
 /// Why a file of cases can't be read, and the line of the part that is at fault.
 #[derive(Clone, Copy)]
-pub struct Refusal {
-    pub line: usize,
-    pub why: Unread,
+pub(crate) struct Refusal {
+    pub(crate) line: usize,
+    pub(crate) why: Unread,
 }
 
 // What stands around the texts of a word.
@@ -189,7 +189,7 @@ impl<'a> Sheet<'a> {
 }
 
 /// The cases of a file.
-pub fn cases_of(alloc: Global, file: &str) -> Result<Vec<Case<'_>>, Refusal> {
+pub(crate) fn cases_of(alloc: Global, file: &str) -> Result<Vec<Case<'_>>, Refusal> {
     let mut sheet = Sheet {
         alloc,
         frames: Vec::new(alloc),

@@ -4,15 +4,15 @@ use std::fmt;
 
 /// How many modules there are, how many texts are told of them, and of how many of these what is told holds.
 #[derive(Clone, Copy)]
-pub struct Tally {
-    pub cases: u32,
-    pub texts: u32,
-    pub held: u32,
+pub(crate) struct Tally {
+    pub(crate) cases: u32,
+    pub(crate) texts: u32,
+    pub(crate) held: u32,
 }
 
 impl Tally {
     /// Of so many modules, and no texts yet.
-    pub fn of(cases: u32) -> Tally {
+    pub(crate) fn of(cases: u32) -> Tally {
         Tally {
             cases,
             texts: 0,
@@ -21,19 +21,19 @@ impl Tally {
     }
 
     /// Whether what is told of each text holds.
-    pub fn all_hold(&self) -> bool {
+    pub(crate) fn all_hold(&self) -> bool {
         self.texts == self.held
     }
 
     /// Adds what was counted elsewhere.
-    pub fn add(&mut self, other: Tally) {
+    pub(crate) fn add(&mut self, other: Tally) {
         self.cases = self.cases.saturating_add(other.cases);
         self.texts = self.texts.saturating_add(other.texts);
         self.held = self.held.saturating_add(other.held);
     }
 
     /// Counts a text of which what is told holds, or doesn't.
-    pub fn count(&mut self, holds: bool) {
+    pub(crate) fn count(&mut self, holds: bool) {
         self.add(Tally {
             cases: 0,
             texts: 1,

@@ -1,8 +1,10 @@
 //! What comes of the source modules of cases, against the expected texts.
 
+use crate::cases::{Case, Expected};
 use crate::passes::{after, pass_of};
-use pass_cases::{Case, Expected, Tally, Verdict, judged, source_of, told};
-use sp_ids::Memory;
+use crate::tallies::Tally;
+use crate::texts::source_of;
+use crate::verdicts::{Verdict, judged, told};
 use std::alloc::Global;
 use std::io;
 
@@ -36,7 +38,7 @@ fn verdict_of(alloc: Global, case: &Case, expected: &Expected) -> Verdict {
     match source_of(alloc, &case.source) {
         Ok(source) => match after(alloc, pass, source) {
             Ok(made) => judged(alloc, &made, &expected.text),
-            Err(Memory) => Verdict::Memory,
+            Err(fault) => Verdict::NotMade(fault),
         },
         Err(refused) => Verdict::NoSource(refused),
     }

@@ -1,4 +1,4 @@
-//! The passes: unreached blocks are dropped, polls are placed, bases and checks are put in.
+//! The passes: unreached blocks are dropped, polls are placed, bases and checks are put in; or the whole rewriting.
 
 ghost use Rattle.std.specs.Prelude.{◌≡◌, length, IfOk};
 ghost use Rattle.std.specs.List.{All};
@@ -10,6 +10,7 @@ use ir_ast::{Func, Module};
 use ir_cfg::drop_unreachable;
 use poll_place::{place, sources_are_ready};
 use sp_ids::Memory;
+use sp_rewrite::{RewriteFault, rewrite};
 use std::alloc::Global;
 
 /// How far a module is worked on.
@@ -19,6 +20,7 @@ pub(crate) enum Pass {
     Dropping,
     Polls,
     Bases,
+    Rewriting,
 }
 
 /// The pass of this word.
@@ -28,24 +30,34 @@ pub(crate) fn pass_of(word: &str) -> Option<Pass> {
         "reached" => Some(Pass::Dropping),
         "polls" => Some(Pass::Polls),
         "bases" => Some(Pass::Bases),
+        "rewritten" => Some(Pass::Rewriting),
         _ => None,
     }
 }
 
-/// The module after this pass and those before it.
-pub(crate) fn after(alloc: Global, pass: Pass, source: Module) -> Result<Module, Memory>
-    requires { IsSourceModule source.content }
-{
-    match pass {
-        Pass::Typing => Ok(source),
-        Pass::Dropping => drop_unreachable(alloc, source),
-        Pass::Polls => with_polls(alloc, source),
-        Pass::Bases => with_bases(alloc, source),
+/// Why a pass gives no module.
+pub(crate) fn why(fault: RewriteFault) -> &'static str {
+    match fault {
+        RewriteFault::TooManyRelocations => "too many relocates",
+        RewriteFault::Memory => "out of memory",
     }
 }
 
-/// The module without its unreached blocks, with its polls.
-pub(crate) fn with_polls(alloc: Global, source: Module) -> Result<Module, Memory>
+/// The module after this pass and those before it.
+pub(crate) fn after(alloc: Global, pass: Pass, source: Module) -> Result<Module, RewriteFault>
+    requires { IsSourceModule source.content }
+{
+    Ok(match pass {
+        Pass::Typing => source,
+        Pass::Dropping => drop_unreachable(alloc, source)?,
+        Pass::Polls => with_polls(alloc, source)?,
+        Pass::Bases => with_bases(alloc, source)?,
+        Pass::Rewriting => rewrite(alloc, source)?.into_module(),
+    })
+}
+
+// The module without its unreached blocks, with its polls.
+fn with_polls(alloc: Global, source: Module) -> Result<Module, Memory>
     requires { IsSourceModule source.content }
     ensures { IfOk result (λ after. All IsReady after.content.funcs) }
 {
@@ -61,8 +73,8 @@ fn polled(alloc: Global, source: Module) -> Result<Module, Memory>
     Ok(place(alloc, source)?)
 }
 
-/// The same with its bases and checks.
-pub(crate) fn with_bases(alloc: Global, source: Module) -> Result<Module, Memory>
+// The same with its bases and checks.
+fn with_bases(alloc: Global, source: Module) -> Result<Module, Memory>
     requires { IsSourceModule source.content }
 {
     let polled = with_polls(alloc, source)?;
