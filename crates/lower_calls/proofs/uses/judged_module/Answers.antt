@@ -4,7 +4,7 @@ use Rattle.std.proofs.lemmas.List.{length-map, get_or-map}
 use Rattle.ir_ast.specs.Funcs.{Function, LinedFunction, content_of}
 use Rattle.ir_ast.specs.Modules.{ModuleContent}
 use Rattle.ir_ast.specs.Formed.{IsFormed, IsFormedModule}
-use Rattle.definite_text.proofs.judge.judged_module.Goals as goal
+use Rattle.lower_calls.proofs.uses.judged_module.Goals as goal
 
 -- each function of a formed module is formed
 formed_at : (content : ModuleContent) (funcs : List LinedFunction) (place : ℕ) (func : LinedFunction) → IsFormedModule content

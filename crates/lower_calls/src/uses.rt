@@ -4,17 +4,17 @@ ghost use Rattle.std.specs.Prelude.{◌≤◌, length};
 ghost use Rattle.sp_ids.specs.declared.limits.TheConstants.{FILE_BYTES};
 ghost use Rattle.ir_ast.specs.Formed.{IsFormed, IsFormedModule};
 
+use crate::sources::source;
 use definite_assign::definite;
 use ir_ast::{Func, Module};
 use ir_cfg::Cfg;
-use ir_reader::read;
-use ir_types::{Fault, TypeFault, typed};
+use ir_types::{Fault, TypeFault};
 use sp_ids::Memory;
 use std::alloc::Global;
 use std::fmt;
 
 /// What is found in a text.
-#[derive(Clone, Copy, Debug, PartialEq, Eq)]
+#[derive(Clone, Copy, PartialEq)]
 pub(crate) enum Verdict {
     Definite,
     /// The line of the first use that isn't definite.
@@ -37,10 +37,7 @@ impl fmt::Display for Verdict {
 pub(crate) fn judged(alloc: Global, text: &[u8], rounds: u32) -> Verdict
     requires { length text.now ≤ FILE_BYTES }
 {
-    let Ok(raw) = read(alloc, text) else {
-        return Verdict::Refused;
-    };
-    match typed(alloc, raw) {
+    match source(alloc, text) {
         Ok(whole) => judged_module(alloc, &whole, rounds),
         // where typing judges uses itself
         Err(TypeFault::Fault(Fault { line, code: 8 })) => Verdict::Missed(line),
