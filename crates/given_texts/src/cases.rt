@@ -1,19 +1,22 @@
 //! Cases, one on a line: what is asked, the text, and what must be found, with `|` between them.
 
-use crate::found::{found_in_input, found_in_plan};
-use crate::spelled::spelled_text;
+use crate::commands::found_in_words;
+use crate::plans::{found_in_input, found_in_plan};
+use crate::spelled::{spelled_text, spelled_words};
 use sp_ids::limits::FILE_BYTES;
 use std::alloc::{AllocError, Global};
 
 /// What is asked of a text.
-#[derive(Clone, Copy, Debug, PartialEq, Eq)]
+#[derive(Clone, Copy)]
 pub(crate) enum Asked {
     Plan(OfPlan),
     Input(OfInput),
+    /// The command that the words of the text give.
+    Words,
 }
 
 /// What is asked of a plan: its lines, how many they are, or what they say of an event.
-#[derive(Clone, Copy, Debug, PartialEq, Eq)]
+#[derive(Clone, Copy)]
 pub(crate) enum OfPlan {
     Lines,
     Count,
@@ -23,14 +26,14 @@ pub(crate) enum OfPlan {
 }
 
 /// What is asked of an input: its numbers, or how many they are.
-#[derive(Clone, Copy, Debug, PartialEq, Eq)]
+#[derive(Clone, Copy)]
 pub(crate) enum OfInput {
     Numbers,
     Count,
 }
 
 /// A case.
-#[derive(Clone, Copy, Debug)]
+#[derive(Clone, Copy)]
 pub(crate) struct Case<'a> {
     asked: Asked,
     spelled: &'a [u8],
@@ -62,6 +65,7 @@ impl<'a> Case<'a> {
         match self.asked {
             Asked::Plan(asked) => found_in_plan(alloc, asked, &text),
             Asked::Input(asked) => found_in_input(alloc, asked, &text),
+            Asked::Words => found_in_words(alloc, &spelled_words(alloc, self.spelled)?),
         }
     }
 }
@@ -83,6 +87,8 @@ fn asked_by(words: &[u8]) -> Option<Asked> {
         Some(Asked::Input(OfInput::Numbers))
     } else if words == b"numbers".as_slice() {
         Some(Asked::Input(OfInput::Count))
+    } else if words == b"words".as_slice() {
+        Some(Asked::Words)
     } else {
         asked_of_event(words)
     }

@@ -3,7 +3,7 @@
 use std::alloc::{AllocError, Global};
 use tool_words::{Command, FileName, Part, RunRequest, WordsFault, command};
 
-pub(crate) fn found_in(alloc: Global, words: &[String]) -> Result<String, AllocError> {
+pub(crate) fn found_in_words(alloc: Global, words: &[String]) -> Result<String, AllocError> {
     match command(alloc, words) {
         Ok(found) => shown(alloc, &found),
         Err(WordsFault::Words) => String::from_str(alloc, "refused"),

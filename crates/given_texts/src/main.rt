@@ -1,8 +1,10 @@
-//! Reads cases of command lines, each with the command that the words give or that they give none, and says how many hold.
+//! Reads cases of plans, inputs and command lines, each with what must be found, and says of each file how many hold.
 #![tactic(auto)]
 
 mod cases;
-mod found;
+mod commands;
+mod plans;
+mod spelled;
 
 ghost use Rattle.std.specs.Prelude.{◌≤◌, length};
 ghost use Rattle.sp_ids.specs.declared.limits.TheConstants.{FILE_BYTES};
@@ -15,18 +17,25 @@ use std::{env, io};
 use tool_io::{DiskFiles, Files};
 
 fn main(rt: HostRuntime) -> io::Result<()> {
-    let Some(name) = env::args(&rt)?.nth(1) else {
-        return println!(rt; "usage: word_texts FILE");
+    let words: Vec<String> = env::args(&rt)?.collect(rt.alloc())?;
+    let Some((_, names)) = words.split_first() else {
+        return println!(rt; "usage: given_texts FILE..");
     };
-    let mut files = DiskFiles::new(&rt);
-    match files.take(rt.alloc(), name.as_str(), FILE_BYTES) {
-        Ok(text) => report(&rt, rt.alloc(), &text),
-        Err(fault) => println!(rt; "{fault}"),
+    for name in names {
+        try_file(&rt, name.as_str())?;
+    }
+    Ok(())
+}
+
+fn try_file(rt: &HostRuntime, name: &str) -> io::Result<()> {
+    match DiskFiles::new(rt).take(rt.alloc(), name, FILE_BYTES) {
+        Ok(text) => report(rt, rt.alloc(), name, &text),
+        Err(fault) => println!(rt; "{name}: {fault}"),
     }
 }
 
 // Tries each case of the file, names those that don't hold, and counts.
-fn report(rt: &impl Print, alloc: Global, text: &[u8]) -> io::Result<()>
+fn report(rt: &impl Print, alloc: Global, name: &str, text: &[u8]) -> io::Result<()>
     requires { length text.now ≤ FILE_BYTES }
 {
     let mut lines = Lines::of(text);
@@ -42,8 +51,8 @@ fn report(rt: &impl Print, alloc: Global, text: &[u8]) -> io::Result<()>
             holding = holding.saturating_add(1);
         } else {
             let number = line.number;
-            println!(rt; "line {number}: found {found}")?;
+            println!(rt; "{name}:{number}: found {found}")?;
         }
     }
-    println!(rt; "{holding} of {cases} cases hold")
+    println!(rt; "{name}: {holding} of {cases} cases hold")
 }

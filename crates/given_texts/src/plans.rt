@@ -1,4 +1,4 @@
-//! What is found in a text, as a line of text.
+//! What is found in a plan or an input, as a line of text.
 
 ghost use Rattle.std.specs.Prelude.{◌≤◌, length};
 ghost use Rattle.sp_ids.specs.declared.limits.TheConstants.{FILE_BYTES};

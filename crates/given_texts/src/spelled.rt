@@ -1,5 +1,5 @@
 //! Texts as cases spell them: `\n`, `\r`, `\t`, `\s` for a space, `\p` for `|`, `\o` and `\c` for braces, `\0`, and
-//! `{N:PART}` for a part that is repeated.
+//! `{N:PART}` for a part that is repeated. Words have blanks between them, and `''` is the empty one.
 
 use crate::cases::{cut, number};
 use std::alloc::{AllocError, Global};
@@ -11,6 +11,25 @@ pub(crate) fn spelled_text(alloc: Global, spelled: &[u8]) -> Result<Vec<u8>, All
         push_part(&mut text, part)?;
     }
     Ok(text)
+}
+
+// The words that are spelled.
+pub(crate) fn spelled_words(alloc: Global, spelled: &[u8]) -> Result<Vec<String>, AllocError> {
+    let mut words = Vec::new(alloc);
+    for part in spelled.split(|b| *b == b' ') {
+        if !part.is_empty() {
+            words.push(spelled_word(alloc, part)?)?;
+        }
+    }
+    Ok(words)
+}
+
+fn spelled_word(alloc: Global, spelled: &[u8]) -> Result<String, AllocError> {
+    let mut bytes = Vec::new(alloc);
+    if spelled != b"''".as_slice() {
+        push_plain(&mut bytes, spelled)?;
+    }
+    String::from_utf8_lossy(alloc, bytes.as_slice())
 }
 
 // What stands behind a brace, up to the next one.
