@@ -8,7 +8,7 @@ use crate::words::{cut, hexadecimal, number};
 use std::alloc::{AllocError, Global};
 
 /// What is asked of a map.
-#[derive(Clone, Copy, Debug, PartialEq, Eq)]
+#[derive(Clone, Copy)]
 pub(crate) enum Asked {
     View,
     Cuts,
@@ -20,7 +20,7 @@ pub(crate) enum Asked {
 }
 
 /// A case.
-#[derive(Clone, Copy, Debug)]
+#[derive(Clone, Copy)]
 pub(crate) struct Case<'a> {
     spelled: &'a [u8],
     asked: Asked,

@@ -5,7 +5,7 @@ use stackmap_view::{MapIndex, MapView};
 use std::alloc::Global;
 
 /// Work on a map.
-#[derive(Clone, Copy, Debug, PartialEq, Eq)]
+#[derive(Clone, Copy)]
 pub(crate) enum Work {
     /// Copies the bytes, and adds up those of the copy.
     Copy,

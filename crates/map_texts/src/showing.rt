@@ -6,7 +6,6 @@ use frame_slots::Layouts;
 use sp_ids::FuncId;
 use stackmap_view::MapView;
 use std::io;
-use std::process::ExitCode;
 use tool_io::{OutSink, Sink};
 use tool_report::map_text;
 
@@ -22,16 +21,18 @@ pub(crate) fn show(rt: &HostRuntime, made: &Made) -> io::Result<()> {
         let text = hex::encode(rt.alloc(), line)?;
         println!(rt; "{text}")?;
     }
-    show_text(rt, made.bytes.as_slice())
+    put_text_of(rt, made.bytes.as_slice())?;
+    Ok(())
 }
 
-fn show_text(rt: &HostRuntime, bytes: &[u8]) -> io::Result<()> {
+/// Writes the text of the map that the bytes are, or its first fault. Gives whether they are one.
+pub(crate) fn put_text_of(rt: &HostRuntime, bytes: &[u8]) -> io::Result<bool> {
     match MapView::of(bytes) {
-        Ok(view) => match map_text(&view, &mut OutSink::new(rt)) {
-            Ok(()) => Ok(()),
-            Err(_) => println!(rt; "a failed write"),
-        },
-        Err(_) => println!(rt; "no map"),
+        Ok(view) => Ok(map_text(&view, &mut OutSink::new(rt)).is_ok()),
+        Err(fault) => {
+            println!(rt; "{fault}")?;
+            Ok(false)
+        }
     }
 }
 
@@ -46,10 +47,7 @@ fn show_layouts(rt: &HostRuntime, layouts: &Layouts) -> io::Result<()> {
     Ok(())
 }
 
-/// Writes the bytes as they are.
-pub(crate) fn put_raw(rt: &HostRuntime, bytes: &[u8]) -> io::Result<ExitCode> {
-    match OutSink::new(rt).put(bytes) {
-        Ok(()) => Ok(ExitCode::SUCCESS),
-        Err(_) => Ok(ExitCode::FAILURE),
-    }
+/// Writes the bytes as they are, and gives whether they could be.
+pub(crate) fn put_raw(rt: &HostRuntime, bytes: &[u8]) -> bool {
+    OutSink::new(rt).put(bytes).is_ok()
 }

@@ -23,7 +23,7 @@ pub(crate) struct Made {
 }
 
 /// Why nothing is made of a text.
-#[derive(Clone, Copy, Debug)]
+#[derive(Clone, Copy)]
 pub(crate) enum Refusal {
     Fault { line: u32, code: u8 },
     Memory,
