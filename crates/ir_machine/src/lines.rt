@@ -36,7 +36,17 @@ impl<'m, 'i> Executor<'m, 'i> {
         ensures computed { HasComputed (seen self.old) (seen self.new) }
         ensures heap { self.new.heap ≡ self.old.heap }
     {
-        self.run.frame.compute_all();
+        if self.is_at_number() {
+            self.run.frame.compute_all();
+        }
+    }
+
+    // Whether a line that computes a number comes next.
+    fn is_at_number(&self) -> bool {
+        match self.run.frame.rest.front() {
+            None => false,
+            Some(parts) => parts.1.plain,
+        }
     }
 
     fn act(
