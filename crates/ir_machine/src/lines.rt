@@ -72,7 +72,7 @@ impl<'m, 'i> Executor<'m, 'i> {
             Op::Load => self.load(program, inst, one, rest),
             Op::Store => self.store(program, inst, one, rest),
             Op::Call { callee, .. } => {
-                self.call(program, inst, one, rest, *callee, inst.operands())
+                self.plain_call(program, inst, one, rest, *callee, inst.operands())
             }
             Op::Statepoint { callee, types, .. } => {
                 self.statepoint(program, inst, one, rest, *callee, types.list().len())
