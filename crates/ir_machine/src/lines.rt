@@ -175,7 +175,7 @@ impl<'m, 'i> Executor<'m, 'i> {
             arguments,
         )?;
         write_over(&mut self.run.stack, self.words.as_slice())?;
-        self.call(
+        self.point_call(
             program,
             inst,
             one,
