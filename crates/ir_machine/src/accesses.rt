@@ -92,8 +92,8 @@ impl<'m, 'i> Executor<'m, 'i> {
     {
         let base = self.first(inst, one);
         let place = self.second(inst, one);
-        let kind = cell_named(self.third(inst, one));
-        match self.hints.check(&self.heap, base, place, kind) {
+        let cell = cell_named(self.third(inst, one));
+        match self.hints.check(&self.heap, base, place, cell) {
             Ok(()) => self.go_on(0),
             Err(deny) => Ok(denied(deny)),
         }

@@ -22,6 +22,7 @@ use sp_ids::{BlockId, End, Memory, Trap};
 
 impl<'m, 'i> Executor<'m, 'i> {
     /// One step of the running task.
+    #[inline(always)]
     pub fn step(&mut self, program: &'m Program<'_, '_>) -> Result<Did, Memory>
         ensures { IfOk result (DoesSo (machine_step (machinery program.now) (seen self.old)) self.new) }
     {
@@ -32,6 +33,7 @@ impl<'m, 'i> Executor<'m, 'i> {
     }
 
     /// The running task goes on over lines that compute numbers, up to one that doesn't, or that traps.
+    #[inline(always)]
     pub fn compute_all(&mut self)
         ensures computed { HasComputed (seen self.old) (seen self.new) }
         ensures heap { self.new.heap ≡ self.old.heap }
@@ -49,6 +51,7 @@ impl<'m, 'i> Executor<'m, 'i> {
         }
     }
 
+    #[inline(always)]
     fn act(
         &mut self,
         program: &'m Program<'_, '_>,

@@ -35,6 +35,7 @@ impl<'m, 'i> Executor<'m, 'i> {
         }
     }
 
+    #[cold]
     fn turn_shown(
         &mut self,
         program: &'m Program<'_, '_>,
