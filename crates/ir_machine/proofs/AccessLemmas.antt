@@ -1,8 +1,8 @@
 -- Loads, stores and checks of the executor are those of the machine.
-use Rattle.std.proofs.Common.{◌≡◌, ℕ, ◌+◌, ◌*◌, ◌%◌, List, map, sym, ap, ◌∙◌}
+use Rattle.std.proofs.Common.{◌≡◌, ℕ, ◌+◌, ◌*◌, ◌%◌, false, List, ◌∷◌, map, sym, ap, ◌∙◌}
 use Rattle.std.proofs.Math.Nat.{add-mod-mod, mod-add-mod}
 use Rattle.std.proofs.lemmas.Nat.{mul-mod_second}
-use Rattle.std.specs.Prelude.{◌==◌, ◌&&◌, Option, Result}
+use Rattle.std.specs.Prelude.{◌==◌, ◌&&◌, Option, Result, Ok}
 use Rattle.ir_ast.specs.declared.types.Ty.TheVariants.{Int}
 use Rattle.ir_ast.specs.declared.ops.Elem.{Elem}
 use Rattle.ir_ast.specs.Layouts.{ObjectLayout}
@@ -19,11 +19,13 @@ use Rattle.moving_heap.specs.Heaps.{loaded, checked}
 use Rattle.object_meaning.specs.Accesses.{cell_named}
 use Rattle.object_meaning.specs.Effects.{Effect, goes_on}
 use Rattle.object_meaning.specs.Lines.{following}
-use Rattle.object_meaning.specs.Registers.{operand, number_in}
-use Rattle.machine_meaning.specs.Machines.{Machine, Machinery, gone_on}
+use Rattle.object_meaning.specs.Registers.{nothing, operand, number_in}
+use Rattle.object_meaning.specs.States.{Frame}
+use Rattle.machine_meaning.specs.Machines.{Machine, Machinery, gone_from, gone_on}
 use Rattle.machine_meaning.specs.MachineSteps.{loading_word, storing_word, checking, stepped_word, passes}
 use Rattle.machine_meaning.specs.Words.{worded_operand}
-use Rattle.machine_frames.specs.Frames.{line_of, lines_left}
+use Rattle.machine_frames.specs.Frames.{frame_of, is_statepoint, line_of, lines_left}
+use Rattle.machine_frames.proofs.LineLemmas.{gone_call}
 use Rattle.ir_machine.specs.declared.executor.Executor.{Executor}
 use Rattle.ir_machine.specs.Executors.{seen, still, acts_at, calls_at}
 
@@ -73,6 +75,18 @@ module _ (machinery : Machinery) (executor : Executor) (inst : Instruction) (res
       ∙ ap (with_all (number base) (number p)) (cell_is ∙ ap (λ (d : Datum). cell_named (number_in d)) (sym at_kind))
       ∙ ap (λ (q : Datum). with_all (number base) q (cell_named (number_in (held executor inst 2)))) (sym at_p)
       ∙ ap (λ (b : Datum). with_all b (held executor inst 1) (cell_named (number_in (held executor inst 2)))) (sym at_base)
+
+  pub check_past_is : (operands : List Operand) (base p kind : ℕ) (cell : Cell) → executor.run.frame.rest.insts.now ≡ inst ∷ rest → is_statepoint inst.op ≡ false
+      → held executor inst 0 ≡ number base → held executor inst 1 ≡ number p → held executor inst 2 ≡ number kind → cell ≡ cell_named kind → Ok tt ≡ checked executor.heap base p cell
+      → goes_on (passes (seen executor) (line_of executor.run.frame.next inst) (lines_left (following executor.run.frame.next inst) rest) 0)
+      ≡ calls_at machinery executor inst rest Check operands
+  check_past_is operands base p kind cell stands plain at_base at_p at_kind cell_is found =
+      let next = executor.run.frame.next in let frame = frame_of executor.run.frame in let stack = executor.run.stack in
+      let runs : Frame → Effect Machine = λ f. goes_on (record (seen executor) { state = record (seen executor).state { running = f } }) in
+      ap runs
+      (gone_call stack frame (line_of next inst) (lines_left (following next inst) rest) nothing inst.op plain
+      ∙ sym (ap (λ (insts : List Instruction). gone_from stack frame (lines_left next insts) nothing) stands))
+      ∙ check_is operands base p kind cell (Ok tt) at_base at_p at_kind cell_is found
 
   pub same_is : (operands : List Operand) (base p other_base other_p word : ℕ) → held executor inst 0 ≡ number base → held executor inst 1 ≡ number p
       → held executor inst 2 ≡ number other_base → held executor inst 3 ≡ number other_p → word ≡ bit ((base == other_base) && (p == other_p))

@@ -10,3 +10,4 @@ pub mod TraceLemmas
 pub mod WriteLemmas
 pub mod RunLemmas
 pub mod ComputeLemmas
+pub mod TurnLemmas

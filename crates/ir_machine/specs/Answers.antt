@@ -1,5 +1,5 @@
 -- What a run of the machine answers.
-use Rattle.std.specs.Prelude.{◌≡◌, ℕ, ◌+◌, ◌-◌, ◌^◌, min, ℤ, Bool, false, List, [], ◌∷◌, ◌++◌, Option, Some, None, ◌⊎◌}
+use Rattle.std.specs.Prelude.{◌≡◌, ℕ, ◌+◌, ◌-◌, ◌^◌, min, ℤ, Bool, true, false, List, [], ◌∷◌, ◌++◌, Option, Some, None, ◌⊎◌}
 use Rattle.std.specs.List.{concat}
 use Rattle.tool_io.specs.Sink.{append_known, AppendsFront}
 use Rattle.sp_ids.specs.declared.ends.End.{End}
@@ -18,12 +18,14 @@ use Rattle.object_meaning.specs.TargetRuns.{TargetGives}
 use Rattle.object_meaning.specs.Texts.{function_name}
 use Rattle.machine_meaning.specs.Machines.{Machine, Machinery}
 use Rattle.machine_meaning.specs.MachineRuns.{MachineOutcome, machine_proceeds}
+use Rattle.machine_meaning.specs.MachineSteps.{machine_step}
 use Rattle.machine_meaning.specs.TrapLines.{deopt_places}
 use Rattle.moves_unseen.specs.Statements.{IsSeen}
 use Rattle.tool_report.specs.Closings.{closing_line}
 use Rattle.run_texts.specs.RunTexts.{RunWrites, RunWritesQuiet, end_lines, lines_from}
 use Rattle.run_traces.specs.declared.happenings.Happening.{Happening}
-use Rattle.ir_machine.specs.Traces.{did_lose, shown_lines}
+use Rattle.ir_machine.specs.Executors.{effect_of, told}
+use Rattle.ir_machine.specs.Traces.{StepForeseen, did_lose, shown_lines}
 use Rattle.ir_machine.specs.declared.run.Ran.{Ran}
 use Rattle.ir_machine.specs.declared.run.Shows.{Shows}
 use Rattle.ir_machine.specs.declared.run.SureFault.{SureFault}
@@ -31,7 +33,8 @@ use Rattle.ir_machine.specs.declared.run.SureFault.TheVariants as faults
 use Rattle.run_traces.specs.declared.writing.Stopped.{Stopped}
 use Rattle.run_traces.specs.declared.writing.Stopped.TheVariants as stops
 use Rattle.ir_machine.specs.declared.executor.Did.{Did}
-use Rattle.ir_machine.specs.declared.executor.Did.TheVariants.{Prints, Ends as Finishes}
+use Rattle.ir_machine.specs.declared.executor.Did.TheVariants.{GoesOn, Prints, Ends as Finishes}
+use Rattle.ir_machine.specs.declared.turns.Turn.{Turn}
 
 abbrev pub ran_of : MachineOutcome → Ran
 ran_of outcome = record {
@@ -141,7 +144,31 @@ pub record Follows (machinery : Machinery) (trace : Bool) (start : Progress Mach
   pub written : now ≡ append_known old (concat (lines_from machinery trace reached.after (Go start)))
   pub settled : AreSettled machine.heap.stands
 
+-- a run that has come to one state comes to the other, and writes nothing on the way
+abbrev pub LeadsOn : Machinery → Bool → Machine → Machine → Type 0
+LeadsOn machinery trace old new =
+    (start : Progress Machine) (one : Happening) (count : ℕ) (first now : Option (List ℕ))
+    → Follows machinery trace start old count first now → Follows machinery trace start new count first now
+
 -- ---- steps
+
+-- a run came on to a state, whose step was foreseen so, and then did this
+pub record Turned (machinery : Machinery) (trace : Bool) (old : Machine) (event : Bool) (one : Happening) (did : Did) (new : Machine) : Type 0 where
+  pub before : Machine
+  pub later : Machine
+  pub leads : LeadsOn machinery trace old before
+  pub foreseen : StepForeseen machinery trace before event one
+  pub same : machine_step machinery later ≡ machine_step machinery before
+  pub does : told (effect_of did new) ≡ told (machine_step machinery later)
+
+-- the same where nothing is shown
+abbrev pub WentFar : Machinery → Machine → Turn → Machine → Type 0
+WentFar machinery old turn new = (one : Happening) → Turned machinery false old turn.event one turn.did new
+
+-- whether a step prints or ends
+abbrev pub is_shown : Did → Bool
+is_shown GoesOn = false
+is_shown did = true
 
 -- the end of the run, where the step was its last
 abbrev pub ended_of : Did → Option End

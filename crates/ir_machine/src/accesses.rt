@@ -1,6 +1,6 @@
 //! Lines that touch pointers.
 
-ghost use Rattle.std.specs.Prelude.{◌≡◌, ◌%◌, ◌^◌, ◌==◌, ◌&&◌, IfOk};
+ghost use Rattle.std.specs.Prelude.{◌≡◌, ◌∷◌, ◌%◌, ◌^◌, ◌==◌, ◌&&◌, false, IfOk};
 ghost use Rattle.ir_ast.specs.Sizes.{begins_at, fields_in};
 ghost use Rattle.object_meaning.specs.Accesses.{cell_named};
 ghost use Rattle.object_meaning.specs.Comparisons.{bit};
@@ -9,6 +9,7 @@ ghost use Rattle.object_meaning.specs.Numbers.{width_of};
 ghost use Rattle.machine_meaning.specs.Machines.{Machine};
 ghost use Rattle.machine_meaning.specs.MachineSteps.{denied, stepped_word};
 ghost use Rattle.machine_frames.specs.Decoding.{decoded_of};
+ghost use Rattle.machine_frames.specs.Frames.{is_statepoint};
 ghost use Rattle.ir_machine.specs.Executors.{machinery, effect_of, DoesSo, acts_at, calls_at};
 
 use crate::executor::{Did, Executor, Program};
@@ -91,9 +92,32 @@ impl<'m, 'i> Executor<'m, 'i> {
     {
         let base = self.first(inst, one);
         let place = self.second(inst, one);
+        let cell = cell_named(self.third(inst, one));
+        match self.hints.check(&self.heap, base, place, cell) {
+            Ok(()) => self.go_on(0),
+            Err(deny) => Ok(denied(deny)),
+        }
+    }
+
+    // A check by a call that is no statepoint.
+    pub(crate) fn check_past(
+        &mut self,
+        program: &'m Program<'_, '_>,
+        inst: &Inst,
+        one: &Decoded,
+        rest: Lines<'m>,
+        operands: &[Operand],
+    ) -> Result<Did, Memory>
+        requires stands { self.old.run.frame.rest.insts.now ≡ inst.now ∷ rest.insts.now }
+        requires plain { is_statepoint inst.now.op ≡ false }
+        requires decoded { one.now ≡ decoded_of inst.now }
+        ensures { IfOk result (DoesSo (calls_at (machinery program.now) self.old inst.now rest.entry.insts.now Callee.Check operands.now) self.new) }
+    {
+        let base = self.first(inst, one);
+        let place = self.second(inst, one);
         let kind = cell_named(self.third(inst, one));
         match self.hints.check(&self.heap, base, place, kind) {
-            Ok(()) => self.go_on(0),
+            Ok(()) => self.pass(inst, rest, 0),
             Err(deny) => Ok(denied(deny)),
         }
     }

@@ -1,6 +1,6 @@
 //! Calls and returns.
 
-ghost use Rattle.std.specs.Prelude.{◌≡◌, ◌∷◌, ◌≤◌, None, [], drop, map, IfOk, slice_get, slice_set, unwrap_or};
+ghost use Rattle.std.specs.Prelude.{◌≡◌, ◌∷◌, ◌≤◌, None, [], drop, false, map, IfOk, slice_get, slice_set, unwrap_or};
 ghost use Rattle.ir_ast.specs.Objects.{number};
 ghost use Rattle.object_meaning.specs.Calls.{function_in};
 ghost use Rattle.object_meaning.specs.Effects.{goes_on};
@@ -9,6 +9,7 @@ ghost use Rattle.machine_meaning.specs.Machines.{gone_on};
 ghost use Rattle.machine_meaning.specs.MachineTasks.{ended_machine, handed_machine};
 ghost use Rattle.machine_meaning.specs.Words.{worded_operand};
 ghost use Rattle.machine_frames.specs.Decoding.{decoded_of};
+ghost use Rattle.machine_frames.specs.Frames.{is_statepoint};
 ghost use Rattle.ir_machine.specs.Executors.{machinery, seen, DoesSo, acts_at, calls_at};
 
 use crate::executor::{Did, Executor, Program};
@@ -20,6 +21,47 @@ use sp_ids::{End, Memory, Trap, sign};
 use std::mem;
 
 impl<'m, 'i> Executor<'m, 'i> {
+    /// A call that is no statepoint. A check, which is the most frequent one, goes on at once.
+    pub(crate) fn plain_call(
+        &mut self,
+        program: &'m Program<'_, '_>,
+        inst: &Inst,
+        one: &Decoded,
+        rest: Lines<'m>,
+        callee: Callee,
+        operands: &[Operand],
+    ) -> Result<Did, Memory>
+        requires stands { self.old.run.frame.rest.insts.now ≡ inst.now ∷ rest.insts.now }
+        requires plain { is_statepoint inst.now.op ≡ false }
+        requires decoded { one.now ≡ decoded_of inst.now }
+        ensures { IfOk result (DoesSo (calls_at (machinery program.now) self.old inst.now rest.entry.insts.now callee operands.now) self.new) }
+    {
+        match callee {
+            Callee::Check => self.check_past(program, inst, one, rest, operands),
+            _ => self.call(program, inst, one, rest, callee, operands),
+        }
+    }
+
+    /// A call by a statepoint, whose live entries are in their slots. A poll, which is the most frequent one, comes first.
+    pub(crate) fn point_call(
+        &mut self,
+        program: &'m Program<'_, '_>,
+        inst: &Inst,
+        one: &Decoded,
+        rest: Lines<'m>,
+        callee: Callee,
+        operands: &[Operand],
+    ) -> Result<Did, Memory>
+        requires stands { self.old.run.frame.rest.insts.now ≡ inst.now ∷ rest.insts.now }
+        requires decoded { one.now ≡ decoded_of inst.now }
+        ensures { IfOk result (DoesSo (calls_at (machinery program.now) self.old inst.now rest.entry.insts.now callee operands.now) self.new) }
+    {
+        match callee {
+            Callee::Poll => self.poll(program, inst, rest.insts, operands),
+            _ => self.call(program, inst, one, rest, callee, operands),
+        }
+    }
+
     /// A call with these arguments, whose live entries are in their slots.
     pub(crate) fn call(
         &mut self,

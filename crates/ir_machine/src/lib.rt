@@ -8,5 +8,6 @@ mod executor;
 mod lines;
 mod run;
 mod traces;
+mod turns;
 
 pub use run::{Ran, RunFault, Shows, SureFault, run_any, run_verified};

@@ -22,6 +22,7 @@ use sp_ids::{BlockId, End, Memory, Trap};
 
 impl<'m, 'i> Executor<'m, 'i> {
     /// One step of the running task.
+    #[inline(always)]
     pub fn step(&mut self, program: &'m Program<'_, '_>) -> Result<Did, Memory>
         ensures { IfOk result (DoesSo (machine_step (machinery program.now) (seen self.old)) self.new) }
     {
@@ -32,13 +33,25 @@ impl<'m, 'i> Executor<'m, 'i> {
     }
 
     /// The running task goes on over lines that compute numbers, up to one that doesn't, or that traps.
+    #[inline(always)]
     pub fn compute_all(&mut self)
         ensures computed { HasComputed (seen self.old) (seen self.new) }
         ensures heap { self.new.heap ≡ self.old.heap }
     {
-        self.run.frame.compute_all();
+        if self.is_at_number() {
+            self.run.frame.compute_all();
+        }
     }
 
+    // Whether a line that computes a number comes next.
+    fn is_at_number(&self) -> bool {
+        match self.run.frame.rest.front() {
+            None => false,
+            Some(parts) => parts.1.plain,
+        }
+    }
+
+    #[inline(always)]
     fn act(
         &mut self,
         program: &'m Program<'_, '_>,
@@ -62,7 +75,7 @@ impl<'m, 'i> Executor<'m, 'i> {
             Op::Load => self.load(program, inst, one, rest),
             Op::Store => self.store(program, inst, one, rest),
             Op::Call { callee, .. } => {
-                self.call(program, inst, one, rest, *callee, inst.operands())
+                self.plain_call(program, inst, one, rest, *callee, inst.operands())
             }
             Op::Statepoint { callee, types, .. } => {
                 self.statepoint(program, inst, one, rest, *callee, types.list().len())
@@ -165,7 +178,7 @@ impl<'m, 'i> Executor<'m, 'i> {
             arguments,
         )?;
         write_over(&mut self.run.stack, self.words.as_slice())?;
-        self.call(
+        self.point_call(
             program,
             inst,
             one,

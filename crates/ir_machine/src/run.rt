@@ -259,15 +259,13 @@ fn run<'m, O: Sink>(
     let mut lines = 0u64;
     let mut happening = Happening::new(executor.alloc);
     for _ in 0..u64::MAX {
-        executor.compute_all();
-        let event = executor.foresee(program, shows.trace, &mut happening)?;
-        let did = executor.step(program)?;
-        write_step(event, &happening, did, out)?;
-        if let Some(end) = ended(did) {
+        let turn = executor.turn(program, shows.trace, &mut happening)?;
+        write_step(turn.event, &happening, turn.did, out)?;
+        if let Some(end) = ended(turn.did) {
             write_end(program, executor, end, shows.places, out)?;
             return Ok(how_ran(end, executor, lines));
         }
-        lines = counted(did, lines);
+        lines = counted(turn.did, lines);
     }
     Err(SureFault::Memory)
 }

@@ -1,0 +1,35 @@
+-- How a run comes on: over lines that compute numbers, and by steps that show nothing.
+use Rattle.std.proofs.Common.{◌≡◌, Bool, false, refl, sym}
+use Rattle.tool_io.proofs.AppendLaws.{append_known-nil}
+use Rattle.ir_ast.specs.Modules.{ModuleContent}
+use Rattle.machine_meaning.specs.Machines.{Machine, Machinery}
+use Rattle.machine_meaning.specs.MachineSteps.{machine_step}
+use Rattle.ir_machine.specs.declared.executor.Did.{Did}
+use Rattle.ir_machine.specs.declared.executor.Did.TheVariants.{GoesOn, Prints, Ends as Finishes}
+use Rattle.ir_machine.specs.Executors.{HasComputed, effect_of, told}
+use Rattle.ir_machine.specs.Answers.{LeadsOn, WentFar, is_shown}
+use Rattle.ir_machine.proofs.ComputeLemmas.{follows_computed}
+use Rattle.ir_machine.proofs.RunLemmas.{follows_more}
+
+pub leads_same : (machinery : Machinery) (trace : Bool) (machine : Machine) → LeadsOn machinery trace machine machine
+leads_same machinery trace machine = λ start one count first now follows. follows
+
+module _ (content : ModuleContent) (machinery : Machinery) where
+  pub leads_computed : (trace : Bool) (old new later : Machine) → LeadsOn machinery trace old new → HasComputed new later → LeadsOn machinery trace old later
+  leads_computed trace old new later leads computed = λ start one count first now follows.
+      follows_computed content machinery (record { places = false; trace = trace }) start one count first now new later computed (leads start one count first now follows)
+
+  leads_step : (old new later : Machine) → LeadsOn machinery false old new → told (effect_of GoesOn later) ≡ told (machine_step machinery new) → LeadsOn machinery false old later
+  leads_step old new later leads does = λ start one count first now follows.
+      follows_more content machinery (record { places = false; trace = false }) start new new later count first now (leads start one count first now follows)
+      false one GoesOn refl refl does refl now (sym (append_known-nil now))
+
+  pub leads_quiet : (did : Did) (old new later : Machine) → is_shown did ≡ false → LeadsOn machinery false old new → told (effect_of did later) ≡ told (machine_step machinery new)
+      → LeadsOn machinery false old later
+  leads_quiet GoesOn old new later quiet leads does = leads_step old new later leads does
+  leads_quiet (Prints word) old new later quiet leads does = cc
+  leads_quiet (Finishes end) old new later quiet leads does = cc
+
+  pub went_far : (old new later : Machine) (did : Did) → LeadsOn machinery false old new → told (effect_of did later) ≡ told (machine_step machinery new)
+      → WentFar machinery old (record { event = false; did = did }) later
+  went_far old new later did leads does = λ one. record { before = new; later = new; leads = leads; foreseen = refl; same = refl; does = does }

@@ -1,0 +1,78 @@
+//! A turn of a run: its steps up to one that writes something.
+
+ghost use Rattle.std.specs.Prelude.{◌≡◌, IfOk};
+ghost use Rattle.moving_heap.specs.Settled.{IsNumbered};
+ghost use Rattle.ir_machine.specs.Executors.{machinery, seen};
+ghost use Rattle.ir_machine.specs.Answers.{Turned, WentFar, is_shown};
+
+use crate::executor::{Did, Executor, Program};
+use run_traces::Happening;
+use sp_ids::Memory;
+
+/// What the last step of a turn did, and whether it is an event that is shown.
+#[derive(Clone, Copy, Debug, PartialEq, Eq)]
+pub(crate) struct Turn {
+    pub event: bool,
+    pub did: Did,
+}
+
+impl<'m, 'i> Executor<'m, 'i> {
+    /// With a trace one step, with what it shows; without one all steps up to the next that prints or ends. The lines that
+    /// compute numbers before a step go along with it.
+    pub(crate) fn turn(
+        &mut self,
+        program: &'m Program<'_, '_>,
+        trace: bool,
+        happening: &mut Happening,
+    ) -> Result<Turn, Memory>
+        requires numbered { IsNumbered self.old.heap.stands }
+        ensures { IfOk result (λ turn. Turned (machinery program.now) trace (seen self.old) turn.event happening.new turn.did (seen self.new)) }
+    {
+        if trace {
+            self.turn_shown(program, trace, happening)
+        } else {
+            self.turn_quiet(program)
+        }
+    }
+
+    #[cold]
+    fn turn_shown(
+        &mut self,
+        program: &'m Program<'_, '_>,
+        trace: bool,
+        happening: &mut Happening,
+    ) -> Result<Turn, Memory>
+        requires numbered { IsNumbered self.old.heap.stands }
+        ensures { IfOk result (λ turn. Turned (machinery program.now) trace (seen self.old) turn.event happening.new turn.did (seen self.new)) }
+    {
+        self.compute_all();
+        let event = self.foresee(program, trace, happening)?;
+        let did = self.step(program)?;
+        Ok(Turn { event, did })
+    }
+
+    // All steps up to one that prints or ends.
+    fn turn_quiet(&mut self, program: &'m Program<'_, '_>) -> Result<Turn, Memory>
+        ensures { IfOk result (λ turn. WentFar (machinery program.now) (seen self.old) turn (seen self.new)) }
+    {
+        for _ in 0..u64::MAX {
+            self.compute_all();
+            let did = self.step(program)?;
+            if is_shown(did) {
+                return Ok(Turn { event: false, did });
+            }
+        }
+        Err(Memory)
+    }
+}
+
+// Whether a step prints or ends.
+fn is_shown(did: Did) -> bool
+    ensures { result ≡ is_shown did }
+{
+    match did {
+        Did::GoesOn => false,
+        Did::Prints(_) => true,
+        Did::Ends(_) => true,
+    }
+}
