@@ -21,6 +21,7 @@ use sp_ids::{End, Memory, Trap, sign};
 
 impl<'m, 'i> Executor<'m, 'i> {
     // `getelementptr` adds to the word.
+    #[inline(always)]
     pub(crate) fn advance(
         &mut self,
         program: &'m Program<'_, '_>,
@@ -42,6 +43,7 @@ impl<'m, 'i> Executor<'m, 'i> {
         self.pass(inst, rest, word)
     }
 
+    #[inline(always)]
     pub(crate) fn load(
         &mut self,
         program: &'m Program<'_, '_>,
@@ -60,6 +62,7 @@ impl<'m, 'i> Executor<'m, 'i> {
         }
     }
 
+    #[inline(always)]
     pub(crate) fn store(
         &mut self,
         program: &'m Program<'_, '_>,
@@ -100,6 +103,7 @@ impl<'m, 'i> Executor<'m, 'i> {
     }
 
     // A check by a call that is no statepoint.
+    #[inline(always)]
     pub(crate) fn check_past(
         &mut self,
         program: &'m Program<'_, '_>,

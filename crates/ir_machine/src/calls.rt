@@ -22,6 +22,7 @@ use std::mem;
 
 impl<'m, 'i> Executor<'m, 'i> {
     /// A call that is no statepoint. A check, which is the most frequent one, goes on at once.
+    #[inline(always)]
     pub(crate) fn plain_call(
         &mut self,
         program: &'m Program<'_, '_>,
@@ -43,6 +44,7 @@ impl<'m, 'i> Executor<'m, 'i> {
     }
 
     /// A call by a statepoint, whose live entries are in their slots. A poll, which is the most frequent one, comes first.
+    #[inline(always)]
     pub(crate) fn point_call(
         &mut self,
         program: &'m Program<'_, '_>,
@@ -187,6 +189,7 @@ impl<'m, 'i> Executor<'m, 'i> {
     }
 
     // `ret`: the frame's words leave the stack; the frame below goes on with the answer, or the task ends.
+    #[inline(always)]
     pub(crate) fn ret(
         &mut self,
         program: &'m Program<'_, '_>,

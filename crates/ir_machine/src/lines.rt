@@ -158,6 +158,7 @@ impl<'m, 'i> Executor<'m, 'i> {
     }
 
     // A statepoint keeps its entries in slots, and calls.
+    #[inline(always)]
     fn statepoint(
         &mut self,
         program: &'m Program<'_, '_>,
