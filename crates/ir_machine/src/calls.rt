@@ -43,27 +43,6 @@ impl<'m, 'i> Executor<'m, 'i> {
         }
     }
 
-    /// A call by a statepoint, whose live entries are in their slots. A poll, which is the most frequent one, comes first.
-    #[inline(always)]
-    pub(crate) fn point_call(
-        &mut self,
-        program: &'m Program<'_, '_>,
-        inst: &Inst,
-        one: &Decoded,
-        rest: Lines<'m>,
-        callee: Callee,
-        operands: &[Operand],
-    ) -> Result<Did, Memory>
-        requires stands { self.old.run.frame.rest.insts.now ≡ inst.now ∷ rest.insts.now }
-        requires decoded { one.now ≡ decoded_of inst.now }
-        ensures { IfOk result (DoesSo (calls_at (machinery program.now) self.old inst.now rest.entry.insts.now callee operands.now) self.new) }
-    {
-        match callee {
-            Callee::Poll => self.poll(program, inst, rest.insts, operands),
-            _ => self.call(program, inst, one, rest, callee, operands),
-        }
-    }
-
     /// A call with these arguments, whose live entries are in their slots.
     pub(crate) fn call(
         &mut self,

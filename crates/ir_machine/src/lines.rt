@@ -179,7 +179,7 @@ impl<'m, 'i> Executor<'m, 'i> {
             arguments,
         )?;
         write_over(&mut self.run.stack, self.words.as_slice())?;
-        self.point_call(
+        self.call(
             program,
             inst,
             one,

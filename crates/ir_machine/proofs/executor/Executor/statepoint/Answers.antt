@@ -20,6 +20,6 @@ returns c =
     let kept_so : c.keep.new.words.items ≡ kept_in (map number now.run.frame.registers.items) inst c.args.arguments = rw c.as_slice.ensures.value at c.in_ok-keep.ensures in
     let stack : c.write_over.new.stack ≡ over (kept_in (map number now.run.frame.registers.items) inst c.args.arguments) now.run.stack =
     c.in_ok-write_over.ensures ∙ ap (λ (ws : List ℕ). over ws now.run.stack) (c.as_slice-2.ensures.value ∙ kept_so) in
-    does_as c.point_call.new.self c.point_call.result _ _
+    does_as c.call.new.self c.call.result _ _
     (ap (λ (words : List ℕ). calls all (record (seen now) { stack = words }) line lines c.args.callee (map worded_operand c.front.result.now)) stack
-    ∙ ap (calls all (spilled (seen now) line.inst c.args.arguments) line lines c.args.callee) operands) c.point_call.ensures
+    ∙ ap (calls all (spilled (seen now) line.inst c.args.arguments) line lines c.args.callee) operands) c.call.ensures
