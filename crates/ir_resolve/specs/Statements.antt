@@ -21,7 +21,7 @@ pub record AreRead (form : Form) (lines : List Line) : Type 0 where
   -- what a statepoint has wrong stands on a line before those of its group
   pub order : form ≡ Rewritten → Rise 0 lines
 
--- each fault of the lines has one of the resolved text that comes first, and the other way
+-- each fault of the lines has one of the resolved text that comes first; the other way it isn't refuted
 abbrev pub FaultsCover : Type 0
 FaultsCover = (form : Form) (lines : List Line) → AreRead form lines → FaultsAgree form lines
 
