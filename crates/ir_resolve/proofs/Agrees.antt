@@ -11,7 +11,7 @@ use Rattle.ir_lines.specs.Statements.{Line, switch_case}
 use Rattle.ir_lines.specs.Sections.{Definition, definitions_of}
 use Rattle.ir_lines.specs.ReadLines.{IsReadLines}
 use Rattle.ir_lines.specs.TextLines.{IsTextLines}
-use Rattle.ir_lines.specs.PlainFaults.{HasPlainFault}
+use Rattle.ir_lines.specs.PlainFaults.{HasPlainFault, HasNoPlainFault}
 use Rattle.ir_lines.specs.PlainFaults as plain
 use Rattle.ir_lines.specs.Faults.TypeClash.{CaseClash, by_line, by_case, number_said, case_numbers}
 use Rattle.ir_resolve.specs.Resolved.{resolved}
@@ -113,6 +113,10 @@ from_text form lines line code (text.bad_layout f) = shown form lines line 13 (p
 from_text form lines line code (text.reserved f) = shown form lines line 14 (plain.reserved f)
 from_text form lines line code (text.pointer_cast f) = shown form lines line 16 (plain.pointer_cast f)
 from_text form lines line code (text.miscounted is f) = shown form lines line 18 (miscounted_misshapes form lines line is f)
+
+-- lines without a fault have none of the text's own
+pub no_text_fault : (form : Form) (lines : List Line) → HasNoPlainFault form lines → (line code : ℕ) → ¬ HasTextFault form lines line code
+no_text_fault form lines none line code f = from_text form lines line code f (λ covered. none covered.first_line covered.first_code covered.has)
 
 from_module : (form : Form) (lines : List Line) → LinesStand form lines → (line code : ℕ) → HasModuleFault (resolved form lines) line code
     → OfLines form lines line code

@@ -27,4 +27,6 @@ pub mod Groups
 pub mod Tokens
 pub mod GroupFaults
 pub mod Agrees
+pub mod NoCasts
+pub mod Faultless
 pub mod Samples

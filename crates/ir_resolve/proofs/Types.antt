@@ -160,7 +160,7 @@ layout-same : (n : ℕ) (s : Statement) → layout_said n (uncast s) ≡ layout_
 layout-same n (cast result op from value to) = refl
 layout-same n _ = refl
 
-layouts-same : (ls : List Line) → layouts_of (map uncast_line ls) ≡ layouts_of ls
+pub layouts-same : (ls : List Line) → layouts_of (map uncast_line ls) ≡ layouts_of ls
 layouts-same [] = refl
 layouts-same (l ∷ ls) =
     ap (λ (xs : List LayoutLine). xs ++ layouts_of (map uncast_line ls)) (layout-same l.number l.says)

@@ -13,7 +13,9 @@ use Rattle.definite_assign.specs.Faults.{HasMissedUse, LineIsDefinite}
 use Rattle.definite_assign.proofs.UseLemmas.{use_within}
 use Rattle.ir_lines.specs.Statements.{Line}
 use Rattle.ir_lines.specs.Modules.{module_of}
-use Rattle.ir_lines.specs.PlainFaults.{HasNoPlainFault, IsLeastPlainFault, ComesFirst}
+use Rattle.ir_lines.specs.PlainFaults.{ComesFirst}
+use Rattle.ir_resolve.specs.Agreement.{IsLeast}
+use Rattle.ir_resolve.specs.FaultSet.{HasResolvedFault, HasNoResolvedFault}
 use Rattle.ir_types.specs.Faults.NotDefinite.{NotDefinite}
 use Rattle.ir_types.specs.FaultSet.{HasFault, HasNoFault, IsLeastFault, plain, not_definite}
 use Rattle.ir_types.specs.FirstMissed.{IsFirstMissed}
@@ -24,7 +26,7 @@ use Rattle.module_laws.proofs.InOrder.{InOrder, lines_at, module-rises, later-fu
 
 -- ---- where a fault stands without looking at paths
 
-pub plain-least : (form : Form) (lines : List Line) (line code : ℕ) → IsLeastPlainFault form lines line code → IsLeastFault form lines line code
+pub plain-least : (form : Form) (lines : List Line) (line code : ℕ) → IsLeast (HasResolvedFault form lines) line code → IsLeastFault form lines line code
 plain-least form lines line code least = record {
   is = plain code least.is;
   least = λ other_line other_code fault. first other_line other_code fault;
@@ -45,7 +47,7 @@ none_missed form lines line all fault =
     not_missed fault.func fault.place
     (λ value block place used. all_at UsesAreDefinite (module_of form lines).content.funcs fault.number fault.func all fault.stands fault.place value block place used) fault.missed
 
-pub definite-faultless : (form : Form) (lines : List Line) → HasNoPlainFault form lines → All UsesAreDefinite (module_of form lines).content.funcs → HasNoFault form lines
+pub definite-faultless : (form : Form) (lines : List Line) → HasNoResolvedFault form lines → All UsesAreDefinite (module_of form lines).content.funcs → HasNoFault form lines
 definite-faultless form lines none all line _ (plain code fault) = none line code fault
 definite-faultless form lines none all line _ (not_definite also missed) = none_missed form lines line all missed
 
@@ -121,7 +123,7 @@ not_later line other before =
       ]
     ]
 
-pub missed-least : (form : Form) (lines : List Line) (to line : ℕ) → HasNoPlainFault form lines → Stand places.Top lines → Within 1 (numbers lines) to
+pub missed-least : (form : Form) (lines : List Line) (to line : ℕ) → HasNoResolvedFault form lines → Stand places.Top lines → Within 1 (numbers lines) to
     → IsFirstMissed (module_of form lines) line → IsLeastFault form lines line 8
 missed-least form lines to line none stand within missed = record {
   is = not_definite none (record {

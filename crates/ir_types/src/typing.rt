@@ -10,7 +10,7 @@ ghost use Rattle.ir_cfg.specs.TargetModules.{IsTargetModule};
 ghost use Rattle.ir_reader.specs.Raws.{IsRead};
 ghost use Rattle.ir_types.specs.Answers.{Answers};
 ghost use Rattle.ir_lines.specs.Modules.{module_of};
-ghost use Rattle.ir_lines.specs.PlainFaults.{HasNoPlainFault};
+ghost use Rattle.ir_resolve.specs.FaultSet.{HasNoResolvedFault};
 ghost use Rattle.module_laws.specs.TextFunctions.{HasFewInstructions, IsTextFunction};
 ghost use Rattle.ir_lines.specs.Views.{seen_lines};
 
@@ -64,7 +64,7 @@ fn checked(alloc: Global, raw: &Raw) -> Result<Module, TypeFault>
 
 // The module of readings without a fault but those of paths, or the first of these.
 fn with_paths(alloc: Global, raw: &Raw) -> Result<Module, TypeFault>
-    requires plain { HasNoPlainFault raw.now.form (seen_lines raw.now.lines) }
+    requires plain { HasNoResolvedFault raw.now.form (seen_lines raw.now.lines) }
     requires read { IsRead raw.now }
     ensures answers { Answers raw.now.form (seen_lines raw.now.lines) result }
     ensures module { IfOk result (λ whole. IsModuleOf raw.now.form whole.content) }
@@ -80,7 +80,7 @@ fn with_paths(alloc: Global, raw: &Raw) -> Result<Module, TypeFault>
 
 // The module of readings without a fault but those of paths.
 fn plain_module(alloc: Global, raw: &Raw) -> Result<Module, AllocError>
-    requires { HasNoPlainFault raw.now.form (seen_lines raw.now.lines) }
+    requires { HasNoResolvedFault raw.now.form (seen_lines raw.now.lines) }
     ensures is { IfOk result (λ whole. whole ≡ module_of raw.now.form (seen_lines raw.now.lines)) }
     ensures typed { IfOk result (λ whole. IsTypedModule raw.now.form whole.content) }
     ensures text { IfOk result (λ whole. All IsTextFunction whole.content.funcs) }

@@ -1,6 +1,7 @@
 -- The lines of a text that was read are as a reader gives them, so that the law of the typer is one of texts.
-use Rattle.std.proofs.Common.{◌≡◌, ◌+◌, ◌≤◌, refl, Bool, true, false, not, List, [], ◌∷◌, map, length, arith}
+use Rattle.std.proofs.Common.{◌≡◌, ℕ, ◌+◌, ◌≤◌, refl, Bool, true, false, not, List, [], ◌∷◌, map, length, arith}
 use Rattle.std.specs.List.{All, AllByRecursion, Contains, sum_by}
+use Rattle.std.specs.Str.Lines.{lines as text_lines}
 use Rattle.std.proofs.lemmas.List.{length-map}
 use Rattle.std.proofs.lemmas.List.Sums.{count_by-le-length}
 use Rattle.std.proofs.lemmas.List.Elements.{All-contains, All-from_recursion, recursion_from_All}
@@ -18,12 +19,14 @@ use Rattle.ir_lines.specs.Modules.{known_of, block_of}
 use Rattle.ir_lines.specs.Views.{seen_line, seen_lines}
 use Rattle.ir_lines.specs.TextLines.{Stand, statement_fits, is_formed, stands_in}
 use Rattle.ir_lines.specs.ReadLines.{IsReadFunction, IsReadLines, SaysRead, is_instruction, instruction_count}
+use Rattle.ir_resolve.specs.Statements.{AreRead, Rise}
 use Rattle.module_build.specs.Placed.{IsPlacedFunction, IsPlaced}
 use Rattle.module_build.proofs.Bodies.{Body}
 use Rattle.module_laws.proofs.LawHeads.{SaysOf, says-defined}
 use Rattle.module_laws.proofs.LawFunctions.{contained}
 use Rattle.module_laws.proofs.Placing.{IsPlacedBody, definitions-placed, read-placed}
 use Rattle.module_laws.proofs.ReadTexts.{read-runs, read-lines}
+use Rattle.module_laws.proofs.Rising.{Within, numbers, within-later, lines-rise}
 use Rattle.module_laws.proofs.ReadNames.{runs_names}
 use Rattle.module_laws.proofs.ReadTypes.{SaysNames, calls_void, said_read}
 use Rattle.module_laws.proofs.ReadCounts.{Run, NoGroups, IsCounted, runs-counted, layouts_total, functions_total, total_all, instructions_total, few_values_in, each_counted, relocates_few, cases_stand, has_line}
@@ -102,3 +105,18 @@ read_law r read =
       few_instructions = instructions_few r.form lines (opening r.form).counts own text.placed counts;
       few_lines = text.few;
     }
+
+-- ---- numbers of lines
+
+rise_within : (ls : List Line) (from to : ℕ) → Within from (numbers ls) to → Rise from ls
+rise_within [] from to within = tt
+rise_within (l ∷ ls) from to within = (within.0, rise_within ls l.number to within.1)
+
+read_rise : (r : Readings) → IsRead r → Rise 0 (seen_lines r.lines)
+read_rise r read =
+    let to = 1 + length (text_lines r.text) in
+    rise_within (seen_lines r.lines) 0 to (within-later (numbers (seen_lines r.lines)) 0 1 to (omega arith) (lines-rise r read))
+
+-- so what is proved of lines as a reader gives them holds of those of each text that was read
+pub are_read : (r : Readings) → IsRead r → AreRead r.form (seen_lines r.lines)
+are_read r read = record { read = read_law r read; placed = read-lines r read; order = λ is. read_rise r read }

@@ -3,11 +3,14 @@
 use Rattle.std.proofs.Common.{sym, subst}
 use Rattle.std.specs.List.{All}
 use Rattle.ir_ast.specs.declared.modules.Form.{Form}
+use Rattle.ir_ast.specs.Faultless.{HasNoFault}
 use Rattle.ir_ast.specs.Modules.{ModuleContent}
 use Rattle.ir_cfg.specs.DefiniteUses.{UsesAreDefinite}
 use Rattle.ir_printer.specs.Texts.{text_of}
 use Rattle.ir_lines.specs.Statements.{lines_of}
 use Rattle.ir_lines.specs.PlainFaults.{HasNoPlainFault}
+use Rattle.ir_resolve.proofs.Agrees.{no_text_fault}
+use Rattle.ir_resolve.proofs.Faultless.{resolved_faultless}
 use Rattle.ir_types.proofs.PathLaw.{definite-faultless}
 use Rattle.read_back.specs.Said.{said_by}
 use Rattle.read_back.specs.ReadsBack.{ReadsBack, EachReadsBack}
@@ -25,7 +28,8 @@ read_back content shaped definite text none =
     record {
       readings = text.found;
       reads = text.reads;
-      no_fault = definite-faultless content.form lines none (subst (λ (c : ModuleContent). All UsesAreDefinite c.funcs) (sym same) definite);
+      no_fault = definite-faultless content.form lines (resolved_faultless content.form lines (no_text_fault content.form lines none)
+          (subst HasNoFault (sym same) shaped.no_fault)) (subst (λ (c : ModuleContent). All UsesAreDefinite c.funcs) (sym same) definite);
       same = same;
     }
 

@@ -13,7 +13,7 @@ use Rattle.ir_cfg.specs.DefiniteUses.{Meets, Uses, UsesAreDefinite}
 use Rattle.ir_cfg.specs.Graphs.{graph_of}
 use Rattle.ir_cfg.specs.Paths.{Path}
 use Rattle.ir_lines.specs.Modules.{module_of}
-use Rattle.ir_lines.specs.PlainFaults.{HasNoPlainFault}
+use Rattle.ir_resolve.specs.FaultSet.{HasNoResolvedFault}
 use Rattle.ir_lines.specs.Statements.{Line, lines_of}
 use Rattle.ir_lines.specs.Views.{seen_lines}
 use Rattle.ir_reader.specs.Raws.{Readings}
@@ -27,7 +27,7 @@ use Rattle.read_back.proofs.accepted_texts.Reading.{was_read}
 -- ---- uses are definite where no path misses a definition
 
 module _ (form : Form) (lines : List Line) (none : HasNoFault form lines) where
-  no_plain : HasNoPlainFault form lines
+  no_plain : HasNoResolvedFault form lines
   no_plain line code fault = none line code (plain code fault)
 
   module _ (number : ℕ) (func : Function) (stands : slice_get (module_of form lines).content.funcs number ≡ Some func) where
@@ -57,7 +57,7 @@ accepted_is_of form needs text readings small read none =
     let whole = module_of form lines in
     let raw : Readings = record { text = text; form = form; lines = was.found } in
     let is : whole ≡ module_of form (seen_lines was.found) = ap (λ (now : List Line). module_of form now) (sym was.lines) in
-    let clean : HasNoPlainFault form (seen_lines was.found) = subst (λ (now : List Line). HasNoPlainFault form now) (sym was.lines) (no_plain form lines none) in (
+    let clean : HasNoResolvedFault form (seen_lines was.found) = subst (λ (now : List Line). HasNoResolvedFault form now) (sym was.lines) (no_plain form lines none) in (
       record { typed = whole_typed raw was.read whole is clean; definite = all_definite form lines none },
       All-weaker IsTextFunction HasNoBundle (λ func own. own.no_bundle) whole.content.funcs (whole_functions raw was.read whole is clean),
     )

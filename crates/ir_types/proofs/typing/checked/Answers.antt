@@ -5,6 +5,8 @@ use Rattle.ir_lines.specs.Notes.{Notes}
 use Rattle.ir_lines.specs.PlainFaults.{HasPlainFault}
 use Rattle.ir_lines.specs.Views.{seen_lines}
 use Rattle.ir_lines.proofs.NoteLemmas.{notes-least, notes-none}
+use Rattle.ir_resolve.proofs.Agrees.{read_least, read_none}
+use Rattle.module_laws.proofs.ReadLaw.{are_read}
 use Rattle.ir_types.proofs.PathLaw.{plain-least}
 use Rattle.ir_types.proofs.typing.checked.Goals as goal
 
@@ -17,8 +19,8 @@ with_paths-requires-clause-plain c =
     let lines = seen_lines c.args.raw.now.lines in
     let noted : Notes None c.in_ok-fault.field-0 (λ line code. HasPlainFault form lines line code) =
     rw (← c.form-form.ensures, ← c.lines.ensures.lines) c.in_ok-fault.ensures in
-    notes-none form lines
-    (subst (λ (found : Option Fault). Notes None found (λ line code. HasPlainFault form lines line code)) c.in-None.is noted)
+    (read_none form lines (are_read c.args.raw.now c.lines.ensures.read)).0 (notes-none form lines
+    (subst (λ (found : Option Fault). Notes None found (λ line code. HasPlainFault form lines line code)) c.in-None.is noted))
 
 pub returns-in-Some-clause-answers : goal.returns-in-Some-clause-answers
 returns-in-Some-clause-answers c =
@@ -27,5 +29,6 @@ returns-in-Some-clause-answers c =
     let noted : Notes None c.in_ok-fault.field-0 (λ line code. HasPlainFault form lines line code) =
     rw (← c.form-form.ensures, ← c.lines.ensures.lines) c.in_ok-fault.ensures in
     plain-least form lines c.in-Some.fault.line c.in-Some.fault.code
+    (read_least form lines (are_read c.args.raw.now c.lines.ensures.read) c.in-Some.fault.line c.in-Some.fault.code
     (notes-least form lines c.in-Some.fault
-    (subst (λ (found : Option Fault). Notes None found (λ line code. HasPlainFault form lines line code)) c.in-Some.is noted))
+    (subst (λ (found : Option Fault). Notes None found (λ line code. HasPlainFault form lines line code)) c.in-Some.is noted)))
