@@ -22,7 +22,7 @@ use Rattle.ir_ast.specs.Types.{is_first_class}
 use Rattle.ir_printer.specs.Names.{Names}
 use Rattle.line_parts.specs.declared.readings.TypeWord.{TypeWord}
 use Rattle.line_parts.specs.Lists.{Named}
-use Rattle.ir_lines.specs.Statements.{Line, Statement, layout, declare, define, close, label, switch_end}
+use Rattle.ir_lines.specs.Statements.{Line, Statement, layout, declare, define, close, label, switch_end, cast}
 use Rattle.ir_lines.specs.Parts.{gives, given_by_call}
 use Rattle.ir_lines.specs.Sections.{Definition, Naming, BlockLines, arguments_named, result_named, values_of, is_label, label_said, until_label, block_at, labelled_blocks, first_block, blocks_of, count_numbered}
 use Rattle.ir_lines.specs.Modules.{Known, insts_of, block_of, argument_of}
@@ -79,6 +79,7 @@ in_block (declare answer name parameters) = false
 in_block (define answer name arguments strategy) = false
 in_block close = false
 in_block (label name) = false
+in_block (cast result op from value to) = false
 in_block _ = true
 
 abbrev pub InBlock : Statement → Type 0

@@ -22,14 +22,13 @@ use Rattle.ir_ast.specs.Layouts.{ObjectLayout}
 use Rattle.ir_ast.specs.Funcs.{Function, instructions_of}
 use Rattle.ir_ast.specs.Modules.{ModuleContent}
 use Rattle.ir_ast.specs.Faultless.{FunctionHasNoFault}
-use Rattle.ir_ast.specs.Faults.PointerOrder as module_order
 use Rattle.ir_printer.specs.Names.{Names}
 use Rattle.ir_printer.specs.Declarations.{calls, externals, fixed_externals, integer_widths}
 use Rattle.print_tables.specs.declared.externals.External.TheVariants as externs
 use Rattle.line_parts.specs.declared.readings.TypeWord.TheVariants as types
 use Rattle.print_tables.specs.declared.externals.External.{External}
 use Rattle.line_parts.specs.declared.readings.TypeWord.{TypeWord}
-use Rattle.ir_lines.specs.Statements.{Line, Statement, layout, declare, define, close, label, switch_end}
+use Rattle.ir_lines.specs.Statements.{Line, Statement, layout, declare, define, close, label, cast}
 use Rattle.ir_lines.specs.Sections.{Definition, definitions_of, types_of}
 use Rattle.ir_lines.specs.Externals.{external, gc_new, makers_of, externals_of, own_externals, helpers}
 use Rattle.ir_lines.specs.Faults.UnknownExtern.{UnknownExtern}
@@ -43,12 +42,11 @@ use Rattle.ir_lines.specs.InBody.{InBody, InText}
 use Rattle.ir_lines.specs.Faults.BadLayout.{are_cells, is_bad_layout, BadLayout}
 use Rattle.ir_lines.specs.Faults.NoStrategy.{lacks_strategy, NoStrategy}
 use Rattle.ir_lines.specs.Faults.PointerCast.{is_cast, PointerCast}
-use Rattle.ir_lines.specs.Faults.PointerOrder.{orders, orders_pointers, PointerOrder}
 use Rattle.ir_lines.proofs.LawNames.{contains_get, contains_cons, contains_map, get_some}
 use Rattle.read_back.specs.Said.{word_of, cell_word, operator_says, instruction_says, block_says, function_says, layout_says, argument_says, declaration_says, declaration_if_called, said_by, unnamed, step_says, return_says, case_says}
 use Rattle.read_back.proofs.BackLines.{said}
 use Rattle.read_back.proofs.BackInsts.{split_all}
-use Rattle.read_back.proofs.BackBlocks.{all_append, lines_all}
+use Rattle.read_back.proofs.BackBlocks.{all_append, lines_all, InBlock, inner}
 use Rattle.read_back.proofs.BackSections.{SaysDefinition, definitions-are, layout-names, InBody as IsOfBody, in_body, blocks_inner}
 use Rattle.read_back.proofs.BackModules.{IsShaped, names_in}
 use Rattle.read_back.proofs.NotCalled.{is_of_source}
@@ -262,77 +260,18 @@ no_body_fault content lines e test clear labels line f =
 
 -- ---- code 16
 
-no_cast_cases : (names : Names) (ty : Ty) (es : List (Operand × BlockId)) → AllByRecursion (Passes is_cast) (map (case_says names ty) es ++ switch_end ∷ [])
-no_cast_cases names ty [] = (refl, tt)
-no_cast_cases names ty (e ∷ es) = (refl, no_cast_cases names ty es)
+no_cast : (s : Statement) → InBlock s → is_cast s ≡ false
+no_cast (cast result op from value to) h = absurd (let bad : false ≡ true = h in cc)
+no_cast _ h = refl
 
-no_cast_step : (names : Names) (elem : Elem) (width : ℕ) (place : Option ℕ) (inst : Instruction) → Passes is_cast (step_says names elem width place inst)
-no_cast_step names (elements.Int w) width place inst = refl
-no_cast_step names elements.Ptr width place inst = refl
-no_cast_step names (elements.Layout l) width place inst = refl
-
-no_cast_return : (names : Names) (ty : Ty) (inst : Instruction) → Passes is_cast (return_says names ty inst)
-no_cast_return names tys.Void inst = refl
-no_cast_return names (tys.Int w) inst = refl
-no_cast_return names tys.Ptr inst = refl
-no_cast_return names tys.Token inst = refl
-
-no_cast_inst : (names : Names) (op : Op) (inst : Instruction) → AllByRecursion (Passes is_cast) (operator_says names op inst)
-no_cast_inst names (ops.Gep elem width place) inst = (no_cast_step names elem width place inst, tt)
-no_cast_inst names ops.Ret inst = (no_cast_return names inst.ty inst, tt)
-no_cast_inst names ops.Switch inst = (refl, no_cast_cases names inst.ty (zip (drop 1 inst.operands) (drop 1 inst.labels)))
-no_cast_inst names _ inst = (refl, tt)
+no_casts : (ss : List Statement) → AllByRecursion InBlock ss → AllByRecursion (Passes is_cast) ss
+no_casts [] h = tt
+no_casts (s ∷ ss) h = (no_cast s h.0, no_casts ss h.1)
 
 pub pointer_cast-clear : (content : ModuleContent) (lines : List Line) → said lines ≡ said_by content → (line : ℕ) → ¬ (PointerCast lines line)
 pointer_cast-clear content lines e line f =
-    no_body_fault content lines e (λ scope. is_cast) (λ one func says c inst d. no_cast_inst (names_in content func) inst.op inst) (λ scope name. refl) line f
-
--- ---- code 15
-
-same_order : (pred : Pred) (ty : Ty) → module_order.orders_pointers (ops.Icmp pred) ty ≡ false → orders pred (word_of ty) ≡ false
-same_order preds.Eq tys.Ptr e = refl
-same_order preds.Ne tys.Ptr e = refl
-same_order pred tys.Void e = refl
-same_order pred (tys.Int w) e = refl
-same_order pred tys.Token e = refl
-same_order preds.Ugt tys.Ptr e = e
-same_order preds.Uge tys.Ptr e = e
-same_order preds.Ult tys.Ptr e = e
-same_order preds.Ule tys.Ptr e = e
-same_order preds.Sgt tys.Ptr e = e
-same_order preds.Sge tys.Ptr e = e
-same_order preds.Slt tys.Ptr e = e
-same_order preds.Sle tys.Ptr e = e
-
-no_order_cases : (names : Names) (ty : Ty) (es : List (Operand × BlockId)) → AllByRecursion (Passes orders_pointers) (map (case_says names ty) es ++ switch_end ∷ [])
-no_order_cases names ty [] = (refl, tt)
-no_order_cases names ty (e ∷ es) = (refl, no_order_cases names ty es)
-
-no_order_step : (names : Names) (elem : Elem) (width : ℕ) (place : Option ℕ) (inst : Instruction) → Passes orders_pointers (step_says names elem width place inst)
-no_order_step names (elements.Int w) width place inst = refl
-no_order_step names elements.Ptr width place inst = refl
-no_order_step names (elements.Layout l) width place inst = refl
-
-no_order_return : (names : Names) (ty : Ty) (inst : Instruction) → Passes orders_pointers (return_says names ty inst)
-no_order_return names tys.Void inst = refl
-no_order_return names (tys.Int w) inst = refl
-no_order_return names tys.Ptr inst = refl
-no_order_return names tys.Token inst = refl
-
-no_order_inst : (names : Names) (op : Op) (inst : Instruction) → module_order.orders_pointers op inst.ty ≡ false → AllByRecursion (Passes orders_pointers) (operator_says names op inst)
-no_order_inst names (ops.Icmp pred) inst e = (same_order pred inst.ty e, tt)
-no_order_inst names (ops.Gep elem width place) inst e = (no_order_step names elem width place inst, tt)
-no_order_inst names ops.Ret inst e = (no_order_return names inst.ty inst, tt)
-no_order_inst names ops.Switch inst e = (refl, no_order_cases names inst.ty (zip (drop 1 inst.operands) (drop 1 inst.labels)))
-no_order_inst names _ inst e = (refl, tt)
-
-pub pointer_order-clear : (content : ModuleContent) → IsShaped content → (lines : List Line) → said lines ≡ said_by content → (line : ℕ) → ¬ (PointerOrder lines line)
-pointer_order-clear content shaped lines e line f =
-    no_body_fault content lines e (λ scope. orders_pointers)
-    (λ one func says c inst d. no_order_inst (names_in content func) inst.op inst
-    (All-contains (λ (i : Instruction). module_order.orders_pointers i.op i.ty ≡ false) (instructions_of func.blocks) inst
-    (All-contains (FunctionHasNoFault content) content.funcs func shaped.no_fault.functions c).pointers d))
-    (λ scope name. refl) line f
+    no_body_fault content lines e (λ scope. is_cast)
+    (λ one func says c inst d. no_casts (operator_says (names_in content func) inst.op inst) (inner (names_in content func) inst.op inst)) (λ scope name. refl) line f
 
 -- ---- declarations
 

@@ -84,7 +84,7 @@ LayoutFound scope name = is_none (layout_named scope name) ≡ false
 abbrev pub UseFound : Scope → Val → Type 0
 UseFound scope value = IfSome (local_name value) (ValueFound scope)
 
-any_none : {X : Type 0} (p : X → Bool) (xs : List X) → AllByRecursion (λ x. p x ≡ false) xs → list_any p xs ≡ false
+pub any_none : {X : Type 0} (p : X → Bool) (xs : List X) → AllByRecursion (λ x. p x ≡ false) xs → list_any p xs ≡ false
 any_none p [] h = refl
 any_none p (x ∷ xs) h = ap (λ (b : Bool). b || list_any p xs) h.0 ∙ any_none p xs h.1
 
