@@ -59,8 +59,7 @@ use Rattle.module_laws.proofs.LawHeads.{HeadFrom, from_definition, from_declarat
 use Rattle.read_back.specs.Said.{word_of, literal_of, argument_says, passed_says, parameter_says, made_says, statepoint_says, step_says, return_says, case_says, operator_says, said_by}
 use Rattle.read_back.proofs.BackLines.{said}
 use Rattle.read_back.proofs.BackLists.{CalleeBelow}
-use Rattle.read_back.proofs.BackInsts.{IsPrintedIn, callee_parts}
-use Rattle.read_back.proofs.BackGuarded.{guards}
+use Rattle.read_back.proofs.BackInsts.{IsPrintedIn, passing, guards}
 use Rattle.read_back.proofs.Fronts.{zip_take}
 use Rattle.read_back.proofs.BackSections.{SaysDefinition}
 use Rattle.read_back.proofs.BackModules.{IsShaped, names_in, shaped_inst}
@@ -501,11 +500,11 @@ one_call form content shaped lines e one func k c inst d op has p rule callee ts
     let names = names_in content func in
     let q : IsPrintedIn content.form names (ops.Call callee ts) inst = subst (λ (o : Op). IsPrintedIn content.form names o inst) is p in
     let call_rule : IsCallOf (module_scope.scope_of content func) callee ts inst = subst (λ (o : Op). RuleOf (module_scope.scope_of content func) o inst) is rule in
-    let below = callee_parts names callee ts inst q.layouts q.functions in
-    let found = callee_found (scope_of lines one) names k callee below.0
+    let below = (passing names callee ts inst q).below in
+    let found = callee_found (scope_of lines one) names k callee below
     (λ x called. is_called content.funcs func inst x c d
     (subst (λ (o : Op). is_call_of x o inst.ty ≡ true) (sym is ∙ has) called)) in
-    call_keeps form content shaped lines e one func k callee below.0 found ts inst.ty inst.operands q.fits call_rule.signature call_rule.operands
+    call_keeps form content shaped lines e one func k callee below found ts inst.ty inst.operands q.fits call_rule.signature call_rule.operands
 
 one_statepoint : (form : Form) (content : ModuleContent) → IsShaped content → (lines : List Line) → said lines ≡ said_by content → (one : Definition) (func : Function)
     → Knows (scope_of lines one) (names_in content func) → Contains content.funcs func → (inst : Instruction) → Contains (instructions_of func.blocks) inst

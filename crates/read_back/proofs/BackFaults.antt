@@ -46,8 +46,8 @@ use Rattle.ir_lines.proofs.LawNames.{contains_get, contains_cons, contains_map, 
 use Rattle.read_back.specs.Said.{word_of, cell_word, operator_says, instruction_says, block_says, function_says, layout_says, argument_says, declaration_says, declaration_if_called, said_by, unnamed, step_says, return_says, case_says}
 use Rattle.read_back.proofs.BackLines.{said}
 use Rattle.read_back.proofs.BackInsts.{split_all}
-use Rattle.read_back.proofs.BackBlocks.{all_append, lines_all, InBlock, inner}
-use Rattle.read_back.proofs.BackSections.{SaysDefinition, definitions-are, layout-names, InBody as IsOfBody, in_body, blocks_inner}
+use Rattle.read_back.proofs.BackBlocks.{weaker, all_append, lines_all, InBlock, inner}
+use Rattle.read_back.proofs.BackSections.{SaysDefinition, definitions-are, layout-names, InBody as IsOfBody, in_body, blocks_inner, each_declared}
 use Rattle.read_back.proofs.BackModules.{IsShaped, names_in}
 use Rattle.read_back.proofs.NotCalled.{is_of_source}
 
@@ -120,16 +120,12 @@ each_said P content each =
         all_append P (declaration_if_called content.layouts content.funcs e) (flat_map (declaration_if_called content.layouts content.funcs) es)
         (by e (calls content.funcs e) refl below.0) (declared es below.1)
 
-    body : (ss : List Statement) → AllByRecursion IsOfBody ss → AllByRecursion P ss
-    body [] h = tt
-    body (s ∷ ss) h = (each.bodies s h.0, body ss h.1)
-
     functions : (fs : List Function) → AllByRecursion (Contains content.funcs) fs → AllByRecursion P (flat_map (function_says content.layouts content.funcs) fs)
     functions [] c = tt
     functions (f ∷ fs) c =
         let inside = flat_map (block_says (names_in content f)) f.blocks in
         all_append P (function_says content.layouts content.funcs f) (flat_map (function_says content.layouts content.funcs) fs)
-        (each.heads f c.0, all_append P inside (close ∷ []) (body inside (blocks_inner (names_in content f) f.blocks)) (each.ends, tt))
+        (each.heads f c.0, all_append P inside (close ∷ []) (weaker IsOfBody P each.bodies inside (blocks_inner (names_in content f) f.blocks)) (each.ends, tt))
         (functions fs c.1)
 
 pub line_said : (P : Statement → Type 0) (content : ModuleContent) (lines : List Line) → said lines ≡ said_by content → Each P content
@@ -143,21 +139,17 @@ line_said P content lines e each l c =
 pub no_strategy-clear : (content : ModuleContent) (lines : List Line) → said lines ≡ said_by content → (line : ℕ) → ¬ (NoStrategy lines line)
 no_strategy-clear content lines e line f =
     no_text_fault lacks_strategy lines (said_by content) e
-    (each_said (Passes lacks_strategy) content (record { layouts = layouts content.layouts; declarations = λ external below called. declarations external; heads = λ func c. refl; bodies = bodies; ends = refl })) line f
+    (each_said (Passes lacks_strategy) content (record {
+      layouts = layouts content.layouts;
+      declarations = λ external below called. each_declared (Passes lacks_strategy) (λ answer name parameters. refl) content.layouts external;
+      heads = λ func c. refl;
+      bodies = bodies;
+      ends = refl;
+    })) line f
   where
     layouts : (ls : List ObjectLayout) → AllByRecursion (Passes lacks_strategy) (map layout_says ls)
     layouts [] = tt
     layouts (l ∷ ls) = (refl, layouts ls)
-
-    declarations : (external : External) → AllByRecursion (Passes lacks_strategy) (declaration_says content.layouts external)
-    declarations (externs.New number) = (refl, tt)
-    declarations externs.Print = (refl, tt)
-    declarations externs.Read = (refl, tt)
-    declarations externs.TaskStart = (refl, tt)
-    declarations externs.Poll = (refl, tt)
-    declarations externs.Check = (refl, tt)
-    declarations externs.Same = (refl, tt)
-    declarations _ = tt
 
     bodies : (s : Statement) → in_body s ≡ true → lacks_strategy s ≡ false
     bodies (define answer name arguments strategy) h = absurd (let bad : false ≡ true = h in cc)
@@ -181,7 +173,7 @@ bad_layout-clear content shaped lines e line f =
     no_text_fault is_bad_layout lines (said_by content) e
     (each_said (Passes is_bad_layout) content (record {
       layouts = layouts content.layouts (recursion_from_All (λ (l : ObjectLayout). 0 < length l.fields) content.layouts shaped.no_fault.fields);
-      declarations = λ external below called. declarations external;
+      declarations = λ external below called. each_declared (Passes is_bad_layout) (λ answer name parameters. refl) content.layouts external;
       heads = λ func c. refl;
       bodies = bodies;
       ends = refl;
@@ -190,16 +182,6 @@ bad_layout-clear content shaped lines e line f =
     layouts : (ls : List ObjectLayout) → AllByRecursion (λ (l : ObjectLayout). 0 < length l.fields) ls → AllByRecursion (Passes is_bad_layout) (map layout_says ls)
     layouts [] h = tt
     layouts (l ∷ ls) h = (layout_right l.fields h.0, layouts ls h.1)
-
-    declarations : (external : External) → AllByRecursion (Passes is_bad_layout) (declaration_says content.layouts external)
-    declarations (externs.New number) = (refl, tt)
-    declarations externs.Print = (refl, tt)
-    declarations externs.Read = (refl, tt)
-    declarations externs.TaskStart = (refl, tt)
-    declarations externs.Poll = (refl, tt)
-    declarations externs.Check = (refl, tt)
-    declarations externs.Same = (refl, tt)
-    declarations _ = tt
 
     bodies : (s : Statement) → in_body s ≡ true → is_bad_layout s ≡ false
     bodies (layout name fields) h = absurd (let bad : false ≡ true = h in cc)
@@ -264,14 +246,12 @@ no_cast : (s : Statement) → InBlock s → is_cast s ≡ false
 no_cast (cast result op from value to) h = absurd (let bad : false ≡ true = h in cc)
 no_cast _ h = refl
 
-no_casts : (ss : List Statement) → AllByRecursion InBlock ss → AllByRecursion (Passes is_cast) ss
-no_casts [] h = tt
-no_casts (s ∷ ss) h = (no_cast s h.0, no_casts ss h.1)
-
 pub pointer_cast-clear : (content : ModuleContent) (lines : List Line) → said lines ≡ said_by content → (line : ℕ) → ¬ (PointerCast lines line)
 pointer_cast-clear content lines e line f =
     no_body_fault content lines e (λ scope. is_cast)
-    (λ one func says c inst d. no_casts (operator_says (names_in content func) inst.op inst) (inner (names_in content func) inst.op inst)) (λ scope name. refl) line f
+    (λ one func says c inst d.
+    weaker InBlock (Passes is_cast) no_cast (operator_says (names_in content func) inst.op inst) (inner (names_in content func) inst.op inst))
+    (λ scope name. refl) line f
 
 -- ---- declarations
 

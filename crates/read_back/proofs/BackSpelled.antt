@@ -46,11 +46,10 @@ use Rattle.read_back.proofs.BackLists.{each_given, Passes}
 use Rattle.read_back.proofs.BackBlocks.{all_append}
 use Rattle.read_back.proofs.BackLiterals.{below_zero}
 use Rattle.read_back.proofs.BackNames.{Good}
-use Rattle.read_back.proofs.BackInsts.{IsPrintedIn, WidthsOf, good_zip, same_good, one_width, pointer_width, callee_parts, passes_zip}
+use Rattle.read_back.proofs.BackInsts.{IsPrintedIn, WidthsOf, good_zip, same_good, one_width, pointer_width, passing, guards}
 use Rattle.read_back.proofs.BackModules.{IsShaped, names_in, shaped_inst}
 use Rattle.read_back.proofs.BackFaults.{no_body_fault}
 use Rattle.read_back.proofs.BackUnknown.{any_none}
-use Rattle.read_back.proofs.BackGuarded.{guards}
 use Rattle.read_back.proofs.Fronts.{zip_take}
 use Rattle.read_back.proofs.BackCalls.{SaysRight, says_right}
 
@@ -193,17 +192,6 @@ passed_inside names (operands.Int n ∷ os) (t ∷ ts) p = (one_inside names (op
 passed_inside names (operands.Null ∷ os) (t ∷ ts) p = (one_inside names operands.Null t refl p.0, passed_inside names os ts p.1)
 passed_inside names (operands.Fun f ∷ os) (t ∷ ts) p = passed_inside names os ts p.1
 
-call_inside : {of : Form} (names : Names) (callee : Callee) (ts : List Ty) (inst : Instruction) → IsPrintedIn of names (ops.Call callee ts) inst
-    → Inside (call_says names callee ts inst)
-call_inside names callee ts inst p =
-    let parts = callee_parts names callee ts inst p.layouts p.functions in
-    let functions : AllByRecursion (λ named. named < length names.funcs)
-    (functions_in (record { result = inst.result; op = ops.Load; ty = inst.ty; operands = inst.operands; labels = inst.labels; bundle = [] })) =
-    subst (λ (b : List (Ty × Operand)). AllByRecursion (λ named. named < length names.funcs)
-    (functions_in (record { result = inst.result; op = ops.Load; ty = inst.ty; operands = inst.operands; labels = inst.labels; bundle = b }))) p.bundle parts.1 in
-    passed_inside names inst.operands ts
-    (passes_zip names callee inst.operands ts p.fits p.line.arguments functions (recursion_from_All IsWidth (flat_map type_widths ts) p.own_widths))
-
 live_inside : (names : Names) (os : List Operand) → AllByRecursion (λ (o : Operand). Good names o tys.Ptr) os
     → AllByRecursion IsInside (map live_use (map (value_says names tys.Ptr) os))
 live_inside names [] good = tt
@@ -253,7 +241,7 @@ inst_inside names ops.Store inst p =
     let two = two_given (Good names) inst.operands inst.ty tys.Ptr
     (good_zip names inst.operands (inst.ty ∷ tys.Ptr ∷ []) p.fits p.line.values (p.widths, (pointer_width, tt))) in
     ((value_inside names inst.ty (operand_at inst 0) two.first, (value_inside names tys.Ptr (operand_at inst 1) two.second, tt)), tt)
-inst_inside names (ops.Call callee ts) inst p = (call_inside names callee ts inst p, tt)
+inst_inside names (ops.Call callee ts) inst p = (passed_inside names inst.operands ts (passing names callee ts inst p).passes, tt)
 inst_inside names (ops.Statepoint id callee ts) inst p = (statepoint_inside names id callee ts inst p, tt)
 inst_inside names ops.GcResult inst p = ((refl, tt), tt)
 inst_inside names ops.GcRelocate inst p =

@@ -56,9 +56,8 @@ use Rattle.module_laws.proofs.LawCalls.{found_by_name, contains_mapped}
 use Rattle.read_back.specs.Said.{literal_of, word_of, width_in, value_says, passed_says, value_at, target_at, entry_says, binary_says, compare_says, convert_says, select_says, phi_says, step_says, load_says, store_says, call_says, token_says, statepoint_says, gc_result_says, gc_relocate_says, jump_says, branch_says, case_says, return_says, operator_says, declaration_says, said_by}
 use Rattle.read_back.proofs.BackLines.{said, at}
 use Rattle.read_back.proofs.BackLists.{Below, Passes, CalleeBelow}
-use Rattle.read_back.proofs.BackInsts.{IsPrintedIn, callee_parts, passes_zip}
+use Rattle.read_back.proofs.BackInsts.{IsPrintedIn, passing, guards}
 use Rattle.read_back.proofs.Fronts.{zip_take}
-use Rattle.read_back.proofs.BackGuarded.{guards}
 use Rattle.read_back.proofs.BackBlocks.{all_append}
 use Rattle.read_back.proofs.BackSections.{SaysDefinition, layout-names}
 use Rattle.read_back.proofs.BackModules.{IsShaped, names_in, shaped_inst}
@@ -290,14 +289,9 @@ call_clear : {of : Form} (scope : Scope) (names : Names) → Knows scope names �
     → AllByRecursion (IsThere names) inst.operands → ((e : External) → is_callee e callee ≡ true → calls names.funcs e ≡ true)
     → Clear scope (call_says names callee ts inst)
 call_clear scope names k callee ts inst p there called =
-    let parts = callee_parts names callee ts inst p.layouts p.functions in
-    let functions : AllByRecursion (λ named. named < length names.funcs)
-    (functions_in (record { result = inst.result; op = ops.Load; ty = inst.ty; operands = inst.operands; labels = inst.labels; bundle = [] })) =
-    subst (λ (b : List (Ty × Operand)). AllByRecursion (λ named. named < length names.funcs)
-    (functions_in (record { result = inst.result; op = ops.Load; ty = inst.ty; operands = inst.operands; labels = inst.labels; bundle = b }))) p.bundle parts.1 in
-    let passes = passes_zip names callee inst.operands ts p.fits p.line.arguments functions (recursion_from_All IsWidth (flat_map type_widths ts) p.own_widths) in
-    clear_by scope (call_says names callee ts inst) (passed_uses scope names k inst.operands ts passes there) tt
-    (callee_found scope names k callee parts.0 called, passed_heads scope names k inst.operands ts passes) tt
+    let own = passing names callee ts inst p in
+    clear_by scope (call_says names callee ts inst) (passed_uses scope names k inst.operands ts own.passes there) tt
+    (callee_found scope names k callee own.below called, passed_heads scope names k inst.operands ts own.passes) tt
 
 -- ---- statepoint groups
 

@@ -34,7 +34,6 @@ pub mod BackLists
 pub mod Fronts
 pub mod BackGroups
 pub mod BackInsts
-pub mod BackGuarded
 pub mod BackBlocks
 pub mod BackSections
 pub mod BackModules
