@@ -42,6 +42,7 @@ pub mod BackFaults
 pub mod BackTops
 pub mod BackHeads
 pub mod BackOnce
+pub mod BackUses
 pub mod BackUnknown
 pub mod BackCases
 pub mod BackCalls
