@@ -1,8 +1,9 @@
 -- The lines that a module is printed as have no fault: the faults of single lines.
-use Rattle.std.proofs.Common.{◌≡◌, ◌∙◌, ℕ, zero, suc, ◌+◌, ◌<◌, ◌≤◌, Bool, true, false, not, ◌&&◌, ◌≢◌, ◌⊎◌, inl, inr, get_or, if◌then◌else◌, List, [], ◌∷◌, ◌++◌, map, length, drop, refl, ap, sym, subst, arith, codes}
-use Rattle.std.specs.Prelude.{Option, Some, ⊤, flat_map, slice_get}
+use Rattle.std.proofs.Common.{◌≡◌, ◌∙◌, ℕ, zero, suc, ◌+◌, ◌<◌, ◌≤◌, Bool, true, false, not, ◌&&◌, ◌||◌, ◌⊎◌, inl, inr, if◌then◌else◌, List, [], ◌∷◌, ◌++◌, map, length, drop, refl, ap, sym, subst, arith, codes}
+use Rattle.std.specs.Prelude.{Option, Some, ⊤, flat_map, slice_get, take}
+use Rattle.std.specs.Str.{bytes_eq}
 use Rattle.std.proofs.lemmas.Bool.{ne_eqb}
-use Rattle.std.specs.List.{AllByRecursion, AllZip, Contains, list_all, zip, range_with_len}
+use Rattle.std.specs.List.{AllByRecursion, AllZip, Contains, list_all, list_any, zip, range_with_len}
 use Rattle.std.proofs.lemmas.List.Elements.{recursion_from_All, All-from_recursion, All-contains, All-contains_itself, All-weaker, Contains-append_left, Contains-append_right}
 use Rattle.sp_ids.specs.declared.ids.BlockId.{BlockId}
 use Rattle.ir_ast.specs.declared.types.Ty.{Ty}
@@ -42,6 +43,8 @@ use Rattle.ir_lines.specs.InBody.{InBody, InText}
 use Rattle.ir_lines.specs.Faults.BadLayout.{are_cells, is_bad_layout, BadLayout}
 use Rattle.ir_lines.specs.Faults.NoStrategy.{lacks_strategy, NoStrategy}
 use Rattle.ir_lines.specs.Faults.PointerCast.{is_cast, PointerCast}
+use Rattle.std.proofs.lemmas.Slice.Eq.{bytes_eq-Decides}
+use Rattle.module_laws.proofs.LawFacts.{or-right}
 use Rattle.ir_lines.proofs.LawNames.{contains_get, contains_cons, contains_map, get_some}
 use Rattle.read_back.specs.Said.{word_of, cell_word, operator_says, instruction_says, block_says, function_says, layout_says, argument_says, declaration_says, declaration_if_called, said_by, unnamed, step_says, return_says, case_says}
 use Rattle.read_back.proofs.BackLines.{said}
@@ -255,38 +258,26 @@ pointer_cast-clear content lines e line f =
 
 -- ---- declarations
 
--- the name of a declaration begins with no letter of the names of helpers, or it is that of a `gc_new`
-not_reserved : (name : List ℕ) → get_or name 0 0 ≢ 103 → get_or name 0 0 ≢ 108 → ¬ (Contains helpers name ⊎ HasFront (codes "llvm.") name)
-not_reserved name g l (inl c) = by (contains_cons (codes "gc.safepoint_poll") name (codes "gc_check" ∷ codes "gc_same" ∷ []) c)
+pub any_true : {X : Type 0} (p : X → Bool) (xs : List X) (x : X) → Contains xs x → p x ≡ true → list_any p xs ≡ true
+any_true p [] x c e = absurd (omega (arith, c.1))
+any_true {X} p (y ∷ ys) x c e = by (p y) refl (contains_cons y x ys c) (λ later. any_true p ys x later e)
   where
-    last : (codes "gc_same" ≡ name) ⊎ Contains [] name → ⊥
-    last (inl e) = g (ap (λ (n : List ℕ). get_or n 0 0) (sym e))
-    last (inr d) = absurd (omega (arith, d.1))
+    by : (b : Bool) → p y ≡ b → (y ≡ x) ⊎ Contains ys x → (Contains ys x → list_any p ys ≡ true) → list_any p (y ∷ ys) ≡ true
+    by true is at more = ap (λ (b : Bool). b || list_any p ys) is
+    by false is (inl same) more = absurd (let bad : true ≡ false = sym e ∙ ap p (sym same) ∙ is in cc)
+    by false is (inr later) more = ap (λ (b : Bool). b || list_any p ys) is ∙ more later
 
-    next : (codes "gc_check" ≡ name) ⊎ Contains (codes "gc_same" ∷ []) name → ⊥
-    next (inl e) = g (ap (λ (n : List ℕ). get_or n 0 0) (sym e))
-    next (inr d) = last (contains_cons (codes "gc_same") name [] d)
+-- the name of a helper, or one of LLVM's own
+abbrev is_reserved : List ℕ → Bool
+is_reserved name = list_any (bytes_eq name) helpers || bytes_eq (take 5 name) (codes "llvm.")
 
-    by : (codes "gc.safepoint_poll" ≡ name) ⊎ Contains (codes "gc_check" ∷ codes "gc_same" ∷ []) name → ⊥
-    by (inl e) = g (ap (λ (n : List ℕ). get_or n 0 0) (sym e))
-    by (inr d) = next (contains_cons (codes "gc_check") name (codes "gc_same" ∷ []) d)
-not_reserved name g l (inr f) = l (ap (λ (n : List ℕ). get_or n 0 0) f.1)
-
-made_not_reserved : (name : List ℕ) → ¬ (Contains helpers (codes "gc_new." ++ name) ⊎ HasFront (codes "llvm.") (codes "gc_new." ++ name))
-made_not_reserved name (inl c) = by (contains_cons (codes "gc.safepoint_poll") (codes "gc_new." ++ name) (codes "gc_check" ∷ codes "gc_same" ∷ []) c)
-  where
-    last : (codes "gc_same" ≡ codes "gc_new." ++ name) ⊎ Contains [] (codes "gc_new." ++ name) → ⊥
-    last (inl e) = let bad : ◌≡◌ {A = ℕ} 115 110 = ap (λ (n : List ℕ). get_or n 3 0) e in omega arith
-    last (inr d) = absurd (omega (arith, d.1))
-
-    next : (codes "gc_check" ≡ codes "gc_new." ++ name) ⊎ Contains (codes "gc_same" ∷ []) (codes "gc_new." ++ name) → ⊥
-    next (inl e) = let bad : ◌≡◌ {A = ℕ} 99 110 = ap (λ (n : List ℕ). get_or n 3 0) e in omega arith
-    next (inr d) = last (contains_cons (codes "gc_same") (codes "gc_new." ++ name) [] d)
-
-    by : (codes "gc.safepoint_poll" ≡ codes "gc_new." ++ name) ⊎ Contains (codes "gc_check" ∷ codes "gc_same" ∷ []) (codes "gc_new." ++ name) → ⊥
-    by (inl e) = let bad : ◌≡◌ {A = ℕ} 46 95 = ap (λ (n : List ℕ). get_or n 2 0) e in omega arith
-    by (inr d) = next (contains_cons (codes "gc_check") (codes "gc_new." ++ name) (codes "gc_same" ∷ []) d)
-made_not_reserved name (inr f) = let bad : ◌≡◌ {A = ℕ} 103 108 = ap (λ (n : List ℕ). get_or n 0 0) f.1 in omega arith
+not_reserved : (name : List ℕ) → is_reserved name ≡ false → ¬ (Contains helpers name ⊎ HasFront (codes "llvm.") name)
+not_reserved name e (inl c) =
+    let helper : list_any (bytes_eq name) helpers ≡ true = any_true (bytes_eq name) helpers name c ((bytes_eq-Decides name name).1 refl) in
+    let bad : true ≡ false = sym (ap (λ (b : Bool). b || bytes_eq (take 5 name) (codes "llvm.")) helper) ∙ e in cc
+not_reserved name e (inr f) =
+    let front : bytes_eq (take 5 name) (codes "llvm.") ≡ true = ap (λ (n : List ℕ). bytes_eq (take 5 n) (codes "llvm.")) f.1 in
+    let bad : true ≡ false = sym front ∙ or-right (list_any (bytes_eq name) helpers) (bytes_eq (take 5 name) (codes "llvm.")) e in cc
 
 -- what a line tells if it is a declaration
 abbrev pub IfDeclares : (TypeWord → List ℕ → List Named → Type 0) → Statement → Type 0
@@ -334,10 +325,8 @@ pub declares_free : (content : ModuleContent) → ((e : External) → is_of_sour
 declares_free content uncalled lines e line answer name parameters c =
     line_said (IfDeclares (λ a n ps. ¬ (Contains helpers n ⊎ HasFront (codes "llvm.") n))) content lines e
     (each_declaration (λ a n ps. ¬ (Contains helpers n ⊎ HasFront (codes "llvm.") n)) content
-    (λ number below. made_not_reserved (layout_name content.layouts number))
-    (not_reserved (codes "print_i64") (λ e. omega (arith, e)) (λ e. omega (arith, e)))
-    (not_reserved (codes "read_i64") (λ e. omega (arith, e)) (λ e. omega (arith, e)))
-    (not_reserved (codes "task_start") (λ e. omega (arith, e)) (λ e. omega (arith, e)))
+    (λ number below. not_reserved (codes "gc_new." ++ layout_name content.layouts number) refl)
+    (not_reserved (codes "print_i64") refl) (not_reserved (codes "read_i64") refl) (not_reserved (codes "task_start") refl)
     (λ called. absurd (let bad : true ≡ false = sym called ∙ uncalled externs.Poll refl in cc))
     (λ called. absurd (let bad : true ≡ false = sym called ∙ uncalled externs.Check refl in cc))
     (λ called. absurd (let bad : true ≡ false = sym called ∙ uncalled externs.Same refl in cc)))

@@ -55,7 +55,7 @@ use Rattle.read_back.proofs.BackInsts.{IsPrintedIn, passing, guards}
 use Rattle.read_back.proofs.Fronts.{zip_take}
 use Rattle.read_back.proofs.BackSections.{SaysDefinition, layout-names}
 use Rattle.read_back.proofs.BackModules.{IsShaped, names_in, shaped_inst}
-use Rattle.read_back.proofs.BackFaults.{From, no_body_fault}
+use Rattle.read_back.proofs.BackFaults.{From, any_true, no_body_fault}
 use Rattle.read_back.proofs.BackTops.{names_of_values, names_of_blocks}
 use Rattle.read_back.proofs.BackOnce.{head_names, declared_names, names_if, all_names, names_are}
 
@@ -339,15 +339,6 @@ knows content shaped lines e one func says c some =
     }
 
 -- ---- what a line calls is called
-
-any_true : {X : Type 0} (p : X → Bool) (xs : List X) (x : X) → Contains xs x → p x ≡ true → list_any p xs ≡ true
-any_true p [] x c e = absurd (omega (arith, c.1))
-any_true {X} p (y ∷ ys) x c e = by (p y) refl (contains_cons y x ys c) (λ later. any_true p ys x later e)
-  where
-    by : (b : Bool) → p y ≡ b → (y ≡ x) ⊎ Contains ys x → (Contains ys x → list_any p ys ≡ true) → list_any p (y ∷ ys) ≡ true
-    by true is at more = ap (λ (b : Bool). b || list_any p ys) is
-    by false is (inl same) more = absurd (let bad : true ≡ false = sym e ∙ ap p (sym same) ∙ is in cc)
-    by false is (inr later) more = ap (λ (b : Bool). b || list_any p ys) is ∙ more later
 
 block_with : (blocks : List BasicBlock) (inst : Instruction) → Contains (instructions_of blocks) inst → (block : BasicBlock) × Contains blocks block × Contains block.insts inst
 block_with [] inst c = absurd (omega (arith, c.1))
