@@ -144,7 +144,7 @@ external_from content shaped lines e due external h same (from_definition d insi
     absurd (definitions_free content shaped lines e d inside (subst IsExternalName (sym (ap (λ (x : Head). x.name) is ∙ same)) external))
 external_from content shaped lines e due external h same (from_declaration l inside a name named says is) =
     let told : IsExtern a name named = subst (IfDeclares IsExtern) says (line_said (IfDeclares IsExtern) content lines e (declared content) l inside) in
-    let own = subst (IsExtern a) (sym (ap (λ (x : Head). x.name) is) ∙ same) told in
+    let own = subst (λ (n : List ℕ). IsExtern a n named) (sym (ap (λ (x : Head). x.name) is) ∙ same) told in
     (ap (λ (x : Head). x.defined) is, ap (λ (x : Head). x.answer) is ∙ own.0, ap (λ (x : Head). x.parameters) is ∙ own.1)
 
 external_head : (content : ModuleContent) → IsShaped content → (lines : List Line) → said lines ≡ said_by content → (one : Definition)
