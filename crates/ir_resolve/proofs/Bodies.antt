@@ -21,10 +21,10 @@ use Rattle.ir_resolve.specs.Resolved.{Spot, case_lines, spot_said, spots_of}
 until-cons : (l : Line) (ls : List Line) → until_label (l ∷ ls) ≡ cond (not (is_label l.says)) (l ∷ until_label ls) []
 until-cons l ls = take_while-cons (λ (one : Line). not (is_label one.says)) l ls
 
-until-label : (l : Line) (ls : List Line) → is_label l.says ≡ true → until_label (l ∷ ls) ≡ []
+pub until-label : (l : Line) (ls : List Line) → is_label l.says ≡ true → until_label (l ∷ ls) ≡ []
 until-label l ls e = until-cons l ls ∙ ap (λ (b : Bool). cond (not b) (l ∷ until_label ls) []) e
 
-until-other : (l : Line) (ls : List Line) → is_label l.says ≡ false → until_label (l ∷ ls) ≡ l ∷ until_label ls
+pub until-other : (l : Line) (ls : List Line) → is_label l.says ≡ false → until_label (l ∷ ls) ≡ l ∷ until_label ls
 until-other l ls e = until-cons l ls ∙ ap (λ (b : Bool). cond (not b) (l ∷ until_label ls) []) e
 
 label_no_case : (s : Statement) → is_label s ≡ true → is_case s ≡ false
@@ -80,7 +80,7 @@ parts : (known : Known) (ls : List Line) → instructions_of known (until_label 
 parts known [] = refl
 parts known (l ∷ ls) = part known l.number l.says ls (parts known ls)
 
-body_lined : (known : Known) (func : Definition) (body : List Line) → lined_blocks known (first_block func body ++ labelled_blocks body) ≡ instructions_of known body
+pub body_lined : (known : Known) (func : Definition) (body : List Line) → lined_blocks known (first_block func body ++ labelled_blocks body) ≡ instructions_of known body
 body_lined known func [] = refl
 body_lined known func (l ∷ ls) = by (is_label l.says) refl
   where
@@ -96,7 +96,7 @@ body_lined known func (l ∷ ls) = by (is_label l.says) refl
 
 -- ---- one by one
 
-mapped_flat : {A B C : Type 0} (f : B → C) (g : A → List B) (xs : List A) → flat_map (λ x. map f (g x)) xs ≡ map f (flat_map g xs)
+pub mapped_flat : {A B C : Type 0} (f : B → C) (g : A → List B) (xs : List A) → flat_map (λ x. map f (g x)) xs ≡ map f (flat_map g xs)
 mapped_flat f g [] = refl
 mapped_flat {A} {B} {C} f g (x ∷ xs) = ap (λ (ys : List C). map f (g x) ++ ys) (mapped_flat f g xs) ∙ sym (map-append f (g x) (flat_map g xs))
 

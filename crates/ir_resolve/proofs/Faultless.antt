@@ -1,6 +1,6 @@
 -- A resolved text whose module has no fault has none of its module; so a text without a fault of its own that stands for such a
 -- module has no fault.
-use Rattle.std.proofs.Common.{◌≡◌, ℕ, zero, suc, ◌<◌, List, [], ◌∷◌, length, drop, refl, ap, sym, subst, arith}
+use Rattle.std.proofs.Common.{◌≡◌, ◌∙◌, ℕ, zero, suc, ◌<◌, List, [], ◌∷◌, drop, sym, subst, arith}
 use Rattle.std.specs.Prelude.{Some, slice_get}
 use Rattle.std.specs.List.{All}
 use Rattle.std.proofs.lemmas.Option.{slice_get_within, none-some}
@@ -22,7 +22,7 @@ use Rattle.ir_ast.specs.Faults.DerivedEscapes.{KeepsDerived}
 use Rattle.ir_ast.specs.Faults.PointerOrder.{orders_pointers}
 use Rattle.ir_lines.specs.Statements.{Line}
 use Rattle.ir_lines.specs.Modules.{module_of}
-use Rattle.ir_resolve.specs.Resolved.{Resolved, resolved, stands_for}
+use Rattle.ir_resolve.specs.Resolved.{Resolved, stands_for}
 use Rattle.ir_resolve.specs.TextFaults.{HasTextFault, pointer_cast}
 use Rattle.ir_resolve.specs.ModuleFaults.{Stands, RuleBesidesCalls, CaseAgain, HasModuleFault, type_clash, case_again, entry_has_pred, phi_edges, derived_escapes, no_main, pointer_order, group_shape}
 use Rattle.ir_resolve.specs.FaultSet.{HasNoResolvedFault, of_text, of_module}
@@ -42,7 +42,7 @@ not_again (y ∷ ys) (suc j) (suc k) x some order e f distinct =
     distinct j k (omega (arith, order)) (slice_get_within ys k x f) (e ∙ sym f)
 
 module _ (text : Resolved) (clean : HasNoFault text.whole.content) where
-  content : ModuleContent
+  abbrev content : ModuleContent
   content = text.whole.content
 
   of_function : (number : ℕ) (func : Function) → slice_get content.funcs number ≡ Some func → FunctionHasNoFault content func

@@ -29,7 +29,7 @@ abbrev pub front : Known → List Line → List Line → List Instruction
 front known [] rest = []
 front known (l ∷ ls) rest = insts_said (said_at known l (ls ++ rest)) ++ front known ls rest
 
-insts-cons : (known : Known) (l : Line) (ls : List Line) → insts known (l ∷ ls) ≡ insts_said (said_at known l ls) ++ insts known ls
+pub insts-cons : (known : Known) (l : Line) (ls : List Line) → insts known (l ∷ ls) ≡ insts_said (said_at known l ls) ++ insts known ls
 insts-cons known l ls = by (said_at known l ls)
   where
     by : (o : Option Instruction)

@@ -114,7 +114,7 @@ rise_behind from (k ∷ before) p parts l after rise = rise_behind k.number befo
 
 -- ---- a token that has a name
 
-token_numbered : (lines : List Line) (func : Definition) → length (values_of func) < 2 ^ 32 → (token : List ℕ)
+pub token_numbered : (lines : List Line) (func : Definition) → length (values_of func) < 2 ^ 32 → (token : List ℕ)
     → is_none (value_named (scope_of lines func) token) ≡ false → number_in (bare lines func).values token < 2 ^ 32 - 1
 token_numbered lines func few token known =
     let s = stands (λ (one : Naming). one.name) (values_of func) token known in

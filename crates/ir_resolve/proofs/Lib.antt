@@ -1,4 +1,5 @@
 pub mod Booleans
+pub mod Decided
 pub mod Bodies
 pub mod Places
 pub mod Spots
@@ -29,4 +30,5 @@ pub mod GroupFaults
 pub mod Agrees
 pub mod NoCasts
 pub mod Faultless
+pub mod Unbroken
 pub mod Samples

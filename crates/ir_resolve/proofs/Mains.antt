@@ -84,7 +84,7 @@ names_made : (lines : List Line) (defs : List Definition) → AllByRecursion (λ
 names_made lines [] all = tt
 names_made lines (d ∷ ds) all = (all.0, names_made lines ds all.1)
 
-has_main : (form : Form) (lines : List Line) → is_main (find is_named (definitions_of lines)) ≡ true → HasMain (module_of form lines).content
+pub has_main : (form : Form) (lines : List Line) → is_main (find is_named (definitions_of lines)) ≡ true → HasMain (module_of form lines).content
 has_main form lines is =
     let m = main_in (definitions_of lines) is in
     let right : (takes_nothing m.main.arguments && is_status m.main.answer) ≡ true = sym (ap is_main m.found) ∙ is in

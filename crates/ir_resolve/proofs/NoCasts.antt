@@ -1,12 +1,11 @@
 -- A text whose functions have no cast resolves to the module of its lines.
-use Rattle.std.proofs.Common.{◌≡◌, ◌∙◌, ℕ, Bool, true, false, List, [], ◌∷◌, map, refl, ap}
+use Rattle.std.proofs.Common.{◌≡◌, ◌∙◌, ℕ, true, false, List, [], ◌∷◌, map, refl, ap}
 use Rattle.std.specs.List.{Contains}
 use Rattle.list_laws.proofs.Contents.{contains_first, contains_later}
 use Rattle.ir_ast.specs.declared.modules.Form.{Form}
-use Rattle.ir_ast.specs.Modules.{ModuleContent}
 use Rattle.ir_lines.specs.Statements.{Line, Statement, cast}
 use Rattle.ir_lines.specs.Sections.{Definition, LayoutLine, layouts_of, definitions_of, values_of, blocks_of}
-use Rattle.ir_lines.specs.Modules.{Known, layout_of, function_of, instruction_lines, module_of}
+use Rattle.ir_lines.specs.Modules.{Known, layout_of, function_of, instruction_lines}
 use Rattle.ir_lines.specs.Faults.PointerCast.{PointerCast, is_cast}
 use Rattle.ir_resolve.specs.Resolved.{Resolved, uncast, uncast_line, spots_of, stands_for, resolved}
 use Rattle.ir_resolve.proofs.Booleans.{not-true}

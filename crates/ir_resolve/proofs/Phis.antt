@@ -1,20 +1,15 @@
 -- Code 7: a phi that isn't right in the resolved text isn't right on its line.
-use Rattle.std.proofs.Common.{◌≡◌, ◌≢◌, ◌∙◌, ℕ, zero, suc, ◌+◌, Bool, true, false, cond, ◌==◌, ◌&&◌, List, [], ◌∷◌, ◌++◌, map, length, take, drop, refl, ap, sym, subst, arith, length-take-le, length-append}
+use Rattle.std.proofs.Common.{◌≡◌, ◌∙◌, ℕ, zero, suc, ◌+◌, Bool, true, false, cond, ◌==◌, ◌&&◌, List, [], ◌∷◌, ◌++◌, map, length, take, drop, refl, ap, sym, subst, arith, length-take-le, length-append}
 use Rattle.std.specs.Prelude.{Option, Some, None, IfSome, flat_map, slice_get, slice_index, option_map, unwrap_or}
 use Rattle.std.specs.List.{AllByRecursion, Contains, list_all}
 use Rattle.std.proofs.lemmas.List.Folds.{fold-map}
 use Rattle.std.proofs.lemmas.Option.{slice_get-map, slice_get_within, same_Some, none-some}
-use Rattle.std.proofs.lemmas.Bool.Decides.{Decides-eqb, not_from_Decides}
 use Rattle.list_laws.proofs.Contents.{contains_get, contains_first, contains_later}
 use Rattle.list_laws.proofs.Places.{get_front, get_past}
 use Rattle.ir_lines.proofs.LawNames.{split_at}
 use Rattle.sp_ids.specs.declared.ids.BlockId.{BlockId}
-use Rattle.sp_ids.specs.declared.ids.ValueId.{ValueId}
-use Rattle.sp_ids.specs.declared.ids.FuncId.{FuncId}
 use Rattle.ir_ast.specs.declared.modules.Form.{Form}
 use Rattle.ir_ast.specs.declared.ops.Op.TheVariants as ops
-use Rattle.ir_ast.specs.declared.ops.Operand.{Operand}
-use Rattle.ir_ast.specs.declared.ops.Operand.TheVariants as operands
 use Rattle.ir_ast.specs.Insts.{Instruction}
 use Rattle.ir_ast.specs.Blocks.{BasicBlock}
 use Rattle.ir_ast.specs.Funcs.{Function}
@@ -40,27 +35,10 @@ use Rattle.ir_lines.specs.Faults.PhiEdges as wrong
 use Rattle.ir_resolve.specs.Resolved.{stands_for}
 use Rattle.ir_resolve.specs.ModuleFaults.{PhiIsWrong}
 use Rattle.ir_resolve.proofs.Booleans.{true-false}
+use Rattle.ir_resolve.proofs.Decided.{stable, stable_operand}
 use Rattle.ir_resolve.proofs.Entries.{CasesFollow}
 use Rattle.ir_resolve.proofs.Places.{get_mapped, map_get}
 use Rattle.ir_resolve.proofs.Edges.{edges-same}
-
--- ---- equalities that are not refuted
-
-stable : (a b : ℕ) → ¬ (a ≢ b) → a ≡ b
-stable a b h = by (a == b) refl
-  where
-    by : (x : Bool) → (a == b) ≡ x → a ≡ b
-    by true e = (Decides-eqb a b).0 e
-    by false e = absurd (h (not_from_Decides (a == b) (Decides-eqb a b) e))
-
-stable_operand : (x y : Operand) → ¬ (x ≢ y) → x ≡ y
-stable_operand (operands.Value a) (operands.Value b) h =
-    ap (λ (n : ℕ). operands.Value (record { 0 = n })) (stable a.0 b.0 (λ f. h (λ e. f (let g : a ≡ b = cc in ap (λ (v : ValueId). v.0) g))))
-stable_operand (operands.Int a) (operands.Int b) h = ap operands.Int (stable a b (λ f. h (λ e. f (let g : a ≡ b = cc in g))))
-stable_operand operands.Null operands.Null h = refl
-stable_operand (operands.Fun a) (operands.Fun b) h =
-    ap (λ (n : ℕ). operands.Fun (record { 0 = n })) (stable a.0 b.0 (λ f. h (λ e. f (let g : a ≡ b = cc in ap (λ (v : FuncId). v.0) g))))
-stable_operand _ _ h = absurd (h (λ e. (cc)))
 
 -- ---- the line of a phi
 

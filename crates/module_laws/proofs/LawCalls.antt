@@ -36,7 +36,7 @@ use Rattle.ir_lines.specs.Places.{place_in, number_of}
 use Rattle.ir_lines.specs.Types.{same_type, same_types}
 use Rattle.ir_lines.specs.Externals.{External, external}
 use Rattle.ir_lines.specs.Modules.{Known, known_of, type_of, argument_of, operand_in, passed_operand, passed_type, given_type, callee_at, callee_of, instruction, function_of, module_of}
-use Rattle.ir_lines.specs.PlainFaults.{HasNoPlainFault}
+use Rattle.ir_resolve.specs.FaultSet.{HasNoResolvedFault}
 use Rattle.ir_lines.specs.ReadLines.{IsReadLines, SaysRead, IsReadHead, IsReadArgument, IsValueType}
 use Rattle.ir_lines.proofs.LawNames.{stands, contains_get, get_contained, contains_first, contains_later, contains_cons, same_by_name, position-cons}
 use Rattle.module_laws.proofs.LawFacts.{same_type-is, same_types-is, true-false}
@@ -105,7 +105,7 @@ pub record Called (lines : List Line) (name : List ℕ) (d : Definition) : Type 
   pub signature : called_in (funcs_of lines) (callees.Fun (record { 0 = number_of (Some place) }))
       ≡ Some (record { answer = type_of d.answer; params = map type_of (types_of d.arguments) })
 
-pub called : (form : Form) (lines : List Line) → IsReadLines form lines → HasNoPlainFault form lines → (d : Definition) (name : List ℕ) → Contains (definitions_of lines) d → d.name ≡ name → Called lines name d
+pub called : (form : Form) (lines : List Line) → IsReadLines form lines → HasNoResolvedFault form lines → (d : Definition) (name : List ℕ) → Contains (definitions_of lines) d → d.name ≡ name → Called lines name d
 called form lines read none d name c e =
     let s = stands (λ (one : Definition). one.name) (definitions_of lines) name (found_by_name (λ (one : Definition). one.name) (definitions_of lines) d name c e) in
     let is : s.one ≡ d = same_by_name (λ (one : Definition). one.name) (definitions_of lines) s.one d (definitions-distinct form lines none)

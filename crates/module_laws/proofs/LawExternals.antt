@@ -34,7 +34,8 @@ use Rattle.ir_lines.specs.TextForms.{is_source}
 use Rattle.ir_lines.specs.Types.{same_type, same_types}
 use Rattle.ir_lines.specs.Externals.{External, external, gc_new, externals_of, helpers}
 use Rattle.ir_lines.specs.Modules.{Known, known_of, wrapped, width_of, type_of, layout_of, passed_operand, passed_type, external_callee, callee_at, function_of, module_of}
-use Rattle.ir_lines.specs.PlainFaults.{HasNoPlainFault, unknown_extern, reserved}
+use Rattle.ir_resolve.specs.TextFaults.{unknown_extern, reserved}
+use Rattle.ir_resolve.specs.FaultSet.{HasNoResolvedFault, of_text}
 use Rattle.ir_lines.specs.Faults.UnknownExtern.{UnknownExtern}
 use Rattle.ir_lines.specs.Faults.Reserved.{declares_helper}
 use Rattle.ir_lines.specs.Faults.TypeClash.{agrees, starts_task, is_task, checks_kind, call_agrees}
@@ -49,14 +50,14 @@ layout_names : List Line → List (List ℕ)
 layout_names lines = map (λ one. one.name) (layouts_of lines)
 
 -- a declaration of faultless lines is one of the externals, and in the source form no helper
-pub declared : (form : Form) (lines : List Line) → HasNoPlainFault form lines → (l : Line) → Contains lines l → (answer : TypeWord) (name : List ℕ) (parameters : List Named)
+pub declared : (form : Form) (lines : List Line) → HasNoResolvedFault form lines → (l : Line) → Contains lines l → (answer : TypeWord) (name : List ℕ) (parameters : List Named)
     → l.says ≡ declare answer name parameters
     → Contains (externals_of (map (λ one. one.name) (layouts_of lines))) (external name answer (types_of parameters)) × (form ≡ Source → ¬ (Contains helpers name))
 declared form lines none l inside answer name parameters e =
     let stands_there : Contains lines (record { number = l.number; says = declare answer name parameters }) =
     subst (λ (s : Statement). Contains lines (record { number = l.number; says = s })) e inside in (
       by (contains_external (externals_of (map (λ one. one.name) (layouts_of lines))) (external name answer (types_of parameters))) stands_there,
-      λ is c. none l.number 14 (reserved (declares_helper is answer name parameters stands_there (inl c))),
+      λ is c. none l.number 14 (of_text (reserved (declares_helper is answer name parameters stands_there (inl c)))),
     )
   where
     by : Contains (externals_of (map (λ one. one.name) (layouts_of lines))) (external name answer (types_of parameters))
@@ -71,7 +72,7 @@ declared form lines none l inside answer name parameters e =
           parameters = parameters;
           stands = there;
           unknown = f;
-        } in absurd (none l.number 12 (unknown_extern told))
+        } in absurd (none l.number 12 (of_text (unknown_extern told)))
 
 -- what is known of a call of an external
 pub record CallsExternal (form : Form) (lines : List Line) (func : Definition) (name : List ℕ) (answer : TypeWord) (passed : List Given) (e : External) : Type 0 where
@@ -398,7 +399,7 @@ calls_external form lines func name answer passed e c there =
 
 -- ---- a call
 
-no_definition_of : (form : Form) (lines : List Line) → HasNoPlainFault form lines → (h : Head) → Contains (heads_of lines) h → h.defined ≡ false → (name : List ℕ) → h.name ≡ name
+no_definition_of : (form : Form) (lines : List Line) → HasNoResolvedFault form lines → (h : Head) → Contains (heads_of lines) h → h.defined ≡ false → (name : List ℕ) → h.name ≡ name
     → place_in (names_defined lines) name ≡ None
 no_definition_of form lines none h there undefined name same =
     unplaced (λ (one : Definition). one.name) (definitions_of lines) name

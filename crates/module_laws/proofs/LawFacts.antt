@@ -77,33 +77,3 @@ same_types-is (x ∷ xs) (y ∷ ys) e =
     cc
 same_types-is [] (y ∷ ys) e = absurd (let bad : false ≡ true = e in cc)
 same_types-is (x ∷ xs) [] e = absurd (let bad : false ≡ true = e in cc)
-
--- ---- uses
-
-abbrev pub IsKnownUse : Scope → Val → Type 0
-IsKnownUse scope (values.local name) = is_none (value_named scope name) ≡ false
-IsKnownUse scope _ = ⊤
-
--- a value that a line uses is known, and fits the type that the line asks of it
-abbrev pub IsGoodUse : Scope → Val × TypeWord → Type 0
-IsGoodUse scope used = (fits scope used.1 used.0 ≡ true) × IsKnownUse scope used.0
-
-known_first : (scope : Scope) (v : Val) (rest : List (List ℕ))
-    → list_any (λ name. is_none (value_named scope name)) (cons_option (local_name v) rest) ≡ false
-    → IsKnownUse scope v × (list_any (λ name. is_none (value_named scope name)) rest ≡ false)
-known_first scope (values.local name) rest e = (
-  or-left (is_none (value_named scope name)) (list_any (λ n. is_none (value_named scope n)) rest) e,
-  or-right (is_none (value_named scope name)) (list_any (λ n. is_none (value_named scope n)) rest) e,
-)
-known_first scope _ rest e = (tt, e)
-
-pub good_uses : (scope : Scope) (us : List (Val × TypeWord))
-    → list_any (λ used. not (fits scope used.1 used.0)) us ≡ false
-    → list_any (λ name. is_none (value_named scope name)) (filter_map (λ used. local_name used.0) us) ≡ false
-    → AllByRecursion (IsGoodUse scope) us
-good_uses scope [] misfit unknown = tt
-good_uses scope (u ∷ us) misfit unknown =
-    let known = known_first scope u.0 (filter_map (λ used. local_name used.0) us) unknown in (
-      (not-false (fits scope u.1 u.0) (or-left (not (fits scope u.1 u.0)) (list_any (λ used. not (fits scope used.1 used.0)) us) misfit), known.0),
-      good_uses scope us (or-right (not (fits scope u.1 u.0)) (list_any (λ used. not (fits scope used.1 used.0)) us) misfit) known.1,
-    )

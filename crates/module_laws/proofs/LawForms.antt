@@ -17,7 +17,10 @@ use Rattle.ir_reader.specs.declared.states.Place.TheVariants as places
 use Rattle.ir_lines.specs.Statements.{Line}
 use Rattle.ir_lines.specs.Sections.{Definition, definitions_of, blocks_of, arguments_named}
 use Rattle.ir_lines.specs.Modules.{known_of, block_of, argument_of}
-use Rattle.ir_lines.specs.PlainFaults.{HasNoPlainFault}
+use Rattle.ir_resolve.specs.Resolved.{stands_for}
+use Rattle.ir_resolve.specs.FaultSet.{HasNoResolvedFault}
+use Rattle.ir_resolve.proofs.Unbroken.{unbroken_of, unbroken_entry, unbroken_phis, unbroken_derived, unbroken_pointers, unbroken_shapes, unbroken_main}
+use Rattle.ir_resolve.proofs.PhiPlaces.{BodyStands, bodies}
 use Rattle.ir_lines.specs.ReadLines.{IsReadLines, is_instruction}
 use Rattle.ir_lines.specs.TextLines.{IsTextLines}
 use Rattle.module_build.specs.Placed.{IsPlacedFunction, IsPlaced}
@@ -25,20 +28,20 @@ use Rattle.module_laws.specs.TextFunctions.{IsTextFunction}
 use Rattle.module_laws.proofs.LawValues.{length-named}
 use Rattle.module_laws.proofs.LawLines.{InLaw, made, read_function}
 use Rattle.module_laws.proofs.LawTyped.{content}
-use Rattle.module_laws.proofs.LawFunctions.{good_insts, each_inst, local_known, global_known, function_entry, function_pointers, function_source, function_widths, has_block, are_lines, has_names, has_no_bundle, few_made}
-use Rattle.module_laws.proofs.LawPhis.{phis_right}
-use Rattle.module_laws.proofs.LawDerived.{derived_stay}
-use Rattle.module_laws.proofs.LawShapes.{shapes}
+use Rattle.module_laws.proofs.LawFunctions.{kept, each_inst, local_known, global_known, function_source, function_widths, has_block, are_lines, has_names, has_no_bundle, few_made}
 use Rattle.module_laws.proofs.LawRows.{small, id_words}
-use Rattle.module_laws.proofs.LawModules.{each_function, layouts_filled, layouts_typed, limits_kept, names_once, names_free, has_main, module_typed, total_made}
+use Rattle.module_laws.proofs.LawModules.{each_function, layouts_filled, layouts_typed, limits_kept, names_once, names_free, module_typed, total_made}
 use Rattle.module_laws.proofs.Placing.{read-placed}
 use Rattle.module_laws.proofs.ReadCounts.{total_all}
 
 -- ---- what only one of the two forms asks
 
 own_faultless : (form : Form) (lines : List Line) (func : Definition) → InLaw form lines func → OfForm form (made lines func)
-own_faultless Source lines func law = (function_source lines func law, derived_stay lines func law)
-own_faultless Rewritten lines func law = shapes lines func law (good_insts Rewritten lines func law)
+own_faultless Source lines func law =
+    let k = kept Source lines func law in
+    (function_source lines func law, unbroken_derived (stands_for Source lines) k.unbroken k.number (made lines func) k.is_function refl)
+own_faultless Rewritten lines func law =
+    let k = kept Rewritten lines func law in unbroken_shapes (stands_for Rewritten lines) k.unbroken k.number (made lines func) k.is_function refl
 
 few_instructions : (form : Form) (lines : List Line) (func : Definition) → InLaw form lines func → length (instructions_of (made lines func).blocks) < 2 ^ 24
 few_instructions form lines func law =
@@ -46,8 +49,8 @@ few_instructions form lines func law =
     let most = (read_function form lines func law).few_instructions in
     omega arith
 
-function_small : (form : Form) (lines : List Line) (func : Definition) → InLaw form lines func → FunctionIsSmall form (made lines func)
-function_small Source lines func law =
+function_small : (form : Form) (lines : List Line) → IsTextLines form lines → (func : Definition) → InLaw form lines func → FunctionIsSmall form (made lines func)
+function_small Source lines text func law =
     let v = (read_function Source lines func law).values refl in
     let few = few_made lines func in
     omega (
@@ -55,8 +58,8 @@ function_small Source lines func law =
       length-map (arguments_named func.line [] func.arguments) argument_of,
       length-named func.line [] func.arguments,
     )
-function_small Rewritten lines func law = record {
-  statepoints = small lines func law;
+function_small Rewritten lines text func law = record {
+  statepoints = small lines func law (All-contains BodyStands (definitions_of lines) func (bodies places.Top lines text.placed) law.defined);
   ids = id_words lines func;
   few_instructions = (let few = few_instructions Rewritten lines func law in omega arith);
 }
@@ -78,14 +81,16 @@ module_small Rewritten lines read text =
 -- ---- what both ask
 
 faultless : (form : Form) (lines : List Line) (func : Definition) → InLaw form lines func → FunctionHasNoFault (content form lines) (made lines func)
-faultless form lines func law = record {
-  local = local_known form lines func law;
-  global = global_known form lines func law;
-  entry = function_entry form lines func law;
-  phis = phis_right form lines func law;
-  pointers = function_pointers form lines func law;
-  form = own_faultless form lines func law;
-}
+faultless form lines func law =
+    let k = kept form lines func law in
+    record {
+      local = local_known form lines func law;
+      global = global_known form lines func law;
+      entry = unbroken_entry (stands_for form lines) k.unbroken k.number (made lines func) k.is_function;
+      phis = unbroken_phis (stands_for form lines) k.unbroken k.number (made lines func) k.is_function;
+      pointers = unbroken_pointers (stands_for form lines) k.unbroken k.number (made lines func) k.is_function;
+      form = own_faultless form lines func law;
+    }
 
 blocks_end : (form : Form) (lines : List Line) (func : Definition) → InLaw form lines func → IsPlaced lines
     → All (λ block. EndsAtTerminator block.insts) (made lines func).blocks
@@ -98,36 +103,36 @@ bundles_short : (form : Form) (lines : List Line) (func : Definition) → InLaw 
 bundles_short form lines func law =
     each_inst form lines func law (λ inst. length inst.bundle ≤ 64) (λ inst good. (let none = good.bundle in omega (arith, ap length none)))
 
-function_typed_in : (form : Form) (lines : List Line) → IsPlaced lines → (func : Definition) → InLaw form lines func → IsTypedFunction form (made lines func)
-function_typed_in form lines placed func law = record {
+function_typed_in : (form : Form) (lines : List Line) → IsTextLines form lines → IsPlaced lines → (func : Definition) → InLaw form lines func → IsTypedFunction form (made lines func)
+function_typed_in form lines text placed func law = record {
   has_block = has_block form lines func law;
   ends = blocks_end form lines func law placed;
   lines = are_lines form lines func law;
   names = has_names form lines func law;
   widths = function_widths form lines func law;
   bundles = bundles_short form lines func law;
-  small = function_small form lines func law;
+  small = function_small form lines text func law;
 }
 
-pub typed_module : (form : Form) (lines : List Line) → IsReadLines form lines → IsTextLines form lines → HasNoPlainFault form lines → IsTypedModule form (content form lines)
+pub typed_module : (form : Form) (lines : List Line) → IsReadLines form lines → IsTextLines form lines → HasNoResolvedFault form lines → IsTypedModule form (content form lines)
 typed_module form lines read text none = record {
   of_form = refl;
   no_fault = record {
     names = names_once form lines read none;
     typed = module_typed form lines read none;
     functions = each_function form lines read none (FunctionHasNoFault (content form lines)) (faultless form lines);
-    main = has_main form lines none;
+    main = unbroken_main form lines (unbroken_of form lines none);
     fields = layouts_filled form lines none;
     free = names_free form lines read none;
   };
-  functions = each_function form lines read none (IsTypedFunction form) (function_typed_in form lines (read-placed form lines text));
+  functions = each_function form lines read none (IsTypedFunction form) (function_typed_in form lines text (read-placed form lines text));
   layout_names = layouts_typed form lines read;
   limits = limits_kept form lines read none;
   small = module_small form lines read text;
 }
 
 -- what its functions have besides
-pub text_functions : (form : Form) (lines : List Line) → IsReadLines form lines → HasNoPlainFault form lines → All IsTextFunction (content form lines).funcs
+pub text_functions : (form : Form) (lines : List Line) → IsReadLines form lines → HasNoResolvedFault form lines → All IsTextFunction (content form lines).funcs
 text_functions form lines read none = each_function form lines read none IsTextFunction (λ func law. record {
   no_bundle = has_no_bundle form lines func law;
   few_instructions = few_instructions form lines func law;

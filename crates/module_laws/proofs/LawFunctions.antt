@@ -1,31 +1,29 @@
--- The function of a definition of faultless lines, but for its phis and its derived pointers.
-use Rattle.std.proofs.Common.{◌≡◌, ◌∙◌, ℕ, ◌<◌, ◌≤◌, ◌+◌, Bool, true, false, if◌then◌else◌, List, [], ◌∷◌, ◌++◌, map, length, refl, ap, sym, subst, arith, length-append}
-use Rattle.std.specs.Prelude.{Option, Some, None, IfSome, filter_map, flat_map, count_by, decimal, unwrap_or, ⊤, slice_get}
-use Rattle.std.specs.List.{All, AllByRecursion, AllZip, Contains, cons_option}
-use Rattle.std.proofs.lemmas.List.{length-map, get_or-map}
+-- The function of a definition of a text without a fault.
+use Rattle.std.proofs.Common.{◌≡◌, ◌∙◌, ℕ, ◌<◌, ◌≤◌, ◌+◌, Bool, true, false, if◌then◌else◌, List, [], ◌∷◌, ◌++◌, map, length, drop, refl, ap, sym, subst, arith, length-append}
+use Rattle.std.specs.Prelude.{Option, Some, None, IfSome, is_none, filter_map, flat_map, count_by, decimal, unwrap_or, slice_get}
+use Rattle.std.specs.List.{All, AllByRecursion, AllZip, list_any, list_all}
+use Rattle.std.proofs.lemmas.List.{length-map}
 use Rattle.std.proofs.lemmas.List.Elements.{All-nil, All-cons, All-append, All-same, All-map, All-weaker, All-contains, All-from_recursion, recursion_from_All, All-head, All-tail}
 use Rattle.std.proofs.lemmas.List.Sums.{count_by-le-length}
 use Rattle.std.proofs.lemmas.Option.{slice_get_within}
 use Rattle.std.proofs.lemmas.Bool.{agree_below_at}
+use Rattle.list_laws.proofs.Contents.{get_contained, all_contained}
+use Rattle.list_laws.proofs.Places.{get_map}
 use Rattle.ir_ast.specs.declared.types.Ty.{Ty}
 use Rattle.ir_ast.specs.declared.funcs.Arg.{Arg}
 use Rattle.ir_ast.specs.declared.ops.Op.TheVariants as ops
 use Rattle.ir_ast.specs.declared.ops.Operand.{Operand}
 use Rattle.ir_ast.specs.declared.ops.Operand.TheVariants as operands
-use Rattle.ir_ast.specs.declared.ops.Pred.{Pred}
-use Rattle.ir_ast.specs.declared.ops.Pred.TheVariants.{Eq, Ne}
 use Rattle.ir_ast.specs.Insts.{Instruction}
 use Rattle.ir_ast.specs.Blocks.{BasicBlock}
 use Rattle.ir_ast.specs.Funcs.{instructions_of}
 use Rattle.ir_ast.specs.Values as defs
 use Rattle.ir_ast.specs.Types.{is_first_class}
 use Rattle.ir_ast.specs.Lines.{IsLine, is_rewritten}
-use Rattle.ir_ast.specs.Operands.{value_in, values_used}
+use Rattle.ir_ast.specs.Operands.{is_value, value_in}
 use Rattle.ir_ast.specs.Widths.{IsWidth, type_widths, line_widths, widths_of}
-use Rattle.ir_ast.specs.Faults.TypeClash.{Fits, IsTyped, FunctionIsTyped}
-use Rattle.ir_ast.specs.Faults.EntryHasPred.{LeavesEntry, EntryHasNoPred}
-use Rattle.ir_ast.specs.Faults.PointerOrder.{orders_pointers, PointersAreUnordered}
-use Rattle.ir_ast.specs.Faults.PointerOrder as order
+use Rattle.ir_ast.specs.Lists.{Distinct}
+use Rattle.ir_ast.specs.Faults.TypeClash.{Fits, IsTyped, FunctionIsTyped, asked}
 use Rattle.ir_ast.specs.Faults.UnknownName.{NamesOfFunction, NamesOfModule, LocalNamesAreKnown, GlobalNamesAreKnown}
 use Rattle.ir_ast.specs.Faults.Reserved.{IsInsertedName, IsSource}
 use Rattle.ir_ast.specs.declared.modules.Form.{Form}
@@ -39,129 +37,93 @@ use Rattle.line_parts.specs.declared.readings.TypeWord.TheVariants.{Void, Int, M
 use Rattle.line_parts.specs.Lists.{Named}
 use Rattle.ir_lines.specs.Statements.{Line, Statement, label, binary, compare, convert, select, phi, scalar_step, layout_step, load, store, call, jump, branch, switch, ret_void, ret, unreachable, cast, statepoint, gc_result, gc_relocate}
 use Rattle.ir_lines.specs.Parts.{gives, token_type}
-use Rattle.ir_lines.specs.Sections.{Definition, Naming, BlockLines, arguments_named, result_named, values_of, blocks_of, labelled_blocks, first_block, block_at, label_said, is_label, until_label, count_numbered, is_numbered}
-use Rattle.ir_lines.specs.Scope.{scope_of, block_number}
-use Rattle.ir_lines.specs.Modules.{known_of, type_of, operand_of, label_of, argument_of, block_of, instruction_said}
-use Rattle.ir_lines.specs.Faults.PointerOrder as words
+use Rattle.ir_lines.specs.Sections.{Definition, definitions_of, Naming, BlockLines, arguments_named, result_named, values_of, blocks_of, labelled_blocks, first_block, block_at, label_said, is_label, until_label, count_numbered, is_numbered}
+use Rattle.ir_lines.specs.Scope.{scope_of, block_named}
+use Rattle.ir_lines.specs.Modules.{known_of, type_of, operand_of, label_of, argument_of, block_of, function_of, instruction_said}
 use Rattle.ir_lines.specs.Faults.Reserved.{names_value, names_label}
-use Rattle.ir_lines.specs.PlainFaults.{reserved}
+use Rattle.ir_resolve.specs.Resolved.{stands_for}
+use Rattle.ir_resolve.specs.TextFaults.{reserved}
+use Rattle.ir_resolve.specs.ModuleFaults.{IsTypedBesidesCalls}
+use Rattle.ir_resolve.specs.FaultSet.{of_text}
+use Rattle.ir_resolve.proofs.Unbroken.{IsUnbroken, unbroken_of, unbroken_typed, unbroken_cases}
 use Rattle.ir_lines.specs.ReadLines.{SaysRead, IsReadArgument, IsNameIfAny, IsValueType, IsReadCall, instruction_count}
 use Rattle.module_laws.proofs.LawBodies.{body_insts, func_insts}
-use Rattle.module_laws.proofs.LawFacts.{or-left, or-right, same_type-is}
+use Rattle.module_laws.proofs.LawFacts.{or-left, or-right}
 use Rattle.module_laws.proofs.LawValues.{few_insts, length-named}
-use Rattle.module_laws.proofs.LawLines.{InLaw, LineFacts, line_facts, all_lines, made, read_function, said_function, is_value_in, fit, names-are}
-use Rattle.module_laws.proofs.LawTyped.{GoodInst, content, scope_made, two_values, one_value, both, type_width, answer_width, answers, good_binary, good_compare, good_convert, good_select, good_scalar, good_load, good_store, good_ret_void, good_ret, good_unreachable, is_first}
+use Rattle.module_laws.proofs.LawLines.{InLaw, LineFacts, line_facts, all_lines, made, read_function, said_function, is_value_in, names-are}
+use Rattle.module_laws.proofs.LawTyped.{GoodInst, inst_typed, content, scope_made, two_values, one_value, both, type_width, answer_width, answers, good_binary, good_compare, good_convert, good_select, good_scalar, good_load, good_store, good_ret_void, good_ret, good_unreachable, is_first}
 use Rattle.module_laws.proofs.LawGroups.{good_statepoint, good_gc_result, good_gc_relocate}
-use Rattle.module_laws.proofs.LawInsts.{IsGoodLabel, good_label, good_phi, good_call_line, good_jump, good_branch, good_switch_line, good_layout_line}
+use Rattle.module_laws.proofs.LawInsts.{IsGoodLabel, label_below, good_phi, good_call_line, good_jump, good_branch, good_switch_line, good_layout_line}
 
 -- ---- the instruction of a line
 
-order-same : (pred : Pred) → order.is_order pred ≡ words.is_order pred
-order-same Eq = refl
-order-same Ne = refl
-order-same _ = refl
+label_of_use : (form : Form) (lines : List Line) (func : Definition) → InLaw form lines func → (name : List ℕ) (more : List (List ℕ))
+    → list_any (λ n. is_none (block_named (scope_of lines func) n)) (name ∷ more) ≡ false → IsGoodLabel lines func (label_of (known_of lines func) name)
+label_of_use form lines func law name more e =
+    label_below form lines func law name
+    (or-left (is_none (block_named (scope_of lines func) name)) (list_any (λ n. is_none (block_named (scope_of lines func) n)) more) e)
 
-unordered_by : (pred : Pred) (ty : TypeWord) → words.orders pred ty ≡ false → orders_pointers (ops.Icmp pred) (type_of ty) ≡ false
-unordered_by pred Managed e = order-same pred ∙ e
-unordered_by pred Void e = refl
-unordered_by pred (Int width) e = refl
-unordered_by pred Plain e = refl
-
-label_of_use : (form : Form) (lines : List Line) (func : Definition) → InLaw form lines func → (name : List ℕ) (more : List (List ℕ)) (rest : List (List ℕ))
-    → Rattle.std.specs.List.list_any (λ n. Rattle.std.specs.Prelude.is_none (Rattle.ir_lines.specs.Scope.block_named (scope_of lines func) n)) (name ∷ more) ≡ false
-    → Rattle.std.specs.List.list_any (λ n. Rattle.std.specs.Prelude.◌==◌ (block_number (scope_of lines func) n) 0) (name ∷ rest) ≡ false
-    → IsGoodLabel lines func (label_of (known_of lines func) name)
-label_of_use form lines func law name more rest e f =
-    good_label form lines func law name
-    (or-left (Rattle.std.specs.Prelude.is_none (Rattle.ir_lines.specs.Scope.block_named (scope_of lines func) name))
-    (Rattle.std.specs.List.list_any (λ n. Rattle.std.specs.Prelude.is_none (Rattle.ir_lines.specs.Scope.block_named (scope_of lines func) n)) more) e)
-    (or-left (Rattle.std.specs.Prelude.◌==◌ (block_number (scope_of lines func) name) 0)
-    (Rattle.std.specs.List.list_any (λ n. Rattle.std.specs.Prelude.◌==◌ (block_number (scope_of lines func) n) 0) rest) f)
-
-good_said : (form : Form) (lines : List Line) (func : Definition) → InLaw form lines func → (before : List Line) (n : ℕ) (s : Statement) (after : List Line)
-    → func.body ≡ before ++ (record { number = n; says = s }) ∷ after → LineFacts form (scope_of lines func) s
-    → AllByRecursion (λ l. LineFacts form (scope_of lines func) l.says) after
+good_said : (form : Form) (lines : List Line) (func : Definition) → InLaw form lines func → (s : Statement) (after : List Line)
+    → LineFacts form (scope_of lines func) s → AllByRecursion (λ l. LineFacts form (scope_of lines func) l.says) after
     → IfSome (instruction_said (known_of lines func) after s) (GoodInst form lines func)
-good_said form lines func law before n (binary result op width left right) after whole facts behind =
+good_said form lines func law (binary result op width left right) after facts behind =
+    let a = operand_of (known_of lines func) (Int width) left in
+    let b = operand_of (known_of lines func) (Int width) right in
     let names = (known_of lines func).values in
-    good_binary form lines func result op width (operand_of (known_of lines func) (Int width) left) (operand_of (known_of lines func) (Int width) right)
-    (two_values (operand_of (known_of lines func) (Int width) left) (operand_of (known_of lines func) (Int width) right) (is_value_in names (Int width) left) (is_value_in names (Int width) right))
-    (fit form lines func law (Int width) left facts.read.1 facts.uses.0, (fit form lines func law (Int width) right facts.read.1 facts.uses.1.0, tt)) facts.read.1
-good_said form lines func law before n (compare result pred ty left right) after whole facts behind =
+    good_binary form lines func result op width a b (two_values a b (is_value_in names (Int width) left) (is_value_in names (Int width) right)) facts.read.1
+good_said form lines func law (compare result pred ty left right) after facts behind =
+    let a = operand_of (known_of lines func) ty left in
+    let b = operand_of (known_of lines func) ty right in
     let names = (known_of lines func).values in
-    good_compare form lines func result pred ty (operand_of (known_of lines func) ty left) (operand_of (known_of lines func) ty right)
-    (two_values (operand_of (known_of lines func) ty left) (operand_of (known_of lines func) ty right) (is_value_in names ty left) (is_value_in names ty right))
-    (fit form lines func law ty left facts.read.1 facts.uses.0, (fit form lines func law ty right facts.read.1 facts.uses.1.0, tt)) facts.read.1 (unordered_by pred ty facts.pointers)
-good_said form lines func law before n (convert result op width value to) after whole facts behind =
-    let names = (known_of lines func).values in
-    good_convert form lines func result op width to (operand_of (known_of lines func) (Int width) value)
-    (one_value (operand_of (known_of lines func) (Int width) value) (is_value_in names (Int width) value))
-    (fit form lines func law (Int width) value facts.read.1 facts.uses.0, tt) facts.read.1 facts.read.2 facts.rule
-good_said form lines func law before n (select result condition left_ty left right_ty right) after whole facts behind =
+    good_compare form lines func result pred ty a b (two_values a b (is_value_in names ty left) (is_value_in names ty right)) facts.read.1
+good_said form lines func law (convert result op width value to) after facts behind =
+    let a = operand_of (known_of lines func) (Int width) value in
+    good_convert form lines func result op width to a (one_value a (is_value_in (known_of lines func).values (Int width) value)) facts.read.1 facts.read.2
+good_said form lines func law (select result condition left_ty left right_ty right) after facts behind =
     let known = known_of lines func in
-    let names = known.values in
-    let same : left_ty ≡ right_ty = same_type-is left_ty right_ty facts.rule in
     let c = operand_of known (Int 1) condition in
     let a = operand_of known left_ty left in
     let b = operand_of known right_ty right in
-    let read_right : IsValueType right_ty = subst IsValueType same facts.read.1 in
-    let fits_right = fit form lines func law right_ty right read_right facts.uses.1.1.0 in
     good_select form lines func result left_ty c a b
-    (both (Rattle.ir_ast.specs.Operands.is_value c) (Rattle.std.specs.List.list_all Rattle.ir_ast.specs.Operands.is_value (a ∷ b ∷ [])) (is_value_in names (Int 1) condition)
-    (two_values a b (is_value_in names left_ty left) (is_value_in names right_ty right))) (
-      fit form lines func law (Int 1) condition (omega arith, omega arith) facts.uses.0,
-      (
-        fit form lines func law left_ty left facts.read.1 facts.uses.1.0,
-        (subst (λ (t : TypeWord). Fits (defs.value_types (made lines func)) b (type_of t)) (sym same) fits_right, tt),
-      ),
-    ) facts.read.1
-good_said form lines func law before n (phi result ty entries) after whole facts behind =
-    good_phi form lines func law result ty entries facts.read.1 facts.read.2 facts.uses facts.labels
-good_said form lines func law before n (scalar_step result element address width index) after whole facts behind =
+    (both (is_value c) (list_all is_value (a ∷ b ∷ [])) (is_value_in known.values (Int 1) condition)
+    (two_values a b (is_value_in known.values left_ty left) (is_value_in known.values right_ty right))) facts.read.1
+good_said form lines func law (phi result ty entries) after facts behind = good_phi form lines func law result ty entries facts.read.1 facts.read.2 facts.labels
+good_said form lines func law (scalar_step result element address width index) after facts behind =
     let known = known_of lines func in
     let a = operand_of known Managed address in
     let b = operand_of known (Int width) index in
-    good_scalar form lines func result element width a b (two_values a b (is_value_in known.values Managed address) (is_value_in known.values (Int width) index))
-    (fit form lines func law Managed address tt facts.uses.0, (fit form lines func law (Int width) index facts.read.1 facts.uses.1.0, tt)) facts.read.2 facts.read.1
-good_said form lines func law before n (layout_step result named address width index place) after whole facts behind =
+    good_scalar form lines func result element width a b (two_values a b (is_value_in known.values Managed address) (is_value_in known.values (Int width) index)) facts.read.2 facts.read.1
+good_said form lines func law (layout_step result named address width index place) after facts behind =
     good_layout_line form lines func law result named address width index place facts
-good_said form lines func law before n (load result ty address) after whole facts behind =
-    let known = known_of lines func in
-    let a = operand_of known Managed address in
-    good_load form lines func result ty a (one_value a (is_value_in known.values Managed address)) (fit form lines func law Managed address tt facts.uses.0, tt) facts.read.1 facts.rule
-good_said form lines func law before n (store ty value address) after whole facts behind =
+good_said form lines func law (load result ty address) after facts behind =
+    let a = operand_of (known_of lines func) Managed address in
+    good_load form lines func result ty a (one_value a (is_value_in (known_of lines func).values Managed address)) facts.read.1
+good_said form lines func law (store ty value address) after facts behind =
     let known = known_of lines func in
     let a = operand_of known ty value in
     let b = operand_of known Managed address in
-    good_store form lines func ty a b (two_values a b (is_value_in known.values ty value) (is_value_in known.values Managed address))
-    (fit form lines func law ty value facts.read facts.uses.0, (fit form lines func law Managed address tt facts.uses.1.0, tt)) facts.read facts.rule
-good_said form lines func law before n (call result answer callee passed) after whole facts behind = good_call_line form lines func law result answer callee passed facts
-good_said form lines func law before n (jump to) after whole facts behind =
-    good_jump form lines func (label_of (known_of lines func) to) (label_of_use form lines func law to [] [] facts.labels facts.entry)
-good_said form lines func law before n (branch condition on_true on_false) after whole facts behind =
+    good_store form lines func ty a b (two_values a b (is_value_in known.values ty value) (is_value_in known.values Managed address)) facts.read
+good_said form lines func law (call result answer callee passed) after facts behind = good_call_line form lines func law result answer callee passed facts
+good_said form lines func law (jump to) after facts behind =
+    good_jump form lines func (label_of (known_of lines func) to) (label_of_use form lines func law to [] facts.labels)
+good_said form lines func law (branch condition on_true on_false) after facts behind =
     let known = known_of lines func in
     let a = operand_of known (Int 1) condition in
-    let unknown : List ℕ → Bool = λ n. Rattle.std.specs.Prelude.is_none (Rattle.ir_lines.specs.Scope.block_named (scope_of lines func) n) in
-    let is_entry : List ℕ → Bool = λ n. Rattle.std.specs.Prelude.◌==◌ (block_number (scope_of lines func) n) 0 in
+    let unknown : List ℕ → Bool = λ n. is_none (block_named (scope_of lines func) n) in
     good_branch form lines func a (label_of known on_true) (label_of known on_false) (one_value a (is_value_in known.values (Int 1) condition))
-    (fit form lines func law (Int 1) condition (omega arith, omega arith) facts.uses.0)
-    (label_of_use form lines func law on_true (on_false ∷ []) (on_false ∷ []) facts.labels facts.entry)
-    (label_of_use form lines func law on_false [] [] (or-right (unknown on_true) (Rattle.std.specs.List.list_any unknown (on_false ∷ [])) facts.labels)
-    (or-right (is_entry on_true) (Rattle.std.specs.List.list_any is_entry (on_false ∷ [])) facts.entry))
-good_said form lines func law before n (switch width value default) after whole facts behind =
-    good_switch_line form lines func law before n width value default after whole facts behind
-good_said form lines func law before n ret_void after whole facts behind = good_ret_void form lines func (same_type-is Void func.answer facts.rule)
-good_said form lines func law before n (ret ty value) after whole facts behind =
-    let known = known_of lines func in
-    let a = operand_of known ty value in
-    good_ret form lines func ty a (one_value a (is_value_in known.values ty value)) (fit form lines func law ty value facts.read facts.uses.0, tt) facts.read
-    (same_type-is ty func.answer facts.rule)
-good_said form lines func law before n unreachable after whole facts behind = good_unreachable form lines func
-good_said form lines func law before n (statepoint result called live) after whole facts behind = good_statepoint form lines func law result called live facts
-good_said form lines func law before n (gc_result result ty token) after whole facts behind = good_gc_result form lines func law result ty token facts
-good_said form lines func law before n (gc_relocate result token base derived) after whole facts behind =
+    (label_of_use form lines func law on_true (on_false ∷ []) facts.labels)
+    (label_of_use form lines func law on_false [] (or-right (unknown on_true) (list_any unknown (on_false ∷ [])) facts.labels))
+good_said form lines func law (switch width value default) after facts behind = good_switch_line form lines func law width value default after facts behind
+good_said form lines func law ret_void after facts behind = good_ret_void form lines func
+good_said form lines func law (ret ty value) after facts behind =
+    let a = operand_of (known_of lines func) ty value in
+    good_ret form lines func ty a (one_value a (is_value_in (known_of lines func).values ty value)) facts.read
+good_said form lines func law unreachable after facts behind = good_unreachable form lines func
+good_said form lines func law (statepoint result called live) after facts behind = good_statepoint form lines func law result called live facts
+good_said form lines func law (gc_result result ty token) after facts behind = good_gc_result form lines func law result ty token facts
+good_said form lines func law (gc_relocate result token base derived) after facts behind =
     good_gc_relocate form lines func law result token base derived facts
-good_said form lines func law before n _ after whole facts behind = tt
+good_said form lines func law _ after facts behind = tt
 
 pub if_some : (P : Instruction → Type 0) (o : Option Instruction) → IfSome o P → (inst : Instruction) → o ≡ Some inst → P inst
 if_some P o h inst e = subst (λ (x : Option Instruction). IfSome x P) e h
@@ -181,9 +143,24 @@ good_insts form lines func law =
     let split = behind_of (λ (one : Line). LineFacts form (scope_of lines func) one.says) before l after
     (subst (AllByRecursion (λ (one : Line). LineFacts form (scope_of lines func) one.says)) whole (facts_of form lines func law)) in
     if_some (GoodInst form lines func) (instruction_said (known_of lines func) after l.says)
-    (good_said form lines func law before l.number l.says after whole split.0 split.1) inst is)
+    (good_said form lines func law l.says after split.0 split.1) inst is)
 
 -- ---- the function
+
+-- its number in the module, whose rules it keeps
+pub record IsKept (form : Form) (lines : List Line) (func : Definition) : Type 0 where
+  pub number : ℕ
+  pub is_function : slice_get (content form lines).funcs number ≡ Some (made lines func)
+  pub unbroken : IsUnbroken (stands_for form lines)
+
+pub kept : (form : Form) (lines : List Line) (func : Definition) → InLaw form lines func → IsKept form lines func
+kept form lines func law =
+    let d = get_contained (definitions_of lines) func law.defined in
+    record {
+      number = d.0;
+      is_function = get_map (λ (one : Definition). function_of (known_of lines one) one) (definitions_of lines) d.0 func d.1;
+      unbroken = unbroken_of form lines law.none;
+    }
 
 pub each_inst : (form : Form) (lines : List Line) (func : Definition) → InLaw form lines func → (P : Instruction → Type 0) → ((inst : Instruction) → GoodInst form lines func inst → P inst)
     → All P (instructions_of (made lines func).blocks)
@@ -198,11 +175,12 @@ fits_below T (operands.Int number ∷ os) (t ∷ ts) zip = fits_below T os ts zi
 fits_below T (operands.Null ∷ os) (t ∷ ts) zip = fits_below T os ts zip.1
 fits_below T (operands.Fun f ∷ os) (t ∷ ts) zip = fits_below T os ts zip.1
 
-pub knows_local : (form : Form) (lines : List Line) (func : Definition) (inst : Instruction) → GoodInst form lines func inst → NamesOfFunction (made lines func) inst
-knows_local form lines func inst good =
+knows_local : (form : Form) (lines : List Line) (func : Definition) (inst : Instruction) → GoodInst form lines func inst
+    → IsTypedBesidesCalls (scope_made form lines func) inst → NamesOfFunction (made lines func) inst
+knows_local form lines func inst good typed =
     let T = defs.value_types (made lines func) in
     let count : length T ≡ length (defs.definitions_of (made lines func)) = length-map (defs.definitions_of (made lines func)) defs.definition_type in
-    let below = fits_below T inst.operands (Rattle.ir_ast.specs.Faults.TypeClash.asked inst.op inst.ty (length inst.operands)) good.typed.operands in
+    let below = fits_below T inst.operands (asked inst.op inst.ty (length inst.operands)) typed.operands in
     record {
       values = subst (λ (b : List (Ty × Operand)). All (λ value. value < length (defs.definitions_of (made lines func))) (filter_map value_in (inst.operands ++ map (λ (entry : Ty × Operand). entry.1) b)))
           (sym good.bundle)
@@ -211,8 +189,22 @@ knows_local form lines func inst good =
       blocks = good.labels;
     }
 
+-- what holds of each instruction that is good and keeps the rules
+each_kept : (form : Form) (lines : List Line) (func : Definition) → InLaw form lines func → (P : Instruction → Type 0)
+    → ((inst : Instruction) → GoodInst form lines func inst → IsTypedBesidesCalls (scope_made form lines func) inst → (inst.op ≡ ops.Switch → Distinct (drop 1 inst.operands)) → P inst)
+    → All P (instructions_of (made lines func).blocks)
+each_kept form lines func law P f =
+    let k = kept form lines func law in
+    let insts = instructions_of (made lines func).blocks in
+    all_contained P insts (λ inst inside.
+    f inst (All-contains (GoodInst form lines func) insts inst (good_insts form lines func law) inside)
+    (All-contains (IsTypedBesidesCalls (scope_made form lines func)) insts inst (unbroken_typed (stands_for form lines) k.unbroken k.number (made lines func) k.is_function) inside)
+    (All-contains (λ (one : Instruction). one.op ≡ ops.Switch → Distinct (drop 1 one.operands)) insts inst
+    (unbroken_cases (stands_for form lines) k.unbroken k.number (made lines func) k.is_function) inside))
+
 pub local_known : (form : Form) (lines : List Line) (func : Definition) → InLaw form lines func → LocalNamesAreKnown (made lines func)
-local_known form lines func law = each_inst form lines func law (NamesOfFunction (made lines func)) (knows_local form lines func)
+local_known form lines func law =
+    each_kept form lines func law (NamesOfFunction (made lines func)) (λ inst good typed cases. knows_local form lines func inst good typed)
 
 pub global_known : (form : Form) (lines : List Line) (func : Definition) → InLaw form lines func → GlobalNamesAreKnown (content form lines) (made lines func)
 global_known form lines func law = each_inst form lines func law (NamesOfModule (content form lines)) (λ inst good. record { layouts = good.layouts; functions = good.functions })
@@ -238,7 +230,7 @@ function_typed form lines func law =
       answer = answers func.answer;
       args = All-from_recursion (λ (arg : Arg). is_first_class arg.ty ≡ true) (made lines func).args
           (arguments_types func.line [] func.arguments (recursion_from_All IsReadArgument func.arguments head.each));
-      lines = each_inst form lines func law (IsTyped (scope_made form lines func)) (λ inst good. good.typed);
+      lines = each_kept form lines func law (IsTyped (scope_made form lines func)) (inst_typed form lines func);
     }
 
 insts_widths : (insts : List Instruction) → AllByRecursion (λ inst. All IsWidth (line_widths inst)) insts → All IsWidth (flat_map line_widths insts)
@@ -355,15 +347,14 @@ values_named form lines func law P all =
 pub blocks_named : (lines : List Line) (func : Definition) (P : List ℕ → Type 0) → All (λ one. P one.name) (blocks_of func) → All (λ block. P block.name) (made lines func).blocks
 blocks_named lines func P all = All-map (λ (block : BasicBlock). P block.name) (block_of (known_of lines func)) (blocks_of func) all
 
-pub contained : {A : Type 0} (P : A → Type 0) (xs : List A) → ((x : A) → Contains xs x → P x) → All P xs
-contained P xs h = λ k d within. h (Rattle.std.specs.Prelude.slice_index_or xs k d) (Rattle.std.proofs.lemmas.List.Elements.Contains-get_or xs k d within)
-
 pub function_source : (lines : List Line) (func : Definition) → InLaw Source lines func → IsSource (made lines func)
 function_source lines func law = record {
   values = values_named Source lines func law (λ name. ¬ (IsInsertedName name))
-      (contained (λ (one : Naming). ¬ (IsInsertedName one.name)) (values_of func) (λ one inside bad. law.none one.line 14 (reserved (names_value refl func one law.defined inside refl bad))));
+      (all_contained (λ (one : Naming). ¬ (IsInsertedName one.name)) (values_of func) (λ one inside bad.
+      law.none one.line 14 (of_text (reserved (names_value refl func one law.defined inside refl bad)))));
   labels = blocks_named lines func (λ name. ¬ (IsInsertedName name))
-      (contained (λ (one : BlockLines). ¬ (IsInsertedName one.name)) (blocks_of func) (λ one inside bad. law.none one.line 14 (reserved (names_label refl func one law.defined inside refl bad))));
+      (all_contained (λ (one : BlockLines). ¬ (IsInsertedName one.name)) (blocks_of func) (λ one inside bad.
+      law.none one.line 14 (of_text (reserved (names_label refl func one law.defined inside refl bad)))));
   lines = each_inst Source lines func law (λ inst. is_rewritten inst.op ≡ false) (λ inst good. good.plain refl);
 }
 
@@ -403,9 +394,3 @@ has_no_bundle form lines func law = each_inst form lines func law (λ inst. inst
 -- as many as lines that count
 pub few_made : (lines : List Line) (func : Definition) → length (instructions_of (made lines func).blocks) ≤ instruction_count func.body
 few_made lines func = omega (arith, ap length (body_insts (known_of lines func) func), few_insts (known_of lines func) func.body)
-
-pub function_entry : (form : Form) (lines : List Line) (func : Definition) → InLaw form lines func → EntryHasNoPred (made lines func)
-function_entry form lines func law = each_inst form lines func law LeavesEntry (λ inst good. good.entry)
-
-pub function_pointers : (form : Form) (lines : List Line) (func : Definition) → InLaw form lines func → PointersAreUnordered (made lines func)
-function_pointers form lines func law = each_inst form lines func law (λ inst. orders_pointers inst.op inst.ty ≡ false) (λ inst good. good.unordered)

@@ -1,65 +1,53 @@
--- The instructions of statepoint groups have the parts of their forms, their types and their names.
-use Rattle.std.proofs.Common.{◌≡◌, ◌∙◌, ℕ, zero, suc, ◌<◌, ◌-◌, true, false, ◌&&◌, List, [], ◌∷◌, ◌++◌, map, length, take, drop, replicate, refl, ap, sym, subst, arith, length-append}
-use Rattle.std.specs.Prelude.{Some, None, IfSome, slice_get, filter_map}
-use Rattle.std.specs.List.{AllByRecursion, AllZip, list_all}
+-- The instructions of statepoint groups have the parts of their forms, their widths and their names.
+use Rattle.std.proofs.Common.{◌≡◌, ◌∙◌, ℕ, ◌<◌, Bool, true, false, ◌&&◌, List, [], ◌∷◌, ◌++◌, map, length, take, drop, replicate, refl, ap, sym, subst, arith, length-append}
+use Rattle.std.specs.Prelude.{Some, None, IfSome, slice_get}
+use Rattle.std.specs.List.{AllByRecursion, list_all}
 use Rattle.std.proofs.lemmas.List.{length-map}
 use Rattle.std.proofs.lemmas.List.Elements.{All-nil, All-from_recursion, recursion_from_All}
 use Rattle.std.proofs.Math.Seq.{take-append_seam, drop-append_seam}
 use Rattle.sp_ids.specs.declared.ids.BlockId.{BlockId}
 use Rattle.ir_ast.specs.declared.modules.Form.{Form}
+use Rattle.list_laws.proofs.Places.{get_front}
 use Rattle.ir_ast.specs.declared.types.Ty.{Ty}
 use Rattle.ir_ast.specs.declared.types.Ty.TheVariants as tys
+use Rattle.ir_ast.specs.declared.ops.Op.{Op}
 use Rattle.ir_ast.specs.declared.ops.Op.TheVariants as ops
 use Rattle.ir_ast.specs.declared.ops.Operand.{Operand}
 use Rattle.ir_ast.specs.declared.ops.Operand.TheVariants as operands
 use Rattle.ir_ast.specs.declared.ops.Callee.{Callee}
 use Rattle.ir_ast.specs.declared.ops.Callee.TheVariants as callees
 use Rattle.ir_ast.specs.Insts.{Instruction}
-use Rattle.ir_ast.specs.Values as defs
 use Rattle.ir_ast.specs.Lines.{Arguments}
 use Rattle.ir_ast.specs.Operands.{is_value, functions_named as functions_in}
 use Rattle.ir_ast.specs.Widths.{IsWidth}
 use Rattle.ir_ast.specs.Scope.{Scope as ModuleScope}
-use Rattle.ir_ast.specs.Faults.TypeClash.{Fits, TakesOperands}
+use Rattle.ir_ast.specs.Faults.TypeClash.{TakesOperands}
 use Rattle.line_parts.specs.declared.readings.TypeWord.{TypeWord}
 use Rattle.line_parts.specs.declared.readings.TypeWord.TheVariants.{Managed}
 use Rattle.line_tokens.specs.declared.literals.Literal.{Literal}
+use Rattle.line_tokens.specs.declared.words.Binary.{Binary}
+use Rattle.line_tokens.specs.declared.words.Binary.TheVariants.{Add, Sub, Mul, Udiv, Sdiv, Urem, Srem, And, Or, Xor, Shl, Lshr, Ashr}
+use Rattle.line_tokens.specs.declared.words.Conversion.{Conversion}
+use Rattle.line_tokens.specs.declared.words.Conversion.TheVariants.{Trunc, Zext, Sext}
 use Rattle.line_parts.specs.Parts.{Val}
 use Rattle.line_parts.specs.Lists.{Given}
 use Rattle.group_parts.specs.Statepoints.{Guarded}
-use Rattle.ir_lines.specs.Statements.{Line, statepoint, gc_result, gc_relocate}
-use Rattle.ir_lines.specs.Parts.{passed_value, live_use, token_use, index_use}
+use Rattle.ir_lines.specs.Statements.{Line, Statement, binary, compare, convert, select, phi, scalar_step, layout_step, load, store, call, jump, branch, switch, ret_void, ret, unreachable, statepoint, gc_result, gc_relocate}
+use Rattle.ir_lines.specs.Parts.{is_of_group, live_use, token_use, index_use}
 use Rattle.ir_lines.specs.Sections.{Definition}
 use Rattle.ir_lines.specs.Scope.{scope_of, head_named}
 use Rattle.ir_lines.specs.Types.{literal_fits}
-use Rattle.ir_lines.specs.Modules.{Known, known_of, type_of, given_type, passed_operand, used_operand, wrapped, instruction, instruction_said}
+use Rattle.ir_lines.specs.Modules.{Known, known_of, type_of, binary_of, conversion_of, given_type, passed_operand, used_operand, wrapped, instruction, instruction_said}
 use Rattle.ir_lines.specs.Faults.TypeClash.{call_agrees, takes_types}
 use Rattle.ir_lines.specs.ReadLines.{IsReadPassed}
-use Rattle.module_laws.proofs.LawFacts.{and-left, IsGoodUse}
-use Rattle.module_laws.proofs.LawLines.{InLaw, LineFacts, made, is_value_in, fit, fit_token, all_zip_same, wrapped_below}
+use Rattle.module_laws.proofs.LawFacts.{and-left, not-false}
+use Rattle.module_laws.proofs.LawLines.{InLaw, LineFacts, made, is_value_in}
 use Rattle.module_laws.proofs.LawCalls.{IsGoodCall, over}
 use Rattle.module_laws.proofs.LawExternals.{good_call}
 use Rattle.module_laws.proofs.LawTyped.{GoodInst, content, scope_made, all-list, type_width, answer_width, answers, is_first, widths_made, values_name_none, no_names, no_layout, one_value}
-use Rattle.module_laws.proofs.LawInsts.{passed_fit, passed_widths}
+use Rattle.module_laws.proofs.LawInsts.{passed_widths}
 
--- ---- lists that are joined
-
-pub get_front : {A : Type 0} (xs ys : List A) (k : ℕ) (x : A) → slice_get xs k ≡ Some x → slice_get (xs ++ ys) k ≡ Some x
-get_front [] ys k x e = absurd (let bad : None ≡ Some x = e in cc)
-get_front (y ∷ xs) ys zero x e = e
-get_front (y ∷ xs) ys (suc k) x e = get_front xs ys k x e
-
-zip_append : {A B : Type 0} (R : A → B → Type 0) (xs ys : List A) (ts us : List B) → AllZip R xs ts → AllZip R ys us → AllZip R (xs ++ ys) (ts ++ us)
-zip_append R [] ys [] us a b = b
-zip_append R (x ∷ xs) ys (t ∷ ts) us a b = (a.0, zip_append R xs ys ts us a.1 b)
-zip_append R [] ys (t ∷ ts) us a b = absurd a
-zip_append R (x ∷ xs) ys [] us a b = absurd a
-
-pub all_split : {A : Type 0} (P : A → Type 0) (xs ys : List A) → AllByRecursion P (xs ++ ys) → AllByRecursion P xs × AllByRecursion P ys
-all_split P [] ys all = (tt, all)
-all_split P (x ∷ xs) ys all = let more = all_split P xs ys all.1 in ((all.0, more.0), more.1)
-
--- operands behind those of a call, none of which is a function
+-- ---- operands behind those of a call, none of which is a function
 takes_more : (scope : ModuleScope) (callee : Callee) (os more : List Operand) → TakesOperands scope callee os → TakesOperands scope callee (os ++ more)
 takes_more scope callees.TaskStart os more takes = (takes.0, get_front os more 0 (operands.Fun takes.0) takes.1, takes.2)
 takes_more scope callees.Check os more takes =
@@ -90,34 +78,12 @@ pub live_values : (known : Known) (live : List Val) → AllByRecursion (λ op. i
 live_values known [] = tt
 live_values known (v ∷ vs) = (is_value_in known.values Managed v, live_values known vs)
 
-live_fit : (form : Form) (lines : List Line) (func : Definition) → InLaw form lines func → (live : List Val)
-    → AllByRecursion (IsGoodUse (scope_of lines func)) (map live_use live)
-    → AllByRecursion (λ op. Fits (defs.value_types (made lines func)) op tys.Ptr) (live_made (known_of lines func) live)
-live_fit form lines func law [] good = tt
-live_fit form lines func law (v ∷ vs) good = (fit form lines func law Managed v tt good.0, live_fit form lines func law vs good.1)
-
 -- ---- the statepoint
 
 abbrev statepoint_made : List Line → Definition → List ℕ → Guarded → List Val → Callee → Instruction
 statepoint_made lines func result called live callee =
     instruction (Some result) (ops.Statepoint (wrapped 64 called.id) callee (map given_type called.passed)) (type_of called.signature.answer)
     (map (passed_operand (known_of lines func)) called.passed ++ live_made (known_of lines func) live) []
-
-statepoint_fits : (form : Form) (lines : List Line) (func : Definition) → InLaw form lines func → (passed : List Given) (live : List Val)
-    → AllByRecursion IsReadPassed passed → AllByRecursion (IsGoodUse (scope_of lines func)) (filter_map passed_value passed ++ map live_use live)
-    → AllZip (Fits (defs.value_types (made lines func))) (map (passed_operand (known_of lines func)) passed ++ live_made (known_of lines func) live)
-    (map given_type passed ++ replicate (length (map (passed_operand (known_of lines func)) passed ++ live_made (known_of lines func) live) - length (map given_type passed)) tys.Ptr)
-statepoint_fits form lines func law passed live read good =
-    let T = defs.value_types (made lines func) in
-    let A = map (passed_operand (known_of lines func)) passed in
-    let L = live_made (known_of lines func) live in
-    let types = map given_type passed in
-    let uses = all_split (IsGoodUse (scope_of lines func)) (filter_map passed_value passed) (map live_use live) good in
-    let count : length (A ++ L) - length types ≡ length L =
-    omega (arith, length-append A L, length-map passed (passed_operand (known_of lines func)), length-map passed given_type) in
-    subst (λ (n : ℕ). AllZip (Fits T) (A ++ L) (types ++ replicate n tys.Ptr)) (sym count)
-    (zip_append (Fits T) A L types (replicate (length L) tys.Ptr) (passed_fit form lines func law passed read uses.0)
-    (all_zip_same T tys.Ptr L (live_fit form lines func law live uses.1)))
 
 -- the arguments stand first and then the live entries
 pub taken_first : (passed : List Given) (known : Known) (L : List Operand)
@@ -153,22 +119,16 @@ statepoint_at form lines func law result called live facts g =
         no_labels = refl;
         bundle = refl;
       };
-      typed = record {
-        operands = statepoint_fits form lines func law called.passed live read facts.uses;
-        bundle = All-nil (λ (entry : Ty × Operand). Fits (scope_made form lines func).values entry.1 entry.0);
-        rule = record { signature = g.signature; operands = takes_more (scope_made form lines func) g.callee A L g.takes };
-      };
+      called = record { signature = g.signature; operands = takes_more (scope_made form lines func) g.callee A L g.takes };
       widths = widths_made (ops.Statepoint (wrapped 64 called.id) g.callee types) (Some result) (type_of called.signature.answer) (A ++ L) []
           (passed_widths called.passed read) (answer_width called.signature.answer facts.read.answered);
       bundle = refl;
       plain = λ is. absurd (let bad : true ≡ false = facts.own is in cc);
-      unordered = refl;
       layouts = g.layouts;
       functions = All-from_recursion below (functions_in (statepoint_made lines func result called live g.callee))
           (names_called below g.callee types (type_of called.signature.answer) (wrapped 64 called.id) result A L vals
           (recursion_from_All below (functions_in (Rattle.module_laws.proofs.LawCalls.call_made g.callee called.signature.answer called.passed known)) g.functions));
       labels = All-nil (λ (label : BlockId). label.0 < length (made lines func).blocks);
-      entry = λ e. absurd (let bad : false ≡ true = e in cc);
     }
 
 pub good_statepoint : (form : Form) (lines : List Line) (func : Definition) → InLaw form lines func → (result : List ℕ) (made : Guarded) (live : List Val)
@@ -179,7 +139,8 @@ good_statepoint form lines func law result called live facts =
     let agreed = call_agrees form scope called.signature.answer called.callee called.passed in
     let more = takes_types called.signature.parameters (head_named scope called.callee)
     && literal_fits (Rattle.line_parts.specs.declared.readings.TypeWord.TheVariants.Int 32) called.count in
-    let g = good_call form lines func law called.callee called.signature.answer called.passed facts.functions (and-left agreed more facts.rule) facts.read.passed in
+    let g = good_call form lines func law called.callee called.signature.answer called.passed facts.functions
+    (and-left agreed more (not-false (agreed && more) facts.spelled)) facts.read.passed in
     subst (λ (c : Callee). GoodInst form lines func (statepoint_made lines func result called live c)) (sym g.is)
     (statepoint_at form lines func law result called live facts g)
 
@@ -195,19 +156,13 @@ good_gc_result form lines func law result ty token facts =
         record { result = refl; type = is_first ty facts.read.1; operand_count = refl; values = one_value t refl; label_count = refl; no_bundle = refl },
         (record { 0 = Rattle.ir_lines.specs.Places.number_in (known_of lines func).values token }, refl),
       );
-      typed = record {
-        operands = (fit_token form lines func law token facts.uses.0, tt);
-        bundle = All-nil (λ (entry : Ty × Operand). Fits (scope_made form lines func).values entry.1 entry.0);
-        rule = tt;
-      };
+      called = tt;
       widths = widths_made ops.GcResult (Some result) (type_of ty) (t ∷ []) [] (All-nil IsWidth) (type_width ty facts.read.1);
       bundle = refl;
       plain = λ is. absurd (let bad : true ≡ false = facts.own is in cc);
-      unordered = refl;
       layouts = no_layout form lines;
       functions = no_names form lines (t ∷ []) (one_value t refl);
       labels = All-nil (λ (label : BlockId). label.0 < length (made lines func).blocks);
-      entry = λ e. absurd (let bad : false ≡ true = e in cc);
     }
 
 pub good_gc_relocate : (form : Form) (lines : List Line) (func : Definition) → InLaw form lines func → (result token : List ℕ) (base derived : Literal)
@@ -222,17 +177,63 @@ good_gc_relocate form lines func law result token base derived facts =
         record { result = refl; type = refl; operand_count = refl; values = refl; label_count = refl; no_bundle = refl },
         (wrapped 32 base, wrapped 32 derived, (record { 0 = Rattle.ir_lines.specs.Places.number_in known.values token }, refl)),
       );
-      typed = record {
-        operands = (fit_token form lines func law token facts.uses.0, ((32, refl, wrapped_below 32 base), ((32, refl, wrapped_below 32 derived), tt)));
-        bundle = All-nil (λ (entry : Ty × Operand). Fits (scope_made form lines func).values entry.1 entry.0);
-        rule = tt;
-      };
+      called = tt;
       widths = widths_made ops.GcRelocate (Some result) tys.Ptr os [] (All-nil IsWidth) (All-nil IsWidth);
       bundle = refl;
       plain = λ is. absurd (let bad : true ≡ false = facts.own is in cc);
-      unordered = refl;
       layouts = no_layout form lines;
       functions = no_names form lines os refl;
       labels = All-nil (λ (label : BlockId). label.0 < length (made lines func).blocks);
-      entry = λ e. absurd (let bad : false ≡ true = e in cc);
     }
+
+-- ---- which lines have such operators
+
+abbrev pub is_group_op : Op → Bool
+is_group_op (ops.Statepoint id callee types) = true
+is_group_op ops.GcResult = true
+is_group_op ops.GcRelocate = true
+is_group_op _ = false
+
+binary_op : (op : Binary) → is_group_op (binary_of op) ≡ false
+binary_op Add = refl
+binary_op Sub = refl
+binary_op Mul = refl
+binary_op Udiv = refl
+binary_op Sdiv = refl
+binary_op Urem = refl
+binary_op Srem = refl
+binary_op And = refl
+binary_op Or = refl
+binary_op Xor = refl
+binary_op Shl = refl
+binary_op Lshr = refl
+binary_op Ashr = refl
+
+conversion_op : (op : Conversion) (to : ℕ) → is_group_op (conversion_of op to) ≡ false
+conversion_op Trunc to = refl
+conversion_op Zext to = refl
+conversion_op Sext to = refl
+
+-- an instruction of a group is that of a line of a group
+pub group_said : (known : Known) (behind : List Line) (s : Statement) → is_of_group s ≡ false
+    → IfSome (instruction_said known behind s) (λ inst. is_group_op inst.op ≡ false)
+group_said known behind (binary result op width left right) e = binary_op op
+group_said known behind (compare result pred ty left right) e = refl
+group_said known behind (convert result op width value to) e = conversion_op op to
+group_said known behind (select result condition left_ty left right_ty right) e = refl
+group_said known behind (phi result ty entries) e = refl
+group_said known behind (scalar_step result element address width index) e = refl
+group_said known behind (layout_step result named address width index place) e = refl
+group_said known behind (load result ty address) e = refl
+group_said known behind (store ty value address) e = refl
+group_said known behind (call result answer callee passed) e = refl
+group_said known behind (jump to) e = refl
+group_said known behind (branch condition on_true on_false) e = refl
+group_said known behind (switch width value default) e = refl
+group_said known behind ret_void e = refl
+group_said known behind (ret ty value) e = refl
+group_said known behind unreachable e = refl
+group_said known behind (statepoint result made live) e = absurd (let bad : true ≡ false = e in cc)
+group_said known behind (gc_result result ty token) e = absurd (let bad : true ≡ false = e in cc)
+group_said known behind (gc_relocate result token base derived) e = absurd (let bad : true ≡ false = e in cc)
+group_said known behind _ e = tt

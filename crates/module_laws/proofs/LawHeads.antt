@@ -9,7 +9,8 @@ use Rattle.ir_ast.specs.declared.modules.Form.{Form}
 use Rattle.ir_lines.specs.Statements.{Line, Statement, layout, declare, define}
 use Rattle.ir_lines.specs.Sections.{Head, Definition, LayoutLine, types_of, head_said, heads_of, definition_said, definitions_of, layout_said, layouts_of, is_close}
 use Rattle.ir_lines.specs.Faults.NameTwice.{layout_again, head_again, label_again, value_again}
-use Rattle.ir_lines.specs.PlainFaults.{HasNoPlainFault, name_twice}
+use Rattle.ir_resolve.specs.TextFaults.{name_twice}
+use Rattle.ir_resolve.specs.FaultSet.{HasNoResolvedFault, of_text}
 use Rattle.ir_lines.proofs.LawNames.{Stands, stands, contains_get, get_contained, contains_first, contains_later, contains_map, distinct-once, same_by_name, apart-distinct, distinct-apart, apart-filter}
 
 abbrev pub head_of : Definition → Head
@@ -95,17 +96,17 @@ heads-from (l ∷ ls) = head_from l.number l.says ls (heads-from ls)
 
 -- ---- names that stand once
 
-pub heads-distinct : (form : Form) (lines : List Line) → HasNoPlainFault form lines → Distinct (map (λ one. one.name) (heads_of lines))
-heads-distinct form lines none = distinct-once (heads_of lines) (λ one. one.line) (λ one. one.name) (λ n r. none n 3 (name_twice (head_again r)))
+pub heads-distinct : (form : Form) (lines : List Line) → HasNoResolvedFault form lines → Distinct (map (λ one. one.name) (heads_of lines))
+heads-distinct form lines none = distinct-once (heads_of lines) (λ one. one.line) (λ one. one.name) (λ n r. none n 3 (of_text (name_twice (head_again r))))
 
-pub layouts-distinct : (form : Form) (lines : List Line) → HasNoPlainFault form lines → Distinct (map (λ one. one.name) (layouts_of lines))
-layouts-distinct form lines none = distinct-once (layouts_of lines) (λ one. one.line) (λ one. one.name) (λ n r. none n 3 (name_twice (layout_again r)))
+pub layouts-distinct : (form : Form) (lines : List Line) → HasNoResolvedFault form lines → Distinct (map (λ one. one.name) (layouts_of lines))
+layouts-distinct form lines none = distinct-once (layouts_of lines) (λ one. one.line) (λ one. one.name) (λ n r. none n 3 (of_text (name_twice (layout_again r))))
 
 names_headed : (defs : List Definition) → map (λ (one : Head). one.name) (map head_of defs) ≡ map (λ (one : Definition). one.name) defs
 names_headed [] = refl
 names_headed (d ∷ ds) = ap (λ ns. d.name ∷ ns) (names_headed ds)
 
-pub definitions-distinct : (form : Form) (lines : List Line) → HasNoPlainFault form lines → Distinct (map (λ one. one.name) (definitions_of lines))
+pub definitions-distinct : (form : Form) (lines : List Line) → HasNoResolvedFault form lines → Distinct (map (λ one. one.name) (definitions_of lines))
 definitions-distinct form lines none =
     let heads = apart-filter (λ (h : Head). h.defined) (λ (h : Head). h.name) (heads_of lines)
     (apart-distinct (map (λ (h : Head). h.name) (heads_of lines)) (heads-distinct form lines none)) in
@@ -113,15 +114,15 @@ definitions-distinct form lines none =
     (subst Rattle.ir_lines.proofs.LawNames.Apart
     (ap (map (λ (h : Head). h.name)) (sym (definitions-heads lines)) ∙ names_headed (definitions_of lines)) heads)
 
-pub values-distinct : (form : Form) (lines : List Line) → HasNoPlainFault form lines → (func : Definition) → Contains (definitions_of lines) func
+pub values-distinct : (form : Form) (lines : List Line) → HasNoResolvedFault form lines → (func : Definition) → Contains (definitions_of lines) func
     → Distinct (map (λ one. one.name) (Rattle.ir_lines.specs.Sections.values_of func))
 values-distinct form lines none func defined =
-    distinct-once (Rattle.ir_lines.specs.Sections.values_of func) (λ one. one.line) (λ one. one.name) (λ n r. none n 3 (name_twice (value_again func defined r)))
+    distinct-once (Rattle.ir_lines.specs.Sections.values_of func) (λ one. one.line) (λ one. one.name) (λ n r. none n 3 (of_text (name_twice (value_again func defined r))))
 
-pub blocks-distinct : (form : Form) (lines : List Line) → HasNoPlainFault form lines → (func : Definition) → Contains (definitions_of lines) func
+pub blocks-distinct : (form : Form) (lines : List Line) → HasNoResolvedFault form lines → (func : Definition) → Contains (definitions_of lines) func
     → Distinct (map (λ one. one.name) (Rattle.ir_lines.specs.Sections.blocks_of func))
 blocks-distinct form lines none func defined =
-    distinct-once (Rattle.ir_lines.specs.Sections.blocks_of func) (λ one. one.line) (λ one. one.name) (λ n r. none n 3 (name_twice (label_again func defined r)))
+    distinct-once (Rattle.ir_lines.specs.Sections.blocks_of func) (λ one. one.line) (λ one. one.name) (λ n r. none n 3 (of_text (name_twice (label_again func defined r))))
 
 -- ---- what is said of all lines is said of definitions
 

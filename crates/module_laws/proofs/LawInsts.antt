@@ -4,20 +4,17 @@ use Rattle.std.specs.Prelude.{Option, Some, None, IfSome, is_none, is_some, find
 use Rattle.std.specs.List.{All, AllByRecursion, AllZip, Contains, list_any, list_all}
 use Rattle.std.proofs.lemmas.List.{length-map}
 use Rattle.std.proofs.lemmas.List.Elements.{All-nil, All-cons, All-append, All-from_recursion, recursion_from_All}
-use Rattle.std.proofs.lemmas.Option.{slice_get-map}
-use Rattle.std.proofs.lemmas.Bool.Decides.{Decides-eqb, Decides-ltb, not_from_Decides}
 use Rattle.sp_ids.specs.declared.ids.BlockId.{BlockId}
 use Rattle.ir_ast.specs.declared.types.Ty.{Ty}
 use Rattle.ir_ast.specs.declared.types.Ty.TheVariants as tys
+use Rattle.ir_ast.specs.declared.ops.Op.{Op}
 use Rattle.ir_ast.specs.declared.ops.Op.TheVariants as ops
 use Rattle.ir_ast.specs.declared.ops.Operand.{Operand}
 use Rattle.ir_ast.specs.declared.ops.Callee.{Callee}
-use Rattle.ir_ast.specs.Values as defs
-use Rattle.ir_ast.specs.Lists.{Distinct}
 use Rattle.ir_ast.specs.Types.{is_void}
-use Rattle.ir_ast.specs.Operands.{is_value, is_literal}
-use Rattle.ir_ast.specs.Widths.{IsWidth, type_widths}
-use Rattle.ir_ast.specs.Faults.TypeClash.{Fits, HasField}
+use Rattle.ir_ast.specs.Lines.{IsLine, is_rewritten}
+use Rattle.ir_ast.specs.Operands.{is_value, is_literal, functions_named as functions_in, layouts_named as layouts_in}
+use Rattle.ir_ast.specs.Widths.{IsWidth, type_widths, operator_widths}
 use Rattle.ir_ast.specs.declared.ops.Elem.TheVariants as elements
 use Rattle.ir_ast.specs.declared.modules.Form.{Form}
 use Rattle.line_parts.specs.declared.readings.TypeWord.{TypeWord}
@@ -32,36 +29,29 @@ use Rattle.ir_lines.specs.Sections.{Definition, LayoutLine, BlockLines, blocks_o
 use Rattle.ir_lines.specs.Scope.{scope_of, layout_named, block_named, block_number}
 use Rattle.ir_lines.specs.Places.{number_in}
 use Rattle.ir_lines.specs.Modules.{Known, known_of, type_of, layout_of, operand_in, operand_of, entry_operand, entry_label, label_of, label_in, passed_operand, given_type, instruction, instruction_said, place_of, block_of, callee_of, case_values, case_labels}
-use Rattle.ir_lines.specs.Faults.TypeClash.{place_fits, is_field}
+use Rattle.ir_lines.specs.Faults.TypeClash.{call_agrees}
 use Rattle.ir_lines.specs.ReadLines.{SaysRead, IsValueType, IsReadCall, IsReadPassed}
 use Rattle.ir_lines.proofs.LawNames.{stands, stands_below, number-is}
-use Rattle.module_laws.proofs.LawFacts.{or-left, and-right, none_any, IsGoodUse}
-use Rattle.module_laws.proofs.LawLines.{InLaw, LineFacts, made, read_function, is_value_in, fit, entries_fit, all_zip_same, wrapped_below, truth_below}
-use Rattle.module_laws.proofs.LawCases.{each_case, labels-cases, values-distinct_in}
+use Rattle.module_laws.proofs.LawFacts.{or-left, not-false, none_any}
+use Rattle.module_laws.proofs.LawLines.{InLaw, LineFacts, made, read_function, is_value_in}
+use Rattle.module_laws.proofs.LawCases.{each_case, labels-cases}
 use Rattle.module_laws.proofs.LawCalls.{IsGoodCall}
 use Rattle.module_laws.proofs.LawExternals.{good_call}
-use Rattle.module_laws.proofs.LawTyped.{GoodInst, content, scope_made, both, all-list, type_width, answers, is_first, widths_made, no_names, no_layout, two_values, width_one, good_layout}
+use Rattle.module_laws.proofs.LawTyped.{GoodInst, IsCalled, content, scope_made, both, all-list, type_width, answers, is_first, widths_made, no_names, no_layout, two_values, width_one, good_layout}
 
 -- ---- labels
 
 abbrev pub IsGoodLabel : List Line → Definition → BlockId → Type 0
-IsGoodLabel lines func label = (label.0 < length (made lines func).blocks) × (label.0 ≢ 0)
+IsGoodLabel lines func label = label.0 < length (made lines func).blocks
 
 pub label_below : (form : Form) (lines : List Line) (func : Definition) → InLaw form lines func → (name : List ℕ) → is_none (block_named (scope_of lines func) name) ≡ false
-    → (label_of (known_of lines func) name).0 < length (made lines func).blocks
+    → IsGoodLabel lines func (label_of (known_of lines func) name)
 label_below form lines func law name e =
     let s = stands (λ (one : BlockLines). one.name) (blocks_of func) name e in
     let few = (read_function form lines func law).few_blocks in
     let b = stands_below (λ (one : BlockLines). one.name) (blocks_of func) name s in
     let n = number-is (λ (one : BlockLines). one.name) (blocks_of func) name s (omega arith) in
     omega (arith, n, length-map (blocks_of func) (block_of (known_of lines func)))
-
-pub good_label : (form : Form) (lines : List Line) (func : Definition) → InLaw form lines func → (name : List ℕ) → is_none (block_named (scope_of lines func) name) ≡ false
-    → (block_number (scope_of lines func) name == 0) ≡ false → IsGoodLabel lines func (label_of (known_of lines func) name)
-good_label form lines func law name e f = (
-  label_below form lines func law name e,
-  not_from_Decides (block_number (scope_of lines func) name == 0) (Decides-eqb (block_number (scope_of lines func) name) 0) f,
-)
 
 -- ---- phis
 
@@ -76,10 +66,10 @@ entries_labels form lines func law [] known = tt
 entries_labels form lines func law (e ∷ es) known = (label_below form lines func law e.1 known.0, entries_labels form lines func law es known.1)
 
 pub good_phi : (form : Form) (lines : List Line) (func : Definition) → InLaw form lines func → (result : List ℕ) (ty : TypeWord) (es : List (Val × List ℕ))
-    → IsValueType ty → 0 < length es → AllByRecursion (IsGoodUse (scope_of lines func)) (map (entry_use ty) es)
+    → IsValueType ty → 0 < length es
     → list_any (λ name. is_none (block_named (scope_of lines func) name)) (map (λ (entry : Val × List ℕ). entry.1) es) ≡ false
     → GoodInst form lines func (instruction (Some result) ops.Phi (type_of ty) (map (entry_operand (known_of lines func).values ty) es) (map (entry_label (known_of lines func).blocks) es))
-good_phi form lines func law result ty es read some uses known =
+good_phi form lines func law result ty es read some known =
     let names = (known_of lines func).values in
     let blocks = (known_of lines func).blocks in
     let os = map (entry_operand names ty) es in
@@ -92,30 +82,17 @@ good_phi form lines func law result ty es read some uses known =
         record { result = refl; type = is_first ty read; operand_count = refl; values = vals; label_count = label_count; no_bundle = refl },
         (let n : 0 < length os = omega (arith, count) in n),
       );
-      typed = record {
-        operands = all_zip_same (defs.value_types (made lines func)) (type_of ty) os (entries_fit form lines func law ty read es uses);
-        bundle = All-nil (λ (entry : Ty × Operand). Fits (scope_made form lines func).values entry.1 entry.0);
-        rule = tt;
-      };
+      called = tt;
       widths = widths_made ops.Phi (Some result) (type_of ty) os labels (All-nil IsWidth) (type_width ty read);
       bundle = refl;
       plain = λ is. refl;
-      unordered = refl;
       layouts = no_layout form lines;
       functions = no_names form lines os vals;
       labels = All-from_recursion (λ (label : BlockId). label.0 < length (made lines func).blocks) labels
           (entries_labels form lines func law es (none_any (λ name. is_none (block_named (scope_of lines func) name)) (map (λ (entry : Val × List ℕ). entry.1) es) known));
-      entry = λ e. absurd (let bad : false ≡ true = e in cc);
     }
 
 -- ---- calls
-
-pub passed_fit : (form : Form) (lines : List Line) (func : Definition) → InLaw form lines func → (passed : List Given) → AllByRecursion IsReadPassed passed
-    → AllByRecursion (IsGoodUse (scope_of lines func)) (filter_map passed_value passed)
-    → AllZip (Fits (defs.value_types (made lines func))) (map (passed_operand (known_of lines func)) passed) (map given_type passed)
-passed_fit form lines func law [] read good = tt
-passed_fit form lines func law (given ty v ∷ passed) read good = (fit form lines func law ty v read.0 good.0, passed_fit form lines func law passed read.1 good.1)
-passed_fit form lines func law (function name ∷ passed) read good = (refl, passed_fit form lines func law passed read.1 good)
 
 pub passed_widths : (passed : List Given) → AllByRecursion IsReadPassed passed → All IsWidth (flat_map type_widths (map given_type passed))
 passed_widths [] read = All-nil IsWidth
@@ -135,10 +112,9 @@ call_width None answer read = subst (λ (t : TypeWord). All IsWidth (type_widths
 call_width (Some result) answer read = type_width answer read.1
 
 call_at : (form : Form) (lines : List Line) (func : Definition) → InLaw form lines func → (result : Option (List ℕ)) (answer : TypeWord) (name : List ℕ) (passed : List Given)
-    → IsReadCall result answer → AllByRecursion IsReadPassed passed → AllByRecursion (IsGoodUse (scope_of lines func)) (filter_map passed_value passed)
-    → (g : IsGoodCall form lines func name answer passed)
+    → IsReadCall result answer → AllByRecursion IsReadPassed passed → (g : IsGoodCall form lines func name answer passed)
     → GoodInst form lines func (instruction result (ops.Call g.callee (map given_type passed)) (type_of answer) (map (passed_operand (known_of lines func)) passed) [])
-call_at form lines func law result answer name passed read read_passed uses g = record {
+call_at form lines func law result answer name passed read read_passed g = record {
   line = record {
     result = call_result result answer read;
     type = answers answer;
@@ -147,112 +123,78 @@ call_at form lines func law result answer name passed read read_passed uses g = 
     bundle = refl;
     leaf = λ _. refl;
   };
-  typed = record {
-    operands = passed_fit form lines func law passed read_passed uses;
-    bundle = All-nil (λ (entry : Ty × Operand). Fits (scope_made form lines func).values entry.1 entry.0);
-    rule = record { signature = g.signature; operands = g.takes };
-  };
+  called = record { signature = g.signature; operands = g.takes };
   widths = widths_made (ops.Call g.callee (map given_type passed)) result (type_of answer) (map (passed_operand (known_of lines func)) passed) []
       (passed_widths passed read_passed) (call_width result answer read);
   bundle = refl;
   plain = g.helper;
-  unordered = refl;
   layouts = g.layouts;
   functions = g.functions;
   labels = All-nil (λ (label : BlockId). label.0 < length (made lines func).blocks);
-  entry = λ e. absurd (let bad : false ≡ true = e in cc);
 }
 
 pub good_call_line : (form : Form) (lines : List Line) (func : Definition) → InLaw form lines func → (result : Option (List ℕ)) (answer : TypeWord) (name : List ℕ) (passed : List Given)
     → LineFacts form (scope_of lines func) (call result answer name passed)
     → GoodInst form lines func (instruction result (ops.Call (callee_of (known_of lines func) name) (map given_type passed)) (type_of answer) (map (passed_operand (known_of lines func)) passed) [])
 good_call_line form lines func law result answer name passed facts =
-    let g = good_call form lines func law name answer passed facts.functions facts.rule facts.read.1 in
+    let g = good_call form lines func law name answer passed facts.functions (not-false (call_agrees form (scope_of lines func) answer name passed) facts.spelled) facts.read.1 in
     subst (λ (c : Callee). GoodInst form lines func (instruction result (ops.Call c (map given_type passed)) (type_of answer) (map (passed_operand (known_of lines func)) passed) []))
-    (sym g.is) (call_at form lines func law result answer name passed facts.read.0 (recursion_from_All IsReadPassed passed facts.read.1) facts.uses g)
+    (sym g.is) (call_at form lines func law result answer name passed facts.read.0 (recursion_from_All IsReadPassed passed facts.read.1) g)
 
 -- ---- terminators with labels
 
-good_labels : (lines : List Line) (func : Definition) (labels : List BlockId) → AllByRecursion (IsGoodLabel lines func) labels
-    → All (λ label. label.0 < length (made lines func).blocks) labels × All (λ label. label.0 ≢ 0) labels
-good_labels lines func [] all = (All-nil (λ (label : BlockId). label.0 < length (made lines func).blocks), All-nil (λ (label : BlockId). label.0 ≢ 0))
-good_labels lines func (label ∷ labels) all =
-    let more = good_labels lines func labels all.1 in (
-      All-cons (λ (label : BlockId). label.0 < length (made lines func).blocks) label labels all.0.0 more.0,
-      All-cons (λ (label : BlockId). label.0 ≢ 0) label labels all.0.1 more.1,
-    )
+good_ends : (form : Form) (lines : List Line) (func : Definition) (op : Op) (ty : Ty) (os : List Operand) (labels : List BlockId)
+    → IsLine (instruction None op ty os labels) → IsCalled (scope_made form lines func) op (instruction None op ty os labels)
+    → All IsWidth (operator_widths op) → All IsWidth (type_widths ty) → is_rewritten op ≡ false
+    → All (λ layout. layout < length (content form lines).layouts) (layouts_in (instruction None op ty os labels))
+    → All (λ named. named < length (content form lines).funcs) (functions_in (instruction None op ty os labels))
+    → AllByRecursion (IsGoodLabel lines func) labels → GoodInst form lines func (instruction None op ty os labels)
+good_ends form lines func op ty os labels line called of_op of_type plain layouts functions good = record {
+  line = line;
+  called = called;
+  widths = widths_made op None ty os labels of_op of_type;
+  bundle = refl;
+  plain = λ is. plain;
+  layouts = layouts;
+  functions = functions;
+  labels = All-from_recursion (IsGoodLabel lines func) labels good;
+}
 
 pub good_jump : (form : Form) (lines : List Line) (func : Definition) (label : BlockId) → IsGoodLabel lines func label
     → GoodInst form lines func (instruction None ops.Br tys.Void [] (label ∷ []))
 good_jump form lines func label good =
-    let labels = good_labels lines func (label ∷ []) (good, tt) in
-    record {
-      line = record { result = refl; type = refl; operand_count = refl; values = refl; label_count = refl; no_bundle = refl };
-      typed = record { operands = tt; bundle = All-nil (λ (entry : Ty × Operand). Fits (scope_made form lines func).values entry.1 entry.0); rule = tt };
-      widths = All-nil IsWidth;
-      bundle = refl;
-      plain = λ is. refl;
-      unordered = refl;
-      layouts = no_layout form lines;
-      functions = no_names form lines [] refl;
-      labels = labels.0;
-      entry = λ _. labels.1;
-    }
+    good_ends form lines func ops.Br tys.Void [] (label ∷ [])
+    (record { result = refl; type = refl; operand_count = refl; values = refl; label_count = refl; no_bundle = refl })
+    tt (All-nil IsWidth) (All-nil IsWidth) refl (no_layout form lines) (no_names form lines [] refl) (good, tt)
 
 pub good_branch : (form : Form) (lines : List Line) (func : Definition) (a : Operand) (on_true on_false : BlockId) → list_all is_value (a ∷ []) ≡ true
-    → Fits (defs.value_types (made lines func)) a (tys.Int 1) → IsGoodLabel lines func on_true → IsGoodLabel lines func on_false
+    → IsGoodLabel lines func on_true → IsGoodLabel lines func on_false
     → GoodInst form lines func (instruction None ops.CondBr (tys.Int 1) (a ∷ []) (on_true ∷ on_false ∷ []))
-good_branch form lines func a on_true on_false v f good_true good_false =
-    let labels = good_labels lines func (on_true ∷ on_false ∷ []) (good_true, (good_false, tt)) in
-    record {
-      line = record { result = refl; type = refl; operand_count = refl; values = v; label_count = refl; no_bundle = refl };
-      typed = record { operands = (f, tt); bundle = All-nil (λ (entry : Ty × Operand). Fits (scope_made form lines func).values entry.1 entry.0); rule = tt };
-      widths = width_one 1 (omega arith, omega arith);
-      bundle = refl;
-      plain = λ is. refl;
-      unordered = refl;
-      layouts = no_layout form lines;
-      functions = no_names form lines (a ∷ []) v;
-      labels = labels.0;
-      entry = λ _. labels.1;
-    }
+good_branch form lines func a on_true on_false v good_true good_false =
+    good_ends form lines func ops.CondBr (tys.Int 1) (a ∷ []) (on_true ∷ on_false ∷ [])
+    (record { result = refl; type = refl; operand_count = refl; values = v; label_count = refl; no_bundle = refl })
+    tt (All-nil IsWidth) (width_one 1 (omega arith, omega arith)) refl (no_layout form lines) (no_names form lines (a ∷ []) v) (good_true, (good_false, tt))
 
-pub good_switch : (form : Form) (lines : List Line) (func : Definition) (width : ℕ) (a : Operand) (cases : List Operand) (label : BlockId) (labels : List BlockId)
+good_switch : (form : Form) (lines : List Line) (func : Definition) (width : ℕ) (a : Operand) (cases : List Operand) (label : BlockId) (labels : List BlockId)
     → IsWidth width → list_all is_value (a ∷ cases) ≡ true → list_all is_literal cases ≡ true → length labels ≡ length cases
-    → AllByRecursion (λ op. Fits (defs.value_types (made lines func)) op (tys.Int width)) (a ∷ cases)
-    → Distinct cases → AllByRecursion (IsGoodLabel lines func) (label ∷ labels)
+    → AllByRecursion (IsGoodLabel lines func) (label ∷ labels)
     → GoodInst form lines func (instruction None ops.Switch (tys.Int width) (a ∷ cases) (label ∷ labels))
-good_switch form lines func width a cases label labels read v literal count fits distinct good =
-    let both_good = good_labels lines func (label ∷ labels) good in
-    record {
-      line = (record { result = refl; type = refl; operand_count = refl; values = v; label_count = ap suc count; no_bundle = refl }, omega arith, literal);
-      typed = record {
-        operands = all_zip_same (defs.value_types (made lines func)) (tys.Int width) (a ∷ cases) fits;
-        bundle = All-nil (λ (entry : Ty × Operand). Fits (scope_made form lines func).values entry.1 entry.0);
-        rule = distinct;
-      };
-      widths = widths_made ops.Switch None (tys.Int width) (a ∷ cases) (label ∷ labels) (All-nil IsWidth) (width_one width read);
-      bundle = refl;
-      plain = λ is. refl;
-      unordered = refl;
-      layouts = no_layout form lines;
-      functions = no_names form lines (a ∷ cases) v;
-      labels = both_good.0;
-      entry = λ _. both_good.1;
-    }
+good_switch form lines func width a cases label labels read v literal count good =
+    good_ends form lines func ops.Switch (tys.Int width) (a ∷ cases) (label ∷ labels)
+    (record { result = refl; type = refl; operand_count = refl; values = v; label_count = ap suc count; no_bundle = refl }, omega arith, literal)
+    tt (All-nil IsWidth) (width_one width read) refl (no_layout form lines) (no_names form lines (a ∷ cases) v) good
 
 -- the labels of the cases behind a line
 one_case_label : (form : Form) (lines : List Line) (func : Definition) → InLaw form lines func → (n : ℕ) (s : Statement) (ls : List Line) → LineFacts form (scope_of lines func) s
     → AllByRecursion (IsGoodLabel lines func) (case_labels (known_of lines func).blocks ls)
     → AllByRecursion (IsGoodLabel lines func) (case_labels (known_of lines func).blocks (record { number = n; says = s } ∷ ls))
 one_case_label form lines func law n (switch_case width value to) ls facts ih = (
-  good_label form lines func law to (or-left (is_none (block_named (scope_of lines func) to)) false facts.labels)
-      (or-left (block_number (scope_of lines func) to == 0) false facts.entry),
+  label_below form lines func law to (or-left (is_none (block_named (scope_of lines func) to)) false facts.labels),
   ih,
 )
 one_case_label form lines func law n _ ls facts ih = tt
 
-pub good_case_labels : (form : Form) (lines : List Line) (func : Definition) → InLaw form lines func → (ls : List Line)
+good_case_labels : (form : Form) (lines : List Line) (func : Definition) → InLaw form lines func → (ls : List Line)
     → AllByRecursion (λ l. LineFacts form (scope_of lines func) l.says) ls → AllByRecursion (IsGoodLabel lines func) (case_labels (known_of lines func).blocks ls)
 good_case_labels form lines func law [] facts = tt
 good_case_labels form lines func law (l ∷ ls) facts = one_case_label form lines func law l.number l.says ls facts.0 (good_case_labels form lines func law ls facts.1)
@@ -261,27 +203,19 @@ reads : (form : Form) (lines : List Line) (func : Definition) (ls : List Line) �
 reads form lines func [] facts = tt
 reads form lines func (l ∷ ls) facts = (facts.0.read, reads form lines func ls facts.1)
 
-case_fits : (T : List Ty) (names : List (List ℕ)) (width : ℕ) → IsWidth width → (v : Val) → is_case_value v ≡ true → Fits T (operand_in names (Int width) v) (tys.Int width)
-case_fits T names width read (values.number literal) e = (width, refl, wrapped_below width literal)
-case_fits T names width read (values.truth said) e = (width, refl, truth_below width said read.0)
-case_fits T names width read (values.local name) e = absurd (let bad : false ≡ true = e in cc)
-case_fits T names width read values.null e = absurd (let bad : false ≡ true = e in cc)
-
 case_literal : (names : List (List ℕ)) (width : ℕ) (v : Val) → is_case_value v ≡ true → is_literal (operand_in names (Int width) v) ≡ true
 case_literal names width (values.number literal) e = refl
 case_literal names width (values.truth said) e = refl
 case_literal names width (values.local name) e = absurd (let bad : false ≡ true = e in cc)
 case_literal names width values.null e = absurd (let bad : false ≡ true = e in cc)
 
-pub good_switch_line : (form : Form) (lines : List Line) (func : Definition) → InLaw form lines func → (before : List Line) (n width : ℕ) (value : Val) (default : List ℕ) (after : List Line)
-    → func.body ≡ before ++ (record { number = n; says = switch width value default }) ∷ after
+pub good_switch_line : (form : Form) (lines : List Line) (func : Definition) → InLaw form lines func → (width : ℕ) (value : Val) (default : List ℕ) (after : List Line)
     → LineFacts form (scope_of lines func) (switch width value default) → AllByRecursion (λ l. LineFacts form (scope_of lines func) l.says) after
     → GoodInst form lines func (instruction None ops.Switch (tys.Int width)
     (operand_of (known_of lines func) (Int width) value ∷ case_values (known_of lines func).values width after)
     (label_of (known_of lines func) default ∷ case_labels (known_of lines func).blocks after))
-good_switch_line form lines func law before n width value default after whole facts behind =
+good_switch_line form lines func law width value default after facts behind =
     let known = known_of lines func in
-    let T = defs.value_types (made lines func) in
     let cases = case_values known.values width after in
     let read = reads form lines func after behind in
     let first = operand_of known (Int width) value in
@@ -290,28 +224,11 @@ good_switch_line form lines func law before n width value default after whole fa
     (all-list is_value cases (each_case (λ (op : Operand). is_value op ≡ true) known.values width (λ v _. is_value_in known.values (Int width) v) after read)))
     (all-list is_literal cases (each_case (λ (op : Operand). is_literal op ≡ true) known.values width (case_literal known.values width) after read))
     (labels-cases known.values known.blocks width after) (
-      fit form lines func law (Int width) value facts.read facts.uses.0,
-      each_case (λ (op : Operand). Fits T op (tys.Int width)) known.values width (case_fits T known.values width facts.read) after read,
-    )
-    (values-distinct_in form lines law.none func law.defined known.values before n width value default after whole read) (
-      good_label form lines func law default (or-left (is_none (block_named (scope_of lines func) default)) false facts.labels)
-          (or-left (block_number (scope_of lines func) default == 0) false facts.entry),
+      label_below form lines func law default (or-left (is_none (block_named (scope_of lines func) default)) false facts.labels),
       good_case_labels form lines func law after behind,
     )
 
 -- ---- `getelementptr` over a layout
-
-place_below : (place : Literal) (count : ℕ) → is_field place count ≡ true → place_of place < count
-place_below place count e =
-    let less : place.magnitude < count = (Decides-ltb place.magnitude count).0
-    (and-right (not place.negative || not (Rattle.std.specs.Prelude.nat_lt 0 place.magnitude)) (Rattle.std.specs.Prelude.nat_lt place.magnitude count) e) in
-    let m : min place.magnitude (2 ^ 32 - 1) < count = omega arith in m
-
-field_by : (fields : List ℕ) (number : ℕ) (one : LayoutLine) (place : Option Literal) → slice_get fields number ≡ Some (length one.fields)
-    → place_fits place (Some one) ≡ true → HasField fields (elements.Layout number) (option_map place_of place)
-field_by fields number one None count e = tt
-field_by fields number one (Some place) count e =
-    subst (λ (o : Option ℕ). IfSome o (λ (k : ℕ). place_of place < k)) (sym count) (place_below place (length one.fields) e)
 
 pub good_layout_line : (form : Form) (lines : List Line) (func : Definition) → InLaw form lines func → (result named : List ℕ) (address : Val) (width : ℕ) (index : Val) (place : Option Literal)
     → LineFacts form (scope_of lines func) (layout_step result named address width index place)
@@ -324,14 +241,7 @@ good_layout_line form lines func law result named address width index place fact
     let s = stands (λ (l : LayoutLine). l.name) (layouts_of lines) named (or-left (is_none (layout_named (scope_of lines func) named)) false facts.layouts) in
     let few = law.read.few_layouts in
     let n = number-is (λ (l : LayoutLine). l.name) (layouts_of lines) named s (omega arith) in
-    let fields = (scope_made form lines func).fields in
     let within : number_in known.layouts named < length (content form lines).layouts =
     (let below = stands_below (λ (l : LayoutLine). l.name) (layouts_of lines) named s in omega (arith, n, length-map (layouts_of lines) layout_of)) in
-    let count : slice_get fields (number_in known.layouts named) ≡ Some (length s.one.fields) =
-    ap (slice_get fields) n ∙ slice_get-map (λ (layout : Rattle.ir_ast.specs.Layouts.ObjectLayout). length layout.fields) (map layout_of (layouts_of lines)) s.place
-    ∙ ap (option_map (λ (layout : Rattle.ir_ast.specs.Layouts.ObjectLayout). length layout.fields)) (slice_get-map layout_of (layouts_of lines) s.place ∙ ap (option_map layout_of) s.there)
-    ∙ ap Some (length-map s.one.fields Rattle.ir_lines.specs.Modules.cell_of) in
     good_layout form lines func result (number_in known.layouts named) width (option_map place_of place) a b
-    (two_values a b (is_value_in known.values Managed address) (is_value_in known.values (Int width) index))
-    (fit form lines func law Managed address tt facts.uses.0, (fit form lines func law (Int width) index facts.read.1 facts.uses.1.0, tt))
-    facts.read.1 within (field_by fields (number_in known.layouts named) s.one place count (sym (ap (place_fits place) s.found) ∙ facts.rule))
+    (two_values a b (is_value_in known.values Managed address) (is_value_in known.values (Int width) index)) facts.read.1 within

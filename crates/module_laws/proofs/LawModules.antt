@@ -1,15 +1,12 @@
--- The module of faultless lines that were read: its names, its layouts, its first function and its limits.
-use Rattle.std.proofs.Common.{◌≡◌, ◌≢◌, ◌∙◌, ◌⊎◌, inl, inr, ℕ, ◌<◌, ◌≤◌, Bool, true, false, not, cond, ◌&&◌, ◌||◌, ◌==◌, List, [], ◌∷◌, ◌++◌, map, length, refl, ap, sym, subst, arith, length-append}
-use Rattle.std.specs.Prelude.{Some, find, flat_map, codes}
-use Rattle.std.specs.List.{All, AllByRecursion, sum_by}
-use Rattle.std.specs.Str.{bytes_eq}
+-- The module of faultless lines that were read: its names, its layouts and its limits.
+use Rattle.std.proofs.Common.{◌≡◌, ◌∙◌, ℕ, ◌<◌, ◌≤◌, true, false, not, List, [], ◌∷◌, map, length, refl, ap, sym, subst, arith, length-append}
+use Rattle.std.specs.Prelude.{flat_map}
+use Rattle.std.specs.List.{All, sum_by}
 use Rattle.std.proofs.lemmas.List.{length-map}
 use Rattle.std.proofs.lemmas.List.Sums.{sum_by-cons}
 use Rattle.std.proofs.lemmas.List.Folds.{flat_map-map}
-use Rattle.std.proofs.lemmas.List.Elements.{All-map, All-contains, All-from_recursion}
-use Rattle.std.proofs.lemmas.Slice.Eq.{bytes_eq-Decides}
-use Rattle.std.proofs.lemmas.Bool.Decides.{Decides-eqb}
-use Rattle.ir_ast.specs.declared.types.Ty.TheVariants as tys
+use Rattle.std.proofs.lemmas.List.Elements.{All-map, All-contains}
+use Rattle.list_laws.proofs.Contents.{all_contained}
 use Rattle.ir_ast.specs.Blocks.{BasicBlock}
 use Rattle.ir_ast.specs.Funcs.{Function, instructions_of}
 use Rattle.ir_ast.specs.Layouts.{ObjectLayout}
@@ -18,48 +15,45 @@ use Rattle.ir_ast.specs.Lists.{Distinct}
 use Rattle.ir_ast.specs.Faults.NameTwice.{NamesAreDistinct}
 use Rattle.ir_ast.specs.Faults.TypeClash.{FunctionIsTyped, ModuleIsTyped}
 use Rattle.ir_ast.specs.Faults.BadLayout.{LayoutsHaveFields}
-use Rattle.ir_ast.specs.Faults.NoMain.{HasMain}
 use Rattle.ir_ast.specs.Faults.Reserved.{IsExternalName, FunctionNamesAreFree}
 use Rattle.ir_ast.specs.declared.modules.Form.{Form}
 use Rattle.ir_cfg.specs.Limits.{IsName, IsWithinLimits}
 use Rattle.line_parts.specs.declared.readings.TypeWord.{TypeWord}
-use Rattle.line_parts.specs.declared.readings.TypeWord.TheVariants.{Void, Int, Managed, Plain}
-use Rattle.line_parts.specs.Lists.{Named}
 use Rattle.ir_lines.specs.Statements.{Line}
 use Rattle.ir_lines.specs.Sections.{Definition, LayoutLine, BlockLines, layouts_of, definitions_of, blocks_of, arguments_named}
 use Rattle.ir_lines.specs.Modules.{known_of, type_of, cell_of, layout_of, argument_of, block_of, function_of}
-use Rattle.ir_lines.specs.PlainFaults.{HasNoPlainFault, bad_layout, no_main, reserved}
+use Rattle.ir_resolve.specs.TextFaults.{bad_layout, reserved}
+use Rattle.ir_resolve.specs.FaultSet.{HasNoResolvedFault, of_text}
 use Rattle.ir_lines.specs.Faults.BadLayout.{is_bad_layout, are_cells}
-use Rattle.ir_lines.specs.Faults.NoMain.{is_main, takes_nothing, is_status, NoMain}
 use Rattle.ir_lines.specs.Faults.Reserved.{defines_external}
 use Rattle.ir_lines.specs.InBody.{InText}
 use Rattle.ir_lines.specs.ReadLines.{IsReadLines, IsReadHead, SaysRead, instruction_count}
 use Rattle.module_laws.proofs.LawBodies.{body_insts}
-use Rattle.module_laws.proofs.LawFacts.{not-true, and-left, and-right, true-false}
+use Rattle.module_laws.proofs.LawFacts.{not-true}
 use Rattle.module_laws.proofs.LawHeads.{SaysOf, says-defined, says-layouts, layouts-distinct, definitions-distinct, values-distinct, blocks-distinct}
 use Rattle.module_laws.proofs.LawValues.{few_insts, length-named}
 use Rattle.module_laws.proofs.LawLines.{InLaw, made, names-are, all_lines}
 use Rattle.module_laws.proofs.LawTyped.{content}
-use Rattle.module_laws.proofs.LawFunctions.{contained, function_typed}
+use Rattle.module_laws.proofs.LawFunctions.{function_typed}
 
 -- ---- each function
 
-pub each_function : (form : Form) (lines : List Line) → IsReadLines form lines → HasNoPlainFault form lines → (P : Function → Type 0)
+pub each_function : (form : Form) (lines : List Line) → IsReadLines form lines → HasNoResolvedFault form lines → (P : Function → Type 0)
     → ((func : Definition) → InLaw form lines func → P (made lines func)) → All P (content form lines).funcs
 each_function form lines read none P f =
     All-map P (λ (func : Definition). function_of (known_of lines func) func) (definitions_of lines)
-    (contained (λ (func : Definition). P (made lines func)) (definitions_of lines) (λ func inside. f func (record { read = read; none = none; defined = inside })))
+    (all_contained (λ (func : Definition). P (made lines func)) (definitions_of lines) (λ func inside. f func (record { read = read; none = none; defined = inside })))
 
 -- ---- layouts
 
-pub layouts_filled : (form : Form) (lines : List Line) → HasNoPlainFault form lines → LayoutsHaveFields (content form lines)
+pub layouts_filled : (form : Form) (lines : List Line) → HasNoResolvedFault form lines → LayoutsHaveFields (content form lines)
 layouts_filled form lines none =
     All-map (λ (one : ObjectLayout). 0 < length one.fields) layout_of (layouts_of lines)
     (says-layouts (λ one. 0 < length (map cell_of one.fields)) (λ s. is_bad_layout s ≡ false) (λ n name fields e. filled fields e) lines
     (all_lines (λ (l : Line). is_bad_layout l.says ≡ false) lines (λ l inside.
     not-true (is_bad_layout l.says) (λ bad.
     let told : InText lines l.number is_bad_layout = record { found = l; inside = inside; number = refl; faulty = bad } in
-    none l.number 13 (bad_layout told)))))
+    none l.number 13 (of_text (bad_layout told))))))
   where
     filled : (fields : List TypeWord) → not (are_cells fields) ≡ false → 0 < length (map cell_of fields)
     filled [] e = absurd (let bad : true ≡ false = e in cc)
@@ -86,7 +80,7 @@ pub head_of_function : (form : Form) (lines : List Line) (func : Definition) →
 head_of_function form lines func law =
     (All-contains (SaysOf SaysRead) (definitions_of lines) func (says-defined SaysRead lines law.read.says) law.defined).head
 
-pub limits_kept : (form : Form) (lines : List Line) → IsReadLines form lines → HasNoPlainFault form lines → IsWithinLimits (content form lines)
+pub limits_kept : (form : Form) (lines : List Line) → IsReadLines form lines → HasNoResolvedFault form lines → IsWithinLimits (content form lines)
 limits_kept form lines read none = record {
   layouts = (let few = read.few_layouts in omega (arith, length-map (layouts_of lines) layout_of));
   functions = (let few = read.few_functions in omega (arith, length-map (definitions_of lines) (λ (func : Definition). function_of (known_of lines func) func)));
@@ -104,7 +98,7 @@ names_mapped : {A B : Type 0} (f : A → B) (of_new : B → List ℕ) (of_old : 
 names_mapped f of_new of_old same [] = refl
 names_mapped f of_new of_old same (x ∷ xs) = ap (λ (n : List ℕ). n ∷ map of_new (map f xs)) (same x) ∙ ap (λ (ns : List (List ℕ)). of_old x ∷ ns) (names_mapped f of_new of_old same xs)
 
-pub names_once : (form : Form) (lines : List Line) → IsReadLines form lines → HasNoPlainFault form lines → NamesAreDistinct (content form lines)
+pub names_once : (form : Form) (lines : List Line) → IsReadLines form lines → HasNoResolvedFault form lines → NamesAreDistinct (content form lines)
 names_once form lines read none = record {
   layouts = subst Distinct (sym (names_mapped layout_of (λ (one : ObjectLayout). one.name) (λ (one : LayoutLine). one.name) (λ x. refl) (layouts_of lines))) (layouts-distinct form lines none);
   functions = subst Distinct (sym (names_mapped (λ (func : Definition). function_of (known_of lines func) func) (λ (one : Function). one.name) (λ (one : Definition). one.name) (λ x. refl) (definitions_of lines)))
@@ -116,92 +110,9 @@ names_once form lines read none = record {
       subst Distinct (sym (names-are form lines func law)) (values-distinct form lines none func law.defined));
 }
 
-pub names_free : (form : Form) (lines : List Line) → IsReadLines form lines → HasNoPlainFault form lines → FunctionNamesAreFree (content form lines)
+pub names_free : (form : Form) (lines : List Line) → IsReadLines form lines → HasNoResolvedFault form lines → FunctionNamesAreFree (content form lines)
 names_free form lines read none =
-    each_function form lines read none (λ func. ¬ (IsExternalName func.name)) (λ func law bad. none func.line 14 (reserved (defines_external func law.defined refl bad)))
-
--- ---- the first function
-
-record MainIn (lines : List Line) (defs : List Definition) : Type 0 where
-  earlier : List Definition
-  main : Definition
-  later : List Definition
-  whole : defs ≡ earlier ++ main ∷ later
-  first : AllByRecursion (λ func. func.name ≢ codes "main") earlier
-  name : main.name ≡ codes "main"
-  found : find (λ func. bytes_eq func.name (codes "main")) defs ≡ Some main
-
-main_in : (lines : List Line) (defs : List Definition) → is_main (find (λ func. bytes_eq func.name (codes "main")) defs) ≡ true → MainIn lines defs
-main_in lines [] e = absurd (let bad : false ≡ true = e in cc)
-main_in lines (d ∷ ds) e = by (bytes_eq d.name (codes "main")) refl (main_in lines ds)
-  where
-    by : (b : Bool) → bytes_eq d.name (codes "main") ≡ b → (is_main (find (λ func. bytes_eq func.name (codes "main")) ds) ≡ true → MainIn lines ds) → MainIn lines (d ∷ ds)
-    by true is ih = record {
-      earlier = [];
-      main = d;
-      later = ds;
-      whole = refl;
-      first = tt;
-      name = (bytes_eq-Decides d.name (codes "main")).0 is;
-      found = ap (λ (b : Bool). cond b (Some d) (find (λ (func : Definition). bytes_eq func.name (codes "main")) ds)) is;
-    }
-    by false is ih =
-        let skip : find (λ (func : Definition). bytes_eq func.name (codes "main")) (d ∷ ds) ≡ find (λ (func : Definition). bytes_eq func.name (codes "main")) ds =
-        ap (λ (b : Bool). cond b (Some d) (find (λ (func : Definition). bytes_eq func.name (codes "main")) ds)) is in
-        let more = ih (sym (ap is_main skip) ∙ e) in
-        record {
-          earlier = d ∷ more.earlier;
-          main = more.main;
-          later = more.later;
-          whole = ap (λ (xs : List Definition). d ∷ xs) more.whole;
-          first = ((λ same. true-false (bytes_eq d.name (codes "main")) ((bytes_eq-Decides d.name (codes "main")).1 same) is), more.first);
-          name = more.name;
-          found = skip ∙ more.found;
-        }
-
-status : (ty : TypeWord) → is_status ty ≡ true → (type_of ty ≡ tys.Int 32) ⊎ (type_of ty ≡ tys.Int 64)
-status (Int width) e = by (width == 32) refl (width == 64) refl e
-  where
-    by : (a : Bool) → (width == 32) ≡ a → (b : Bool) → (width == 64) ≡ b → ((width == 32) || (width == 64)) ≡ true → (type_of (Int width) ≡ tys.Int 32) ⊎ (type_of (Int width) ≡ tys.Int 64)
-    by true f b g e = inl (ap tys.Int ((Decides-eqb width 32).0 f))
-    by false f true g e = inr (ap tys.Int ((Decides-eqb width 64).0 g))
-    by false f false g e =
-        let bad : false ≡ true = sym (ap (λ (x : Bool). x || (width == 64)) f ∙ ap (λ (x : Bool). false || x) g) ∙ e in absurd (cc)
-status Void e = absurd (let bad : false ≡ true = e in cc)
-status Managed e = absurd (let bad : false ≡ true = e in cc)
-status Plain e = absurd (let bad : false ≡ true = e in cc)
-
-no_arguments : (line : ℕ) (arguments : List Named) → takes_nothing arguments ≡ true → map argument_of (arguments_named line [] arguments) ≡ []
-no_arguments line [] e = refl
-no_arguments line (one ∷ more) e = absurd (let bad : false ≡ true = e in cc)
-
-map_names : (lines : List Line) (defs : List Definition) → AllByRecursion (λ func. func.name ≢ codes "main") defs
-    → AllByRecursion (λ func. func.name ≢ codes "main") (map (λ (func : Definition). function_of (known_of lines func) func) defs)
-map_names lines [] all = tt
-map_names lines (d ∷ ds) all = (all.0, map_names lines ds all.1)
-
-pub has_main : (form : Form) (lines : List Line) → HasNoPlainFault form lines → HasMain (content form lines)
-has_main form lines none =
-    let F : Definition → Function = λ func. function_of (known_of lines func) func in
-    let is : is_main (find (λ func. bytes_eq func.name (codes "main")) (definitions_of lines)) ≡ true =
-    found_main (is_main (find (λ func. bytes_eq func.name (codes "main")) (definitions_of lines))) (λ lacks.
-    let told : NoMain lines 0 = record { at_no_line = refl; lacks = lacks } in none 0 11 (no_main told)) in
-    let m = main_in lines (definitions_of lines) is in
-    let right : (takes_nothing m.main.arguments && is_status m.main.answer) ≡ true = sym (ap is_main m.found) ∙ is in
-    record {
-      earlier = map F m.earlier;
-      main = F m.main;
-      later = map F m.later;
-      whole = ap (map F) m.whole ∙ Rattle.std.proofs.lemmas.List.map-append F m.earlier (m.main ∷ m.later);
-      first = All-from_recursion (λ (func : Function). func.name ≢ codes "main") (map F m.earlier) (map_names lines m.earlier m.first);
-      name = m.name;
-      args = no_arguments m.main.line m.main.arguments (and-left (takes_nothing m.main.arguments) (is_status m.main.answer) right);
-      answer = status m.main.answer (and-right (takes_nothing m.main.arguments) (is_status m.main.answer) right);
-    }
-  where
-    found_main : (b : Bool) → ¬ (b ≡ false) → b ≡ true
-    found_main true h = refl
-    found_main false h = absurd (h refl)
+    each_function form lines read none (λ func. ¬ (IsExternalName func.name)) (λ func law bad. none func.line 14 (of_text (reserved (defines_external func law.defined refl bad))))
 
 -- ---- how many instructions
 
@@ -226,6 +137,6 @@ total_made form lines =
 
 -- ---- its types
 
-pub module_typed : (form : Form) (lines : List Line) → IsReadLines form lines → HasNoPlainFault form lines → ModuleIsTyped (content form lines)
+pub module_typed : (form : Form) (lines : List Line) → IsReadLines form lines → HasNoResolvedFault form lines → ModuleIsTyped (content form lines)
 module_typed form lines read none =
     each_function form lines read none (λ func. FunctionIsTyped (Rattle.ir_ast.specs.Scope.scope_of (content form lines) func) func) (λ func law. function_typed form lines func law)

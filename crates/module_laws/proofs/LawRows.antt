@@ -1,38 +1,53 @@
 -- The relocates of a token stand in one row, so they are few.
 use Rattle.std.proofs.Common.{◌≡◌, ◌∙◌, ◌⊎◌, inl, inr, ℕ, suc, ◌<◌, ◌≤◌, ◌+◌, ◌^◌, Bool, true, false, cond, ◌&&◌, ◌==◌, List, [], ◌∷◌, ◌++◌, map, length, refl, ap, sym, subst, arith, append_assoc, length-append}
-use Rattle.std.specs.Prelude.{Option, Some, None, IfSome, slice_get, filter, count_by, take_while}
+use Rattle.std.specs.Prelude.{Option, Some, None, IfSome, is_none, flat_map, slice_get, filter, count_by, take_while}
 use Rattle.std.specs.List.{All, Contains, list_all}
-use Rattle.std.proofs.lemmas.List.{length-map}
+use Rattle.std.proofs.lemmas.List.{length-map, map-append}
+use Rattle.std.proofs.lemmas.Grind.{flat_map-append}
 use Rattle.std.proofs.lemmas.List.Elements.{filter-append, All-contains}
 use Rattle.std.proofs.lemmas.List.Folds.{list_all-append}
 use Rattle.std.proofs.lemmas.List.Sums.{sum_by-cons, take_while-cons}
 use Rattle.std.proofs.lemmas.Option.{same_Some}
 use Rattle.std.proofs.lemmas.Bool.Decides.{Decides-eqb}
+use Rattle.list_laws.proofs.Contents.{contains_map, get_contained, all_at}
+use Rattle.list_laws.proofs.Places.{get_map, get_middle}
 use Rattle.ir_ast.specs.declared.modules.Form.TheVariants.{Rewritten}
 use Rattle.ir_ast.specs.declared.ops.Op.{Op}
 use Rattle.ir_ast.specs.declared.ops.Op.TheVariants as ops
+use Rattle.ir_ast.specs.declared.ops.Operand.TheVariants as operands
 use Rattle.ir_ast.specs.Insts.{Instruction}
 use Rattle.ir_ast.specs.Funcs.{instructions_of}
-use Rattle.ir_ast.specs.Faults.GroupShape.{is_statepoint, is_part as is_part_made, entries_of, number_at}
+use Rattle.ir_ast.specs.Faults.GroupShape.{Group as ModuleGroup, is_statepoint, is_part as is_part_made, entries_of, number_at, ResultInShape, RelocateInShape, ShapeOf}
 use Rattle.ir_cfg.specs.Statepoints.{is_relocate as is_relocate_op, relocates_of, StatepointsAreSmall, IdIsWord}
 use Rattle.line_tokens.specs.declared.literals.Literal.{Literal}
 use Rattle.ir_lines.specs.Statements.{Line, Statement, statepoint, gc_result, gc_relocate}
-use Rattle.ir_lines.specs.Parts.{live_use}
-use Rattle.ir_lines.specs.Sections.{Definition, Naming, values_of}
-use Rattle.ir_lines.specs.Scope.{scope_of}
+use Rattle.line_parts.specs.declared.readings.TypeWord.{TypeWord}
+use Rattle.line_parts.specs.Parts.{Val}
+use Rattle.group_parts.specs.Statepoints.{Guarded}
+use Rattle.ir_lines.specs.Parts.{gives, token_type, live_use}
+use Rattle.ir_lines.specs.Sections.{Definition, Naming, definitions_of, arguments_named, result_named, values_before, values_of}
+use Rattle.ir_lines.specs.Scope.{scope_of, value_named}
 use Rattle.ir_lines.specs.Places.{number_in}
-use Rattle.ir_lines.specs.Modules.{Known, known_of, instruction_said, insts_of, used_operand}
+use Rattle.ir_lines.specs.Modules.{Known, known_of, wrapped, function_of, instruction_said, insts_of, used_operand}
 use Rattle.ir_lines.specs.ReadLines.{SaysRead, is_relocate, relocates_first}
 use Rattle.ir_lines.specs.Faults.GroupShape.{Group, is_part}
 use Rattle.ir_lines.proofs.LawNames.{stands, number-is, contains_middle}
-use Rattle.module_laws.proofs.LawFacts.{and-left, and-right, true-false}
+use Rattle.ir_resolve.specs.Resolved.{uncast_line, resolved}
+use Rattle.ir_resolve.specs.FaultSet.{of_module}
+use Rattle.ir_resolve.proofs.Casts.{uncast_in, definitions-same}
+use Rattle.ir_resolve.proofs.Derivations.{bare, made_of}
+use Rattle.ir_resolve.proofs.Fronts.{said_at, insts, front, insts-cons as insts_cons, insts_split}
+use Rattle.ir_resolve.proofs.Groups.{are_parts, point, GroupSaid, group_said}
+use Rattle.ir_resolve.proofs.GroupFaults.{token_numbered}
+use Rattle.ir_resolve.proofs.PhiPlaces.{BodyStands}
+use Rattle.ir_resolve.proofs.Phis.{insts_said as insts_told}
+use Rattle.ir_resolve.proofs.Unbroken.{unbroken_shapes}
+use Rattle.module_laws.proofs.LawFacts.{or-left, and-left, and-right, true-false}
 use Rattle.module_laws.proofs.LawBodies.{insts_said, insts-cons, body_insts, func_insts}
+use Rattle.module_laws.proofs.LawValues.{given_by}
 use Rattle.module_laws.proofs.LawLines.{InLaw, LineFacts, line_facts, made, read_function, said_function, few_numbers, wrapped_below}
 use Rattle.module_laws.proofs.LawFunctions.{if_some}
-use Rattle.module_laws.proofs.LawGroups.{live_made, dropped_first}
-use Rattle.module_laws.proofs.LawPlaces.{line_at}
-use Rattle.module_laws.proofs.LawTokens.{names_before, are_parts, point, names-at}
-use Rattle.module_laws.proofs.LawShapes.{is_group_op, group_said, right_result, right_relocate}
+use Rattle.module_laws.proofs.LawGroups.{live_made, dropped_first, is_group_op, group_said as plain_said}
 
 -- ---- what passes a test stands in a row
 
@@ -183,7 +198,7 @@ one_counted : (known : Known) (n : ℕ) (behind : List Line) (s : Statement)
 one_counted known n behind (gc_relocate result token base derived) = one_or_none _ (number_in known.values token == n)
 one_counted known n behind (statepoint result called live) = refl
 one_counted known n behind (gc_result result ty token) = refl
-one_counted known n behind s = counted_said n (instruction_said known behind s) (group_said known behind s refl)
+one_counted known n behind s = counted_said n (instruction_said known behind s) (plain_said known behind s refl)
 
 all_counted : (known : Known) (n : ℕ) (ls : List Line)
     → length (filter (λ inst. is_relocate_op inst.op && is_part_made n inst) (insts_of known ls)) ≡ count_by (relocates_line known n) ls
@@ -198,16 +213,111 @@ all_counted known n (l ∷ ls) =
     ∙ ap (λ (k : ℕ). cond (relocates known n l.says) 1 0 + k) (all_counted known n ls)
     ∙ sym (count-cons (relocates_line known n) l ls)
 
+-- ---- the group of a part, which the module has
+
+abbrev names_before : Definition → List Line → List (List ℕ)
+names_before func ls = map (λ (one : Naming). one.name) (values_before func ls)
+
+-- the token stands among the values of lines behind those of the lines before its statepoint
+names-at : (func : Definition) (earlier : List Line) (number : ℕ) (token : List ℕ) (called : Guarded) (live : List Val) (more : List Line)
+    → names_before func (earlier ++ point number token called live ∷ more) ≡ names_before func earlier ++ token ∷ map (λ (one : Naming). one.name) (given_by more)
+names-at func earlier number token called live more =
+    let args = arguments_named func.line [] func.arguments in
+    let name : Naming → List ℕ = λ one. one.name in
+    let r : Naming = record { line = number; name = token; ty = token_type } in
+    let f : Line → List Naming = λ l. result_named l.number (gives l.says) in
+    ap (λ (xs : List Naming). map name (args ++ xs)) (flat_map-append f earlier (point number token called live ∷ more))
+    ∙ ap (map name) (sym (append_assoc args (given_by earlier) (r ∷ given_by more)))
+    ∙ map-append name (args ++ given_by earlier) (r ∷ given_by more)
+
+-- a function of a text without a fault, whose body goes on until it is closed
+record InPlace (lines : List Line) (func : Definition) : Type 0 where
+  law : InLaw Rewritten lines func
+  stand : BodyStands func
+
+-- the group of a token that has a name
+group_lined : (lines : List Line) (func : Definition) → InPlace lines func → (before : List Line) (l : Line) (after : List Line) → func.body ≡ before ++ l ∷ after
+    → (token : List ℕ) → is_none (value_named (scope_of lines func) token) ≡ false
+    → (group : ModuleGroup (made_of lines func) (number_in (bare lines func).values token) (length (front (bare lines func) before (l ∷ after))))
+    → GroupSaid lines func before (l ∷ after) token group
+group_lined lines func text before l after whole token known group =
+    let few : length (values_of func) < 2 ^ 32 = (let f = few_numbers Rewritten lines func text.law in omega arith) in
+    group_said lines func few text.stand before (l ∷ after) whole token (token_numbered lines func few token known) group
+
+-- the shape of a part's instruction
+shaped : (lines : List Line) (func : Definition) → InPlace lines func → (before : List Line) (l : Line) (after : List Line) → func.body ≡ before ++ l ∷ after
+    → (inst : Instruction) → said_at (bare lines func) l after ≡ Some inst
+    → ShapeOf (made_of lines func) (length (front (bare lines func) before (l ∷ after))) inst inst.op
+shaped lines func text before l after whole inst said =
+    let known = bare lines func in
+    let all = insts_split lines func before (l ∷ after) whole in
+    let uncast : Contains (definitions_of (map uncast_line lines)) (uncast_in func) =
+    subst (λ (ds : List Definition). Contains ds (uncast_in func)) (sym (definitions-same lines)) (contains_map uncast_in (definitions_of lines) func text.law.defined) in
+    let d = get_contained (definitions_of (map uncast_line lines)) (uncast_in func) uncast in
+    unbroken_shapes (resolved Rewritten lines) (λ line code fault. text.law.none line code (of_module fault)) d.0 (made_of lines func)
+    (get_map (λ (one : Definition). function_of (known_of (map uncast_line lines) one) one) (definitions_of (map uncast_line lines)) d.0 (uncast_in func) d.1) refl
+    (length (front known before (l ∷ after))) inst
+    (ap (λ (is : List Instruction). slice_get is (length (front known before (l ∷ after)))) all
+    ∙ ap (λ (is : List Instruction). slice_get (front known before (l ∷ after) ++ is) (length (front known before (l ∷ after)))) (first_inst known l after inst said)
+    ∙ get_middle (front known before (l ∷ after)) inst (insts known after))
+  where
+    first_inst : (known : Known) (l : Line) (after : List Line) (inst : Instruction) → said_at known l after ≡ Some inst → insts known (l ∷ after) ≡ inst ∷ insts known after
+    first_inst known l after inst said = insts_cons known l after ∙ ap (λ (o : Option Instruction). insts_told o ++ insts known after) said
+
+relocate_group : (lines : List Line) (func : Definition) → InPlace lines func → (before : List Line) (n : ℕ) (result token : List ℕ) (base derived : Literal) (after : List Line)
+    → func.body ≡ before ++ (record { number = n; says = gc_relocate result token base derived }) ∷ after → is_none (value_named (scope_of lines func) token) ≡ false
+    → Group func before token
+relocate_group lines func text before n result token base derived after whole known =
+    let l : Line = record { number = n; says = gc_relocate result token base derived } in
+    let number = number_in (bare lines func).values token in
+    let shape : RelocateInShape (made_of lines func) (length (front (bare lines func) before (l ∷ after))) _ = shaped lines func text before l after whole _ refl in
+    let given : operands.Value (record { 0 = number }) ∷ operands.Int (wrapped 32 base) ∷ operands.Int (wrapped 32 derived) ∷ []
+    ≡ operands.Value shape.token ∷ operands.Int shape.base ∷ operands.Int shape.derived ∷ [] = shape.operands in
+    let at : shape.token.0 ≡ number = cc in
+    (group_lined lines func text before l after whole token known
+    (subst (λ (t : ℕ). ModuleGroup (made_of lines func) t (length (front (bare lines func) before (l ∷ after)))) at shape.group)).lined
+
+-- a result stands directly behind its statepoint
+record ResultGroup (func : Definition) (before : List Line) (token : List ℕ) : Type 0 where
+  group : Group func before token
+  directly : group.parts ≡ []
+
+result_group : (lines : List Line) (func : Definition) → InPlace lines func → (before : List Line) (n : ℕ) (result : List ℕ) (ty : TypeWord) (token : List ℕ) (after : List Line)
+    → func.body ≡ before ++ (record { number = n; says = gc_result result ty token }) ∷ after → is_none (value_named (scope_of lines func) token) ≡ false
+    → ResultGroup func before token
+result_group lines func text before n result ty token after whole known =
+    let l : Line = record { number = n; says = gc_result result ty token } in
+    let number = number_in (bare lines func).values token in
+    let shape : ResultInShape (made_of lines func) (length (front (bare lines func) before (l ∷ after))) _ = shaped lines func text before l after whole _ refl in
+    let given : operands.Value (record { 0 = number }) ∷ [] ≡ operands.Value shape.token ∷ [] = shape.operands in
+    let at : shape.token.0 ≡ number = cc in
+    with_group l whole shape.token.0 at shape.group shape.directly
+  where
+    empty : (ls : List Line) → length ls ≡ 0 → ls ≡ []
+    empty [] e = refl
+    empty (x ∷ xs) e = absurd (omega arith)
+
+    with_group : (l : Line) → func.body ≡ before ++ l ∷ after → (t : ℕ) → t ≡ number_in (bare lines func).values token
+        → (g : ModuleGroup (made_of lines func) t (length (front (bare lines func) before (l ∷ after))))
+        → g.head + 1 ≡ length (front (bare lines func) before (l ∷ after)) → ResultGroup func before token
+    with_group l split t at g directly =
+        let P : (number : ℕ) → Type 0 = λ number. (h : ModuleGroup (made_of lines func) number (length (front (bare lines func) before (l ∷ after))))
+        × (h.head + 1 ≡ length (front (bare lines func) before (l ∷ after))) in
+        let moved : P (number_in (bare lines func).values token) = subst P at (g, directly) in
+        let said = group_lined lines func text before l after split token known moved.0 in
+        let place = said.place_is in
+        let next = moved.1 in
+        record { group = said.lined; directly = empty said.lined.parts (omega arith) }
+
 -- ---- in faultless lines
 
 -- relocates of one number have one token
-same_token : (lines : List Line) (func : Definition) → InLaw Rewritten lines func → (a b : List ℕ)
-    → Rattle.module_laws.proofs.LawFacts.IsKnownUse (scope_of lines func) (Rattle.line_parts.specs.Parts.local a)
-    → Rattle.module_laws.proofs.LawFacts.IsKnownUse (scope_of lines func) (Rattle.line_parts.specs.Parts.local b)
+same_token : (lines : List Line) (func : Definition) → InPlace lines func → (a b : List ℕ)
+    → is_none (value_named (scope_of lines func) a) ≡ false → is_none (value_named (scope_of lines func) b) ≡ false
     → number_in (known_of lines func).values a ≡ number_in (known_of lines func).values b → a ≡ b
-same_token lines func law a b known_a known_b same =
+same_token lines func text a b known_a known_b same =
     let name : Naming → List ℕ = λ one. one.name in
-    let few : length (values_of func) < 2 ^ 32 = (let f = few_numbers Rewritten lines func law in omega arith) in
+    let few : length (values_of func) < 2 ^ 32 = (let f = few_numbers Rewritten lines func text.law in omega arith) in
     let s = stands name (values_of func) a known_a in
     let t = stands name (values_of func) b known_b in
     let place : s.place ≡ t.place = sym (number-is name (values_of func) a s few) ∙ same ∙ number-is name (values_of func) b t few in
@@ -218,30 +328,31 @@ same_token lines func law a b known_a known_b same =
 record Placed (lines : List Line) (func : Definition) (n : ℕ) (before : List Line) (l : Line) (after : List Line) : Type 0 where
   is : IsRelocate (known_of lines func) n l.says
   split : func.body ≡ before ++ (record { number = l.number; says = gc_relocate is.result is.token is.base is.derived }) ∷ after
-  known : Rattle.module_laws.proofs.LawFacts.IsKnownUse (scope_of lines func) (Rattle.line_parts.specs.Parts.local is.token)
+  known : is_none (value_named (scope_of lines func) is.token) ≡ false
   group : Group func before is.token
 
-placed : (lines : List Line) (func : Definition) → InLaw Rewritten lines func → (n : ℕ) (before : List Line) (l : Line) (after : List Line)
+placed : (lines : List Line) (func : Definition) → InPlace lines func → (n : ℕ) (before : List Line) (l : Line) (after : List Line)
     → func.body ≡ before ++ l ∷ after → relocates (known_of lines func) n l.says ≡ true → Placed lines func n before l after
-placed lines func law n before l after whole e =
+placed lines func text n before l after whole e =
     let r = relocate_is (known_of lines func) n l.says e in
     let s = gc_relocate r.result r.token r.base r.derived in
     let split : func.body ≡ before ++ (record { number = l.number; says = s }) ∷ after =
     whole ∙ ap (λ (x : Statement). before ++ (let one : Line = record { number = l.number; says = x } in one) ∷ after) r.says in
     let facts = subst (LineFacts Rewritten (scope_of lines func)) r.says
-    (line_facts Rewritten lines func law l (subst (λ (xs : List Line). Contains xs l) (sym whole) (contains_middle before l after))) in
+    (line_facts Rewritten lines func text.law l (subst (λ (xs : List Line). Contains xs l) (sym whole) (contains_middle before l after))) in
+    let known = or-left (is_none (value_named (scope_of lines func) r.token)) false facts.values in
     record {
       is = r;
       split = split;
-      known = facts.uses.0.1;
-      group = (right_relocate lines func law before l.number r.result r.token r.base r.derived after split).group;
+      known = known;
+      group = relocate_group lines func text before l.number r.result r.token r.base r.derived after split known;
     }
 
 -- behind a relocate, all that ends with a group of its token has the relocate among its parts
-within_parts : (lines : List Line) (func : Definition) → InLaw Rewritten lines func → (n : ℕ) (pre : List Line) (x : Line) (rest : List Line)
+within_parts : (lines : List Line) (func : Definition) → InPlace lines func → (n : ℕ) (pre : List Line) (x : Line) (rest : List Line)
     → (p : Placed lines func n pre x rest) → (post : List Line) (token : List ℕ) → p.is.token ≡ token → (g : Group func (pre ++ x ∷ post) token)
     → (some : List Line) × (g.parts ≡ some ++ x ∷ post)
-within_parts lines func law n pre x rest p post token same g =
+within_parts lines func text n pre x rest p post token same g =
     by (sides pre x post g.earlier (point g.number token g.made g.live) g.parts g.whole)
   where
     h : Group func pre p.is.token
@@ -252,11 +363,11 @@ within_parts lines func law n pre x rest p post token same g =
         let sp = point h.number p.is.token h.made h.live in
         let whole : g.earlier ≡ h.earlier ++ sp ∷ (h.parts ++ x ∷ more) =
         e ∙ ap (λ (xs : List Line). xs ++ x ∷ more) h.whole ∙ append_assoc h.earlier (sp ∷ h.parts) (x ∷ more) in
-        let names : names_before func g.earlier ≡ names_before func h.earlier ++ p.is.token ∷ map (λ (one : Naming). one.name) (Rattle.module_laws.proofs.LawValues.given_by (h.parts ++ x ∷ more)) =
+        let names : names_before func g.earlier ≡ names_before func h.earlier ++ p.is.token ∷ map (λ (one : Naming). one.name) (given_by (h.parts ++ x ∷ more)) =
         ap (names_before func) whole ∙ names-at func h.earlier h.number p.is.token h.made h.live (h.parts ++ x ∷ more) in
         subst (λ (t : List ℕ). Contains (names_before func g.earlier) t) same
         (subst (λ (ns : List (List ℕ)). Contains ns p.is.token) (sym names)
-        (contains_middle (names_before func h.earlier) p.is.token (map (λ (one : Naming). one.name) (Rattle.module_laws.proofs.LawValues.given_by (h.parts ++ x ∷ more)))))
+        (contains_middle (names_before func h.earlier) p.is.token (map (λ (one : Naming). one.name) (given_by (h.parts ++ x ∷ more)))))
 
     by : Sides pre x post g.earlier (point g.number token g.made g.live) g.parts → (some : List Line) × (g.parts ≡ some ++ x ∷ post)
     by (in_earlier more e) = absurd (g.first (again more e))
@@ -268,7 +379,7 @@ within_parts lines func law n pre x rest p post token same g =
 
 -- parts of a group of which none is a result are relocates
 only_relocates : (token : List ℕ) (ls : List Line) → are_parts token ls ≡ true
-    → ((mid : List Line) (m : ℕ) (result : List ℕ) (ty : Rattle.line_parts.specs.declared.readings.TypeWord.TypeWord) (more : List Line)
+    → ((mid : List Line) (m : ℕ) (result : List ℕ) (ty : TypeWord) (more : List Line)
     → ls ≡ mid ++ (record { number = m; says = gc_result result ty token }) ∷ more → ⊥)
     → list_all (λ (l : Line). is_relocate l.says) ls ≡ true
 only_relocates token [] e h = refl
@@ -277,7 +388,7 @@ only_relocates token (l ∷ ls) e h =
     (only_relocates token ls (and-right (is_part token l.says) (are_parts token ls) e) (λ mid m result ty more f. h (l ∷ mid) m result ty more (ap (λ (xs : List Line). l ∷ xs) f)))
   where
     by : (k : ℕ) (s : Statement) → is_part token s ≡ true
-        → ((result : List ℕ) (ty : Rattle.line_parts.specs.declared.readings.TypeWord.TypeWord) → s ≡ gc_result result ty token → ⊥)
+        → ((result : List ℕ) (ty : TypeWord) → s ≡ gc_result result ty token → ⊥)
         → list_all (λ (one : Line). is_relocate one.says) ls ≡ true → (is_relocate s && list_all (λ (one : Line). is_relocate one.says) ls) ≡ true
     by k (gc_result result ty other) t not_result ih =
         absurd (not_result result ty (ap (λ (x : List ℕ). gc_result result ty x) (sym ((Rattle.std.proofs.lemmas.Slice.Eq.bytes_eq-Decides token other).0 t))))
@@ -285,22 +396,22 @@ only_relocates token (l ∷ ls) e h =
     by k _ t not_result ih = absurd (let bad : false ≡ true = t in cc)
 
 -- relocates of one number stand in a row
-row : (lines : List Line) (func : Definition) → InLaw Rewritten lines func → (n : ℕ) (pre : List Line) (x : Line) (rest : List Line) → func.body ≡ pre ++ x ∷ rest
+row : (lines : List Line) (func : Definition) → InPlace lines func → (n : ℕ) (pre : List Line) (x : Line) (rest : List Line) → func.body ≡ pre ++ x ∷ rest
     → relocates (known_of lines func) n x.says ≡ true
     → InRow (relocates_line (known_of lines func) n) (λ (l : Line). is_relocate l.says) (x ∷ rest)
-row lines func law n pre x rest whole passes mid y more e t = (by mid e, relocate y.says t)
+row lines func text n pre x rest whole passes mid y more e t = (by mid e, relocate y.says t)
   where
     relocate : (s : Statement) → relocates (known_of lines func) n s ≡ true → is_relocate s ≡ true
     relocate s f = ap is_relocate (relocate_is (known_of lines func) n s f).says
 
     tail : (ms : List Line) → rest ≡ ms ++ y ∷ more → list_all (λ (l : Line). is_relocate l.says) ms ≡ true
     tail ms f =
-        let p = placed lines func law n pre x rest whole passes in
+        let p = placed lines func text n pre x rest whole passes in
         let all : func.body ≡ (pre ++ x ∷ ms) ++ y ∷ more =
         whole ∙ ap (λ (zs : List Line). pre ++ x ∷ zs) f ∙ sym (append_assoc pre (x ∷ ms) (y ∷ more)) in
-        let q = placed lines func law n (pre ++ x ∷ ms) y more all t in
-        let same : p.is.token ≡ q.is.token = same_token lines func law p.is.token q.is.token p.known q.known (p.is.number ∙ sym q.is.number) in
-        let there = within_parts lines func law n pre x rest p ms q.is.token same q.group in
+        let q = placed lines func text n (pre ++ x ∷ ms) y more all t in
+        let same : p.is.token ≡ q.is.token = same_token lines func text p.is.token q.is.token p.known q.known (p.is.number ∙ sym q.is.number) in
+        let there = within_parts lines func text n pre x rest p ms q.is.token same q.group in
         let own : are_parts q.is.token (there.0 ++ x ∷ ms) ≡ true = ap (are_parts q.is.token) (sym there.1) ∙ q.group.own in
         let parts : (are_parts q.is.token there.0 && are_parts q.is.token (x ∷ ms)) ≡ true =
         sym (list_all-append (λ (l : Line). is_part q.is.token l.says) there.0 (x ∷ ms)) ∙ own in
@@ -310,8 +421,8 @@ row lines func law n pre x rest whole passes mid y more e t = (by mid e, relocat
         let at : func.body ≡ (pre ++ x ∷ first) ++ r ∷ (later ++ y ∷ more) =
         whole ∙ ap (λ (zs : List Line). pre ++ x ∷ zs) (f ∙ ap (λ (zs : List Line). zs ++ y ∷ more) g ∙ append_assoc first (r ∷ later) (y ∷ more))
         ∙ sym (append_assoc pre (x ∷ first) (r ∷ (later ++ y ∷ more))) in
-        let right = right_result lines func law (pre ++ x ∷ first) m result ty q.is.token (later ++ y ∷ more) at in
-        let inside = within_parts lines func law n pre x rest p first q.is.token same right.group in
+        let right = result_group lines func text (pre ++ x ∷ first) m result ty q.is.token (later ++ y ∷ more) at q.known in
+        let inside = within_parts lines func text n pre x rest p first q.is.token same right.group in
         let nothing : length (inside.0 ++ x ∷ first) ≡ 0 = ap length (sym inside.1 ∙ right.directly) in
         absurd (omega (arith, nothing, length-append inside.0 (x ∷ first))))
 
@@ -323,24 +434,24 @@ row lines func law n pre x rest whole passes mid y more e t = (by mid e, relocat
         ∙ ap (λ (b : Bool). b && list_all (λ (one : Line). is_relocate one.says) ms) (relocate x.says passes)
         ∙ tail ms (ap rest_of f)
 
-few_lines_of : (lines : List Line) (func : Definition) → InLaw Rewritten lines func → (n : ℕ) → count_by (relocates_line (known_of lines func) n) func.body ≤ 16384
-few_lines_of lines func law n = by (first_of_all (relocates_line (known_of lines func) n) func.body)
+few_lines_of : (lines : List Line) (func : Definition) → InPlace lines func → (n : ℕ) → count_by (relocates_line (known_of lines func) n) func.body ≤ 16384
+few_lines_of lines func text n = by (first_of_all (relocates_line (known_of lines func) n) func.body)
   where
     by : (count_by (relocates_line (known_of lines func) n) func.body ≡ 0) ⊎ FirstOf (relocates_line (known_of lines func) n) func.body
         → count_by (relocates_line (known_of lines func) n) func.body ≤ 16384
     by (inl nothing) = omega (arith, nothing)
     by (inr f) =
-        let few : relocates_first (f.one ∷ f.after) ≤ 16384 = (read_function Rewritten lines func law).few_relocates f.before (f.one ∷ f.after) f.whole in
+        let few : relocates_first (f.one ∷ f.after) ≤ 16384 = (read_function Rewritten lines func text.law).few_relocates f.before (f.one ∷ f.after) f.whole in
         let bound = in_row (relocates_line (known_of lines func) n) (λ (l : Line). is_relocate l.says) (f.one ∷ f.after)
-        (row lines func law n f.before f.one f.after f.whole f.passes) in
+        (row lines func text n f.before f.one f.after f.whole f.passes) in
         omega (arith, few, bound, f.count)
 
-pub few_relocates : (lines : List Line) (func : Definition) → InLaw Rewritten lines func → (n : ℕ) → relocates_of (made lines func) n ≤ 16384
-few_relocates lines func law n =
+few_relocates : (lines : List Line) (func : Definition) → InPlace lines func → (n : ℕ) → relocates_of (made lines func) n ≤ 16384
+few_relocates lines func text n =
     let known = known_of lines func in
     let counted : relocates_of (made lines func) n ≡ count_by (relocates_line known n) func.body =
     ap (λ (is : List Instruction). length (filter (λ inst. is_relocate_op inst.op && is_part_made n inst) is)) (body_insts known func) ∙ all_counted known n func.body in
-    let few = few_lines_of lines func law n in
+    let few = few_lines_of lines func text n in
     omega (arith, counted)
 
 -- ---- live entries
@@ -362,19 +473,24 @@ few_said known behind (statepoint result called live) read = λ is.
     omega (arith, e, length-map (map live_use live) (used_operand known), length-map live live_use)
 few_said known behind (gc_result result ty token) read = λ is. absurd (let bad : false ≡ true = is in cc)
 few_said known behind (gc_relocate result token base derived) read = λ is. absurd (let bad : false ≡ true = is in cc)
-few_said known behind s read = plain_few (instruction_said known behind s) (group_said known behind s refl)
+few_said known behind s read = plain_few (instruction_said known behind s) (plain_said known behind s refl)
 
-pub small : (lines : List Line) (func : Definition) → InLaw Rewritten lines func → StatepointsAreSmall (made lines func)
-small lines func law place inst stands op =
-    let known = known_of lines func in
-    let at = line_at known func.body place inst (ap (λ (is : List Instruction). slice_get is place) (sym (body_insts known func)) ∙ stands) in
-    let read : SaysRead at.line.says =
-    All-contains (λ (one : Line). SaysRead one.says) func.body at.line (said_function Rewritten lines func law).body
-    (subst (λ (xs : List Line). Contains xs at.line) (sym at.whole) (contains_middle at.before at.line at.after)) in (
-      if_some (λ one. is_statepoint one.op ≡ true → length (entries_of one) ≤ 16384) (instruction_said known at.after at.line.says)
-          (few_said known at.after at.line.says read) inst at.says op,
-      few_relocates lines func law (number_at (made lines func) place),
-    )
+few_live : (lines : List Line) (func : Definition) → InLaw Rewritten lines func
+    → All (λ inst. is_statepoint inst.op ≡ true → length (entries_of inst) ≤ 16384) (instructions_of (made lines func).blocks)
+few_live lines func law =
+    func_insts (known_of lines func) (λ inst. is_statepoint inst.op ≡ true → length (entries_of inst) ≤ 16384) func (λ before l after whole inst is.
+    let read : SaysRead l.says =
+    All-contains (λ (one : Line). SaysRead one.says) func.body l (said_function Rewritten lines func law).body
+    (subst (λ (xs : List Line). Contains xs l) (sym whole) (contains_middle before l after)) in
+    if_some (λ one. is_statepoint one.op ≡ true → length (entries_of one) ≤ 16384) (instruction_said (known_of lines func) after l.says)
+    (few_said (known_of lines func) after l.says read) inst is)
+
+pub small : (lines : List Line) (func : Definition) → InLaw Rewritten lines func → BodyStands func → StatepointsAreSmall (made lines func)
+small lines func law stand place inst stands op = (
+  all_at (λ (one : Instruction). is_statepoint one.op ≡ true → length (entries_of one) ≤ 16384) (instructions_of (made lines func).blocks) place inst
+      (few_live lines func law) stands op,
+  few_relocates lines func (record { law = law; stand = stand }) (number_at (made lines func) place),
+)
 
 -- ---- ids
 
@@ -391,7 +507,7 @@ id_said : (known : Known) (behind : List Line) (s : Statement) → IfSome (instr
 id_said known behind (statepoint result called live) = wrapped_below 64 called.id
 id_said known behind (gc_result result ty token) = tt
 id_said known behind (gc_relocate result token base derived) = tt
-id_said known behind s = plain_id (instruction_said known behind s) (group_said known behind s refl)
+id_said known behind s = plain_id (instruction_said known behind s) (plain_said known behind s refl)
 
 pub id_words : (lines : List Line) (func : Definition) → All (λ inst. IdIsWord inst.op) (instructions_of (made lines func).blocks)
 id_words lines func =

@@ -1,28 +1,25 @@
--- The instruction of each line of faultless lines has the parts of its form, its types and its names.
-use Rattle.std.proofs.Common.{◌≡◌, ◌≢◌, ◌∙◌, ℕ, ◌<◌, Bool, true, false, ◌&&◌, ◌||◌, ◌==◌, if◌then◌else◌, List, [], ◌∷◌, ◌++◌, length, refl, ap, sym, arith}
-use Rattle.std.specs.Prelude.{Option, Some, None}
-use Rattle.std.specs.List.{All, AllByRecursion, AllZip, list_all}
+-- The instruction of each line has the parts of its form, its widths and its names; and its types, where it keeps the rules.
+use Rattle.std.proofs.Common.{◌≡◌, ◌∙◌, ℕ, ◌<◌, Bool, true, false, ◌&&◌, ◌||◌, ◌==◌, if◌then◌else◌, List, [], ◌∷◌, ◌++◌, length, drop, refl, ap, sym, subst, arith}
+use Rattle.std.specs.Prelude.{Option, Some, None, ⊤}
+use Rattle.std.specs.List.{All, AllByRecursion, list_all}
 use Rattle.std.proofs.lemmas.List.Elements.{All-nil, All-cons, All-append, All-from_recursion}
-use Rattle.std.proofs.lemmas.Bool.Decides.{Decides-eqb, Decides-ltb}
+use Rattle.std.proofs.lemmas.Bool.Decides.{Decides-eqb}
 use Rattle.sp_ids.specs.declared.ids.BlockId.{BlockId}
 use Rattle.ir_ast.specs.declared.types.Ty.{Ty}
 use Rattle.ir_ast.specs.declared.types.Ty.TheVariants as tys
-use Rattle.ir_ast.specs.declared.cells.Cell.TheVariants as cells
 use Rattle.ir_ast.specs.declared.ops.Op.{Op}
 use Rattle.ir_ast.specs.declared.ops.Op.TheVariants as ops
 use Rattle.ir_ast.specs.declared.ops.Operand.{Operand}
 use Rattle.ir_ast.specs.declared.ops.Operand.TheVariants as operands
 use Rattle.ir_ast.specs.declared.ops.Elem.TheVariants as elements
 use Rattle.ir_ast.specs.Insts.{Instruction}
-use Rattle.ir_ast.specs.Values as defs
 use Rattle.ir_ast.specs.Types.{is_void, is_integer, is_first_class, is_answer}
 use Rattle.ir_ast.specs.Lines.{IsLine, Has, is_element, is_rewritten}
 use Rattle.ir_ast.specs.Operands.{is_value, functions_named as functions_in, layouts_named as layouts_in}
 use Rattle.ir_ast.specs.Widths.{IsWidth, type_widths, operator_widths, line_widths}
-use Rattle.ir_ast.specs.Scope.{scope_of as module_scope}
-use Rattle.ir_ast.specs.Faults.TypeClash.{Fits, IsTyped, IsCallOf, HasField, IsCellType, asked}
-use Rattle.ir_ast.specs.Faults.EntryHasPred.{LeavesEntry}
-use Rattle.ir_ast.specs.Faults.PointerOrder.{orders_pointers}
+use Rattle.ir_ast.specs.Lists.{Distinct}
+use Rattle.ir_ast.specs.Scope.{Scope, scope_of as module_scope}
+use Rattle.ir_ast.specs.Faults.TypeClash.{Fits, IsTyped, IsCallOf, RuleOf}
 use Rattle.ir_ast.specs.declared.modules.Form.{Form}
 use Rattle.ir_ast.specs.declared.modules.Form.TheVariants.{Source}
 use Rattle.line_parts.specs.declared.readings.TypeWord.{TypeWord}
@@ -31,33 +28,37 @@ use Rattle.line_tokens.specs.declared.words.Binary.{Binary}
 use Rattle.line_tokens.specs.declared.words.Binary.TheVariants.{Add, Sub, Mul, Udiv, Sdiv, Urem, Srem, And, Or, Xor, Shl, Lshr, Ashr}
 use Rattle.line_tokens.specs.declared.words.Conversion.{Conversion}
 use Rattle.line_tokens.specs.declared.words.Conversion.TheVariants.{Trunc, Zext, Sext}
-use Rattle.line_parts.specs.Parts.{Val, is_scalar_type}
+use Rattle.line_parts.specs.Parts.{is_scalar_type}
 use Rattle.ir_lines.specs.Statements.{Line}
 use Rattle.ir_lines.specs.Sections.{Definition}
-use Rattle.ir_lines.specs.Types.{is_cell}
-use Rattle.ir_lines.specs.Modules.{Known, known_of, type_of, element_of, layout_of, operand_in, operand_of, label_of, label_in, passed_operand, given_type, instruction, place_of, block_of, callee_of, module_of}
-use Rattle.ir_lines.specs.Faults.TypeClash.{place_fits, is_field}
+use Rattle.ir_lines.specs.Modules.{type_of, element_of, binary_of, conversion_of, instruction, module_of}
 use Rattle.ir_lines.specs.ReadLines.{IsValueType, IsAnswerType}
 use Rattle.module_laws.proofs.LawLines.{made}
-use Rattle.module_laws.proofs.LawCalls.{IsGoodCall, funcs_of, over, call_made}
+use Rattle.ir_resolve.specs.ModuleFaults.{RuleBesidesCalls, IsTypedBesidesCalls}
+use Rattle.module_laws.proofs.LawCalls.{over}
 
 abbrev pub content : Form → List Line → Rattle.ir_ast.specs.Modules.ModuleContent
 content form lines = (module_of form lines).content
 
-abbrev pub scope_made : Form → List Line → Definition → Rattle.ir_ast.specs.Scope.Scope
+abbrev pub scope_made : Form → List Line → Definition → Scope
 scope_made form lines func = module_scope (content form lines) (made lines func)
 
+-- what a line calls
+abbrev pub IsCalled : Scope → Op → Instruction → Type 0
+IsCalled scope (ops.Call callee types) inst = IsCallOf scope callee types inst
+IsCalled scope (ops.Statepoint id callee types) inst = IsCallOf scope callee types inst
+IsCalled scope _ inst = ⊤
+
+-- what the instruction of a line has by its form, its names and its calls
 pub record GoodInst (form : Form) (lines : List Line) (func : Definition) (inst : Instruction) : Type 0 where
   pub line : IsLine inst
-  pub typed : IsTyped (scope_made form lines func) inst
+  pub called : IsCalled (scope_made form lines func) inst.op inst
   pub widths : All IsWidth (line_widths inst)
   pub bundle : inst.bundle ≡ []
   pub plain : form ≡ Source → is_rewritten inst.op ≡ false
-  pub unordered : orders_pointers inst.op inst.ty ≡ false
   pub layouts : All (λ layout. layout < length (content form lines).layouts) (layouts_in inst)
   pub functions : All (λ named. named < length (content form lines).funcs) (functions_in inst)
   pub labels : All (λ label. label.0 < length (made lines func).blocks) inst.labels
-  pub entry : LeavesEntry inst
 
 -- ---- parts
 
@@ -117,31 +118,21 @@ pub no_layout : (form : Form) (lines : List Line) → All (λ layout. layout < l
 no_layout form lines = All-nil (λ layout. layout < length (content form lines).layouts)
 
 pub good_plain : (form : Form) (lines : List Line) (func : Definition) (result : Option (List ℕ)) (op : Op) (ty : Ty) (os : List Operand)
-    → IsLine (Plain_inst result op ty os) → AllZip (Fits (defs.value_types (made lines func))) os (asked op ty (length os))
-    → Rattle.ir_ast.specs.Faults.TypeClash.RuleOf (scope_made form lines func) op (Plain_inst result op ty os)
-    → All IsWidth (operator_widths op) → All IsWidth (type_widths ty) → is_rewritten op ≡ false → orders_pointers op ty ≡ false
+    → IsLine (Plain_inst result op ty os) → IsCalled (scope_made form lines func) op (Plain_inst result op ty os)
+    → All IsWidth (operator_widths op) → All IsWidth (type_widths ty) → is_rewritten op ≡ false
     → All (λ layout. layout < length (content form lines).layouts) (layouts_in (Plain_inst result op ty os))
     → All (λ named. named < length (content form lines).funcs) (functions_in (Plain_inst result op ty os))
     → GoodInst form lines func (Plain_inst result op ty os)
-good_plain form lines func result op ty os line fits rule of_op of_type plain unordered layouts functions = record {
+good_plain form lines func result op ty os line called of_op of_type plain layouts functions = record {
   line = line;
-  typed = record {
-    operands = fits;
-    bundle = All-nil (λ (entry : Ty × Operand). Fits (scope_made form lines func).values entry.1 entry.0);
-    rule = rule;
-  };
+  called = called;
   widths = widths_made op result ty os [] of_op of_type;
   bundle = refl;
   plain = λ is. plain;
-  unordered = unordered;
   layouts = layouts;
   functions = functions;
   labels = All-nil (λ (label : BlockId). label.0 < length (made lines func).blocks);
-  entry = λ _. All-nil (λ (label : BlockId). label.0 ≢ 0);
 }
-
-abbrev op_in : List Line → Definition → TypeWord → Val → Operand
-op_in lines func ty v = operand_of (known_of lines func) ty v
 
 pub two_values : (a b : Operand) → is_value a ≡ true → is_value b ≡ true → list_all is_value (a ∷ b ∷ []) ≡ true
 two_values a b e f = both (is_value a) (is_value b && true) e (both (is_value b) true f refl)
@@ -150,17 +141,6 @@ pub one_value : (a : Operand) → is_value a ≡ true → list_all is_value (a �
 one_value a e = both (is_value a) true e refl
 
 -- ---- each form
-
-binary_by : (form : Form) (lines : List Line) (func : Definition) (result : List ℕ) (op : Op) (width : ℕ) (a b : Operand)
-    → list_all is_value (a ∷ b ∷ []) ≡ true → (IsLine (Plain_inst (Some result) op (tys.Int width) (a ∷ b ∷ [])))
-    → AllZip (Fits (defs.value_types (made lines func))) (a ∷ b ∷ []) (asked op (tys.Int width) 2)
-    → Rattle.ir_ast.specs.Faults.TypeClash.RuleOf (scope_made form lines func) op (Plain_inst (Some result) op (tys.Int width) (a ∷ b ∷ []))
-    → All IsWidth (operator_widths op) → IsWidth width → is_rewritten op ≡ false → orders_pointers op (tys.Int width) ≡ false
-    → All (λ layout. layout < length (content form lines).layouts) (layouts_in (Plain_inst (Some result) op (tys.Int width) (a ∷ b ∷ [])))
-    → All (λ named. named < length (content form lines).funcs) (functions_in (Plain_inst (Some result) op (tys.Int width) (a ∷ b ∷ [])))
-    → GoodInst form lines func (Plain_inst (Some result) op (tys.Int width) (a ∷ b ∷ []))
-binary_by form lines func result op width a b vals line fits rule of_op wide plain unordered layouts functions =
-    good_plain form lines func (Some result) op (tys.Int width) (a ∷ b ∷ []) line fits rule of_op (All-cons IsWidth width [] wide (All-nil IsWidth)) plain unordered layouts functions
 
 has_two : (result : List ℕ) (op : Op) (width : ℕ) (a b : Operand) → list_all is_value (a ∷ b ∷ []) ≡ true
     → Has true is_integer 2 0 (Plain_inst (Some result) op (tys.Int width) (a ∷ b ∷ []))
@@ -173,35 +153,38 @@ has_two result op width a b vals = record {
   no_bundle = refl;
 }
 
-abbrev BinaryFits : List Line → Definition → Operand → Operand → ℕ → Type 0
-BinaryFits lines func a b width = AllZip (Fits (defs.value_types (made lines func))) (a ∷ b ∷ []) (tys.Int width ∷ tys.Int width ∷ [])
-
 pub good_binary : (form : Form) (lines : List Line) (func : Definition) (result : List ℕ) (op : Binary) (width : ℕ) (a b : Operand)
-    → list_all is_value (a ∷ b ∷ []) ≡ true → BinaryFits lines func a b width → IsWidth width
-    → GoodInst form lines func (Plain_inst (Some result) (Rattle.ir_lines.specs.Modules.binary_of op) (tys.Int width) (a ∷ b ∷ []))
-good_binary form lines func result Add width a b v f w = binary_by form lines func result ops.Add width a b v (has_two result ops.Add width a b v) f tt (All-nil IsWidth) w refl refl (no_layout form lines) (no_names form lines (a ∷ b ∷ []) v)
-good_binary form lines func result Sub width a b v f w = binary_by form lines func result ops.Sub width a b v (has_two result ops.Sub width a b v) f tt (All-nil IsWidth) w refl refl (no_layout form lines) (no_names form lines (a ∷ b ∷ []) v)
-good_binary form lines func result Mul width a b v f w = binary_by form lines func result ops.Mul width a b v (has_two result ops.Mul width a b v) f tt (All-nil IsWidth) w refl refl (no_layout form lines) (no_names form lines (a ∷ b ∷ []) v)
-good_binary form lines func result Udiv width a b v f w = binary_by form lines func result ops.Udiv width a b v (has_two result ops.Udiv width a b v) f tt (All-nil IsWidth) w refl refl (no_layout form lines) (no_names form lines (a ∷ b ∷ []) v)
-good_binary form lines func result Sdiv width a b v f w = binary_by form lines func result ops.Sdiv width a b v (has_two result ops.Sdiv width a b v) f tt (All-nil IsWidth) w refl refl (no_layout form lines) (no_names form lines (a ∷ b ∷ []) v)
-good_binary form lines func result Urem width a b v f w = binary_by form lines func result ops.Urem width a b v (has_two result ops.Urem width a b v) f tt (All-nil IsWidth) w refl refl (no_layout form lines) (no_names form lines (a ∷ b ∷ []) v)
-good_binary form lines func result Srem width a b v f w = binary_by form lines func result ops.Srem width a b v (has_two result ops.Srem width a b v) f tt (All-nil IsWidth) w refl refl (no_layout form lines) (no_names form lines (a ∷ b ∷ []) v)
-good_binary form lines func result And width a b v f w = binary_by form lines func result ops.And width a b v (has_two result ops.And width a b v) f tt (All-nil IsWidth) w refl refl (no_layout form lines) (no_names form lines (a ∷ b ∷ []) v)
-good_binary form lines func result Or width a b v f w = binary_by form lines func result ops.Or width a b v (has_two result ops.Or width a b v) f tt (All-nil IsWidth) w refl refl (no_layout form lines) (no_names form lines (a ∷ b ∷ []) v)
-good_binary form lines func result Xor width a b v f w = binary_by form lines func result ops.Xor width a b v (has_two result ops.Xor width a b v) f tt (All-nil IsWidth) w refl refl (no_layout form lines) (no_names form lines (a ∷ b ∷ []) v)
-good_binary form lines func result Shl width a b v f w = binary_by form lines func result ops.Shl width a b v (has_two result ops.Shl width a b v) f tt (All-nil IsWidth) w refl refl (no_layout form lines) (no_names form lines (a ∷ b ∷ []) v)
-good_binary form lines func result Lshr width a b v f w = binary_by form lines func result ops.Lshr width a b v (has_two result ops.Lshr width a b v) f tt (All-nil IsWidth) w refl refl (no_layout form lines) (no_names form lines (a ∷ b ∷ []) v)
-good_binary form lines func result Ashr width a b v f w = binary_by form lines func result ops.Ashr width a b v (has_two result ops.Ashr width a b v) f tt (All-nil IsWidth) w refl refl (no_layout form lines) (no_names form lines (a ∷ b ∷ []) v)
+    → list_all is_value (a ∷ b ∷ []) ≡ true → IsWidth width
+    → GoodInst form lines func (Plain_inst (Some result) (binary_of op) (tys.Int width) (a ∷ b ∷ []))
+good_binary form lines func result op width a b v w = by op
+  where
+    wide : All IsWidth (width ∷ [])
+    wide = All-cons IsWidth width [] w (All-nil IsWidth)
 
--- `icmp`, whose order of pointers has a fault of its own
+    named : All (λ named. named < length (content form lines).funcs) (functions_in (over (a ∷ b ∷ [])))
+    named = no_names form lines (a ∷ b ∷ []) v
+
+    by : (op : Binary) → GoodInst form lines func (Plain_inst (Some result) (binary_of op) (tys.Int width) (a ∷ b ∷ []))
+    by Add = good_plain form lines func (Some result) ops.Add (tys.Int width) (a ∷ b ∷ []) (has_two result ops.Add width a b v) tt (All-nil IsWidth) wide refl (no_layout form lines) named
+    by Sub = good_plain form lines func (Some result) ops.Sub (tys.Int width) (a ∷ b ∷ []) (has_two result ops.Sub width a b v) tt (All-nil IsWidth) wide refl (no_layout form lines) named
+    by Mul = good_plain form lines func (Some result) ops.Mul (tys.Int width) (a ∷ b ∷ []) (has_two result ops.Mul width a b v) tt (All-nil IsWidth) wide refl (no_layout form lines) named
+    by Udiv = good_plain form lines func (Some result) ops.Udiv (tys.Int width) (a ∷ b ∷ []) (has_two result ops.Udiv width a b v) tt (All-nil IsWidth) wide refl (no_layout form lines) named
+    by Sdiv = good_plain form lines func (Some result) ops.Sdiv (tys.Int width) (a ∷ b ∷ []) (has_two result ops.Sdiv width a b v) tt (All-nil IsWidth) wide refl (no_layout form lines) named
+    by Urem = good_plain form lines func (Some result) ops.Urem (tys.Int width) (a ∷ b ∷ []) (has_two result ops.Urem width a b v) tt (All-nil IsWidth) wide refl (no_layout form lines) named
+    by Srem = good_plain form lines func (Some result) ops.Srem (tys.Int width) (a ∷ b ∷ []) (has_two result ops.Srem width a b v) tt (All-nil IsWidth) wide refl (no_layout form lines) named
+    by And = good_plain form lines func (Some result) ops.And (tys.Int width) (a ∷ b ∷ []) (has_two result ops.And width a b v) tt (All-nil IsWidth) wide refl (no_layout form lines) named
+    by Or = good_plain form lines func (Some result) ops.Or (tys.Int width) (a ∷ b ∷ []) (has_two result ops.Or width a b v) tt (All-nil IsWidth) wide refl (no_layout form lines) named
+    by Xor = good_plain form lines func (Some result) ops.Xor (tys.Int width) (a ∷ b ∷ []) (has_two result ops.Xor width a b v) tt (All-nil IsWidth) wide refl (no_layout form lines) named
+    by Shl = good_plain form lines func (Some result) ops.Shl (tys.Int width) (a ∷ b ∷ []) (has_two result ops.Shl width a b v) tt (All-nil IsWidth) wide refl (no_layout form lines) named
+    by Lshr = good_plain form lines func (Some result) ops.Lshr (tys.Int width) (a ∷ b ∷ []) (has_two result ops.Lshr width a b v) tt (All-nil IsWidth) wide refl (no_layout form lines) named
+    by Ashr = good_plain form lines func (Some result) ops.Ashr (tys.Int width) (a ∷ b ∷ []) (has_two result ops.Ashr width a b v) tt (All-nil IsWidth) wide refl (no_layout form lines) named
+
 pub good_compare : (form : Form) (lines : List Line) (func : Definition) (result : List ℕ) (pred : Rattle.ir_ast.specs.declared.ops.Pred.Pred) (ty : TypeWord) (a b : Operand)
-    → list_all is_value (a ∷ b ∷ []) ≡ true → AllZip (Fits (defs.value_types (made lines func))) (a ∷ b ∷ []) (type_of ty ∷ type_of ty ∷ []) → IsValueType ty
-    → orders_pointers (ops.Icmp pred) (type_of ty) ≡ false
-    → GoodInst form lines func (Plain_inst (Some result) (ops.Icmp pred) (type_of ty) (a ∷ b ∷ []))
-good_compare form lines func result pred ty a b v f read unordered =
+    → list_all is_value (a ∷ b ∷ []) ≡ true → IsValueType ty → GoodInst form lines func (Plain_inst (Some result) (ops.Icmp pred) (type_of ty) (a ∷ b ∷ []))
+good_compare form lines func result pred ty a b v read =
     good_plain form lines func (Some result) (ops.Icmp pred) (type_of ty) (a ∷ b ∷ [])
     (record { result = refl; type = is_first ty read; operand_count = refl; values = v; label_count = refl; no_bundle = refl })
-    f tt (All-nil IsWidth) (type_width ty read) refl unordered (no_layout form lines) (no_names form lines (a ∷ b ∷ []) v)
+    tt (All-nil IsWidth) (type_width ty read) refl (no_layout form lines) (no_names form lines (a ∷ b ∷ []) v)
 
 has_one : (result : List ℕ) (op : Op) (width : ℕ) (a : Operand) → list_all is_value (a ∷ []) ≡ true
     → Has true is_integer 1 0 (Plain_inst (Some result) op (tys.Int width) (a ∷ []))
@@ -218,26 +201,24 @@ pub width_one : (width : ℕ) → IsWidth width → All IsWidth (width ∷ [])
 width_one width read = All-cons IsWidth width [] read (All-nil IsWidth)
 
 pub good_convert : (form : Form) (lines : List Line) (func : Definition) (result : List ℕ) (op : Conversion) (width to : ℕ) (a : Operand)
-    → list_all is_value (a ∷ []) ≡ true → AllZip (Fits (defs.value_types (made lines func))) (a ∷ []) (tys.Int width ∷ []) → IsWidth width → IsWidth to
-    → Rattle.ir_lines.specs.Faults.TypeClash.widens op width to ≡ true
-    → GoodInst form lines func (Plain_inst (Some result) (Rattle.ir_lines.specs.Modules.conversion_of op to) (tys.Int width) (a ∷ []))
-good_convert form lines func result Trunc width to a v f w t e =
-    good_plain form lines func (Some result) (ops.Trunc to) (tys.Int width) (a ∷ []) (has_one result (ops.Trunc to) width a v) f
-    (width, refl, (Decides-ltb to width).0 e) (width_one to t) (width_one width w) refl refl (no_layout form lines) (no_names form lines (a ∷ []) v)
-good_convert form lines func result Zext width to a v f w t e =
-    good_plain form lines func (Some result) (ops.Zext to) (tys.Int width) (a ∷ []) (has_one result (ops.Zext to) width a v) f
-    (width, refl, (Decides-ltb width to).0 e) (width_one to t) (width_one width w) refl refl (no_layout form lines) (no_names form lines (a ∷ []) v)
-good_convert form lines func result Sext width to a v f w t e =
-    good_plain form lines func (Some result) (ops.Sext to) (tys.Int width) (a ∷ []) (has_one result (ops.Sext to) width a v) f
-    (width, refl, (Decides-ltb width to).0 e) (width_one to t) (width_one width w) refl refl (no_layout form lines) (no_names form lines (a ∷ []) v)
+    → list_all is_value (a ∷ []) ≡ true → IsWidth width → IsWidth to
+    → GoodInst form lines func (Plain_inst (Some result) (conversion_of op to) (tys.Int width) (a ∷ []))
+good_convert form lines func result Trunc width to a v w t =
+    good_plain form lines func (Some result) (ops.Trunc to) (tys.Int width) (a ∷ []) (has_one result (ops.Trunc to) width a v) tt (width_one to t) (width_one width w) refl
+    (no_layout form lines) (no_names form lines (a ∷ []) v)
+good_convert form lines func result Zext width to a v w t =
+    good_plain form lines func (Some result) (ops.Zext to) (tys.Int width) (a ∷ []) (has_one result (ops.Zext to) width a v) tt (width_one to t) (width_one width w) refl
+    (no_layout form lines) (no_names form lines (a ∷ []) v)
+good_convert form lines func result Sext width to a v w t =
+    good_plain form lines func (Some result) (ops.Sext to) (tys.Int width) (a ∷ []) (has_one result (ops.Sext to) width a v) tt (width_one to t) (width_one width w) refl
+    (no_layout form lines) (no_names form lines (a ∷ []) v)
 
 pub good_select : (form : Form) (lines : List Line) (func : Definition) (result : List ℕ) (ty : TypeWord) (c a b : Operand)
-    → list_all is_value (c ∷ a ∷ b ∷ []) ≡ true → AllZip (Fits (defs.value_types (made lines func))) (c ∷ a ∷ b ∷ []) (tys.Int 1 ∷ type_of ty ∷ type_of ty ∷ []) → IsValueType ty
-    → GoodInst form lines func (Plain_inst (Some result) ops.Select (type_of ty) (c ∷ a ∷ b ∷ []))
-good_select form lines func result ty c a b v f read =
+    → list_all is_value (c ∷ a ∷ b ∷ []) ≡ true → IsValueType ty → GoodInst form lines func (Plain_inst (Some result) ops.Select (type_of ty) (c ∷ a ∷ b ∷ []))
+good_select form lines func result ty c a b v read =
     good_plain form lines func (Some result) ops.Select (type_of ty) (c ∷ a ∷ b ∷ [])
     (record { result = refl; type = is_first ty read; operand_count = refl; values = v; label_count = refl; no_bundle = refl })
-    f tt (All-nil IsWidth) (type_width ty read) refl refl (no_layout form lines) (no_names form lines (c ∷ a ∷ b ∷ []) v)
+    tt (All-nil IsWidth) (type_width ty read) refl (no_layout form lines) (no_names form lines (c ∷ a ∷ b ∷ []) v)
 
 element_ok : (ty : TypeWord) → is_scalar_type ty ≡ true → is_element (element_of ty) None ≡ true
 element_ok (Int width) e = both ((width == 8) || (width == 16) || (width == 32) || (width == 64)) true e refl
@@ -274,60 +255,42 @@ scalar_layouts form lines result Managed width os = no_layout form lines
 scalar_layouts form lines result Void width os = no_layout form lines
 scalar_layouts form lines result Plain width os = no_layout form lines
 
-scalar_rule : (fields : List ℕ) (ty : TypeWord) → HasField fields (element_of ty) None
-scalar_rule fields (Int own) = tt
-scalar_rule fields Managed = tt
-scalar_rule fields Void = tt
-scalar_rule fields Plain = tt
-
 pub good_scalar : (form : Form) (lines : List Line) (func : Definition) (result : List ℕ) (ty : TypeWord) (width : ℕ) (a b : Operand)
-    → list_all is_value (a ∷ b ∷ []) ≡ true → AllZip (Fits (defs.value_types (made lines func))) (a ∷ b ∷ []) (tys.Ptr ∷ tys.Int width ∷ [])
-    → is_scalar_type ty ≡ true → IsWidth width
+    → list_all is_value (a ∷ b ∷ []) ≡ true → is_scalar_type ty ≡ true → IsWidth width
     → GoodInst form lines func (Plain_inst (Some result) (ops.Gep (element_of ty) width None) tys.Ptr (a ∷ b ∷ []))
-good_scalar form lines func result ty width a b v f e read =
+good_scalar form lines func result ty width a b v e read =
     good_plain form lines func (Some result) (ops.Gep (element_of ty) width None) tys.Ptr (a ∷ b ∷ [])
     (record { result = refl; type = refl; operand_count = refl; values = v; label_count = refl; no_bundle = refl }, element_ok ty e)
-    f (scalar_rule (scope_made form lines func).fields ty) (element_width ty width e read) (All-nil IsWidth) refl refl (scalar_layouts form lines result ty width (a ∷ b ∷ []))
-    (no_names form lines (a ∷ b ∷ []) v)
+    tt (element_width ty width e read) (All-nil IsWidth) refl (scalar_layouts form lines result ty width (a ∷ b ∷ [])) (no_names form lines (a ∷ b ∷ []) v)
 
 pub good_layout : (form : Form) (lines : List Line) (func : Definition) (result : List ℕ) (number width : ℕ) (place : Option ℕ) (a b : Operand)
-    → list_all is_value (a ∷ b ∷ []) ≡ true → AllZip (Fits (defs.value_types (made lines func))) (a ∷ b ∷ []) (tys.Ptr ∷ tys.Int width ∷ [])
-    → IsWidth width → number < length (content form lines).layouts → HasField (scope_made form lines func).fields (elements.Layout number) place
+    → list_all is_value (a ∷ b ∷ []) ≡ true → IsWidth width → number < length (content form lines).layouts
     → GoodInst form lines func (Plain_inst (Some result) (ops.Gep (elements.Layout number) width place) tys.Ptr (a ∷ b ∷ []))
-good_layout form lines func result number width place a b v f read below field =
+good_layout form lines func result number width place a b v read below =
     good_plain form lines func (Some result) (ops.Gep (elements.Layout number) width place) tys.Ptr (a ∷ b ∷ [])
     (record { result = refl; type = refl; operand_count = refl; values = v; label_count = refl; no_bundle = refl }, refl)
-    f field (width_one width read) (All-nil IsWidth) refl refl
+    tt (width_one width read) (All-nil IsWidth) refl
     (All-cons (λ layout. layout < length (content form lines).layouts) number [] below (no_layout form lines)) (no_names form lines (a ∷ b ∷ []) v)
 
-pub cell_type : (ty : TypeWord) → is_cell ty ≡ true → IsCellType (type_of ty)
-cell_type (Int width) e = (cells.I64, ap tys.Int (sym ((Decides-eqb width 64).0 e)))
-cell_type Managed e = (cells.Ptr, refl)
-cell_type Void e = absurd (let bad : false ≡ true = e in cc)
-cell_type Plain e = absurd (let bad : false ≡ true = e in cc)
-
 pub good_load : (form : Form) (lines : List Line) (func : Definition) (result : List ℕ) (ty : TypeWord) (a : Operand)
-    → list_all is_value (a ∷ []) ≡ true → AllZip (Fits (defs.value_types (made lines func))) (a ∷ []) (tys.Ptr ∷ []) → IsValueType ty → is_cell ty ≡ true
-    → GoodInst form lines func (Plain_inst (Some result) ops.Load (type_of ty) (a ∷ []))
-good_load form lines func result ty a v f read cell =
+    → list_all is_value (a ∷ []) ≡ true → IsValueType ty → GoodInst form lines func (Plain_inst (Some result) ops.Load (type_of ty) (a ∷ []))
+good_load form lines func result ty a v read =
     good_plain form lines func (Some result) ops.Load (type_of ty) (a ∷ [])
     (record { result = refl; type = is_first ty read; operand_count = refl; values = v; label_count = refl; no_bundle = refl })
-    f (cell_type ty cell) (All-nil IsWidth) (type_width ty read) refl refl (no_layout form lines) (no_names form lines (a ∷ []) v)
+    tt (All-nil IsWidth) (type_width ty read) refl (no_layout form lines) (no_names form lines (a ∷ []) v)
 
 pub good_store : (form : Form) (lines : List Line) (func : Definition) (ty : TypeWord) (a b : Operand)
-    → list_all is_value (a ∷ b ∷ []) ≡ true → AllZip (Fits (defs.value_types (made lines func))) (a ∷ b ∷ []) (type_of ty ∷ tys.Ptr ∷ []) → IsValueType ty → is_cell ty ≡ true
-    → GoodInst form lines func (Plain_inst None ops.Store (type_of ty) (a ∷ b ∷ []))
-good_store form lines func ty a b v f read cell =
+    → list_all is_value (a ∷ b ∷ []) ≡ true → IsValueType ty → GoodInst form lines func (Plain_inst None ops.Store (type_of ty) (a ∷ b ∷ []))
+good_store form lines func ty a b v read =
     good_plain form lines func None ops.Store (type_of ty) (a ∷ b ∷ [])
     (record { result = refl; type = is_first ty read; operand_count = refl; values = v; label_count = refl; no_bundle = refl })
-    f (cell_type ty cell) (All-nil IsWidth) (type_width ty read) refl refl (no_layout form lines) (no_names form lines (a ∷ b ∷ []) v)
+    tt (All-nil IsWidth) (type_width ty read) refl (no_layout form lines) (no_names form lines (a ∷ b ∷ []) v)
 
-pub good_ret_void : (form : Form) (lines : List Line) (func : Definition) → Void ≡ func.answer
-    → GoodInst form lines func (Plain_inst None ops.Ret tys.Void [])
-good_ret_void form lines func e =
+pub good_ret_void : (form : Form) (lines : List Line) (func : Definition) → GoodInst form lines func (Plain_inst None ops.Ret tys.Void [])
+good_ret_void form lines func =
     good_plain form lines func None ops.Ret tys.Void []
     (record { result = refl; type = refl; operand_count = refl; values = refl; label_count = refl; no_bundle = refl })
-    tt (ap type_of e) (All-nil IsWidth) (All-nil IsWidth) refl refl (no_layout form lines) (no_names form lines [] refl)
+    tt (All-nil IsWidth) (All-nil IsWidth) refl (no_layout form lines) (no_names form lines [] refl)
 
 one_operand : (ty : TypeWord) → IsValueType ty → ◌≡◌ {A = ℕ} 1 (if is_void (type_of ty) then 0 else 1)
 one_operand (Int width) read = refl
@@ -336,15 +299,32 @@ one_operand Void read = absurd read
 one_operand Plain read = absurd read
 
 pub good_ret : (form : Form) (lines : List Line) (func : Definition) (ty : TypeWord) (a : Operand)
-    → list_all is_value (a ∷ []) ≡ true → AllZip (Fits (defs.value_types (made lines func))) (a ∷ []) (type_of ty ∷ []) → IsValueType ty → ty ≡ func.answer
-    → GoodInst form lines func (Plain_inst None ops.Ret (type_of ty) (a ∷ []))
-good_ret form lines func ty a v f read e =
+    → list_all is_value (a ∷ []) ≡ true → IsValueType ty → GoodInst form lines func (Plain_inst None ops.Ret (type_of ty) (a ∷ []))
+good_ret form lines func ty a v read =
     good_plain form lines func None ops.Ret (type_of ty) (a ∷ [])
     (record { result = refl; type = answers ty; operand_count = one_operand ty read; values = v; label_count = refl; no_bundle = refl })
-    f (ap type_of e) (All-nil IsWidth) (type_width ty read) refl refl (no_layout form lines) (no_names form lines (a ∷ []) v)
+    tt (All-nil IsWidth) (type_width ty read) refl (no_layout form lines) (no_names form lines (a ∷ []) v)
 
 pub good_unreachable : (form : Form) (lines : List Line) (func : Definition) → GoodInst form lines func (Plain_inst None ops.Unreachable tys.Void [])
 good_unreachable form lines func =
     good_plain form lines func None ops.Unreachable tys.Void []
     (record { result = refl; type = refl; operand_count = refl; values = refl; label_count = refl; no_bundle = refl })
-    tt tt (All-nil IsWidth) (All-nil IsWidth) refl refl (no_layout form lines) (no_names form lines [] refl)
+    tt (All-nil IsWidth) (All-nil IsWidth) refl (no_layout form lines) (no_names form lines [] refl)
+
+-- ---- its types
+
+rule_kept : (scope : Scope) (op : Op) (inst : Instruction) → RuleBesidesCalls scope op inst → IsCalled scope op inst
+    → (op ≡ ops.Switch → Distinct (drop 1 inst.operands)) → RuleOf scope op inst
+rule_kept scope (ops.Call callee types) inst rule called cases = called
+rule_kept scope (ops.Statepoint id callee types) inst rule called cases = called
+rule_kept scope ops.Switch inst rule called cases = cases refl
+rule_kept scope _ inst rule called cases = rule
+
+pub inst_typed : (form : Form) (lines : List Line) (func : Definition) (inst : Instruction) → GoodInst form lines func inst
+    → IsTypedBesidesCalls (scope_made form lines func) inst → (inst.op ≡ ops.Switch → Distinct (drop 1 inst.operands)) → IsTyped (scope_made form lines func) inst
+inst_typed form lines func inst good typed cases = record {
+  operands = typed.operands;
+  bundle = subst (All (λ (entry : Ty × Operand). Fits (scope_made form lines func).values entry.1 entry.0)) (sym good.bundle)
+      (All-nil (λ (entry : Ty × Operand). Fits (scope_made form lines func).values entry.1 entry.0));
+  rule = rule_kept (scope_made form lines func) inst.op inst typed.rule good.called cases;
+}

@@ -9,13 +9,8 @@ pub mod LawExternals
 pub mod LawTyped
 pub mod LawInsts
 pub mod LawGroups
-pub mod LawPlaces
-pub mod LawTokens
 pub mod LawFunctions
-pub mod LawPhis
 pub mod LawModules
-pub mod LawDerived
-pub mod LawShapes
 pub mod LawRows
 pub mod LawForms
 pub mod Runs

@@ -5,6 +5,7 @@ use Rattle.std.specs.Str.Lines.{lines as text_lines}
 use Rattle.std.proofs.lemmas.List.{length-map}
 use Rattle.std.proofs.lemmas.List.Sums.{count_by-le-length}
 use Rattle.std.proofs.lemmas.List.Elements.{All-contains, All-from_recursion, recursion_from_All}
+use Rattle.list_laws.proofs.Contents.{all_contained}
 use Rattle.ir_reader.specs.declared.states.Place.TheVariants as places
 use Rattle.ir_reader.specs.declared.raw.NumberedReading.{NumberedReading}
 use Rattle.ir_reader.specs.Raws.{Readings, IsRead}
@@ -23,7 +24,6 @@ use Rattle.ir_resolve.specs.Statements.{AreRead, Rise}
 use Rattle.module_build.specs.Placed.{IsPlacedFunction, IsPlaced}
 use Rattle.module_build.proofs.Bodies.{Body}
 use Rattle.module_laws.proofs.LawHeads.{SaysOf, says-defined}
-use Rattle.module_laws.proofs.LawFunctions.{contained}
 use Rattle.module_laws.proofs.Placing.{IsPlacedBody, definitions-placed, read-placed}
 use Rattle.module_laws.proofs.ReadTexts.{read-runs, read-lines}
 use Rattle.module_laws.proofs.Rising.{Within, numbers, within-later, lines-rise}
@@ -98,7 +98,7 @@ read_law r read =
           (recursion_from_All (λ (l : Line). statement_fits l.says ≡ true) lines text.fit)
           (runs_names r.lines (opening r.form) run));
       own = λ is. All-from_recursion (λ (l : Line). is_of_group l.says ≡ false) lines (own is);
-      functions = contained (IsReadFunction r.form) (definitions_of lines)
+      functions = all_contained (IsReadFunction r.form) (definitions_of lines)
           (function_read r.form lines own built placed (each_counted r.form lines (opening r.form).counts counts));
       few_layouts = (let t = layouts_total r.form lines (opening r.form).counts counts in omega arith);
       few_functions = (let t = functions_total r.form lines (opening r.form).counts counts in omega arith);

@@ -26,7 +26,7 @@ use Rattle.ir_lines.specs.Statements.{Line, Statement, layout, declare, define, 
 use Rattle.ir_lines.specs.Parts.{gives, given_by_call}
 use Rattle.ir_lines.specs.Sections.{Definition, Naming, BlockLines, arguments_named, result_named, values_of, is_label, label_said, until_label, block_at, labelled_blocks, first_block, blocks_of, count_numbered}
 use Rattle.ir_lines.specs.Modules.{Known, insts_of, block_of, argument_of}
-use Rattle.module_laws.proofs.LawBodies.{until-other, until-label}
+use Rattle.ir_resolve.proofs.Bodies.{until-other, until-label}
 use Rattle.read_back.specs.Said.{word_of, result_of, operator_says, instruction_says, block_says, argument_says, step_says, case_says, return_says}
 use Rattle.read_back.proofs.BackNames.{Setting}
 use Rattle.read_back.proofs.BackLines.{said, cons_parts, word-type}

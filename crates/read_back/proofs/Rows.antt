@@ -16,7 +16,7 @@ use Rattle.ir_ast.specs.Blocks.{BasicBlock}
 use Rattle.ir_ast.specs.Funcs.{Function, instructions_of}
 use Rattle.ir_ast.specs.Faults.GroupShape.{Group, ShapeOf, GroupsInShape, is_statepoint, is_part}
 use Rattle.ir_cfg.specs.Statepoints.{is_relocate, StatepointsAreSmall}
-use Rattle.module_laws.proofs.LawPlaces.{get_behind}
+use Rattle.list_laws.proofs.Places.{get_middle as get_behind}
 use Rattle.read_back.proofs.Blocks.{run, RunsFit}
 
 -- how many relocates of the token there are
