@@ -22,7 +22,7 @@ use Rattle.ir_ast.specs.Types.{is_first_class}
 use Rattle.ir_printer.specs.Names.{Names}
 use Rattle.line_parts.specs.declared.readings.TypeWord.{TypeWord}
 use Rattle.line_parts.specs.Lists.{Named}
-use Rattle.ir_lines.specs.Statements.{Line, Statement, layout, declare, define, close, label, switch_end}
+use Rattle.ir_lines.specs.Statements.{Line, Statement, layout, declare, define, close, label, switch_end, cast}
 use Rattle.ir_lines.specs.Parts.{gives, given_by_call}
 use Rattle.ir_lines.specs.Sections.{Definition, Naming, BlockLines, arguments_named, result_named, values_of, is_label, label_said, until_label, block_at, labelled_blocks, first_block, blocks_of, count_numbered}
 use Rattle.ir_lines.specs.Modules.{Known, insts_of, block_of, argument_of}
@@ -63,6 +63,10 @@ pub all_mapped : {X Y : Type 0} (f : X → Y) (P : Y → Type 0) (xs : List X) �
 all_mapped f P [] h = tt
 all_mapped f P (x ∷ xs) h = (h.0, all_mapped f P xs h.1)
 
+pub weaker : {X : Type 0} (P Q : X → Type 0) → ((x : X) → P x → Q x) → (xs : List X) → AllByRecursion P xs → AllByRecursion Q xs
+weaker P Q each [] h = tt
+weaker P Q each (x ∷ xs) h = (each x h.0, weaker P Q each xs h.1)
+
 pub all_append : {X : Type 0} (P : X → Type 0) (xs ys : List X) → AllByRecursion P xs → AllByRecursion P ys → AllByRecursion P (xs ++ ys)
 all_append P [] ys h k = k
 all_append P (x ∷ xs) ys h k = (h.0, all_append P xs ys h.1 k)
@@ -79,6 +83,7 @@ in_block (declare answer name parameters) = false
 in_block (define answer name arguments strategy) = false
 in_block close = false
 in_block (label name) = false
+in_block (cast result op from value to) = false
 in_block _ = true
 
 abbrev pub InBlock : Statement → Type 0

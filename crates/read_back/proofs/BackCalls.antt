@@ -1,5 +1,6 @@
--- The calls that a module is printed with agree with the heads of what they call.
-use Rattle.std.proofs.Common.{◌≡◌, ◌≢◌, ◌∙◌, inl, inr, ℕ, zero, suc, pos, ◌^◌, ◌<◌, ◌≤◌, Bool, true, false, not, ◌&&◌, ◌||◌, List, [], ◌∷◌, ◌++◌, map, length, drop, get_or, refl, ap, sym, subst, arith, codes}
+-- The calls that a module is printed with agree with the heads of what they call, and each statepoint has as many arguments
+-- as it counts.
+use Rattle.std.proofs.Common.{◌≡◌, ◌≢◌, ◌∙◌, inl, inr, ℕ, zero, suc, pos, ◌^◌, ◌<◌, ◌≤◌, Bool, true, false, not, ◌&&◌, ◌||◌, if◌then◌else◌, List, [], ◌∷◌, ◌++◌, map, length, drop, refl, ap, sym, subst, arith, codes}
 use Rattle.std.specs.Prelude.{Option, Some, None, take, slice_get, option_map}
 use Rattle.std.specs.Option.{option_map_or}
 use Rattle.std.specs.Str.{bytes_eq}
@@ -7,6 +8,8 @@ use Rattle.std.specs.List.{AllByRecursion, AllZip, Contains, zip}
 use Rattle.std.proofs.lemmas.List.{length-map}
 use Rattle.std.proofs.lemmas.Option.{same_Some, slice_get_within}
 use Rattle.std.proofs.lemmas.List.Elements.{recursion_from_All, All-contains}
+use Rattle.std.proofs.lemmas.Bool.{lt-ltb}
+use Rattle.std.proofs.lemmas.Bool.Decides.{Decides-eqb}
 use Rattle.std.proofs.lemmas.Slice.Eq.{bytes_eq-Decides}
 use Rattle.sp_ids.specs.declared.ids.FuncId.{FuncId}
 use Rattle.sp_ids.specs.declared.ids.BlockId.{BlockId}
@@ -26,6 +29,7 @@ use Rattle.ir_ast.specs.declared.ops.Operand.TheVariants as operands
 use Rattle.ir_ast.specs.declared.ops.Callee.{Callee}
 use Rattle.ir_ast.specs.declared.ops.Callee.TheVariants as callees
 use Rattle.ir_ast.specs.Types.{is_first_class}
+use Rattle.ir_ast.specs.Lines.{Arguments}
 use Rattle.ir_ast.specs.Values.{value_types}
 use Rattle.ir_ast.specs.Insts.{Instruction}
 use Rattle.ir_ast.specs.Funcs.{Function, instructions_of}
@@ -44,25 +48,25 @@ use Rattle.ir_lines.specs.Statements.{Line, Statement, switch_end}
 use Rattle.ir_lines.specs.Sections.{Head, Definition, types_of, heads_of}
 use Rattle.ir_lines.specs.Scope.{Scope, scope_of, head_named}
 use Rattle.ir_lines.specs.Types.{same_type, same_types, literal_fits}
-use Rattle.ir_lines.specs.InBody.{InBody}
+use Rattle.ir_lines.specs.Faults.GroupShape.{is_count}
+use Rattle.ir_resolve.specs.TextFaults.{says_wrong, miscounts}
 use Rattle.ir_lines.specs.Modules.{passed_type}
 use Rattle.ir_lines.specs.Faults.TypeClash.{is_task, starts_task, gives_kind, checks_kind, agrees, call_agrees, takes_types, statepoint_agrees}
 use Rattle.ir_lines.specs.TextForms.{is_source}
 use Rattle.ir_lines.proofs.LawNames.{stands, contains_get, same_by_name}
+use Rattle.module_laws.proofs.LawFacts.{not-true}
 use Rattle.module_laws.proofs.LawHeads.{HeadFrom, from_definition, from_declaration, heads-from}
-use Rattle.read_back.specs.Said.{word_of, literal_of, argument_says, passed_says, parameter_says, made_says, step_says, return_says, case_says, operator_says, said_by}
+use Rattle.read_back.specs.Said.{word_of, literal_of, argument_says, passed_says, parameter_says, made_says, statepoint_says, step_says, return_says, case_says, operator_says, said_by}
 use Rattle.read_back.proofs.BackLines.{said}
 use Rattle.read_back.proofs.BackLists.{CalleeBelow}
-use Rattle.read_back.proofs.BackInsts.{IsPrintedIn, callee_parts}
-use Rattle.read_back.proofs.BackGuarded.{guards}
+use Rattle.read_back.proofs.BackInsts.{IsPrintedIn, passing, guards}
 use Rattle.read_back.proofs.Fronts.{zip_take}
+use Rattle.read_back.proofs.BackSections.{SaysDefinition}
 use Rattle.read_back.proofs.BackModules.{IsShaped, names_in, shaped_inst}
-use Rattle.read_back.proofs.BackFaults.{Each, IfDeclares, each_declaration, line_said, no_body_fault, printed_from}
+use Rattle.read_back.proofs.BackFaults.{Each, IfDeclares, each_declaration, line_said, printed_from}
 use Rattle.read_back.proofs.BackTops.{definitions_free}
 use Rattle.read_back.proofs.BackHeads.{declares_external}
 use Rattle.read_back.proofs.BackUnknown.{HeadFound, Knows, some_block, knows, callee_found, is_called}
-use Rattle.read_back.proofs.BackRules.{same_type-refl, less}
-use Rattle.read_back.proofs.BackFields.{breaks_call}
 
 -- what the head says that a name has
 record HeadSays (scope : Scope) (name : List ℕ) (defined : Bool) (answer : TypeWord) (parameters : List TypeWord) : Type 0 where
@@ -115,111 +119,42 @@ has_function (Some f) sig e = record { func = f; there = refl; has = same_Some (
 
 -- ---- the heads of externals
 
-abbrev SaysOf : List ℕ → TypeWord → List TypeWord → TypeWord → List ℕ → List Named → Type 0
-SaysOf due answer parameters given_answer name named = name ≡ due → (given_answer ≡ answer) × (types_of named ≡ parameters)
+-- what an external answers and takes, by its name; other names than the first six are those of `gc_new`
+abbrev words_by : List ℕ → TypeWord × List TypeWord
+words_by name =
+    if bytes_eq name (codes "print_i64") then (types.Void, types.Int 64 ∷ [])
+    else if bytes_eq name (codes "read_i64") then (types.Int 64, [])
+    else if bytes_eq name (codes "task_start") then (types.Void, types.Plain ∷ types.Managed ∷ [])
+    else if bytes_eq name (codes "gc.safepoint_poll") then (types.Void, [])
+    else if bytes_eq name (codes "gc_check") then (types.Void, types.Managed ∷ types.Managed ∷ types.Int 64 ∷ [])
+    else if bytes_eq name (codes "gc_same") then (types.Int 1, types.Managed ∷ types.Managed ∷ types.Managed ∷ types.Managed ∷ [])
+    else (types.Managed, types.Int 64 ∷ [])
 
-external_from : (content : ModuleContent) → IsShaped content → (lines : List Line) → said lines ≡ said_by content
-    → (due : List ℕ) (answer : TypeWord) (parameters : List TypeWord) → IsExternalName due → Each (IfDeclares (SaysOf due answer parameters)) content
-    → (h : Head) → h.name ≡ due → HeadFrom lines h → (h.defined ≡ false) × (h.answer ≡ answer) × (h.parameters ≡ parameters)
-external_from content shaped lines e due answer parameters external each h same (from_definition d inside is) =
+abbrev IsExtern : TypeWord → List ℕ → List Named → Type 0
+IsExtern answer name parameters = (answer ≡ (words_by name).0) × (types_of parameters ≡ (words_by name).1)
+
+declared : (content : ModuleContent) → Each (IfDeclares IsExtern) content
+declared content =
+    each_declaration IsExtern content (λ number below. (refl, refl)) (refl, refl) (refl, refl) (refl, refl)
+    (λ called. (refl, refl)) (λ called. (refl, refl)) (λ called. (refl, refl))
+
+external_from : (content : ModuleContent) → IsShaped content → (lines : List Line) → said lines ≡ said_by content → (due : List ℕ) → IsExternalName due
+    → (h : Head) → h.name ≡ due → HeadFrom lines h → (h.defined ≡ false) × (h.answer ≡ (words_by due).0) × (h.parameters ≡ (words_by due).1)
+external_from content shaped lines e due external h same (from_definition d inside is) =
     absurd (definitions_free content shaped lines e d inside (subst IsExternalName (sym (ap (λ (x : Head). x.name) is ∙ same)) external))
-external_from content shaped lines e due answer parameters external each h same (from_declaration l inside a name named says is) =
-    let told : SaysOf due answer parameters a name named =
-    subst (IfDeclares (SaysOf due answer parameters)) says (line_said (IfDeclares (SaysOf due answer parameters)) content lines e each l inside) in
-    let parts = told (sym (ap (λ (x : Head). x.name) is) ∙ same) in
-    (ap (λ (x : Head). x.defined) is, ap (λ (x : Head). x.answer) is ∙ parts.0, ap (λ (x : Head). x.parameters) is ∙ parts.1)
+external_from content shaped lines e due external h same (from_declaration l inside a name named says is) =
+    let told : IsExtern a name named = subst (IfDeclares IsExtern) says (line_said (IfDeclares IsExtern) content lines e (declared content) l inside) in
+    let own = subst (λ (n : List ℕ). IsExtern a n named) (sym (ap (λ (x : Head). x.name) is) ∙ same) told in
+    (ap (λ (x : Head). x.defined) is, ap (λ (x : Head). x.answer) is ∙ own.0, ap (λ (x : Head). x.parameters) is ∙ own.1)
 
 external_head : (content : ModuleContent) → IsShaped content → (lines : List Line) → said lines ≡ said_by content → (one : Definition)
-    → (due : List ℕ) (answer : TypeWord) (parameters : List TypeWord) → IsExternalName due → Each (IfDeclares (SaysOf due answer parameters)) content
-    → HeadFound (scope_of lines one) due → HeadSays (scope_of lines one) due false answer parameters
-external_head content shaped lines e one due answer parameters external each found =
+    → (due : List ℕ) → IsExternalName due → HeadFound (scope_of lines one) due
+    → HeadSays (scope_of lines one) due false (words_by due).0 (words_by due).1
+external_head content shaped lines e one due external found =
     let s = stands (λ (h : Head). h.name) (heads_of lines) due found in
-    let parts = external_from content shaped lines e due answer parameters external each s.one s.same
+    let parts = external_from content shaped lines e due external s.one s.same
     (All-contains (HeadFrom lines) (heads_of lines) s.one (heads-from lines) (contains_get (heads_of lines) s.place s.one s.there)) in
     record { head = s.one; found = s.found; is_defined = parts.0; answers = parts.1; takes = parts.2 }
-
-other_first : (m n : List ℕ) → get_or m 0 0 ≢ get_or n 0 0 → m ≢ n
-other_first m n differ e = differ (ap (λ (x : List ℕ). get_or x 0 0) e)
-
-other_at : (k : ℕ) (m n : List ℕ) → get_or m k 0 ≢ get_or n k 0 → m ≢ n
-other_at k m n differ e = differ (ap (λ (x : List ℕ). get_or x k 0) e)
-
-print_declared : (content : ModuleContent) → Each (IfDeclares (SaysOf (codes "print_i64") types.Void (types.Int 64 ∷ []))) content
-print_declared content =
-    each_declaration (SaysOf (codes "print_i64") types.Void (types.Int 64 ∷ [])) content
-    (λ number below same. absurd (other_first (codes "gc_new." ++ layout_name content.layouts number) (codes "print_i64") (λ e. omega (arith, e)) same))
-    (λ same. (refl, refl))
-    (λ same. absurd (other_first (codes "read_i64") (codes "print_i64") (λ e. omega (arith, e)) same))
-    (λ same. absurd (other_first (codes "task_start") (codes "print_i64") (λ e. omega (arith, e)) same))
-    (λ called same. absurd (other_at 0 (codes "gc.safepoint_poll") (codes "print_i64") (λ e. omega (arith, e)) same))
-    (λ called same. absurd (other_at 0 (codes "gc_check") (codes "print_i64") (λ e. omega (arith, e)) same))
-    (λ called same. absurd (other_at 0 (codes "gc_same") (codes "print_i64") (λ e. omega (arith, e)) same))
-
-read_declared : (content : ModuleContent) → Each (IfDeclares (SaysOf (codes "read_i64") (types.Int 64) [])) content
-read_declared content =
-    each_declaration (SaysOf (codes "read_i64") (types.Int 64) []) content
-    (λ number below same. absurd (other_first (codes "gc_new." ++ layout_name content.layouts number) (codes "read_i64") (λ e. omega (arith, e)) same))
-    (λ same. absurd (other_first (codes "print_i64") (codes "read_i64") (λ e. omega (arith, e)) same))
-    (λ same. (refl, refl))
-    (λ same. absurd (other_first (codes "task_start") (codes "read_i64") (λ e. omega (arith, e)) same))
-    (λ called same. absurd (other_at 0 (codes "gc.safepoint_poll") (codes "read_i64") (λ e. omega (arith, e)) same))
-    (λ called same. absurd (other_at 0 (codes "gc_check") (codes "read_i64") (λ e. omega (arith, e)) same))
-    (λ called same. absurd (other_at 0 (codes "gc_same") (codes "read_i64") (λ e. omega (arith, e)) same))
-
-start_declared : (content : ModuleContent) → Each (IfDeclares (SaysOf (codes "task_start") types.Void (types.Plain ∷ types.Managed ∷ []))) content
-start_declared content =
-    each_declaration (SaysOf (codes "task_start") types.Void (types.Plain ∷ types.Managed ∷ [])) content
-    (λ number below same. absurd (other_first (codes "gc_new." ++ layout_name content.layouts number) (codes "task_start") (λ e. omega (arith, e)) same))
-    (λ same. absurd (other_first (codes "print_i64") (codes "task_start") (λ e. omega (arith, e)) same))
-    (λ same. absurd (other_first (codes "read_i64") (codes "task_start") (λ e. omega (arith, e)) same))
-    (λ same. (refl, refl))
-    (λ called same. absurd (other_at 0 (codes "gc.safepoint_poll") (codes "task_start") (λ e. omega (arith, e)) same))
-    (λ called same. absurd (other_at 0 (codes "gc_check") (codes "task_start") (λ e. omega (arith, e)) same))
-    (λ called same. absurd (other_at 0 (codes "gc_same") (codes "task_start") (λ e. omega (arith, e)) same))
-
-poll_declared : (content : ModuleContent) → Each (IfDeclares (SaysOf (codes "gc.safepoint_poll") types.Void ([]))) content
-poll_declared content =
-    each_declaration (SaysOf (codes "gc.safepoint_poll") types.Void ([])) content
-    (λ number below same. absurd (other_at 2 (codes "gc_new." ++ layout_name content.layouts number) (codes "gc.safepoint_poll") (λ e. omega (arith, e)) same))
-    (λ same. absurd (other_at 0 (codes "print_i64") (codes "gc.safepoint_poll") (λ e. omega (arith, e)) same))
-    (λ same. absurd (other_at 0 (codes "read_i64") (codes "gc.safepoint_poll") (λ e. omega (arith, e)) same))
-    (λ same. absurd (other_at 0 (codes "task_start") (codes "gc.safepoint_poll") (λ e. omega (arith, e)) same))
-    (λ called same. (refl, refl))
-    (λ called same. absurd (other_at 2 (codes "gc_check") (codes "gc.safepoint_poll") (λ e. omega (arith, e)) same))
-    (λ called same. absurd (other_at 2 (codes "gc_same") (codes "gc.safepoint_poll") (λ e. omega (arith, e)) same))
-
-check_declared : (content : ModuleContent) → Each (IfDeclares (SaysOf (codes "gc_check") types.Void (types.Managed ∷ types.Managed ∷ types.Int 64 ∷ []))) content
-check_declared content =
-    each_declaration (SaysOf (codes "gc_check") types.Void (types.Managed ∷ types.Managed ∷ types.Int 64 ∷ [])) content
-    (λ number below same. absurd (other_at 3 (codes "gc_new." ++ layout_name content.layouts number) (codes "gc_check") (λ e. omega (arith, e)) same))
-    (λ same. absurd (other_at 0 (codes "print_i64") (codes "gc_check") (λ e. omega (arith, e)) same))
-    (λ same. absurd (other_at 0 (codes "read_i64") (codes "gc_check") (λ e. omega (arith, e)) same))
-    (λ same. absurd (other_at 0 (codes "task_start") (codes "gc_check") (λ e. omega (arith, e)) same))
-    (λ called same. absurd (other_at 2 (codes "gc.safepoint_poll") (codes "gc_check") (λ e. omega (arith, e)) same))
-    (λ called same. (refl, refl))
-    (λ called same. absurd (other_at 3 (codes "gc_same") (codes "gc_check") (λ e. omega (arith, e)) same))
-
-same_declared : (content : ModuleContent) → Each (IfDeclares (SaysOf (codes "gc_same") (types.Int 1) (types.Managed ∷ types.Managed ∷ types.Managed ∷ types.Managed ∷ []))) content
-same_declared content =
-    each_declaration (SaysOf (codes "gc_same") (types.Int 1) (types.Managed ∷ types.Managed ∷ types.Managed ∷ types.Managed ∷ [])) content
-    (λ number below same. absurd (other_at 3 (codes "gc_new." ++ layout_name content.layouts number) (codes "gc_same") (λ e. omega (arith, e)) same))
-    (λ same. absurd (other_at 0 (codes "print_i64") (codes "gc_same") (λ e. omega (arith, e)) same))
-    (λ same. absurd (other_at 0 (codes "read_i64") (codes "gc_same") (λ e. omega (arith, e)) same))
-    (λ same. absurd (other_at 0 (codes "task_start") (codes "gc_same") (λ e. omega (arith, e)) same))
-    (λ called same. absurd (other_at 2 (codes "gc.safepoint_poll") (codes "gc_same") (λ e. omega (arith, e)) same))
-    (λ called same. absurd (other_at 3 (codes "gc_check") (codes "gc_same") (λ e. omega (arith, e)) same))
-    (λ called same. (refl, refl))
-
-made_declared : (content : ModuleContent) (layout : List ℕ) → Each (IfDeclares (SaysOf (codes "gc_new." ++ layout) types.Managed (types.Int 64 ∷ []))) content
-made_declared content layout =
-    each_declaration (SaysOf (codes "gc_new." ++ layout) types.Managed (types.Int 64 ∷ [])) content
-    (λ number below same. (refl, refl))
-    (λ same. absurd (other_first (codes "print_i64") (codes "gc_new." ++ layout) (λ e. omega (arith, e)) same))
-    (λ same. absurd (other_first (codes "read_i64") (codes "gc_new." ++ layout) (λ e. omega (arith, e)) same))
-    (λ same. absurd (other_first (codes "task_start") (codes "gc_new." ++ layout) (λ e. omega (arith, e)) same))
-    (λ called same. absurd (other_at 2 (codes "gc.safepoint_poll") (codes "gc_new." ++ layout) (λ e. omega (arith, e)) same))
-    (λ called same. absurd (other_at 3 (codes "gc_check") (codes "gc_new." ++ layout) (λ e. omega (arith, e)) same))
-    (λ called same. absurd (other_at 3 (codes "gc_same") (codes "gc_new." ++ layout) (λ e. omega (arith, e)) same))
 
 -- ---- what is passed
 
@@ -271,6 +206,12 @@ both a b p q = ap (λ (x : Bool). x && b) p ∙ q
 both_and : (a b c : Bool) → a ≡ true → b ≡ true → c ≡ true → (a && (b && c)) ≡ true
 both_and a b c p q r = both a (b && c) p (both b c q r)
 
+same_type-refl : (a : TypeWord) → same_type a a ≡ true
+same_type-refl types.Void = refl
+same_type-refl (types.Int width) = (Decides-eqb width width).1 refl
+same_type-refl types.Managed = refl
+same_type-refl types.Plain = refl
+
 same_types-refl : (words : List TypeWord) → same_types words words ≡ true
 same_types-refl [] = refl
 same_types-refl (w ∷ ws) = both (same_type w w) (same_types ws ws) (same_type-refl w) (same_types-refl ws)
@@ -283,13 +224,12 @@ agree scope name defined answer passed s =
     (ap (same_type answer) s.answers ∙ same_type-refl answer)
     (ap (same_types (map passed_type passed)) s.takes ∙ same_types-refl (map passed_type passed))
 
+other_name : (name due : List ℕ) → name ≢ due → bytes_eq name due ≡ false
+other_name name due other = not-true (bytes_eq name due) (λ is. other ((bytes_eq-Decides name due).0 is))
+
 -- what is asked of the calls of one name only
-not_asked : (due name : List ℕ) (b : Bool) → name ≢ due → (not (bytes_eq name due) || b) ≡ true
-not_asked due name b other = by (bytes_eq name due) refl
-  where
-    by : (c : Bool) → bytes_eq name due ≡ c → (not (bytes_eq name due) || b) ≡ true
-    by true is = absurd (other ((bytes_eq-Decides name due).0 is))
-    by false is = ap (λ (c : Bool). not c || b) is
+not_asked : (due name : List ℕ) (b : Bool) → bytes_eq name due ≡ false → (not (bytes_eq name due) || b) ≡ true
+not_asked due name b other = ap (λ (c : Bool). not c || b) other
 
 either : (a b : Bool) → b ≡ true → (a || b) ≡ true
 either true b e = refl
@@ -323,7 +263,7 @@ taken scope name defined answer words s = ap (takes_types words) s.found ∙ ap 
 
 plain_call : (form : Form) (scope : Scope) (names : Names) (values : List Ty) (name : List ℕ) (os : List Operand) (sig : Signature) (defined : Bool)
     → HeadSays scope name defined (word_of sig.answer) (map word_of sig.params) → AllZip (Fits values) os sig.params → AllByRecursion IsFirst sig.params
-    → length sig.params ≤ 64 → name ≢ codes "task_start" → (not (bytes_eq name (codes "gc_check")) || checks_kind (passed_of names sig.params os)) ≡ true
+    → length sig.params ≤ 64 → bytes_eq name (codes "task_start") ≡ false → (not (bytes_eq name (codes "gc_check")) || checks_kind (passed_of names sig.params os)) ≡ true
     → CallFits form scope names name os sig
 plain_call form scope names values name os sig defined s fit first few other checks =
     let passed = passed_of names sig.params os in
@@ -373,8 +313,7 @@ task_call form scope names values os func s task fit at =
           (agree scope (codes "task_start") false types.Void passed (subst (HeadSays scope (codes "task_start") false types.Void) (sym t.words) s))
           (either (not (bytes_eq (codes "task_start") (codes "task_start"))) (starts_task scope passed)
           (t.starts ∙ task_is scope (function_name names.funcs func.0) task))
-          (asked_of (is_source form) (not (bytes_eq (codes "task_start") (codes "gc_check"))) (checks_kind passed)
-          (not_asked (codes "gc_check") (codes "task_start") (checks_kind passed) (other_first (codes "task_start") (codes "gc_check") (λ e. omega (arith, e)))));
+          (asked_of (is_source form) (not (bytes_eq (codes "task_start") (codes "gc_check"))) (checks_kind passed) refl);
       takes = taken scope (codes "task_start") false types.Void (types.Plain ∷ types.Managed ∷ []) s;
       few = omega arith;
     }
@@ -383,6 +322,23 @@ task_call form scope names values os func s task fit at =
 args_first : (args : List Arg) → AllByRecursion (λ (a : Arg). is_first_class a.ty ≡ true) args → AllByRecursion IsFirst (map (λ (a : Arg). a.ty) args)
 args_first [] h = tt
 args_first (a ∷ args) h = (h.0, args_first args h.1)
+
+external_call : (form : Form) (content : ModuleContent) → IsShaped content → (lines : List Line) → said lines ≡ said_by content → (one : Definition) (func : Function)
+    → (name : List ℕ) (sig : Signature) → IsExternalName name → HeadFound (scope_of lines one) name
+    → words_by name ≡ (word_of sig.answer, map word_of sig.params) → AllByRecursion IsFirst sig.params → length sig.params ≤ 64 → bytes_eq name (codes "task_start") ≡ false
+    → (ts : List Ty) (ty : Ty) (os : List Operand) → AllZip (Fits (value_types func)) os ts → Some sig ≡ Some (record { answer = ty; params = ts })
+    → (AllZip (Fits (value_types func)) os sig.params → (not (bytes_eq name (codes "gc_check")) || checks_kind (passed_of (names_in content func) sig.params os)) ≡ true)
+    → CallFits form (scope_of lines one) (names_in content func) name os (record { answer = ty; params = ts })
+external_call form content shaped lines e one func name sig external found words first few other ts ty os fit signature checks =
+    let scope = scope_of lines one in
+    let names = names_in content func in
+    let given : Signature = record { answer = ty; params = ts } in
+    let same : sig ≡ given = same_Some sig given signature in
+    let own : AllZip (Fits (value_types func)) os sig.params = subst (λ (s : Signature). AllZip (Fits (value_types func)) os s.params) (sym same) fit in
+    subst (CallFits form scope names name os) same
+    (plain_call form scope names (value_types func) name os sig false
+    (subst (λ (w : TypeWord × List TypeWord). HeadSays scope name false w.0 w.1) words (external_head content shaped lines e one name external found))
+    own first few other (checks own))
 
 call_keeps : (form : Form) (content : ModuleContent) → IsShaped content → (lines : List Line) → said lines ≡ said_by content → (one : Definition) (func : Function)
     → Knows (scope_of lines one) (names_in content func) → (callee : Callee) → CalleeBelow (names_in content func) callee
@@ -409,53 +365,17 @@ call_keeps form content shaped lines e one func k (callees.Fun named) below foun
     (subst (λ (s : Signature). HeadSays scope name true (word_of s.answer) (map word_of s.params)) f.has head) fit
     (subst (λ (s : Signature). AllByRecursion IsFirst s.params) f.has first)
     (subst (λ (s : Signature). length s.params ≤ 64) f.has few)
-    (λ same. free (inl (2, omega arith, sym same ∙ called)))
-    (not_asked (codes "gc_check") name (checks_kind (passed_of names ts os)) (λ same. free (inl (4, omega arith, sym same ∙ called))))
+    (other_name name (codes "task_start") (λ same. free (inl (2, omega arith, sym same ∙ called))))
+    (not_asked (codes "gc_check") name (checks_kind (passed_of names ts os)) (other_name name (codes "gc_check") (λ same. free (inl (4, omega arith, sym same ∙ called)))))
 call_keeps form content shaped lines e one func k (callees.New layout) below found ts ty os fit signature takes =
-    let scope = scope_of lines one in
-    let names = names_in content func in
-    let name = codes "gc_new." ++ layout_name content.layouts layout in
-    let sig : Signature = record { answer = tys.Ptr; params = tys.Int 64 ∷ [] } in
-    let given : Signature = record { answer = ty; params = ts } in
-    let same : sig ≡ given = same_Some sig given signature in
-    let own : AllZip (Fits (value_types func)) os sig.params = subst (λ (s : Signature). AllZip (Fits (value_types func)) os s.params) (sym same) fit in
-    subst (CallFits form scope names name os) same
-    (plain_call form scope names (value_types func) name os sig false
-    (external_head content shaped lines e one name types.Managed (types.Int 64 ∷ []) (inr (inl (layout_name content.layouts layout, refl)))
-    (made_declared content (layout_name content.layouts layout)) found)
-    own (refl, tt) (omega arith)
-    (other_first name (codes "task_start") (λ e. omega (arith, e)))
-    (not_asked (codes "gc_check") name (checks_kind (passed_of names sig.params os)) (other_at 3 name (codes "gc_check") (λ e. omega (arith, e)))))
+    external_call form content shaped lines e one func (codes "gc_new." ++ layout_name content.layouts layout) (record { answer = tys.Ptr; params = tys.Int 64 ∷ [] })
+    (inr (inl (layout_name content.layouts layout, refl))) found refl (refl, tt) (omega arith) refl ts ty os fit signature (λ own. refl)
 call_keeps form content shaped lines e one func k callees.Print below found ts ty os fit signature takes =
-    let scope = scope_of lines one in
-    let names = names_in content func in
-    let name = codes "print_i64" in
-    let sig : Signature = record { answer = tys.Void; params = tys.Int 64 ∷ [] } in
-    let given : Signature = record { answer = ty; params = ts } in
-    let same : sig ≡ given = same_Some sig given signature in
-    let own : AllZip (Fits (value_types func)) os sig.params = subst (λ (s : Signature). AllZip (Fits (value_types func)) os s.params) (sym same) fit in
-    subst (CallFits form scope names name os) same
-    (plain_call form scope names (value_types func) name os sig false
-    (external_head content shaped lines e one name types.Void (types.Int 64 ∷ []) (inl (0, omega arith, refl))
-    (print_declared content) found)
-    own (refl, tt) (omega arith)
-    (other_first name (codes "task_start") (λ e. omega (arith, e)))
-    (not_asked (codes "gc_check") name (checks_kind (passed_of names sig.params os)) (other_first name (codes "gc_check") (λ e. omega (arith, e)))))
+    external_call form content shaped lines e one func (codes "print_i64") (record { answer = tys.Void; params = tys.Int 64 ∷ [] })
+    (inl (0, omega arith, refl)) found refl (refl, tt) (omega arith) refl ts ty os fit signature (λ own. refl)
 call_keeps form content shaped lines e one func k callees.Read below found ts ty os fit signature takes =
-    let scope = scope_of lines one in
-    let names = names_in content func in
-    let name = codes "read_i64" in
-    let sig : Signature = record { answer = tys.Int 64; params = [] } in
-    let given : Signature = record { answer = ty; params = ts } in
-    let same : sig ≡ given = same_Some sig given signature in
-    let own : AllZip (Fits (value_types func)) os sig.params = subst (λ (s : Signature). AllZip (Fits (value_types func)) os s.params) (sym same) fit in
-    subst (CallFits form scope names name os) same
-    (plain_call form scope names (value_types func) name os sig false
-    (external_head content shaped lines e one name (types.Int 64) ([]) (inl (1, omega arith, refl))
-    (read_declared content) found)
-    own tt (omega arith)
-    (other_first name (codes "task_start") (λ e. omega (arith, e)))
-    (not_asked (codes "gc_check") name (checks_kind (passed_of names sig.params os)) (other_first name (codes "gc_check") (λ e. omega (arith, e)))))
+    external_call form content shaped lines e one func (codes "read_i64") (record { answer = tys.Int 64; params = [] })
+    (inl (1, omega arith, refl)) found refl tt (omega arith) refl ts ty os fit signature (λ own. refl)
 call_keeps form content shaped lines e one func k callees.TaskStart below found ts ty os fit signature takes =
     let scope = scope_of lines one in
     let names = names_in content func in
@@ -468,54 +388,19 @@ call_keeps form content shaped lines e one func k callees.TaskStart below found 
     let head = function_head content shaped lines e one to.0 f.func f.there (k.function to.0 (slice_get_within content.funcs to.0 f.func f.there)) in
     subst (CallFits form scope names (codes "task_start") os) same
     (task_call form scope names (value_types func) os to
-    (external_head content shaped lines e one (codes "task_start") types.Void (types.Plain ∷ types.Managed ∷ []) (inl (2, omega arith, refl)) (start_declared content) found)
+    (external_head content shaped lines e one (codes "task_start") (inl (2, omega arith, refl)) found)
     (subst (λ (s : Signature). HeadSays scope (function_name content.funcs to.0) true (word_of s.answer) (map word_of s.params)) f.has head)
     (subst (λ (s : Signature). AllZip (Fits (value_types func)) os s.params) (sym same) fit) takes.1)
 call_keeps form content shaped lines e one func k callees.Poll below found ts ty os fit signature takes =
-    let scope = scope_of lines one in
-    let names = names_in content func in
-    let name = codes "gc.safepoint_poll" in
-    let sig : Signature = record { answer = tys.Void; params = [] } in
-    let given : Signature = record { answer = ty; params = ts } in
-    let same : sig ≡ given = same_Some sig given signature in
-    let own : AllZip (Fits (value_types func)) os sig.params = subst (λ (s : Signature). AllZip (Fits (value_types func)) os s.params) (sym same) fit in
-    subst (CallFits form scope names name os) same
-    (plain_call form scope names (value_types func) name os sig false
-    (external_head content shaped lines e one name types.Void ([]) (inl (3, omega arith, refl))
-    (poll_declared content) found)
-    own tt (omega arith)
-    (other_first name (codes "task_start") (λ e. omega (arith, e)))
-    (not_asked (codes "gc_check") name (checks_kind (passed_of names sig.params os)) (other_at 2 name (codes "gc_check") (λ e. omega (arith, e)))))
+    external_call form content shaped lines e one func (codes "gc.safepoint_poll") (record { answer = tys.Void; params = [] })
+    (inl (3, omega arith, refl)) found refl tt (omega arith) refl ts ty os fit signature (λ own. refl)
 call_keeps form content shaped lines e one func k callees.Check below found ts ty os fit signature takes =
-    let scope = scope_of lines one in
-    let names = names_in content func in
-    let name = codes "gc_check" in
-    let sig : Signature = record { answer = tys.Void; params = tys.Ptr ∷ tys.Ptr ∷ tys.Int 64 ∷ [] } in
-    let given : Signature = record { answer = ty; params = ts } in
-    let same : sig ≡ given = same_Some sig given signature in
-    let own : AllZip (Fits (value_types func)) os sig.params = subst (λ (s : Signature). AllZip (Fits (value_types func)) os s.params) (sym same) fit in
-    subst (CallFits form scope names name os) same
-    (plain_call form scope names (value_types func) name os sig false
-    (external_head content shaped lines e one name types.Void (types.Managed ∷ types.Managed ∷ types.Int 64 ∷ []) (inl (4, omega arith, refl))
-    (check_declared content) found)
-    own (refl, (refl, (refl, tt))) (omega arith)
-    (other_first name (codes "task_start") (λ e. omega (arith, e)))
-    (either (not (bytes_eq name (codes "gc_check"))) (checks_kind (passed_of names sig.params os)) (kind_checked names (value_types func) takes.0 os own takes.1)))
+    external_call form content shaped lines e one func (codes "gc_check") (record { answer = tys.Void; params = tys.Ptr ∷ tys.Ptr ∷ tys.Int 64 ∷ [] })
+    (inl (4, omega arith, refl)) found refl (refl, (refl, (refl, tt))) (omega arith) refl ts ty os fit signature
+    (λ own. kind_checked (names_in content func) (value_types func) takes.0 os own takes.1)
 call_keeps form content shaped lines e one func k callees.Same below found ts ty os fit signature takes =
-    let scope = scope_of lines one in
-    let names = names_in content func in
-    let name = codes "gc_same" in
-    let sig : Signature = record { answer = tys.Int 1; params = tys.Ptr ∷ tys.Ptr ∷ tys.Ptr ∷ tys.Ptr ∷ [] } in
-    let given : Signature = record { answer = ty; params = ts } in
-    let same : sig ≡ given = same_Some sig given signature in
-    let own : AllZip (Fits (value_types func)) os sig.params = subst (λ (s : Signature). AllZip (Fits (value_types func)) os s.params) (sym same) fit in
-    subst (CallFits form scope names name os) same
-    (plain_call form scope names (value_types func) name os sig false
-    (external_head content shaped lines e one name (types.Int 1) (types.Managed ∷ types.Managed ∷ types.Managed ∷ types.Managed ∷ []) (inl (5, omega arith, refl))
-    (same_declared content) found)
-    own (refl, (refl, (refl, (refl, tt)))) (omega arith)
-    (other_first name (codes "task_start") (λ e. omega (arith, e)))
-    (not_asked (codes "gc_check") name (checks_kind (passed_of names sig.params os)) (other_at 3 name (codes "gc_check") (λ e. omega (arith, e)))))
+    external_call form content shaped lines e one func (codes "gc_same") (record { answer = tys.Int 1; params = tys.Ptr ∷ tys.Ptr ∷ tys.Ptr ∷ tys.Ptr ∷ [] })
+    (inl (5, omega arith, refl)) found refl (refl, (refl, (refl, (refl, tt)))) (omega arith) refl ts ty os fit signature (λ own. refl)
 
 -- ---- statepoints
 
@@ -558,39 +443,53 @@ guarded_fits form scope names id callee ts inst fits =
     (takes_types (map parameter_says ts) (head_named scope (callee_name names callee))) (literal_fits (types.Int 32) (literal_of (pos (length ts))))
     (subst (λ (z : List (Ty × Operand)). call_agrees form scope (word_of inst.ty) (callee_name names callee)
     (map (λ (argument : Ty × Operand). passed_says names argument.0 argument.1) z) ≡ true) (zip_take ts inst.operands) fits.agrees)
-    fits.takes (less (length ts) (2 ^ 32) (omega arith))
+    fits.takes (lt-ltb (length ts) (2 ^ 32) (omega arith))
+
+passed_count : (callee : Callee) (ts : List Ty) (os : List Operand) → Arguments callee (take (length ts) os) ts → length (zip ts os) ≡ length ts
+passed_count callee [] os arguments = refl
+passed_count callee (t ∷ ts) [] arguments = absurd arguments
+passed_count callee (t ∷ ts) (o ∷ os) arguments = ap suc (passed_count callee ts os arguments.1)
+
+counted : (names : Names) (id : ℕ) (callee : Callee) (ts : List Ty) (inst : Instruction) → Arguments callee (take (length ts) inst.operands) ts
+    → is_count (made_says names id callee ts inst).count (length (made_says names id callee ts inst).passed) ≡ true
+counted names id callee ts inst arguments =
+    (Decides-eqb (length ts) (length (passed_of names ts inst.operands))).1
+    (sym (length-map (zip ts inst.operands) (λ (argument : Ty × Operand). passed_says names argument.0 argument.1) ∙ passed_count callee ts inst.operands arguments))
 
 -- ---- any instruction
 
-abbrev Keeps : Form → Scope → Statement → Type 0
-Keeps form scope s = breaks_call form scope s ≡ false
+-- a line spells nothing wrong but values, and counts its arguments
+abbrev pub SaysRight : Form → Scope → Statement → Type 0
+SaysRight form scope s = (says_wrong form scope s ≡ false) × (miscounts scope s ≡ false)
 
-cases_keep : (form : Form) (scope : Scope) (names : Names) (ty : Ty) (es : List (Operand × BlockId)) → AllByRecursion (Keeps form scope) (map (case_says names ty) es ++ switch_end ∷ [])
-cases_keep form scope names ty [] = (refl, tt)
-cases_keep form scope names ty (e ∷ es) = (refl, cases_keep form scope names ty es)
+cases_right : (form : Form) (scope : Scope) (names : Names) (ty : Ty) (es : List (Operand × BlockId)) → AllByRecursion (SaysRight form scope) (map (case_says names ty) es ++ switch_end ∷ [])
+cases_right form scope names ty [] = ((refl, refl), tt)
+cases_right form scope names ty (e ∷ es) = ((refl, refl), cases_right form scope names ty es)
 
-step_keeps : (form : Form) (scope : Scope) (names : Names) (elem : Elem) (width : ℕ) (place : Option ℕ) (inst : Instruction) → Keeps form scope (step_says names elem width place inst)
-step_keeps form scope names (elements.Int w) width place inst = refl
-step_keeps form scope names elements.Ptr width place inst = refl
-step_keeps form scope names (elements.Layout l) width place inst = refl
+step_right : (form : Form) (scope : Scope) (names : Names) (elem : Elem) (width : ℕ) (place : Option ℕ) (inst : Instruction) → SaysRight form scope (step_says names elem width place inst)
+step_right form scope names (elements.Int w) width place inst = (refl, refl)
+step_right form scope names elements.Ptr width place inst = (refl, refl)
+step_right form scope names (elements.Layout l) width None inst = (refl, refl)
+step_right form scope names (elements.Layout l) width (Some n) inst = (refl, refl)
 
-return_keeps : (form : Form) (scope : Scope) (names : Names) (ty : Ty) (inst : Instruction) → Keeps form scope (return_says names ty inst)
-return_keeps form scope names tys.Void inst = refl
-return_keeps form scope names (tys.Int n) inst = refl
-return_keeps form scope names tys.Ptr inst = refl
-return_keeps form scope names tys.Token inst = refl
+return_right : (form : Form) (scope : Scope) (names : Names) (ty : Ty) (inst : Instruction) → SaysRight form scope (return_says names ty inst)
+return_right form scope names tys.Void inst = (refl, refl)
+return_right form scope names (tys.Int n) inst = (refl, refl)
+return_right form scope names tys.Ptr inst = (refl, refl)
+return_right form scope names tys.Token inst = (refl, refl)
 
-inst_keeps : (form : Form) (scope : Scope) (names : Names) (op : Op) (inst : Instruction)
+inst_right : (form : Form) (scope : Scope) (names : Names) (op : Op) (inst : Instruction)
     → ((callee : Callee) (ts : List Ty) → op ≡ ops.Call callee ts
     → CallFits form scope names (callee_name names callee) inst.operands (record { answer = inst.ty; params = ts }))
-    → ((id : ℕ) (callee : Callee) (ts : List Ty) → op ≡ ops.Statepoint id callee ts → GuardedFits form scope names id callee ts inst)
-    → AllByRecursion (Keeps form scope) (operator_says names op inst)
-inst_keeps form scope names (ops.Call callee ts) inst calls guarded = (ap not (calls callee ts refl).agrees, tt)
-inst_keeps form scope names (ops.Statepoint id callee ts) inst calls guarded = (ap not (guarded id callee ts refl), tt)
-inst_keeps form scope names (ops.Gep elem width place) inst calls guarded = (step_keeps form scope names elem width place inst, tt)
-inst_keeps form scope names ops.Switch inst calls guarded = (refl, cases_keep form scope names inst.ty (zip (drop 1 inst.operands) (drop 1 inst.labels)))
-inst_keeps form scope names ops.Ret inst calls guarded = (return_keeps form scope names inst.ty inst, tt)
-inst_keeps form scope names _ inst calls guarded = (refl, tt)
+    → ((id : ℕ) (callee : Callee) (ts : List Ty) → op ≡ ops.Statepoint id callee ts → SaysRight form scope (statepoint_says names id callee ts inst))
+    → AllByRecursion (SaysRight form scope) (operator_says names op inst)
+inst_right form scope names (ops.Call callee ts) inst calls guarded = ((ap not (calls callee ts refl).agrees, refl), tt)
+inst_right form scope names (ops.Statepoint id callee ts) inst calls guarded = (guarded id callee ts refl, tt)
+inst_right form scope names ops.Select inst calls guarded = ((ap not (same_type-refl (word_of inst.ty)), refl), tt)
+inst_right form scope names (ops.Gep elem width place) inst calls guarded = (step_right form scope names elem width place inst, tt)
+inst_right form scope names ops.Switch inst calls guarded = ((refl, refl), cases_right form scope names inst.ty (zip (drop 1 inst.operands) (drop 1 inst.labels)))
+inst_right form scope names ops.Ret inst calls guarded = (return_right form scope names inst.ty inst, tt)
+inst_right form scope names _ inst calls guarded = ((refl, refl), tt)
 
 one_call : (form : Form) (content : ModuleContent) → IsShaped content → (lines : List Line) → said lines ≡ said_by content → (one : Definition) (func : Function)
     → Knows (scope_of lines one) (names_in content func) → Contains content.funcs func → (inst : Instruction) → Contains (instructions_of func.blocks) inst
@@ -601,16 +500,16 @@ one_call form content shaped lines e one func k c inst d op has p rule callee ts
     let names = names_in content func in
     let q : IsPrintedIn content.form names (ops.Call callee ts) inst = subst (λ (o : Op). IsPrintedIn content.form names o inst) is p in
     let call_rule : IsCallOf (module_scope.scope_of content func) callee ts inst = subst (λ (o : Op). RuleOf (module_scope.scope_of content func) o inst) is rule in
-    let below = callee_parts names callee ts inst q.layouts q.functions in
-    let found = callee_found (scope_of lines one) names k callee below.0
+    let below = (passing names callee ts inst q).below in
+    let found = callee_found (scope_of lines one) names k callee below
     (λ x called. is_called content.funcs func inst x c d
     (subst (λ (o : Op). is_call_of x o inst.ty ≡ true) (sym is ∙ has) called)) in
-    call_keeps form content shaped lines e one func k callee below.0 found ts inst.ty inst.operands q.fits call_rule.signature call_rule.operands
+    call_keeps form content shaped lines e one func k callee below found ts inst.ty inst.operands q.fits call_rule.signature call_rule.operands
 
 one_statepoint : (form : Form) (content : ModuleContent) → IsShaped content → (lines : List Line) → said lines ≡ said_by content → (one : Definition) (func : Function)
     → Knows (scope_of lines one) (names_in content func) → Contains content.funcs func → (inst : Instruction) → Contains (instructions_of func.blocks) inst
     → (op : Op) → op ≡ inst.op → IsPrintedIn content.form (names_in content func) op inst → RuleOf (module_scope.scope_of content func) op inst
-    → (id : ℕ) (callee : Callee) (ts : List Ty) → op ≡ ops.Statepoint id callee ts → GuardedFits form (scope_of lines one) (names_in content func) id callee ts inst
+    → (id : ℕ) (callee : Callee) (ts : List Ty) → op ≡ ops.Statepoint id callee ts → SaysRight form (scope_of lines one) (statepoint_says (names_in content func) id callee ts inst)
 one_statepoint form content shaped lines e one func k c inst d op has p rule id callee ts is =
     let names = names_in content func in
     let q : IsPrintedIn content.form names (ops.Statepoint id callee ts) inst = subst (λ (o : Op). IsPrintedIn content.form names o inst) is p in
@@ -619,18 +518,19 @@ one_statepoint form content shaped lines e one func k c inst d op has p rule id 
     let found = callee_found (scope_of lines one) names k callee g.below
     (λ x called. is_called content.funcs func inst x c d
     (subst (λ (o : Op). is_call_of x o inst.ty ≡ true) (sym is ∙ has) (either (is_statepoints x) (is_callee x callee) called))) in
-    guarded_fits form (scope_of lines one) names id callee ts inst
+    let agrees = guarded_fits form (scope_of lines one) names id callee ts inst
     (call_keeps form content shaped lines e one func k callee g.below found ts inst.ty (take (length ts) inst.operands) g.fits call_rule.signature
-    (takes_front content func callee ts inst.ty inst.operands call_rule.signature call_rule.operands))
+    (takes_front content func callee ts inst.ty inst.operands call_rule.signature call_rule.operands)) in
+    (ap not agrees, ap not (counted names id callee ts inst q.line.arguments))
 
-pub calls-clear : (form : Form) (content : ModuleContent) → IsShaped content → (lines : List Line) → said lines ≡ said_by content → (line : ℕ) → ¬ (InBody lines line (breaks_call form))
-calls-clear form content shaped lines e line f =
-    no_body_fault content lines e (breaks_call form)
-    (λ one func says c inst d.
+pub says_right : (form : Form) (content : ModuleContent) → IsShaped content → (lines : List Line) → said lines ≡ said_by content → (one : Definition) (func : Function)
+    → SaysDefinition content.layouts content.funcs one func → Contains content.funcs func → (inst : Instruction) → Contains (instructions_of func.blocks) inst
+    → AllByRecursion (SaysRight form (scope_of lines one)) (operator_says (names_in content func) inst.op inst)
+says_right form content shaped lines e one func says c inst d =
     let typed = All-contains (λ (g : Function). FunctionIsTyped (module_scope.scope_of content g) g) content.funcs func shaped.no_fault.typed c in
     let fit = All-contains (IsTyped (module_scope.scope_of content func)) (instructions_of func.blocks) inst typed.lines d in
     let k = knows content shaped lines e one func says c (some_block func.blocks inst d) in
-    inst_keeps form (scope_of lines one) (names_in content func) inst.op inst
-    (one_call form content shaped lines e one func k c inst d inst.op refl (shaped_inst content shaped func c inst d) fit.rule)
-    (one_statepoint form content shaped lines e one func k c inst d inst.op refl (shaped_inst content shaped func c inst d) fit.rule))
-    (λ scope name. refl) line f
+    let printed = shaped_inst content shaped func c inst d in
+    inst_right form (scope_of lines one) (names_in content func) inst.op inst
+    (one_call form content shaped lines e one func k c inst d inst.op refl printed fit.rule)
+    (one_statepoint form content shaped lines e one func k c inst d inst.op refl printed fit.rule)

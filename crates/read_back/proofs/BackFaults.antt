@@ -1,8 +1,9 @@
 -- The lines that a module is printed as have no fault: the faults of single lines.
-use Rattle.std.proofs.Common.{◌≡◌, ◌∙◌, ℕ, zero, suc, ◌+◌, ◌<◌, ◌≤◌, Bool, true, false, not, ◌&&◌, ◌≢◌, ◌⊎◌, inl, inr, get_or, if◌then◌else◌, List, [], ◌∷◌, ◌++◌, map, length, drop, refl, ap, sym, subst, arith, codes}
-use Rattle.std.specs.Prelude.{Option, Some, ⊤, flat_map, slice_get}
+use Rattle.std.proofs.Common.{◌≡◌, ◌∙◌, ℕ, zero, suc, ◌+◌, ◌<◌, ◌≤◌, Bool, true, false, not, ◌&&◌, ◌||◌, ◌⊎◌, inl, inr, if◌then◌else◌, List, [], ◌∷◌, ◌++◌, map, length, drop, refl, ap, sym, subst, arith, codes}
+use Rattle.std.specs.Prelude.{Option, Some, ⊤, flat_map, slice_get, take}
+use Rattle.std.specs.Str.{bytes_eq}
 use Rattle.std.proofs.lemmas.Bool.{ne_eqb}
-use Rattle.std.specs.List.{AllByRecursion, AllZip, Contains, list_all, zip, range_with_len}
+use Rattle.std.specs.List.{AllByRecursion, AllZip, Contains, list_all, list_any, zip, range_with_len}
 use Rattle.std.proofs.lemmas.List.Elements.{recursion_from_All, All-from_recursion, All-contains, All-contains_itself, All-weaker, Contains-append_left, Contains-append_right}
 use Rattle.sp_ids.specs.declared.ids.BlockId.{BlockId}
 use Rattle.ir_ast.specs.declared.types.Ty.{Ty}
@@ -22,14 +23,13 @@ use Rattle.ir_ast.specs.Layouts.{ObjectLayout}
 use Rattle.ir_ast.specs.Funcs.{Function, instructions_of}
 use Rattle.ir_ast.specs.Modules.{ModuleContent}
 use Rattle.ir_ast.specs.Faultless.{FunctionHasNoFault}
-use Rattle.ir_ast.specs.Faults.PointerOrder as module_order
 use Rattle.ir_printer.specs.Names.{Names}
 use Rattle.ir_printer.specs.Declarations.{calls, externals, fixed_externals, integer_widths}
 use Rattle.print_tables.specs.declared.externals.External.TheVariants as externs
 use Rattle.line_parts.specs.declared.readings.TypeWord.TheVariants as types
 use Rattle.print_tables.specs.declared.externals.External.{External}
 use Rattle.line_parts.specs.declared.readings.TypeWord.{TypeWord}
-use Rattle.ir_lines.specs.Statements.{Line, Statement, layout, declare, define, close, label, switch_end}
+use Rattle.ir_lines.specs.Statements.{Line, Statement, layout, declare, define, close, label, cast}
 use Rattle.ir_lines.specs.Sections.{Definition, definitions_of, types_of}
 use Rattle.ir_lines.specs.Externals.{external, gc_new, makers_of, externals_of, own_externals, helpers}
 use Rattle.ir_lines.specs.Faults.UnknownExtern.{UnknownExtern}
@@ -43,13 +43,14 @@ use Rattle.ir_lines.specs.InBody.{InBody, InText}
 use Rattle.ir_lines.specs.Faults.BadLayout.{are_cells, is_bad_layout, BadLayout}
 use Rattle.ir_lines.specs.Faults.NoStrategy.{lacks_strategy, NoStrategy}
 use Rattle.ir_lines.specs.Faults.PointerCast.{is_cast, PointerCast}
-use Rattle.ir_lines.specs.Faults.PointerOrder.{orders, orders_pointers, PointerOrder}
+use Rattle.std.proofs.lemmas.Slice.Eq.{bytes_eq-Decides}
+use Rattle.module_laws.proofs.LawFacts.{or-right}
 use Rattle.ir_lines.proofs.LawNames.{contains_get, contains_cons, contains_map, get_some}
 use Rattle.read_back.specs.Said.{word_of, cell_word, operator_says, instruction_says, block_says, function_says, layout_says, argument_says, declaration_says, declaration_if_called, said_by, unnamed, step_says, return_says, case_says}
 use Rattle.read_back.proofs.BackLines.{said}
 use Rattle.read_back.proofs.BackInsts.{split_all}
-use Rattle.read_back.proofs.BackBlocks.{all_append, lines_all}
-use Rattle.read_back.proofs.BackSections.{SaysDefinition, definitions-are, layout-names, InBody as IsOfBody, in_body, blocks_inner}
+use Rattle.read_back.proofs.BackBlocks.{weaker, all_append, lines_all, InBlock, inner}
+use Rattle.read_back.proofs.BackSections.{SaysDefinition, definitions-are, layout-names, InBody as IsOfBody, in_body, blocks_inner, each_declared}
 use Rattle.read_back.proofs.BackModules.{IsShaped, names_in}
 use Rattle.read_back.proofs.NotCalled.{is_of_source}
 
@@ -122,16 +123,12 @@ each_said P content each =
         all_append P (declaration_if_called content.layouts content.funcs e) (flat_map (declaration_if_called content.layouts content.funcs) es)
         (by e (calls content.funcs e) refl below.0) (declared es below.1)
 
-    body : (ss : List Statement) → AllByRecursion IsOfBody ss → AllByRecursion P ss
-    body [] h = tt
-    body (s ∷ ss) h = (each.bodies s h.0, body ss h.1)
-
     functions : (fs : List Function) → AllByRecursion (Contains content.funcs) fs → AllByRecursion P (flat_map (function_says content.layouts content.funcs) fs)
     functions [] c = tt
     functions (f ∷ fs) c =
         let inside = flat_map (block_says (names_in content f)) f.blocks in
         all_append P (function_says content.layouts content.funcs f) (flat_map (function_says content.layouts content.funcs) fs)
-        (each.heads f c.0, all_append P inside (close ∷ []) (body inside (blocks_inner (names_in content f) f.blocks)) (each.ends, tt))
+        (each.heads f c.0, all_append P inside (close ∷ []) (weaker IsOfBody P each.bodies inside (blocks_inner (names_in content f) f.blocks)) (each.ends, tt))
         (functions fs c.1)
 
 pub line_said : (P : Statement → Type 0) (content : ModuleContent) (lines : List Line) → said lines ≡ said_by content → Each P content
@@ -145,21 +142,17 @@ line_said P content lines e each l c =
 pub no_strategy-clear : (content : ModuleContent) (lines : List Line) → said lines ≡ said_by content → (line : ℕ) → ¬ (NoStrategy lines line)
 no_strategy-clear content lines e line f =
     no_text_fault lacks_strategy lines (said_by content) e
-    (each_said (Passes lacks_strategy) content (record { layouts = layouts content.layouts; declarations = λ external below called. declarations external; heads = λ func c. refl; bodies = bodies; ends = refl })) line f
+    (each_said (Passes lacks_strategy) content (record {
+      layouts = layouts content.layouts;
+      declarations = λ external below called. each_declared (Passes lacks_strategy) (λ answer name parameters. refl) content.layouts external;
+      heads = λ func c. refl;
+      bodies = bodies;
+      ends = refl;
+    })) line f
   where
     layouts : (ls : List ObjectLayout) → AllByRecursion (Passes lacks_strategy) (map layout_says ls)
     layouts [] = tt
     layouts (l ∷ ls) = (refl, layouts ls)
-
-    declarations : (external : External) → AllByRecursion (Passes lacks_strategy) (declaration_says content.layouts external)
-    declarations (externs.New number) = (refl, tt)
-    declarations externs.Print = (refl, tt)
-    declarations externs.Read = (refl, tt)
-    declarations externs.TaskStart = (refl, tt)
-    declarations externs.Poll = (refl, tt)
-    declarations externs.Check = (refl, tt)
-    declarations externs.Same = (refl, tt)
-    declarations _ = tt
 
     bodies : (s : Statement) → in_body s ≡ true → lacks_strategy s ≡ false
     bodies (define answer name arguments strategy) h = absurd (let bad : false ≡ true = h in cc)
@@ -183,7 +176,7 @@ bad_layout-clear content shaped lines e line f =
     no_text_fault is_bad_layout lines (said_by content) e
     (each_said (Passes is_bad_layout) content (record {
       layouts = layouts content.layouts (recursion_from_All (λ (l : ObjectLayout). 0 < length l.fields) content.layouts shaped.no_fault.fields);
-      declarations = λ external below called. declarations external;
+      declarations = λ external below called. each_declared (Passes is_bad_layout) (λ answer name parameters. refl) content.layouts external;
       heads = λ func c. refl;
       bodies = bodies;
       ends = refl;
@@ -192,16 +185,6 @@ bad_layout-clear content shaped lines e line f =
     layouts : (ls : List ObjectLayout) → AllByRecursion (λ (l : ObjectLayout). 0 < length l.fields) ls → AllByRecursion (Passes is_bad_layout) (map layout_says ls)
     layouts [] h = tt
     layouts (l ∷ ls) h = (layout_right l.fields h.0, layouts ls h.1)
-
-    declarations : (external : External) → AllByRecursion (Passes is_bad_layout) (declaration_says content.layouts external)
-    declarations (externs.New number) = (refl, tt)
-    declarations externs.Print = (refl, tt)
-    declarations externs.Read = (refl, tt)
-    declarations externs.TaskStart = (refl, tt)
-    declarations externs.Poll = (refl, tt)
-    declarations externs.Check = (refl, tt)
-    declarations externs.Same = (refl, tt)
-    declarations _ = tt
 
     bodies : (s : Statement) → in_body s ≡ true → is_bad_layout s ≡ false
     bodies (layout name fields) h = absurd (let bad : false ≡ true = h in cc)
@@ -262,112 +245,39 @@ no_body_fault content lines e test clear labels line f =
 
 -- ---- code 16
 
-no_cast_cases : (names : Names) (ty : Ty) (es : List (Operand × BlockId)) → AllByRecursion (Passes is_cast) (map (case_says names ty) es ++ switch_end ∷ [])
-no_cast_cases names ty [] = (refl, tt)
-no_cast_cases names ty (e ∷ es) = (refl, no_cast_cases names ty es)
-
-no_cast_step : (names : Names) (elem : Elem) (width : ℕ) (place : Option ℕ) (inst : Instruction) → Passes is_cast (step_says names elem width place inst)
-no_cast_step names (elements.Int w) width place inst = refl
-no_cast_step names elements.Ptr width place inst = refl
-no_cast_step names (elements.Layout l) width place inst = refl
-
-no_cast_return : (names : Names) (ty : Ty) (inst : Instruction) → Passes is_cast (return_says names ty inst)
-no_cast_return names tys.Void inst = refl
-no_cast_return names (tys.Int w) inst = refl
-no_cast_return names tys.Ptr inst = refl
-no_cast_return names tys.Token inst = refl
-
-no_cast_inst : (names : Names) (op : Op) (inst : Instruction) → AllByRecursion (Passes is_cast) (operator_says names op inst)
-no_cast_inst names (ops.Gep elem width place) inst = (no_cast_step names elem width place inst, tt)
-no_cast_inst names ops.Ret inst = (no_cast_return names inst.ty inst, tt)
-no_cast_inst names ops.Switch inst = (refl, no_cast_cases names inst.ty (zip (drop 1 inst.operands) (drop 1 inst.labels)))
-no_cast_inst names _ inst = (refl, tt)
+no_cast : (s : Statement) → InBlock s → is_cast s ≡ false
+no_cast (cast result op from value to) h = absurd (let bad : false ≡ true = h in cc)
+no_cast _ h = refl
 
 pub pointer_cast-clear : (content : ModuleContent) (lines : List Line) → said lines ≡ said_by content → (line : ℕ) → ¬ (PointerCast lines line)
 pointer_cast-clear content lines e line f =
-    no_body_fault content lines e (λ scope. is_cast) (λ one func says c inst d. no_cast_inst (names_in content func) inst.op inst) (λ scope name. refl) line f
-
--- ---- code 15
-
-same_order : (pred : Pred) (ty : Ty) → module_order.orders_pointers (ops.Icmp pred) ty ≡ false → orders pred (word_of ty) ≡ false
-same_order preds.Eq tys.Ptr e = refl
-same_order preds.Ne tys.Ptr e = refl
-same_order pred tys.Void e = refl
-same_order pred (tys.Int w) e = refl
-same_order pred tys.Token e = refl
-same_order preds.Ugt tys.Ptr e = e
-same_order preds.Uge tys.Ptr e = e
-same_order preds.Ult tys.Ptr e = e
-same_order preds.Ule tys.Ptr e = e
-same_order preds.Sgt tys.Ptr e = e
-same_order preds.Sge tys.Ptr e = e
-same_order preds.Slt tys.Ptr e = e
-same_order preds.Sle tys.Ptr e = e
-
-no_order_cases : (names : Names) (ty : Ty) (es : List (Operand × BlockId)) → AllByRecursion (Passes orders_pointers) (map (case_says names ty) es ++ switch_end ∷ [])
-no_order_cases names ty [] = (refl, tt)
-no_order_cases names ty (e ∷ es) = (refl, no_order_cases names ty es)
-
-no_order_step : (names : Names) (elem : Elem) (width : ℕ) (place : Option ℕ) (inst : Instruction) → Passes orders_pointers (step_says names elem width place inst)
-no_order_step names (elements.Int w) width place inst = refl
-no_order_step names elements.Ptr width place inst = refl
-no_order_step names (elements.Layout l) width place inst = refl
-
-no_order_return : (names : Names) (ty : Ty) (inst : Instruction) → Passes orders_pointers (return_says names ty inst)
-no_order_return names tys.Void inst = refl
-no_order_return names (tys.Int w) inst = refl
-no_order_return names tys.Ptr inst = refl
-no_order_return names tys.Token inst = refl
-
-no_order_inst : (names : Names) (op : Op) (inst : Instruction) → module_order.orders_pointers op inst.ty ≡ false → AllByRecursion (Passes orders_pointers) (operator_says names op inst)
-no_order_inst names (ops.Icmp pred) inst e = (same_order pred inst.ty e, tt)
-no_order_inst names (ops.Gep elem width place) inst e = (no_order_step names elem width place inst, tt)
-no_order_inst names ops.Ret inst e = (no_order_return names inst.ty inst, tt)
-no_order_inst names ops.Switch inst e = (refl, no_order_cases names inst.ty (zip (drop 1 inst.operands) (drop 1 inst.labels)))
-no_order_inst names _ inst e = (refl, tt)
-
-pub pointer_order-clear : (content : ModuleContent) → IsShaped content → (lines : List Line) → said lines ≡ said_by content → (line : ℕ) → ¬ (PointerOrder lines line)
-pointer_order-clear content shaped lines e line f =
-    no_body_fault content lines e (λ scope. orders_pointers)
-    (λ one func says c inst d. no_order_inst (names_in content func) inst.op inst
-    (All-contains (λ (i : Instruction). module_order.orders_pointers i.op i.ty ≡ false) (instructions_of func.blocks) inst
-    (All-contains (FunctionHasNoFault content) content.funcs func shaped.no_fault.functions c).pointers d))
+    no_body_fault content lines e (λ scope. is_cast)
+    (λ one func says c inst d.
+    weaker InBlock (Passes is_cast) no_cast (operator_says (names_in content func) inst.op inst) (inner (names_in content func) inst.op inst))
     (λ scope name. refl) line f
 
 -- ---- declarations
 
--- the name of a declaration begins with no letter of the names of helpers, or it is that of a `gc_new`
-not_reserved : (name : List ℕ) → get_or name 0 0 ≢ 103 → get_or name 0 0 ≢ 108 → ¬ (Contains helpers name ⊎ HasFront (codes "llvm.") name)
-not_reserved name g l (inl c) = by (contains_cons (codes "gc.safepoint_poll") name (codes "gc_check" ∷ codes "gc_same" ∷ []) c)
+pub any_true : {X : Type 0} (p : X → Bool) (xs : List X) (x : X) → Contains xs x → p x ≡ true → list_any p xs ≡ true
+any_true p [] x c e = absurd (omega (arith, c.1))
+any_true {X} p (y ∷ ys) x c e = by (p y) refl (contains_cons y x ys c) (λ later. any_true p ys x later e)
   where
-    last : (codes "gc_same" ≡ name) ⊎ Contains [] name → ⊥
-    last (inl e) = g (ap (λ (n : List ℕ). get_or n 0 0) (sym e))
-    last (inr d) = absurd (omega (arith, d.1))
+    by : (b : Bool) → p y ≡ b → (y ≡ x) ⊎ Contains ys x → (Contains ys x → list_any p ys ≡ true) → list_any p (y ∷ ys) ≡ true
+    by true is at more = ap (λ (b : Bool). b || list_any p ys) is
+    by false is (inl same) more = absurd (let bad : true ≡ false = sym e ∙ ap p (sym same) ∙ is in cc)
+    by false is (inr later) more = ap (λ (b : Bool). b || list_any p ys) is ∙ more later
 
-    next : (codes "gc_check" ≡ name) ⊎ Contains (codes "gc_same" ∷ []) name → ⊥
-    next (inl e) = g (ap (λ (n : List ℕ). get_or n 0 0) (sym e))
-    next (inr d) = last (contains_cons (codes "gc_same") name [] d)
+-- the name of a helper, or one of LLVM's own
+abbrev is_reserved : List ℕ → Bool
+is_reserved name = list_any (bytes_eq name) helpers || bytes_eq (take 5 name) (codes "llvm.")
 
-    by : (codes "gc.safepoint_poll" ≡ name) ⊎ Contains (codes "gc_check" ∷ codes "gc_same" ∷ []) name → ⊥
-    by (inl e) = g (ap (λ (n : List ℕ). get_or n 0 0) (sym e))
-    by (inr d) = next (contains_cons (codes "gc_check") name (codes "gc_same" ∷ []) d)
-not_reserved name g l (inr f) = l (ap (λ (n : List ℕ). get_or n 0 0) f.1)
-
-made_not_reserved : (name : List ℕ) → ¬ (Contains helpers (codes "gc_new." ++ name) ⊎ HasFront (codes "llvm.") (codes "gc_new." ++ name))
-made_not_reserved name (inl c) = by (contains_cons (codes "gc.safepoint_poll") (codes "gc_new." ++ name) (codes "gc_check" ∷ codes "gc_same" ∷ []) c)
-  where
-    last : (codes "gc_same" ≡ codes "gc_new." ++ name) ⊎ Contains [] (codes "gc_new." ++ name) → ⊥
-    last (inl e) = let bad : ◌≡◌ {A = ℕ} 115 110 = ap (λ (n : List ℕ). get_or n 3 0) e in omega arith
-    last (inr d) = absurd (omega (arith, d.1))
-
-    next : (codes "gc_check" ≡ codes "gc_new." ++ name) ⊎ Contains (codes "gc_same" ∷ []) (codes "gc_new." ++ name) → ⊥
-    next (inl e) = let bad : ◌≡◌ {A = ℕ} 99 110 = ap (λ (n : List ℕ). get_or n 3 0) e in omega arith
-    next (inr d) = last (contains_cons (codes "gc_same") (codes "gc_new." ++ name) [] d)
-
-    by : (codes "gc.safepoint_poll" ≡ codes "gc_new." ++ name) ⊎ Contains (codes "gc_check" ∷ codes "gc_same" ∷ []) (codes "gc_new." ++ name) → ⊥
-    by (inl e) = let bad : ◌≡◌ {A = ℕ} 46 95 = ap (λ (n : List ℕ). get_or n 2 0) e in omega arith
-    by (inr d) = next (contains_cons (codes "gc_check") (codes "gc_new." ++ name) (codes "gc_same" ∷ []) d)
-made_not_reserved name (inr f) = let bad : ◌≡◌ {A = ℕ} 103 108 = ap (λ (n : List ℕ). get_or n 0 0) f.1 in omega arith
+not_reserved : (name : List ℕ) → is_reserved name ≡ false → ¬ (Contains helpers name ⊎ HasFront (codes "llvm.") name)
+not_reserved name e (inl c) =
+    let helper : list_any (bytes_eq name) helpers ≡ true = any_true (bytes_eq name) helpers name c ((bytes_eq-Decides name name).1 refl) in
+    let bad : true ≡ false = sym (ap (λ (b : Bool). b || bytes_eq (take 5 name) (codes "llvm.")) helper) ∙ e in cc
+not_reserved name e (inr f) =
+    let front : bytes_eq (take 5 name) (codes "llvm.") ≡ true = ap (λ (n : List ℕ). bytes_eq (take 5 n) (codes "llvm.")) f.1 in
+    let bad : true ≡ false = sym front ∙ or-right (list_any (bytes_eq name) helpers) (bytes_eq (take 5 name) (codes "llvm.")) e in cc
 
 -- what a line tells if it is a declaration
 abbrev pub IfDeclares : (TypeWord → List ℕ → List Named → Type 0) → Statement → Type 0
@@ -415,10 +325,8 @@ pub declares_free : (content : ModuleContent) → ((e : External) → is_of_sour
 declares_free content uncalled lines e line answer name parameters c =
     line_said (IfDeclares (λ a n ps. ¬ (Contains helpers n ⊎ HasFront (codes "llvm.") n))) content lines e
     (each_declaration (λ a n ps. ¬ (Contains helpers n ⊎ HasFront (codes "llvm.") n)) content
-    (λ number below. made_not_reserved (layout_name content.layouts number))
-    (not_reserved (codes "print_i64") (λ e. omega (arith, e)) (λ e. omega (arith, e)))
-    (not_reserved (codes "read_i64") (λ e. omega (arith, e)) (λ e. omega (arith, e)))
-    (not_reserved (codes "task_start") (λ e. omega (arith, e)) (λ e. omega (arith, e)))
+    (λ number below. not_reserved (codes "gc_new." ++ layout_name content.layouts number) refl)
+    (not_reserved (codes "print_i64") refl) (not_reserved (codes "read_i64") refl) (not_reserved (codes "task_start") refl)
     (λ called. absurd (let bad : true ≡ false = sym called ∙ uncalled externs.Poll refl in cc))
     (λ called. absurd (let bad : true ≡ false = sym called ∙ uncalled externs.Check refl in cc))
     (λ called. absurd (let bad : true ≡ false = sym called ∙ uncalled externs.Same refl in cc)))

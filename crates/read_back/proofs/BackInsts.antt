@@ -150,30 +150,59 @@ passed_functions P inst bundle all =
     subst (λ (b : List (Ty × Operand)). AllByRecursion P
     (functions_named (record { result = inst.result; op = ops.Load; ty = inst.ty; operands = inst.operands; labels = inst.labels; bundle = b }))) bundle all
 
-call_case : {of : TextForm} (names : Names) (known : Known) → Setting names known → NamesAreFree names → (callee : Callee) (ts : List Ty) (inst : Instruction) → IsPrintedIn of names (ops.Call callee ts) inst
-    → (rest : List Line) → instruction_said known rest (call_says names callee ts inst) ≡ Some inst
-call_case names known s free callee ts inst p rest =
-    let parts = callee_parts names callee ts inst p.layouts p.functions in
-    call-back names known s free callee ts rest inst p.is p.line p.bundle parts.0
-    (passes_zip names callee inst.operands ts p.fits p.line.arguments (passed_functions (λ named. named < length names.funcs) inst p.bundle parts.1)
-    (recursion_from_All IsWidth (flat_map type_widths ts) p.own_widths))
+-- what a call calls, and the arguments that it passes
+pub record Passing (names : Names) (callee : Callee) (ts : List Ty) (os : List Operand) : Type 0 where
+  pub below : CalleeBelow names callee
+  pub passes : AllZip (Passes names) os ts
 
-statepoint_case : {of : TextForm} (names : Names) (known : Known) → Setting names known → NamesAreFree names → (id : ℕ) (callee : Callee) (ts : List Ty) (inst : Instruction) → IsPrintedIn of names (ops.Statepoint id callee ts) inst
-    → (rest : List Line) → instruction_said known rest (statepoint_says names id callee ts inst) ≡ Some inst
-statepoint_case names known s free id callee ts inst p rest =
+pub passing : {of : TextForm} (names : Names) (callee : Callee) (ts : List Ty) (inst : Instruction) → IsPrintedIn of names (ops.Call callee ts) inst
+    → Passing names callee ts inst.operands
+passing names callee ts inst p =
+    let parts = callee_parts names callee ts inst p.layouts p.functions in
+    record {
+      below = parts.0;
+      passes = passes_zip names callee inst.operands ts p.fits p.line.arguments (passed_functions (λ named. named < length names.funcs) inst p.bundle parts.1)
+          (recursion_from_All IsWidth (flat_map type_widths ts) p.own_widths);
+    }
+
+-- and of a statepoint, whose live entries stand behind its arguments
+pub record Guards (names : Names) (callee : Callee) (ts : List Ty) (os : List Operand) : Type 0 where
+  pub below : CalleeBelow names callee
+  pub fits : AllZip (Fits (value_types names.func)) (take (length ts) os) ts
+  pub passes : AllZip (Passes names) (take (length ts) os) ts
+  pub live : AllByRecursion (λ (o : Operand). Good names o tys.Ptr) (drop (length ts) os)
+
+each_live : (names : Names) (os : List Operand) (n : ℕ) → AllZip (Good names) os (replicate n tys.Ptr) → AllByRecursion (λ (o : Operand). Good names o tys.Ptr) os
+each_live names [] n good = tt
+each_live names (o ∷ os) zero good = absurd good
+each_live names (o ∷ os) (suc n) good = (good.0, each_live names os n good.1)
+
+pub guards : {of : TextForm} (names : Names) (id : ℕ) (callee : Callee) (ts : List Ty) (inst : Instruction) → IsPrintedIn of names (ops.Statepoint id callee ts) inst
+    → Guards names callee ts inst.operands
+guards names id callee ts inst p =
     let parts = callee_parts names callee ts inst p.layouts p.functions in
     let n = length ts in
     let entries = length inst.operands - n in
     let fits = front_fit (Fits (value_types names.func)) inst.operands ts (replicate entries tys.Ptr) p.fits in
     let functions = front_functions (λ named. named < length names.funcs) n inst.operands (passed_functions (λ named. named < length names.funcs) inst p.bundle parts.1) in
-    statepoint-back names known s free id callee ts rest inst p.is p.line p.bundle p.id parts.0
-    (passes_zip names callee (take n inst.operands) ts fits.0 p.line.arguments functions (recursion_from_All IsWidth (flat_map type_widths ts) p.own_widths))
-    (each_live names (drop n inst.operands) entries (good_zip names (drop n inst.operands) (replicate entries tys.Ptr) fits.1 p.line.entries (repeated entries tys.Ptr pointer_width)))
-  where
-    each_live : (names : Names) (os : List Operand) (k : ℕ) → AllZip (Good names) os (replicate k tys.Ptr) → AllByRecursion (λ o. Good names o tys.Ptr) os
-    each_live names [] k good = tt
-    each_live names (o ∷ os) zero good = absurd good
-    each_live names (o ∷ os) (suc k) good = (good.0, each_live names os k good.1)
+    record {
+      below = parts.0;
+      fits = fits.0;
+      passes = passes_zip names callee (take n inst.operands) ts fits.0 p.line.arguments functions (recursion_from_All IsWidth (flat_map type_widths ts) p.own_widths);
+      live = each_live names (drop n inst.operands) entries (good_zip names (drop n inst.operands) (replicate entries tys.Ptr) fits.1 p.line.entries (repeated entries tys.Ptr pointer_width));
+    }
+
+call_case : {of : TextForm} (names : Names) (known : Known) → Setting names known → NamesAreFree names → (callee : Callee) (ts : List Ty) (inst : Instruction) → IsPrintedIn of names (ops.Call callee ts) inst
+    → (rest : List Line) → instruction_said known rest (call_says names callee ts inst) ≡ Some inst
+call_case names known s free callee ts inst p rest =
+    let own = passing names callee ts inst p in
+    call-back names known s free callee ts rest inst p.is p.line p.bundle own.below own.passes
+
+statepoint_case : {of : TextForm} (names : Names) (known : Known) → Setting names known → NamesAreFree names → (id : ℕ) (callee : Callee) (ts : List Ty) (inst : Instruction) → IsPrintedIn of names (ops.Statepoint id callee ts) inst
+    → (rest : List Line) → instruction_said known rest (statepoint_says names id callee ts inst) ≡ Some inst
+statepoint_case names known s free id callee ts inst p rest =
+    let g = guards names id callee ts inst p in
+    statepoint-back names known s free id callee ts rest inst p.is p.line p.bundle p.id g.below g.passes g.live
 
 -- ---- switches
 
@@ -182,12 +211,12 @@ first_is : (os : List Operand) (P : Operand → Type 0) → 0 < length os → Al
 first_is [] P some h = absurd (omega arith)
 first_is (o ∷ os) P some h = (h.0, h.1, λ x xs e f. ap (λ y. y ∷ xs) e ∙ ap (λ ys. o ∷ ys) f)
 
-pub first_label : (ls : List BlockId) (P : BlockId → Type 0) → 0 < length ls → AllByRecursion P ls
+first_label : (ls : List BlockId) (P : BlockId → Type 0) → 0 < length ls → AllByRecursion P ls
     → P (lab ls 0) × AllByRecursion P (drop 1 ls) × ((x : BlockId) (xs : List BlockId) → x ≡ lab ls 0 → xs ≡ drop 1 ls → x ∷ xs ≡ ls)
 first_label [] P some h = absurd (omega arith)
 first_label (o ∷ os) P some h = (h.0, h.1, λ x xs e f. ap (λ y. y ∷ xs) e ∙ ap (λ ys. o ∷ ys) f)
 
-pub less_one : {X Y : Type 0} (xs : List X) (ys : List Y) → length xs ≡ length ys → length (drop 1 xs) ≡ length (drop 1 ys)
+less_one : {X Y : Type 0} (xs : List X) (ys : List Y) → length xs ≡ length ys → length (drop 1 xs) ≡ length (drop 1 ys)
 less_one [] [] e = refl
 less_one [] (y ∷ ys) e = absurd (omega arith)
 less_one (x ∷ xs) [] e = absurd (omega arith)

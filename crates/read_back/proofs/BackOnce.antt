@@ -1,11 +1,10 @@
 -- The lines that a module is printed as have no fault: each head has a name of its own.
-use Rattle.std.proofs.Common.{◌≡◌, ◌≢◌, ◌∙◌, ◌⊎◌, inl, inr, ℕ, zero, suc, ◌+◌, ◌<◌, ◌≤◌, Bool, true, false, if◌then◌else◌, List, [], ◌∷◌, ◌++◌, map, length, drop, get_or, refl, ap, sym, subst, arith, codes}
-use Rattle.std.specs.Prelude.{⊤, flat_map, Option, Some, option_map}
-use Rattle.std.specs.Option.{option_map_or}
+use Rattle.std.proofs.Common.{◌≡◌, ◌≢◌, ◌∙◌, ◌⊎◌, inl, inr, ℕ, zero, suc, ◌+◌, ◌<◌, ◌≤◌, Bool, true, false, if◌then◌else◌, List, [], ◌∷◌, ◌++◌, map, length, take, drop, refl, ap, sym, subst, arith, codes}
+use Rattle.std.specs.Prelude.{⊤, flat_map, Option, unwrap_or}
+use Rattle.std.specs.Str.{bytes_eq}
 use Rattle.std.specs.List.{AllByRecursion, Contains, range_with_len}
-use Rattle.std.proofs.lemmas.List.{map-append, length-map}
+use Rattle.std.proofs.lemmas.List.{map-append}
 use Rattle.std.proofs.lemmas.List.Elements.{recursion_from_All, All-from_recursion, All-contains, Contains-append_cases}
-use Rattle.std.proofs.lemmas.Option.{slice_get-map}
 use Rattle.ir_ast.specs.Layouts.{ObjectLayout}
 use Rattle.ir_ast.specs.Funcs.{Function}
 use Rattle.ir_ast.specs.Modules.{ModuleContent}
@@ -16,12 +15,14 @@ use Rattle.ir_printer.specs.Declarations.{calls, externals, fixed_externals, int
 use Rattle.print_tables.specs.declared.externals.External.{External}
 use Rattle.print_tables.specs.declared.externals.External.TheVariants as externs
 use Rattle.ir_lines.specs.Statements.{Line, Statement, declare, define, close}
+use Rattle.ir_lines.specs.Places.{place_in}
 use Rattle.ir_lines.specs.Sections.{Head, head_said, heads_of}
 use Rattle.ir_lines.specs.InBody.{Repeats}
-use Rattle.ir_lines.proofs.LawNames.{Apart, apart-distinct, distinct-apart, get_some}
+use Rattle.ir_lines.proofs.LawNames.{Apart, apart-distinct, distinct-apart}
 use Rattle.read_back.specs.Said.{function_says, layout_says, block_says, declaration_says, declaration_if_called, said_by}
 use Rattle.read_back.proofs.BackModules.{IsShaped}
 use Rattle.read_back.proofs.BackLines.{said}
+use Rattle.read_back.proofs.BackNames.{placed-back}
 use Rattle.read_back.proofs.BackBlocks.{all_append, flat-append}
 use Rattle.read_back.proofs.BackSections.{InBody, blocks_inner}
 use Rattle.read_back.proofs.BackTops.{no_repeat}
@@ -93,191 +94,101 @@ each_named P layouts funcs [] h = tt
 each_named P layouts funcs (e ∷ es) h =
     all_append P (names_if layouts funcs e) (all_names layouts funcs es) (if_named P layouts funcs e h.0) (each_named P layouts funcs es h.1)
 
-abbrev Other : List ObjectLayout → External → External → Type 0
-Other layouts e f = AllByRecursion (λ n. AllByRecursion (λ m. m ≢ n) (declared_names layouts f)) (declared_names layouts e)
+-- ---- the externals have names of their own, in their order
 
-abbrev Others : List ObjectLayout → List External → Type 0
-Others layouts [] = ⊤
-Others layouts (e ∷ es) = AllByRecursion (Other layouts e) es × Others layouts es
+-- the place of the external that a name is of
+rank : List ObjectLayout → List ℕ → ℕ
+rank layouts name =
+    if bytes_eq (take 7 name) (codes "gc_new.") then unwrap_or (place_in (map (λ layout. layout.name) layouts) (drop 7 name)) 0
+    else if bytes_eq name (codes "print_i64") then length layouts
+    else if bytes_eq name (codes "read_i64") then length layouts + 1
+    else if bytes_eq name (codes "task_start") then length layouts + 1 + 1
+    else if bytes_eq name (codes "gc.safepoint_poll") then length layouts + 1 + 1 + 1
+    else if bytes_eq name (codes "gc_check") then length layouts + 1 + 1 + 1 + 1
+    else length layouts + 1 + 1 + 1 + 1 + 1
 
--- one declaration has at most one name
-abbrev IsSingle : List (List ℕ) → Type 0
-IsSingle [] = ⊤
-IsSingle (n ∷ ns) = ns ≡ []
+-- the names stand in the order of their externals, from this place on
+abbrev Ordered : List ObjectLayout → ℕ → List (List ℕ) → Type 0
+Ordered layouts from [] = ⊤
+Ordered layouts from (n ∷ ns) = (from ≤ rank layouts n) × Ordered layouts (rank layouts n + 1) ns
 
-not_among : (n : List ℕ) (ns : List (List ℕ)) → AllByRecursion (λ m. m ≢ n) ns → ¬ (Contains ns n)
-not_among n ns h c = All-contains (λ (m : List ℕ). m ≢ n) ns n (All-from_recursion (λ (m : List ℕ). m ≢ n) ns h) c refl
+ordered_later : (layouts : List ObjectLayout) (from to : ℕ) → from ≤ to → (ns : List (List ℕ)) → Ordered layouts to ns → Ordered layouts from ns
+ordered_later layouts from to less [] h = tt
+ordered_later layouts from to less (n ∷ ns) h = ((let first = h.0 in omega arith), h.1)
 
-single_names : (layouts : List ObjectLayout) (e : External) → IsSingle (declared_names layouts e)
-single_names layouts (externs.New k) = refl
-single_names layouts externs.Print = refl
-single_names layouts externs.Read = refl
-single_names layouts externs.TaskStart = refl
-single_names layouts externs.Poll = refl
-single_names layouts externs.Check = refl
-single_names layouts externs.Same = refl
-single_names layouts _ = tt
+ordered_above : (layouts : List ObjectLayout) (from : ℕ) (ns : List (List ℕ)) → Ordered layouts from ns → AllByRecursion (λ m. from ≤ rank layouts m) ns
+ordered_above layouts from [] h = tt
+ordered_above layouts from (n ∷ ns) h =
+    (h.0, ordered_above layouts from ns (ordered_later layouts from (rank layouts n + 1) (let first = h.0 in omega arith) ns h.1))
 
-add_names : (ns rest : List (List ℕ)) → IsSingle ns → AllByRecursion (λ n. AllByRecursion (λ m. m ≢ n) rest) ns → Apart rest → Apart (ns ++ rest)
-add_names [] rest one h apart = apart
-add_names (n ∷ ns) rest one h apart =
-    subst (λ (ms : List (List ℕ)). Apart (n ∷ (ms ++ rest))) (sym one) (not_among n rest h.0, apart)
-
-all_apart : (layouts : List ObjectLayout) (funcs : List Function) (es : List External) → Others layouts es → Apart (all_names layouts funcs es)
-all_apart layouts funcs [] h = tt
-all_apart layouts funcs (e ∷ es) h = by (calls funcs e) (all_apart layouts funcs es h.1)
+ordered_apart : (layouts : List ObjectLayout) (from : ℕ) (ns : List (List ℕ)) → Ordered layouts from ns → Apart ns
+ordered_apart layouts from [] h = tt
+ordered_apart layouts from (n ∷ ns) h = (none, ordered_apart layouts (rank layouts n + 1) ns h.1)
   where
-    spread : (ns : List (List ℕ)) → AllByRecursion (λ f. AllByRecursion (λ n. AllByRecursion (λ m. m ≢ n) (declared_names layouts f)) ns) es
-        → AllByRecursion (λ n. AllByRecursion (λ m. m ≢ n) (all_names layouts funcs es)) ns
-    spread [] k = tt
-    spread (n ∷ ns) k = (each_named (λ m. m ≢ n) layouts funcs es (firsts es k), spread ns (rests es k))
-      where
-        firsts : (fs : List External) → AllByRecursion (λ f. AllByRecursion (λ x. AllByRecursion (λ m. m ≢ x) (declared_names layouts f)) (n ∷ ns)) fs
-            → AllByRecursion (λ f. AllByRecursion (λ m. m ≢ n) (declared_names layouts f)) fs
-        firsts [] k = tt
-        firsts (f ∷ fs) k = (k.0.0, firsts fs k.1)
+    none : ¬ (Contains ns n)
+    none c =
+        let After : List ℕ → Type 0 = λ m. rank layouts n + 1 ≤ rank layouts m in
+        let after = All-contains After ns n (All-from_recursion After ns (ordered_above layouts (rank layouts n + 1) ns h.1)) c in omega (arith, after)
 
-        rests : (fs : List External) → AllByRecursion (λ f. AllByRecursion (λ x. AllByRecursion (λ m. m ≢ x) (declared_names layouts f)) (n ∷ ns)) fs
-            → AllByRecursion (λ f. AllByRecursion (λ x. AllByRecursion (λ m. m ≢ x) (declared_names layouts f)) ns) fs
-        rests [] k = tt
-        rests (f ∷ fs) k = (k.0.1, rests fs k.1)
-
-    by : (b : Bool) → Apart (all_names layouts funcs es) → Apart (flat_map head_names (if b then declaration_says layouts e else []) ++ all_names layouts funcs es)
-    by true apart = add_names (declared_names layouts e) (all_names layouts funcs es) (single_names layouts e) (spread (declared_names layouts e) h.0) apart
-    by false apart = apart
-
--- ---- the externals have names of their own
-
-first_other : (m n : List ℕ) → get_or m 0 0 ≢ get_or n 0 0 → m ≢ n
-first_other m n differ e = differ (ap (λ (x : List ℕ). get_or x 0 0) e)
-
-other_at : (k : ℕ) (m n : List ℕ) → get_or m k 0 ≢ get_or n k 0 → AllByRecursion (λ x. AllByRecursion (λ y. y ≢ x) (m ∷ [])) (n ∷ [])
-other_at k m n differ = ((λ e. differ (ap (λ (x : List ℕ). get_or x k 0) e), tt), tt)
-
-layout_other : (layouts : List ObjectLayout) → Distinct (map (λ layout. layout.name) layouts) → (j k : ℕ) → j < k → k < length layouts
-    → codes "gc_new." ++ layout_name layouts k ≢ codes "gc_new." ++ layout_name layouts j
-layout_other layouts once j k less below e =
-    let name : ObjectLayout → List ℕ = λ l. l.name in
-    let a = get_some layouts j (omega arith) in
-    let b = get_some layouts k below in
-    let same : layout_name layouts k ≡ layout_name layouts j = ap (drop 7) e in
-    let names : b.0.name ≡ a.0.name =
-    sym (ap (λ (o : Option ObjectLayout). option_map_or name o []) b.1) ∙ same ∙ ap (λ (o : Option ObjectLayout). option_map_or name o []) a.1 in
-    once j k less (omega (arith, length-map layouts name))
-    (slice_get-map name layouts j ∙ ap (option_map name) a.1 ∙ ap Some (sym names) ∙ sym (slice_get-map name layouts k ∙ ap (option_map name) b.1))
-
-abbrev IsFixed : External → Type 0
-IsFixed (externs.New k) = ⊥
-IsFixed _ = ⊤
-
-made_fixed : (layouts : List ObjectLayout) (k : ℕ) (f : External) → IsFixed f → Other layouts (externs.New k) f
-made_fixed layouts k (externs.New j) h = absurd h
-made_fixed layouts k externs.Print h = ((first_other (codes "print_i64") (codes "gc_new." ++ layout_name layouts k) (λ e. omega (arith, e)), tt), tt)
-made_fixed layouts k externs.Read h = ((first_other (codes "read_i64") (codes "gc_new." ++ layout_name layouts k) (λ e. omega (arith, e)), tt), tt)
-made_fixed layouts k externs.TaskStart h = ((first_other (codes "task_start") (codes "gc_new." ++ layout_name layouts k) (λ e. omega (arith, e)), tt), tt)
-made_fixed layouts k externs.Poll h = other_at 2 (codes "gc.safepoint_poll") (codes "gc_new." ++ layout_name layouts k) (λ e. omega (arith, e))
-made_fixed layouts k externs.Check h = other_at 3 (codes "gc_check") (codes "gc_new." ++ layout_name layouts k) (λ e. omega (arith, e))
-made_fixed layouts k externs.Same h = other_at 3 (codes "gc_same") (codes "gc_new." ++ layout_name layouts k) (λ e. omega (arith, e))
-made_fixed layouts k _ h = (tt, tt)
-
-all_fixed : (layouts : List ObjectLayout) (k : ℕ) (fs : List External) → AllByRecursion IsFixed fs → AllByRecursion (Other layouts (externs.New k)) fs
-all_fixed layouts k [] h = tt
-all_fixed layouts k (f ∷ fs) h = (made_fixed layouts k f h.0, all_fixed layouts k fs h.1)
-
-made_others : (layouts : List ObjectLayout) → Distinct (map (λ layout. layout.name) layouts) → (j first more : ℕ) → j < first → first + more ≤ length layouts
-    → AllByRecursion (Other layouts (externs.New j)) (map externs.New (range_with_len first more))
-made_others layouts once j first zero less few = tt
-made_others layouts once j first (suc more) less few =
-    (((layout_other layouts once j first less (omega arith), tt), tt), made_others layouts once j (first + 1) more (omega arith) (omega arith))
-
-each_made : (layouts : List ObjectLayout) → Distinct (map (λ layout. layout.name) layouts) → (first more : ℕ) → first + more ≤ length layouts
-    → (fs : List External) → AllByRecursion IsFixed fs → Others layouts fs → Others layouts (map externs.New (range_with_len first more) ++ fs)
-each_made layouts once first zero few fs fixed others = others
-each_made layouts once first (suc more) few fs fixed others = (
-  all_append (Other layouts (externs.New first)) (map externs.New (range_with_len (first + 1) more)) fs
-      (made_others layouts once first (first + 1) more (omega arith) (omega arith)) (all_fixed layouts first fs fixed),
-  each_made layouts once (first + 1) more (omega arith) fs fixed others,
-)
-
-abbrev IsSilent : External → Type 0
-IsSilent (externs.New k) = ⊥
-IsSilent externs.Print = ⊥
-IsSilent externs.Read = ⊥
-IsSilent externs.TaskStart = ⊥
-IsSilent externs.Poll = ⊥
-IsSilent externs.Check = ⊥
-IsSilent externs.Same = ⊥
-IsSilent _ = ⊤
-
-silent_names : (layouts : List ObjectLayout) (e : External) → IsSilent e → declared_names layouts e ≡ []
-silent_names layouts (externs.New k) h = absurd h
-silent_names layouts externs.Print h = absurd h
-silent_names layouts externs.Read h = absurd h
-silent_names layouts externs.TaskStart h = absurd h
-silent_names layouts externs.Poll h = absurd h
-silent_names layouts externs.Check h = absurd h
-silent_names layouts externs.Same h = absurd h
-silent_names layouts _ h = refl
-
-silent_other : (layouts : List ObjectLayout) (e f : External) → IsSilent f → Other layouts e f
-silent_other layouts e f h = each (declared_names layouts e)
+one_ordered : (layouts : List ObjectLayout) (funcs : List Function) (e : External) (n : List ℕ) (place : ℕ) → declared_names layouts e ≡ n ∷ [] → rank layouts n ≡ place
+    → (rest : List (List ℕ)) → Ordered layouts (place + 1) rest → Ordered layouts place (names_if layouts funcs e ++ rest)
+one_ordered layouts funcs e n place named at rest h = by (calls funcs e)
   where
-    each : (ns : List (List ℕ)) → AllByRecursion (λ n. AllByRecursion (λ m. m ≢ n) (declared_names layouts f)) ns
-    each [] = tt
-    each (n ∷ ns) = (subst (AllByRecursion (λ m. m ≢ n)) (sym (silent_names layouts f h)) tt, each ns)
+    by : (b : Bool) → Ordered layouts place (flat_map head_names (if b then declaration_says layouts e else []) ++ rest)
+    by true = subst (λ (ns : List (List ℕ)). Ordered layouts place (ns ++ rest)) (sym named)
+        ((let same = at in omega arith), subst (λ (k : ℕ). Ordered layouts (k + 1) rest) (sym at) h)
+    by false = ordered_later layouts place (place + 1) (omega arith) rest h
 
-after_silent : (layouts : List ObjectLayout) (e : External) (fs : List External) → AllByRecursion IsSilent fs → AllByRecursion (Other layouts e) fs
-after_silent layouts e [] h = tt
-after_silent layouts e (f ∷ fs) h = (silent_other layouts e f h.0, after_silent layouts e fs h.1)
+made_rank : (layouts : List ObjectLayout) → Distinct (map (λ layout. layout.name) layouts) → (k : ℕ) → k < length layouts
+    → rank layouts (codes "gc_new." ++ layout_name layouts k) ≡ k
+unfolding rank
+made_rank layouts once k below = ap (λ (o : Option ℕ). unwrap_or o 0) (placed-back (λ (layout : ObjectLayout). layout.name) layouts k once below)
 
-silent_others : (layouts : List ObjectLayout) (fs : List External) → AllByRecursion IsSilent fs → Others layouts fs
-silent_others layouts [] h = tt
-silent_others layouts (f ∷ fs) h = (after_silent layouts f fs h.1, silent_others layouts fs h.1)
+made_ordered : (layouts : List ObjectLayout) (funcs : List Function) → Distinct (map (λ layout. layout.name) layouts) → (first more : ℕ) → first + more ≤ length layouts
+    → (es : List External) → Ordered layouts (first + more) (all_names layouts funcs es)
+    → Ordered layouts first (all_names layouts funcs (map externs.New (range_with_len first more) ++ es))
+made_ordered layouts funcs once first zero few es h = subst (λ (k : ℕ). Ordered layouts k (all_names layouts funcs es)) (let e : first + 0 ≡ first = omega arith in e) h
+made_ordered layouts funcs once first (suc more) few es h =
+    one_ordered layouts funcs (externs.New first) (codes "gc_new." ++ layout_name layouts first) first refl (made_rank layouts once first (omega arith))
+    (all_names layouts funcs (map externs.New (range_with_len (first + 1) more) ++ es))
+    (made_ordered layouts funcs once (first + 1) more (omega arith) es
+    (subst (λ (k : ℕ). Ordered layouts k (all_names layouts funcs es)) (let e : first + suc more ≡ first + 1 + more = omega arith in e) h))
 
-silent_fixed : (fs : List External) → AllByRecursion IsSilent fs → AllByRecursion IsFixed fs
-silent_fixed [] h = tt
-silent_fixed (f ∷ fs) h = (one f h.0, silent_fixed fs h.1)
+none_named : (layouts : List ObjectLayout) (funcs : List Function) (es : List External) → AllByRecursion (λ e. declared_names layouts e ≡ []) es → all_names layouts funcs es ≡ []
+none_named layouts funcs [] h = refl
+none_named layouts funcs (e ∷ es) h = ap (λ (ns : List (List ℕ)). ns ++ all_names layouts funcs es) (by (calls funcs e)) ∙ none_named layouts funcs es h.1
   where
-    one : (f : External) → IsSilent f → IsFixed f
-    one (externs.New k) h = h
-    one _ h = tt
+    by : (b : Bool) → flat_map head_names (if b then declaration_says layouts e else []) ≡ []
+    by true = h.0
+    by false = refl
 
-silent_results : (widths : List ℕ) → AllByRecursion IsSilent (map externs.ResultOf widths ++ externs.ResultPointer ∷ [])
-silent_results [] = (tt, tt)
-silent_results (w ∷ ws) = (tt, silent_results ws)
+results_unnamed : (layouts : List ObjectLayout) (widths : List ℕ) → AllByRecursion (λ e. declared_names layouts e ≡ []) (map externs.ResultOf widths ++ externs.ResultPointer ∷ [])
+results_unnamed layouts [] = (refl, tt)
+results_unnamed layouts (w ∷ ws) = (refl, results_unnamed layouts ws)
 
-abbrev silent_tail : List External
-silent_tail = externs.StatepointFamily ∷ externs.RelocateFamily ∷ (map externs.ResultOf integer_widths ++ externs.ResultPointer ∷ [])
+-- those of the rewritten form have no lines
+abbrev families : List External
+families = externs.StatepointFamily ∷ externs.RelocateFamily ∷ (map externs.ResultOf integer_widths ++ externs.ResultPointer ∷ [])
 
-tail_silent : AllByRecursion IsSilent silent_tail
-tail_silent = (tt, (tt, silent_results integer_widths))
+fixed_ordered : (layouts : List ObjectLayout) (funcs : List Function)
+    → Ordered layouts (length layouts) (all_names layouts funcs (externs.Print ∷ externs.Read ∷ externs.TaskStart ∷ externs.Poll ∷ externs.Check ∷ externs.Same ∷ families))
+unfolding rank
+fixed_ordered layouts funcs =
+    one_ordered layouts funcs externs.Print (codes "print_i64") _ refl refl _
+    (one_ordered layouts funcs externs.Read (codes "read_i64") _ refl refl _
+    (one_ordered layouts funcs externs.TaskStart (codes "task_start") _ refl refl _
+    (one_ordered layouts funcs externs.Poll (codes "gc.safepoint_poll") _ refl refl _
+    (one_ordered layouts funcs externs.Check (codes "gc_check") _ refl refl _
+    (one_ordered layouts funcs externs.Same (codes "gc_same") _ refl refl _
+    (subst (λ (ns : List (List ℕ)). Ordered layouts (length layouts + 1 + 1 + 1 + 1 + 1 + 1) ns) (sym (none_named layouts funcs families (refl, (refl, results_unnamed layouts integer_widths)))) tt))))))
 
-print_others : (layouts : List ObjectLayout) → AllByRecursion (Other layouts externs.Print) (externs.Read ∷ externs.TaskStart ∷ externs.Poll ∷ externs.Check ∷ externs.Same ∷ silent_tail)
-print_others layouts = (other_at 0 (codes "read_i64") (codes "print_i64") (λ e. omega (arith, e)), (other_at 0 (codes "task_start") (codes "print_i64") (λ e. omega (arith, e)), (other_at 0 (codes "gc.safepoint_poll") (codes "print_i64") (λ e. omega (arith, e)), (other_at 0 (codes "gc_check") (codes "print_i64") (λ e. omega (arith, e)), (other_at 0 (codes "gc_same") (codes "print_i64") (λ e. omega (arith, e)), after_silent layouts externs.Print silent_tail tail_silent)))))
-
-read_others : (layouts : List ObjectLayout) → AllByRecursion (Other layouts externs.Read) (externs.TaskStart ∷ externs.Poll ∷ externs.Check ∷ externs.Same ∷ silent_tail)
-read_others layouts = (other_at 0 (codes "task_start") (codes "read_i64") (λ e. omega (arith, e)), (other_at 0 (codes "gc.safepoint_poll") (codes "read_i64") (λ e. omega (arith, e)), (other_at 0 (codes "gc_check") (codes "read_i64") (λ e. omega (arith, e)), (other_at 0 (codes "gc_same") (codes "read_i64") (λ e. omega (arith, e)), after_silent layouts externs.Read silent_tail tail_silent))))
-
-taskstart_others : (layouts : List ObjectLayout) → AllByRecursion (Other layouts externs.TaskStart) (externs.Poll ∷ externs.Check ∷ externs.Same ∷ silent_tail)
-taskstart_others layouts = (other_at 0 (codes "gc.safepoint_poll") (codes "task_start") (λ e. omega (arith, e)), (other_at 0 (codes "gc_check") (codes "task_start") (λ e. omega (arith, e)), (other_at 0 (codes "gc_same") (codes "task_start") (λ e. omega (arith, e)), after_silent layouts externs.TaskStart silent_tail tail_silent)))
-
-poll_others : (layouts : List ObjectLayout) → AllByRecursion (Other layouts externs.Poll) (externs.Check ∷ externs.Same ∷ silent_tail)
-poll_others layouts = (other_at 2 (codes "gc_check") (codes "gc.safepoint_poll") (λ e. omega (arith, e)), (other_at 2 (codes "gc_same") (codes "gc.safepoint_poll") (λ e. omega (arith, e)), after_silent layouts externs.Poll silent_tail tail_silent))
-
-check_others : (layouts : List ObjectLayout) → AllByRecursion (Other layouts externs.Check) (externs.Same ∷ silent_tail)
-check_others layouts = (other_at 3 (codes "gc_same") (codes "gc_check") (λ e. omega (arith, e)), after_silent layouts externs.Check silent_tail tail_silent)
-
-same_others : (layouts : List ObjectLayout) → AllByRecursion (Other layouts externs.Same) (silent_tail)
-same_others layouts = after_silent layouts externs.Same silent_tail tail_silent
-
-fixed_others : (layouts : List ObjectLayout) → Others layouts (externs.Print ∷ externs.Read ∷ externs.TaskStart ∷ externs.Poll ∷ externs.Check ∷ externs.Same ∷ silent_tail)
-fixed_others layouts = (print_others layouts, (read_others layouts, (taskstart_others layouts, (poll_others layouts, (check_others layouts, (same_others layouts, silent_others layouts silent_tail tail_silent))))))
-
-externals_others : (layouts : List ObjectLayout) → Distinct (map (λ layout. layout.name) layouts) → Others layouts (externals layouts)
+externals_apart : (layouts : List ObjectLayout) (funcs : List Function) → Distinct (map (λ layout. layout.name) layouts) → Apart (all_names layouts funcs (externals layouts))
 unfolding fixed_externals
-externals_others layouts once =
-    each_made layouts once 0 (length layouts) (omega arith) (externs.Print ∷ externs.Read ∷ externs.TaskStart ∷ externs.Poll ∷ externs.Check ∷ externs.Same ∷ silent_tail)
-    (tt, (tt, (tt, (tt, (tt, (tt, silent_fixed silent_tail tail_silent)))))) (fixed_others layouts)
+externals_apart layouts funcs once =
+    let fixed : List External = externs.Print ∷ externs.Read ∷ externs.TaskStart ∷ externs.Poll ∷ externs.Check ∷ externs.Same ∷ families in
+    ordered_apart layouts 0 (all_names layouts funcs (externals layouts))
+    (made_ordered layouts funcs once 0 (length layouts) (omega arith) fixed
+    (subst (λ (k : ℕ). Ordered layouts k (all_names layouts funcs fixed)) (let e : length layouts ≡ 0 + length layouts = omega arith in e) (fixed_ordered layouts funcs)))
 
 -- ---- all heads
 
@@ -332,7 +243,7 @@ heads_once content shaped lines e line r =
     let declared = all_names content.layouts content.funcs (externals content.layouts) in
     let funcs = map (λ (f : Function). f.name) content.funcs in
     let apart : Apart (declared ++ funcs) =
-    join_apart declared funcs (all_apart content.layouts content.funcs (externals content.layouts) (externals_others content.layouts shaped.no_fault.names.layouts))
+    join_apart declared funcs (externals_apart content.layouts content.funcs shaped.no_fault.names.layouts)
     (apart-distinct funcs shaped.no_fault.names.functions)
     (each_named IsExternalName content.layouts content.funcs (externals content.layouts) (every_external content.layouts (externals content.layouts)))
     (free_names content.funcs (recursion_from_All (λ (f : Function). ¬ (IsExternalName f.name)) content.funcs shaped.no_fault.free)) in

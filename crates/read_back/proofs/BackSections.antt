@@ -14,12 +14,14 @@ use Rattle.ir_printer.specs.Names.{Names}
 use Rattle.ir_printer.specs.Declarations.{calls, externals}
 use Rattle.print_tables.specs.declared.externals.External.{External}
 use Rattle.print_tables.specs.declared.externals.External.TheVariants as externs
+use Rattle.line_parts.specs.declared.readings.TypeWord.{TypeWord}
+use Rattle.line_parts.specs.Lists.{Named}
 use Rattle.ir_lines.specs.Statements.{Line, Statement, layout, declare, define, close}
 use Rattle.ir_lines.specs.Sections.{LayoutLine, Definition, layout_said, layouts_of, is_close, definition_said, definitions_of}
 use Rattle.ir_lines.specs.Modules.{cell_of, layout_of}
 use Rattle.read_back.specs.Said.{word_of, argument_says, instruction_says, block_says, function_says, layout_says, cell_word, declaration_says, declaration_if_called, said_by}
 use Rattle.read_back.proofs.BackLines.{said, cons_parts}
-use Rattle.read_back.proofs.BackBlocks.{cut, nothing_said, all_append, all_flat, InBlock, insts_inner, lines_all, flat-append}
+use Rattle.read_back.proofs.BackBlocks.{cut, nothing_said, weaker, all_append, all_flat, InBlock, insts_inner, lines_all, flat-append}
 
 -- ---- bodies
 
@@ -40,13 +42,9 @@ block_body (define answer name arguments strategy) e = e
 block_body close e = e
 block_body _ e = refl
 
-all_body : (ss : List Statement) → AllByRecursion InBlock ss → AllByRecursion InBody ss
-all_body [] h = tt
-all_body (s ∷ ss) h = (block_body s h.0, all_body ss h.1)
-
 pub blocks_inner : (names : Names) (blocks : List BasicBlock) → AllByRecursion InBody (flat_map (block_says names) blocks)
 blocks_inner names blocks =
-    all_flat (block_says names) InBody (λ b. (refl, all_body (flat_map (instruction_says names) b.insts) (insts_inner names b.insts))) blocks
+    all_flat (block_says names) InBody (λ b. (refl, weaker InBlock InBody block_body (flat_map (instruction_says names) b.insts) (insts_inner names b.insts))) blocks
 
 not_close : (s : Statement) → InBody s → is_close s ≡ false
 not_close close e = absurd (let bad : false ≡ true = e in cc)
@@ -87,10 +85,6 @@ taken_close : (l : Line) (ls : List Line) → l.says ≡ close → body_taken (l
 taken_close l ls e =
     take_while-cons (λ (k : Line). not (is_close k.says)) l ls ∙ ap (λ (s : Statement). cond (not (is_close s)) (l ∷ body_taken ls) []) e
 
-body_lines : (ls : List Line) → AllByRecursion (λ l. InBody l.says) ls → AllByRecursion (λ l. NoDefine l.says) ls
-body_lines [] h = tt
-body_lines (l ∷ ls) h = (body_no_define l.says h.0, body_lines ls h.1)
-
 -- ---- definitions
 
 pub record SaysDefinition (layouts : List ObjectLayout) (funcs : List Function) (one : Definition) (func : Function) : Type 0 where
@@ -129,7 +123,7 @@ definitions-said layouts funcs (f ∷ fs) (l ∷ ls) e =
         let taken : body_taken ls ≡ front =
         ap body_taken whole ∙ taken_skip front (k ∷ ks) inside ∙ ap (λ (ms : List Line). front ++ ms) (taken_close k ks end.0) ∙ append-nil front in
         let rest : definitions_of ls ≡ definitions_of ks =
-        ap definitions_of whole ∙ definitions_skip front (k ∷ ks) (body_lines front inside)
+        ap definitions_of whole ∙ definitions_skip front (k ∷ ks) (weaker (λ (l : Line). InBody l.says) (λ (l : Line). NoDefine l.says) (λ l. body_no_define l.says) front inside)
         ∙ ap (λ (s : Statement). definition_said k.number s ks ++ definitions_of ks) end.0 in
         let is : definitions_of (l ∷ ls) ≡ record {
           line = l.number;
@@ -165,21 +159,24 @@ layouts_no_define : (layouts : List ObjectLayout) → AllByRecursion NoDefine (m
 layouts_no_define [] = tt
 layouts_no_define (l ∷ ls) = (refl, layouts_no_define ls)
 
-declared_no_define : (layouts : List ObjectLayout) (external : External) → AllByRecursion NoDefine (declaration_says layouts external)
-declared_no_define layouts (externs.New number) = (refl, tt)
-declared_no_define layouts externs.Print = (refl, tt)
-declared_no_define layouts externs.Read = (refl, tt)
-declared_no_define layouts externs.TaskStart = (refl, tt)
-declared_no_define layouts externs.Poll = (refl, tt)
-declared_no_define layouts externs.Check = (refl, tt)
-declared_no_define layouts externs.Same = (refl, tt)
-declared_no_define layouts _ = tt
+-- what holds of all declarations holds of that of an external
+pub each_declared : (P : Statement → Type 0) → ((answer : TypeWord) (name : List ℕ) (parameters : List Named) → P (declare answer name parameters))
+    → (layouts : List ObjectLayout) (external : External) → AllByRecursion P (declaration_says layouts external)
+each_declared P each layouts (externs.New number) = (each _ _ _, tt)
+each_declared P each layouts externs.Print = (each _ _ _, tt)
+each_declared P each layouts externs.Read = (each _ _ _, tt)
+each_declared P each layouts externs.TaskStart = (each _ _ _, tt)
+each_declared P each layouts externs.Poll = (each _ _ _, tt)
+each_declared P each layouts externs.Check = (each _ _ _, tt)
+each_declared P each layouts externs.Same = (each _ _ _, tt)
+each_declared P each layouts _ = tt
 
-if_called_no_define : (layouts : List ObjectLayout) (funcs : List Function) (external : External) → AllByRecursion NoDefine (declaration_if_called layouts funcs external)
-if_called_no_define layouts funcs external = by (calls funcs external)
+if_declared : (P : Statement → Type 0) → ((answer : TypeWord) (name : List ℕ) (parameters : List Named) → P (declare answer name parameters))
+    → (layouts : List ObjectLayout) (funcs : List Function) (external : External) → AllByRecursion P (declaration_if_called layouts funcs external)
+if_declared P each layouts funcs external = by (calls funcs external)
   where
-    by : (b : Bool) → AllByRecursion NoDefine (if b then declaration_says layouts external else [])
-    by true = declared_no_define layouts external
+    by : (b : Bool) → AllByRecursion P (if b then declaration_says layouts external else [])
+    by true = each_declared P each layouts external
     by false = tt
 
 -- the definitions of lines that say what the module is printed as
@@ -193,7 +190,7 @@ definitions-are content lines e =
     let d = cut c.back declared defined c.back_says in
     let first = lines_all NoDefine c.front (map layout_says content.layouts) c.front_says (layouts_no_define content.layouts) in
     let second = lines_all NoDefine d.front declared d.front_says
-    (all_flat (declaration_if_called content.layouts content.funcs) NoDefine (if_called_no_define content.layouts content.funcs) (externals content.layouts)) in
+    (all_flat (declaration_if_called content.layouts content.funcs) NoDefine (if_declared NoDefine (λ answer name parameters. refl) content.layouts content.funcs) (externals content.layouts)) in
     let is : definitions_of lines ≡ definitions_of d.back =
     ap definitions_of c.whole ∙ definitions_skip c.front c.back first ∙ ap definitions_of d.whole ∙ definitions_skip d.front d.back second in
     subst (λ (ds : List Definition). AllZip (SaysDefinition content.layouts content.funcs) ds content.funcs) (sym is)
@@ -238,33 +235,12 @@ body_no_layout : (s : Statement) → InBody s → NoLayout s
 body_no_layout (layout name fields) e = absurd (let bad : false ≡ true = e in cc)
 body_no_layout _ e = refl
 
-bodies_no_layout : (ss : List Statement) → AllByRecursion InBody ss → AllByRecursion NoLayout ss
-bodies_no_layout [] h = tt
-bodies_no_layout (s ∷ ss) h = (body_no_layout s h.0, bodies_no_layout ss h.1)
-
 function_no_layout : (layouts : List ObjectLayout) (funcs : List Function) (f : Function) → AllByRecursion NoLayout (function_says layouts funcs f)
 function_no_layout layouts funcs f = (
   refl,
   all_append NoLayout (flat_map (block_says (record { layouts = layouts; funcs = funcs; func = f })) f.blocks) (close ∷ [])
-      (bodies_no_layout (flat_map (block_says (record { layouts = layouts; funcs = funcs; func = f })) f.blocks) (blocks_inner (record { layouts = layouts; funcs = funcs; func = f }) f.blocks)) (refl, tt),
+      (weaker InBody NoLayout body_no_layout (flat_map (block_says (record { layouts = layouts; funcs = funcs; func = f })) f.blocks) (blocks_inner (record { layouts = layouts; funcs = funcs; func = f }) f.blocks)) (refl, tt),
 )
-
-declared_no_layout : (layouts : List ObjectLayout) (external : External) → AllByRecursion NoLayout (declaration_says layouts external)
-declared_no_layout layouts (externs.New number) = (refl, tt)
-declared_no_layout layouts externs.Print = (refl, tt)
-declared_no_layout layouts externs.Read = (refl, tt)
-declared_no_layout layouts externs.TaskStart = (refl, tt)
-declared_no_layout layouts externs.Poll = (refl, tt)
-declared_no_layout layouts externs.Check = (refl, tt)
-declared_no_layout layouts externs.Same = (refl, tt)
-declared_no_layout layouts _ = tt
-
-if_called_no_layout : (layouts : List ObjectLayout) (funcs : List Function) (external : External) → AllByRecursion NoLayout (declaration_if_called layouts funcs external)
-if_called_no_layout layouts funcs external = by (calls funcs external)
-  where
-    by : (b : Bool) → AllByRecursion NoLayout (if b then declaration_says layouts external else [])
-    by true = declared_no_layout layouts external
-    by false = tt
 
 pub layouts-back : (content : ModuleContent) (lines : List Line) → said lines ≡ said_by content → map layout_of (layouts_of lines) ≡ content.layouts
 unfolding said_by
@@ -275,7 +251,7 @@ layouts-back content lines e =
     ∙ ap (λ (xs : List ObjectLayout). xs ++ flat_map layout_seen (declared ++ defined)) (said_layouts content.layouts)
     ∙ ap (λ (xs : List ObjectLayout). content.layouts ++ xs)
     (none_seen (declared ++ defined) (all_append NoLayout declared defined
-    (all_flat (declaration_if_called content.layouts content.funcs) NoLayout (if_called_no_layout content.layouts content.funcs) (externals content.layouts))
+    (all_flat (declaration_if_called content.layouts content.funcs) NoLayout (if_declared NoLayout (λ answer name parameters. refl) content.layouts content.funcs) (externals content.layouts))
     (all_flat (function_says content.layouts content.funcs) NoLayout (function_no_layout content.layouts content.funcs) content.funcs)))
     ∙ append-nil content.layouts
 

@@ -10,7 +10,6 @@ use Rattle.std.proofs.lemmas.List.{length-map}
 use Rattle.std.proofs.lemmas.List.Elements.{recursion_from_All, Contains-append_left, Contains-append_right, Contains-append_cases}
 use Rattle.sp_ids.specs.Numbers.{wrapped, signed}
 use Rattle.sp_ids.specs.declared.ids.BlockId.{BlockId}
-use Rattle.sp_ids.specs.declared.ids.ValueId.{ValueId}
 use Rattle.ir_ast.specs.declared.modules.Form.{Form}
 use Rattle.ir_ast.specs.declared.types.Ty.{Ty}
 use Rattle.ir_ast.specs.declared.types.Ty.TheVariants as tys
@@ -29,40 +28,34 @@ use Rattle.ir_ast.specs.Funcs.{Function, instructions_of}
 use Rattle.ir_ast.specs.Modules.{ModuleContent}
 use Rattle.ir_ast.specs.Values.{definition_name, definition_type, value_types}
 use Rattle.ir_ast.specs.Values as defs
-use Rattle.ir_ast.specs.Operands.{functions_named as functions_in}
-use Rattle.ir_ast.specs.Widths.{IsWidth, type_widths}
-use Rattle.ir_ast.specs.Faults.TypeClash.{Fits, asked}
 use Rattle.ir_printer.specs.Names.{Names, value_name, block_name, function_name, layout_name}
 use Rattle.ir_printer.specs.Calls.{callee_name}
-use Rattle.ir_printer.specs.Operands.{operand_at, label_at}
+use Rattle.ir_printer.specs.Operands.{label_at}
 use Rattle.ir_printer.specs.Declarations.{is_callee, is_statepoints, is_call_of, calls, externals, fixed_externals, integer_widths}
 use Rattle.print_tables.specs.declared.externals.External.TheVariants as externs
 use Rattle.line_parts.specs.Parts as values
-use Rattle.line_tokens.specs.declared.words.Binary.TheVariants as binaries
-use Rattle.line_tokens.specs.declared.words.Conversion.TheVariants as conversions
 use Rattle.print_tables.specs.declared.externals.External.{External}
 use Rattle.line_parts.specs.Parts.{Val}
 use Rattle.line_parts.specs.declared.readings.TypeWord.{TypeWord}
 use Rattle.line_parts.specs.Lists.{Given}
-use Rattle.line_tokens.specs.declared.words.Binary.{Binary}
-use Rattle.line_tokens.specs.declared.words.Conversion.{Conversion}
-use Rattle.ir_lines.specs.Statements.{Line, Statement, switch, switch_end}
-use Rattle.ir_lines.specs.Parts.{uses, targets, entry_labels, functions_named, layouts_named, local_name, passed_value, passed_function, entry_use, live_use}
+use Rattle.ir_lines.specs.Statements.{Line, Statement, switch_end}
+use Rattle.ir_lines.specs.Parts.{uses, targets, entry_labels, functions_named, layouts_named, local_name, passed_function}
 use Rattle.ir_lines.specs.Sections.{LayoutLine, Head, Definition, Naming, BlockLines, layouts_of, heads_of, values_of, blocks_of}
 use Rattle.ir_lines.specs.Scope.{Scope, scope_of, value_named, block_named, head_named, layout_named}
 use Rattle.ir_lines.specs.Faults.UnknownName.{names_unknown, UnknownName}
 use Rattle.ir_lines.proofs.LawNames.{get_some, contains_get, contains_map, contains_cons, contains_later, contains_first}
 use Rattle.module_laws.proofs.LawCalls.{found_by_name, contains_mapped}
-use Rattle.read_back.specs.Said.{literal_of, word_of, width_in, value_says, passed_says, value_at, target_at, entry_says, binary_says, compare_says, convert_says, select_says, phi_says, step_says, load_says, store_says, call_says, token_says, statepoint_says, gc_result_says, gc_relocate_says, jump_says, branch_says, case_says, return_says, operator_says, declaration_says, said_by}
-use Rattle.read_back.proofs.BackLines.{said, at}
+use Rattle.read_back.specs.Said.{literal_of, value_says, passed_says, target_at, entry_says, step_says, case_says, return_says, operator_says, declaration_says, said_by}
+use Rattle.read_back.proofs.BackLines.{said}
+use Rattle.read_back.proofs.BackBlocks.{weaker}
+use Rattle.read_back.proofs.BackNames.{Good}
+use Rattle.read_back.proofs.BackUses.{IsUse, Uses, inst_uses}
 use Rattle.read_back.proofs.BackLists.{Below, Passes, CalleeBelow}
-use Rattle.read_back.proofs.BackInsts.{IsPrintedIn, callee_parts, passes_zip}
+use Rattle.read_back.proofs.BackInsts.{IsPrintedIn, passing, guards}
 use Rattle.read_back.proofs.Fronts.{zip_take}
-use Rattle.read_back.proofs.BackGuarded.{guards}
-use Rattle.read_back.proofs.BackBlocks.{all_append}
 use Rattle.read_back.proofs.BackSections.{SaysDefinition, layout-names}
 use Rattle.read_back.proofs.BackModules.{IsShaped, names_in, shaped_inst}
-use Rattle.read_back.proofs.BackFaults.{From, no_body_fault}
+use Rattle.read_back.proofs.BackFaults.{From, any_true, no_body_fault}
 use Rattle.read_back.proofs.BackTops.{names_of_values, names_of_blocks}
 use Rattle.read_back.proofs.BackOnce.{head_names, declared_names, names_if, all_names, names_are}
 
@@ -84,7 +77,7 @@ LayoutFound scope name = is_none (layout_named scope name) ≡ false
 abbrev pub UseFound : Scope → Val → Type 0
 UseFound scope value = IfSome (local_name value) (ValueFound scope)
 
-any_none : {X : Type 0} (p : X → Bool) (xs : List X) → AllByRecursion (λ x. p x ≡ false) xs → list_any p xs ≡ false
+pub any_none : {X : Type 0} (p : X → Bool) (xs : List X) → AllByRecursion (λ x. p x ≡ false) xs → list_any p xs ≡ false
 any_none p [] h = refl
 any_none p (x ∷ xs) h = ap (λ (b : Bool). b || list_any p xs) h.0 ∙ any_none p xs h.1
 
@@ -104,7 +97,7 @@ none_of false true c d p q r s = absurd (let bad : true ≡ false = q in cc)
 none_of false false true d p q r s = absurd (let bad : true ≡ false = r in cc)
 none_of false false false true p q r s = absurd (let bad : true ≡ false = s in cc)
 
-pub clear_by : (scope : Scope) (s : Statement) → AllByRecursion (λ used. UseFound scope used.0) (uses s)
+clear_by : (scope : Scope) (s : Statement) → AllByRecursion (λ used. UseFound scope used.0) (uses s)
     → AllByRecursion (BlockFound scope) (targets s ++ entry_labels s) → AllByRecursion (HeadFound scope) (functions_named s)
     → AllByRecursion (LayoutFound scope) (layouts_named s) → names_unknown scope s ≡ false
 clear_by scope s values blocks heads layouts =
@@ -130,68 +123,38 @@ pub record Knows (scope : Scope) (names : Names) : Type 0 where
 
 -- ---- operands and labels
 
-abbrev pub IsThere : Names → Operand → Type 0
-IsThere names (operands.Value value) = value.0 < length (defs.definitions_of names.func)
-IsThere names _ = ⊤
-
-pub fits_there : (names : Names) (os : List Operand) (ts : List Ty) → AllZip (Fits (value_types names.func)) os ts → AllByRecursion (IsThere names) os
-fits_there names [] ts h = tt
-fits_there names (o ∷ os) [] h = absurd h
-fits_there names (o ∷ os) (t ∷ ts) h = (one o h.0, fits_there names os ts h.1)
-  where
-    one : (o : Operand) → Fits (value_types names.func) o t → IsThere names o
-    one (operands.Value v) fit =
-        let w = slice_get_within (value_types names.func) v.0 t fit in omega (arith, length-map (defs.definitions_of names.func) definition_type)
-    one (operands.Int n) fit = tt
-    one operands.Null fit = tt
-    one (operands.Fun f) fit = tt
-
 at_place : {X : Type 0} (P : X → Type 0) (xs : List X) (i : ℕ) (other : X) → AllByRecursion P xs → P other → P (unwrap_or (slice_get xs i) other)
 at_place P [] i other h o = o
 at_place P (x ∷ xs) zero other h o = h.0
 at_place P (x ∷ xs) (suc i) other h o = at_place P xs i other h.1 o
 
-pub value_found : (scope : Scope) (names : Names) → Knows scope names → (ty : Ty) (o : Operand) → IsThere names o → UseFound scope (value_says names ty o)
-value_found scope names k ty (operands.Value v) h = k.value v.0 h
-value_found scope names k ty operands.Null h = tt
-value_found scope names k ty (operands.Fun f) h = tt
-value_found scope names k tys.Void (operands.Int n) h = tt
-value_found scope names k tys.Ptr (operands.Int n) h = tt
-value_found scope names k tys.Token (operands.Int n) h = tt
-value_found scope names k (tys.Int w) (operands.Int n) h = by (w == 1)
+value_found : (scope : Scope) (names : Names) → Knows scope names → (ty : Ty) (o : Operand) → Good names o ty → UseFound scope (value_says names ty o)
+value_found scope names k ty (operands.Value v) g =
+    let within = slice_get_within (value_types names.func) v.0 ty g.fits in
+    k.value v.0 (omega (arith, length-map (defs.definitions_of names.func) definition_type))
+value_found scope names k ty operands.Null g = tt
+value_found scope names k ty (operands.Fun f) g = tt
+value_found scope names k tys.Void (operands.Int n) g = tt
+value_found scope names k tys.Ptr (operands.Int n) g = tt
+value_found scope names k tys.Token (operands.Int n) g = tt
+value_found scope names k (tys.Int w) (operands.Int n) g = by (w == 1)
   where
     by : (b : Bool) → UseFound scope (if b then values.truth (not (wrapped 1 n == 0)) else values.number (literal_of (signed w n)))
     by true = tt
     by false = tt
 
-use_found : (scope : Scope) (names : Names) → Knows scope names → (inst : Instruction) → AllByRecursion (IsThere names) inst.operands
-    → (ty : Ty) (i : ℕ) → UseFound scope (value_at names ty inst i)
-use_found scope names k inst there ty i = value_found scope names k ty (operand_at inst i) (at_place (IsThere names) inst.operands i operands.Null there tt)
+found : (scope : Scope) (names : Names) → Knows scope names → (used : Val × TypeWord) → IsUse names used → UseFound scope used.0
+found scope names k used u = subst (λ (one : Val × TypeWord). UseFound scope one.0) u.is (value_found scope names k u.ty u.operand u.good)
 
 target_found : (scope : Scope) (names : Names) → Knows scope names → (inst : Instruction) → AllByRecursion (Below names) inst.labels
     → (i : ℕ) → BlockFound scope (target_at names inst i)
 target_found scope names k inst below i = k.block (label_at inst i).0 (at_place (Below names) inst.labels i (record { 0 = 0 }) below k.has_block)
 
--- ---- the lines by their forms
+-- ---- what a line names besides values: labels, heads and layouts
 
-abbrev Clear : Scope → Statement → Type 0
-Clear scope s = names_unknown scope s ≡ false
-
-binary_clear : (scope : Scope) (names : Names) → Knows scope names → (op : Binary) (inst : Instruction) → AllByRecursion (IsThere names) inst.operands
-    → AllByRecursion (Clear scope) (binary_says names op inst ∷ [])
-binary_clear scope names k op inst there =
-    (clear_by scope (binary_says names op inst) (use_found scope names k inst there inst.ty 0, (use_found scope names k inst there inst.ty 1, tt)) tt tt tt, tt)
-
-convert_clear : (scope : Scope) (names : Names) → Knows scope names → (op : Conversion) (to : ℕ) (inst : Instruction) → AllByRecursion (IsThere names) inst.operands
-    → AllByRecursion (Clear scope) (convert_says names op to inst ∷ [])
-convert_clear scope names k op to inst there =
-    (clear_by scope (convert_says names op to inst) (use_found scope names k inst there inst.ty 0, tt) tt tt tt, tt)
-
-entry_uses : (scope : Scope) (names : Names) → Knows scope names → (ty : Ty) (os : List Operand) (ls : List BlockId) → AllByRecursion (IsThere names) os
-    → AllByRecursion (λ used. UseFound scope used.0) (map (entry_use (word_of ty)) (map (entry_says names ty) (zip os ls)))
-entry_uses scope names k ty [] ls there = tt
-entry_uses scope names k ty (o ∷ os) [] there = tt
-entry_uses scope names k ty (o ∷ os) (l ∷ ls) there = (value_found scope names k ty o there.0, entry_uses scope names k ty os ls there.1)
+abbrev Others : Scope → Statement → Type 0
+Others scope s =
+    AllByRecursion (BlockFound scope) (targets s ++ entry_labels s) × AllByRecursion (HeadFound scope) (functions_named s) × AllByRecursion (LayoutFound scope) (layouts_named s)
 
 entry_blocks : (scope : Scope) (names : Names) → Knows scope names → (ty : Ty) (os : List Operand) (ls : List BlockId) → AllByRecursion (Below names) ls
     → AllByRecursion (BlockFound scope) (map (λ (entry : Val × List ℕ). entry.1) (map (entry_says names ty) (zip os ls)))
@@ -199,37 +162,27 @@ entry_blocks scope names k ty [] ls below = tt
 entry_blocks scope names k ty (o ∷ os) [] below = tt
 entry_blocks scope names k ty (o ∷ os) (l ∷ ls) below = (k.block l.0 below.0, entry_blocks scope names k ty os ls below.1)
 
-cases_clear : (scope : Scope) (names : Names) → Knows scope names → (ty : Ty) (os : List Operand) (ls : List BlockId) → AllByRecursion (IsThere names) os
-    → AllByRecursion (Below names) ls → AllByRecursion (Clear scope) (map (case_says names ty) (zip os ls) ++ switch_end ∷ [])
-cases_clear scope names k ty [] ls there below = (refl, tt)
-cases_clear scope names k ty (o ∷ os) [] there below = (refl, tt)
-cases_clear scope names k ty (o ∷ os) (l ∷ ls) there below = (
-  clear_by scope (case_says names ty (o, l)) (value_found scope names k ty o there.0, tt) (k.block l.0 below.0, tt) tt tt,
-  cases_clear scope names k ty os ls there.1 below.1,
-)
+cases_others : (scope : Scope) (names : Names) → Knows scope names → (ty : Ty) (os : List Operand) (ls : List BlockId)
+    → AllByRecursion (Below names) ls → AllByRecursion (Others scope) (map (case_says names ty) (zip os ls) ++ switch_end ∷ [])
+cases_others scope names k ty [] ls below = ((tt, tt, tt), tt)
+cases_others scope names k ty (o ∷ os) [] below = ((tt, tt, tt), tt)
+cases_others scope names k ty (o ∷ os) (l ∷ ls) below = (((k.block l.0 below.0, tt), tt, tt), cases_others scope names k ty os ls below.1)
 
 dropped : {X : Type 0} (P : X → Type 0) (xs : List X) → AllByRecursion P xs → AllByRecursion P (drop 1 xs)
 dropped P [] h = tt
 dropped P (x ∷ xs) h = h.1
 
-step_clear : {of : Form} (scope : Scope) (names : Names) → Knows scope names → (elem : Elem) (width : ℕ) (place : Option ℕ) (inst : Instruction)
-    → IsPrintedIn of names (ops.Gep elem width place) inst → AllByRecursion (IsThere names) inst.operands → Clear scope (step_says names elem width place inst)
-step_clear scope names k (elements.Int w) width place inst p there =
-    clear_by scope (step_says names (elements.Int w) width place inst)
-    (use_found scope names k inst there tys.Ptr 0, (use_found scope names k inst there (tys.Int width) 1, tt)) tt tt tt
-step_clear scope names k elements.Ptr width place inst p there =
-    clear_by scope (step_says names elements.Ptr width place inst)
-    (use_found scope names k inst there tys.Ptr 0, (use_found scope names k inst there (tys.Int width) 1, tt)) tt tt tt
-step_clear scope names k (elements.Layout l) width place inst p there =
-    clear_by scope (step_says names (elements.Layout l) width place inst)
-    (use_found scope names k inst there tys.Ptr 0, (use_found scope names k inst there (tys.Int width) 1, tt)) tt tt (k.layout l p.layouts.0, tt)
+step_others : {of : Form} (scope : Scope) (names : Names) → Knows scope names → (elem : Elem) (width : ℕ) (place : Option ℕ) (inst : Instruction)
+    → IsPrintedIn of names (ops.Gep elem width place) inst → Others scope (step_says names elem width place inst)
+step_others scope names k (elements.Int w) width place inst p = (tt, tt, tt)
+step_others scope names k elements.Ptr width place inst p = (tt, tt, tt)
+step_others scope names k (elements.Layout l) width place inst p = (tt, tt, (k.layout l p.layouts.0, tt))
 
-return_clear : (scope : Scope) (names : Names) → Knows scope names → (ty : Ty) (inst : Instruction) → AllByRecursion (IsThere names) inst.operands
-    → Clear scope (return_says names ty inst)
-return_clear scope names k tys.Void inst there = refl
-return_clear scope names k (tys.Int w) inst there = clear_by scope (return_says names (tys.Int w) inst) (use_found scope names k inst there (tys.Int w) 0, tt) tt tt tt
-return_clear scope names k tys.Ptr inst there = clear_by scope (return_says names tys.Ptr inst) (use_found scope names k inst there tys.Ptr 0, tt) tt tt tt
-return_clear scope names k tys.Token inst there = clear_by scope (return_says names tys.Token inst) (use_found scope names k inst there tys.Token 0, tt) tt tt tt
+return_others : (scope : Scope) (names : Names) (ty : Ty) (inst : Instruction) → Others scope (return_says names ty inst)
+return_others scope names tys.Void inst = (tt, tt, tt)
+return_others scope names (tys.Int w) inst = (tt, tt, tt)
+return_others scope names tys.Ptr inst = (tt, tt, tt)
+return_others scope names tys.Token inst = (tt, tt, tt)
 
 -- ---- calls
 
@@ -266,16 +219,6 @@ callee_found scope names k callees.Poll below called = (k.declared externs.Poll 
 callee_found scope names k callees.Check below called = (k.declared externs.Check (fixed_external names.layouts 4 externs.Check refl) (called externs.Check refl)).0
 callee_found scope names k callees.Same below called = (k.declared externs.Same (fixed_external names.layouts 5 externs.Same refl) (called externs.Same refl)).0
 
-passed_uses : (scope : Scope) (names : Names) → Knows scope names → (os : List Operand) (ts : List Ty) → AllZip (Passes names) os ts → AllByRecursion (IsThere names) os
-    → AllByRecursion (λ used. UseFound scope used.0) (filter_map passed_value (map (λ (argument : Ty × Operand). passed_says names argument.0 argument.1) (zip ts os)))
-passed_uses scope names k [] [] p there = tt
-passed_uses scope names k [] (t ∷ ts) p there = tt
-passed_uses scope names k (o ∷ os) [] p there = tt
-passed_uses scope names k (operands.Value v ∷ os) (t ∷ ts) p there = (value_found scope names k t (operands.Value v) there.0, passed_uses scope names k os ts p.1 there.1)
-passed_uses scope names k (operands.Int n ∷ os) (t ∷ ts) p there = (value_found scope names k t (operands.Int n) tt, passed_uses scope names k os ts p.1 there.1)
-passed_uses scope names k (operands.Null ∷ os) (t ∷ ts) p there = (tt, passed_uses scope names k os ts p.1 there.1)
-passed_uses scope names k (operands.Fun f ∷ os) (t ∷ ts) p there = passed_uses scope names k os ts p.1 there.1
-
 passed_heads : (scope : Scope) (names : Names) → Knows scope names → (os : List Operand) (ts : List Ty) → AllZip (Passes names) os ts
     → AllByRecursion (HeadFound scope) (filter_map passed_function (map (λ (argument : Ty × Operand). passed_says names argument.0 argument.1) (zip ts os)))
 passed_heads scope names k [] [] p = tt
@@ -286,120 +229,49 @@ passed_heads scope names k (operands.Int n ∷ os) (t ∷ ts) p = passed_heads s
 passed_heads scope names k (operands.Null ∷ os) (t ∷ ts) p = passed_heads scope names k os ts p.1
 passed_heads scope names k (operands.Fun f ∷ os) (t ∷ ts) p = (k.function f.0 (p.0.function f refl), passed_heads scope names k os ts p.1)
 
-call_clear : {of : Form} (scope : Scope) (names : Names) → Knows scope names → (callee : Callee) (ts : List Ty) (inst : Instruction) → IsPrintedIn of names (ops.Call callee ts) inst
-    → AllByRecursion (IsThere names) inst.operands → ((e : External) → is_callee e callee ≡ true → calls names.funcs e ≡ true)
-    → Clear scope (call_says names callee ts inst)
-call_clear scope names k callee ts inst p there called =
-    let parts = callee_parts names callee ts inst p.layouts p.functions in
-    let functions : AllByRecursion (λ named. named < length names.funcs)
-    (functions_in (record { result = inst.result; op = ops.Load; ty = inst.ty; operands = inst.operands; labels = inst.labels; bundle = [] })) =
-    subst (λ (b : List (Ty × Operand)). AllByRecursion (λ named. named < length names.funcs)
-    (functions_in (record { result = inst.result; op = ops.Load; ty = inst.ty; operands = inst.operands; labels = inst.labels; bundle = b }))) p.bundle parts.1 in
-    let passes = passes_zip names callee inst.operands ts p.fits p.line.arguments functions (recursion_from_All IsWidth (flat_map type_widths ts) p.own_widths) in
-    clear_by scope (call_says names callee ts inst) (passed_uses scope names k inst.operands ts passes there) tt
-    (callee_found scope names k callee parts.0 called, passed_heads scope names k inst.operands ts passes) tt
-
--- ---- statepoint groups
-
-fronts : {X : Type 0} (P : X → Type 0) (n : ℕ) (xs : List X) → AllByRecursion P xs → AllByRecursion P (take n xs) × AllByRecursion P (drop n xs)
-fronts P zero xs h = (tt, h)
-fronts P (suc n) [] h = (tt, tt)
-fronts P (suc n) (x ∷ xs) h = let more = fronts P n xs h.1 in ((h.0, more.0), more.1)
-
-live_uses : (scope : Scope) (names : Names) → Knows scope names → (os : List Operand) → AllByRecursion (IsThere names) os
-    → AllByRecursion (λ used. UseFound scope used.0) (map live_use (map (value_says names tys.Ptr) os))
-live_uses scope names k [] there = tt
-live_uses scope names k (o ∷ os) there = (value_found scope names k tys.Ptr o there.0, live_uses scope names k os there.1)
-
-statepoint_clear : {of : Form} (scope : Scope) (names : Names) → Knows scope names → (id : ℕ) (callee : Callee) (ts : List Ty) (inst : Instruction)
-    → IsPrintedIn of names (ops.Statepoint id callee ts) inst → AllByRecursion (IsThere names) inst.operands
-    → ((e : External) → is_callee e callee ≡ true → calls names.funcs e ≡ true) → Clear scope (statepoint_says names id callee ts inst)
-statepoint_clear scope names k id callee ts inst p there called =
-    let g = guards names id callee ts inst p in
-    let os : List Operand = take (length ts) inst.operands in
-    let live : List Operand = drop (length ts) inst.operands in
-    let parts = fronts (IsThere names) (length ts) inst.operands there in
-    let said : List (Ty × Operand) → List Given = map (λ (argument : Ty × Operand). passed_says names argument.0 argument.1) in
-    clear_by scope (statepoint_says names id callee ts inst)
-    (all_append (λ used. UseFound scope used.0) (filter_map passed_value (said (zip ts inst.operands))) (map live_use (map (value_says names tys.Ptr) live))
-    (subst (λ (z : List (Ty × Operand)). AllByRecursion (λ used. UseFound scope used.0) (filter_map passed_value (said z))) (zip_take ts inst.operands)
-    (passed_uses scope names k os ts g.passes parts.0))
-    (live_uses scope names k live parts.1)) tt (
-      callee_found scope names k callee g.below called,
-      subst (λ (z : List (Ty × Operand)). AllByRecursion (HeadFound scope) (filter_map passed_function (said z))) (zip_take ts inst.operands)
-          (passed_heads scope names k os ts g.passes),
-    ) tt
-
 or_later : (a b : Bool) → b ≡ true → (a || b) ≡ true
 or_later true b e = refl
 or_later false b e = e
 
-token_found : (scope : Scope) (names : Names) → Knows scope names → (os rest : List Operand) (token : ValueId) → os ≡ operands.Value token ∷ rest
-    → AllByRecursion (IsThere names) os → ValueFound scope (token_says names (at os 0))
-token_found scope names k os rest token e there =
-    subst (λ (xs : List Operand). ValueFound scope (token_says names (at xs 0))) (sym e) (k.value token.0 (subst (AllByRecursion (IsThere names)) e there).0)
-
 -- ---- any instruction
 
-inst_clear : {of : Form} (scope : Scope) (names : Names) → Knows scope names → (op : Op) (inst : Instruction) → IsPrintedIn of names op inst → AllByRecursion (IsThere names) inst.operands
-    → ((e : External) → is_call_of e op inst.ty ≡ true → calls names.funcs e ≡ true) → AllByRecursion (Clear scope) (operator_says names op inst)
-inst_clear scope names k ops.Add inst p there called = binary_clear scope names k binaries.Add inst there
-inst_clear scope names k ops.Sub inst p there called = binary_clear scope names k binaries.Sub inst there
-inst_clear scope names k ops.Mul inst p there called = binary_clear scope names k binaries.Mul inst there
-inst_clear scope names k ops.Udiv inst p there called = binary_clear scope names k binaries.Udiv inst there
-inst_clear scope names k ops.Sdiv inst p there called = binary_clear scope names k binaries.Sdiv inst there
-inst_clear scope names k ops.Urem inst p there called = binary_clear scope names k binaries.Urem inst there
-inst_clear scope names k ops.Srem inst p there called = binary_clear scope names k binaries.Srem inst there
-inst_clear scope names k ops.And inst p there called = binary_clear scope names k binaries.And inst there
-inst_clear scope names k ops.Or inst p there called = binary_clear scope names k binaries.Or inst there
-inst_clear scope names k ops.Xor inst p there called = binary_clear scope names k binaries.Xor inst there
-inst_clear scope names k ops.Shl inst p there called = binary_clear scope names k binaries.Shl inst there
-inst_clear scope names k ops.Lshr inst p there called = binary_clear scope names k binaries.Lshr inst there
-inst_clear scope names k ops.Ashr inst p there called = binary_clear scope names k binaries.Ashr inst there
-inst_clear scope names k (ops.Icmp pred) inst p there called =
-    (clear_by scope (compare_says names pred inst) (use_found scope names k inst there inst.ty 0, (use_found scope names k inst there inst.ty 1, tt)) tt tt tt, tt)
-inst_clear scope names k (ops.Trunc to) inst p there called = convert_clear scope names k conversions.Trunc to inst there
-inst_clear scope names k (ops.Zext to) inst p there called = convert_clear scope names k conversions.Zext to inst there
-inst_clear scope names k (ops.Sext to) inst p there called = convert_clear scope names k conversions.Sext to inst there
-inst_clear scope names k ops.Select inst p there called = (
-  clear_by scope (select_says names inst)
-      (use_found scope names k inst there (tys.Int 1) 0, (use_found scope names k inst there inst.ty 1, (use_found scope names k inst there inst.ty 2, tt))) tt tt tt,
-  tt,
-)
-inst_clear scope names k ops.Phi inst p there called = (
-  clear_by scope (phi_says names inst) (entry_uses scope names k inst.ty inst.operands inst.labels there)
-      (entry_blocks scope names k inst.ty inst.operands inst.labels p.labels) tt tt,
-  tt,
-)
-inst_clear scope names k (ops.Gep elem width place) inst p there called = (step_clear scope names k elem width place inst p there, tt)
-inst_clear scope names k ops.Load inst p there called =
-    (clear_by scope (load_says names inst) (use_found scope names k inst there tys.Ptr 0, tt) tt tt tt, tt)
-inst_clear scope names k ops.Store inst p there called =
-    (clear_by scope (store_says names inst) (use_found scope names k inst there inst.ty 0, (use_found scope names k inst there tys.Ptr 1, tt)) tt tt tt, tt)
-inst_clear scope names k (ops.Call callee ts) inst p there called = (call_clear scope names k callee ts inst p there called, tt)
-inst_clear scope names k ops.Br inst p there called =
-    (clear_by scope (jump_says names inst) tt (target_found scope names k inst p.labels 0, tt) tt tt, tt)
-inst_clear scope names k ops.CondBr inst p there called = (
-  clear_by scope (branch_says names inst) (use_found scope names k inst there (tys.Int 1) 0, tt)
-      (target_found scope names k inst p.labels 0, (target_found scope names k inst p.labels 1, tt)) tt tt,
-  tt,
-)
-inst_clear scope names k ops.Switch inst p there called = (
-  clear_by scope (switch (width_in inst.ty) (value_at names inst.ty inst 0) (target_at names inst 0)) (use_found scope names k inst there inst.ty 0, tt)
-      (target_found scope names k inst p.labels 0, tt) tt tt,
-  cases_clear scope names k inst.ty (drop 1 inst.operands) (drop 1 inst.labels) (dropped (IsThere names) inst.operands there) (dropped (Below names) inst.labels p.labels),
-)
-inst_clear scope names k ops.Ret inst p there called = (return_clear scope names k inst.ty inst there, tt)
-inst_clear scope names k ops.Unreachable inst p there called = (refl, tt)
-inst_clear scope names k (ops.Statepoint id callee ts) inst p there called =
-    (statepoint_clear scope names k id callee ts inst p there (λ e is. called e (or_later (is_statepoints e) (is_callee e callee) is)), tt)
-inst_clear scope names k ops.GcResult inst p there called =
-    (clear_by scope (gc_result_says names inst) (token_found scope names k inst.operands [] p.line.1.0 p.line.1.1 there, tt) tt tt tt, tt)
-inst_clear scope names k ops.GcRelocate inst p there called =
-    let starts = p.line.1.2 in (
-      clear_by scope (gc_relocate_says names inst) (token_found scope names k inst.operands (operands.Int p.line.1.0 ∷ operands.Int p.line.1.1 ∷ []) starts.0 starts.1 there, (tt, (tt, tt))) tt tt tt,
+inst_others : {of : Form} (scope : Scope) (names : Names) → Knows scope names → (op : Op) (inst : Instruction) → IsPrintedIn of names op inst
+    → ((e : External) → is_call_of e op inst.ty ≡ true → calls names.funcs e ≡ true) → AllByRecursion (Others scope) (operator_says names op inst)
+inst_others scope names k ops.Phi inst p called = ((entry_blocks scope names k inst.ty inst.operands inst.labels p.labels, tt, tt), tt)
+inst_others scope names k (ops.Gep elem width place) inst p called = (step_others scope names k elem width place inst p, tt)
+inst_others scope names k (ops.Call callee ts) inst p called =
+    let own = passing names callee ts inst p in
+    ((tt, (callee_found scope names k callee own.below called, passed_heads scope names k inst.operands ts own.passes), tt), tt)
+inst_others scope names k (ops.Statepoint id callee ts) inst p called =
+    let g = guards names id callee ts inst p in
+    let said : List (Ty × Operand) → List Given = map (λ (argument : Ty × Operand). passed_says names argument.0 argument.1) in (
+      (
+        tt,
+        (
+          callee_found scope names k callee g.below (λ e is. called e (or_later (is_statepoints e) (is_callee e callee) is)),
+          subst (λ (z : List (Ty × Operand)). AllByRecursion (HeadFound scope) (filter_map passed_function (said z))) (zip_take ts inst.operands)
+              (passed_heads scope names k (take (length ts) inst.operands) ts g.passes),
+        ),
+        tt,
+      ),
       tt,
     )
+inst_others scope names k ops.Br inst p called = (((target_found scope names k inst p.labels 0, tt), tt, tt), tt)
+inst_others scope names k ops.CondBr inst p called = (((target_found scope names k inst p.labels 0, (target_found scope names k inst p.labels 1, tt)), tt, tt), tt)
+inst_others scope names k ops.Switch inst p called = (
+  ((target_found scope names k inst p.labels 0, tt), tt, tt),
+  cases_others scope names k inst.ty (drop 1 inst.operands) (drop 1 inst.labels) (dropped (Below names) inst.labels p.labels),
+)
+inst_others scope names k ops.Ret inst p called = (return_others scope names inst.ty inst, tt)
+inst_others scope names k _ inst p called = ((tt, tt, tt), tt)
+
+all_clear : (scope : Scope) (names : Names) → Knows scope names → (ss : List Statement) → AllByRecursion (Uses names) ss → AllByRecursion (Others scope) ss
+    → AllByRecursion (λ s. names_unknown scope s ≡ false) ss
+all_clear scope names k [] used others = tt
+all_clear scope names k (s ∷ ss) used others = (
+  clear_by scope s (weaker (IsUse names) (λ one. UseFound scope one.0) (found scope names k) (uses s) used.0) others.0.0 others.0.1 others.0.2,
+  all_clear scope names k ss used.1 others.1,
+)
 
 -- ---- what a function of a module can name is found in its lines
 
@@ -468,15 +340,6 @@ knows content shaped lines e one func says c some =
 
 -- ---- what a line calls is called
 
-any_true : {X : Type 0} (p : X → Bool) (xs : List X) (x : X) → Contains xs x → p x ≡ true → list_any p xs ≡ true
-any_true p [] x c e = absurd (omega (arith, c.1))
-any_true {X} p (y ∷ ys) x c e = by (p y) refl (contains_cons y x ys c) (λ later. any_true p ys x later e)
-  where
-    by : (b : Bool) → p y ≡ b → (y ≡ x) ⊎ Contains ys x → (Contains ys x → list_any p ys ≡ true) → list_any p (y ∷ ys) ≡ true
-    by true is at more = ap (λ (b : Bool). b || list_any p ys) is
-    by false is (inl same) more = absurd (let bad : true ≡ false = sym e ∙ ap p (sym same) ∙ is in cc)
-    by false is (inr later) more = ap (λ (b : Bool). b || list_any p ys) is ∙ more later
-
 block_with : (blocks : List BasicBlock) (inst : Instruction) → Contains (instructions_of blocks) inst → (block : BasicBlock) × Contains blocks block × Contains block.insts inst
 block_with [] inst c = absurd (omega (arith, c.1))
 block_with (b ∷ bs) inst c = by (Contains-append_cases b.insts (instructions_of bs) inst c) (λ d. block_with bs inst d)
@@ -501,8 +364,9 @@ pub unknown_name-clear : (content : ModuleContent) → IsShaped content → (lin
 unknown_name-clear content shaped lines e line f =
     no_body_fault content lines e names_unknown
     (λ one func says c inst d.
+    let names = names_in content func in
     let p = shaped_inst content shaped func c inst d in
-    inst_clear (scope_of lines one) (names_in content func) (knows content shaped lines e one func says c (some_block func.blocks inst d)) inst.op inst p
-    (fits_there (names_in content func) inst.operands (asked inst.op inst.ty (length inst.operands)) p.fits)
-    (λ x is. is_called content.funcs func inst x c d is))
+    let k = knows content shaped lines e one func says c (some_block func.blocks inst d) in
+    all_clear (scope_of lines one) names k (operator_says names inst.op inst) (inst_uses names inst.op inst p)
+    (inst_others (scope_of lines one) names k inst.op inst p (λ x is. is_called content.funcs func inst x c d is)))
     (λ scope name. refl) line f

@@ -32,6 +32,7 @@ use Rattle.line_parts.specs.Lists.{Given, given, comma, passed_at, is_task_start
 use Rattle.line_tokens.specs.Marks.{is_mark, begins}
 use Rattle.line_forms.specs.Slots as parts
 use Rattle.read_back.specs.Said.{word_of, value_says, passed_says, entry_says}
+use Rattle.read_back.proofs.BackLists.{CalleeBelow}
 use Rattle.read_back.proofs.Steps.{plain_bytes, numeral_digits}
 use Rattle.read_back.proofs.FormsIn.{gc_new_own, value_call_form, void_call_form}
 use Rattle.read_back.proofs.Listed.{SpellsElement}
@@ -56,13 +57,7 @@ named_bytes n is = elim (or_cases (is_plain_name n) (is_numeral n) is) [
 pub new-named : (n : List ℕ) → is_name n ≡ true → is_name (codes "gc_new." ++ n) ≡ true
 new-named n is = rw (named_bytes n is) refl
 
--- the callee is there
-abbrev pub CalleeThere : Names → Callee → Type 0
-CalleeThere names (callees.Fun func) = func.0 < length names.funcs
-CalleeThere names (callees.New layout) = layout < length names.layouts
-CalleeThere names _ = Unit {0}
-
-pub callee-named : (names : Names) → HaveNames names → (callee : Callee) → CalleeThere names callee → is_name (callee_name names callee) ≡ true
+pub callee-named : (names : Names) → HaveNames names → (callee : Callee) → CalleeBelow names callee → is_name (callee_name names callee) ≡ true
 callee-named names have (callees.Fun func) low = function-named names have func.0 low
 callee-named names have (callees.New layout) low = new-named (layout_name names.layouts layout) (layout-named names have layout low)
 callee-named names have callees.Print low = refl
@@ -73,7 +68,7 @@ callee-named names have callees.Check low = refl
 callee-named names have callees.Same low = refl
 
 -- and is the name of none of the three families
-pub callee-own : (names : Names) → HaveNames names → (callee : Callee) → CalleeThere names callee → is_family_name (callee_name names callee) ≡ false
+pub callee-own : (names : Names) → HaveNames names → (callee : Callee) → CalleeBelow names callee → is_family_name (callee_name names callee) ≡ false
 unfolding statepoint_name relocate_name result_suffix family_result_front
 callee-own names have (callees.Fun func) low = function-own names have func.0 low
 callee-own names have (callees.New layout) low = gc_new_own (layout_name names.layouts layout)
@@ -150,7 +145,7 @@ value_call_shape names callee types n ty os = simp append_assoc
 
 -- `%x = call T @f(T V, ..)`
 pub value_call_reads : (names : Names) → HaveNames names → (callee : Callee) (types : List Ty) (n : List ℕ) (ty : Ty) (os : List Operand) → is_name n ≡ true → is_first_class ty ≡ true → IsNarrow ty
-    → CalleeThere names callee → AllByRecursion (PassedReads (is_task_start (callee_name names callee)) names) (zip types os)
+    → CalleeBelow names callee → AllByRecursion (PassedReads (is_task_start (callee_name names callee)) names) (zip types os)
     → OneLine names (made (Some n) (ast.Call callee types) ty os [])
 value_call_reads names have callee types n ty os is first narrow there all =
     let plain : Bool = is_task_start (callee_name names callee) in record {
@@ -175,7 +170,7 @@ void_call_shape names callee types os = refl
 
 -- `call void @f(T V, ..)`
 pub void_call_reads : (names : Names) → HaveNames names → (callee : Callee) (types : List Ty) (os : List Operand)
-    → CalleeThere names callee → AllByRecursion (PassedReads (is_task_start (callee_name names callee)) names) (zip types os)
+    → CalleeBelow names callee → AllByRecursion (PassedReads (is_task_start (callee_name names callee)) names) (zip types os)
     → OneLine names (made None (ast.Call callee types) tys.Void os [])
 void_call_reads names have callee types os there all =
     let plain : Bool = is_task_start (callee_name names callee) in

@@ -48,7 +48,8 @@ use Rattle.read_back.proofs.Listed.{SpellsElement, others}
 use Rattle.read_back.proofs.ListForms.{EndsAtMark, type_element, type_opens, plain_opens, plain_spelled, goes_by_comma}
 use Rattle.read_back.proofs.Operands.{HaveNames, IsNarrow, value-named, type_fits_in, value_spelled, value_in_limit, spellable_fits}
 use Rattle.read_back.proofs.Functions.{answer_spelled, answer_allowed, answer_fits}
-use Rattle.read_back.proofs.CallLines.{CalleeThere, PassedReads, passed_text, passed_given, callee-named, digits_named, each_element, each_fits}
+use Rattle.read_back.proofs.BackLists.{CalleeBelow}
+use Rattle.read_back.proofs.CallLines.{PassedReads, passed_text, passed_given, callee-named, digits_named, each_element, each_fits}
 use Rattle.read_back.proofs.OneLine.{LineIn, made}
 use Rattle.read_back.proofs.GroupSteps.{call_spelled, SpellsCall, live_element, live_opens}
 use Rattle.read_back.proofs.FormsIn.{ReadsIn}
@@ -148,7 +149,7 @@ pub record IsGuarded (names : Names) (callee : Callee) (takes : List Ty) (n : Li
   pub named : is_name n ≡ true
   pub answers : is_answer ty ≡ true
   pub narrow : IsNarrow ty
-  pub there : CalleeThere names callee
+  pub there : CalleeBelow names callee
   pub taken : AllByRecursion IsTaken takes
   pub typed : (is_task_start (callee_name names callee) || not (list_any is_plain (map parameter_says takes))) ≡ true
   pub passed : AllByRecursion (PassedReads (is_task_start (callee_name names callee)) names) (zip takes os)

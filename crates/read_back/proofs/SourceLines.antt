@@ -45,13 +45,14 @@ use Rattle.line_parts.specs.Lists.{is_task_start}
 use Rattle.line_parts.specs.Parts.{is_scalar_type}
 use Rattle.read_back.specs.Said.{width_in, result_of, parameter_says, operator_says, binary_says, convert_says}
 use Rattle.read_back.proofs.Fronts.{FunctionsOf, later_functions, front_fit, zip_take, front_functions}
-use Rattle.read_back.proofs.BackInsts.{IsPrintedIn, split_all}
+use Rattle.read_back.proofs.BackLists.{CalleeBelow}
+use Rattle.read_back.proofs.BackInsts.{IsPrintedIn, split_all, callee_parts}
 use Rattle.read_back.proofs.BackLines.{result-is, no_result, integer-is, void-is, pointer-is, condition-is}
 use Rattle.read_back.proofs.Operands.{HaveNames, IsNarrow, in_types}
 use Rattle.read_back.proofs.OneLine.{OneLine, LineIn, counted_as, one_in, made, binary_reads, compare_reads, load_reads, store_reads, jump_reads, return_void_reads, unreachable_reads}
 use Rattle.read_back.proofs.MoreLines.{convert_reads, select_reads, branch_reads, return_reads}
 use Rattle.read_back.proofs.StepLines.{integer_step_reads, pointer_step_reads, layout_step_reads, field_step_reads}
-use Rattle.read_back.proofs.CallLines.{CalleeThere, PassedReads, value_passed, function_passed, value_call_reads, void_call_reads, EntryFits, phi_reads}
+use Rattle.read_back.proofs.CallLines.{PassedReads, value_passed, function_passed, value_call_reads, void_call_reads, EntryFits, phi_reads}
 use Rattle.read_back.proofs.GroupLines.{IsTaken, IsLive, IsGuarded, statepoint_reads, result_reads, relocate_reads}
 use Rattle.read_back.proofs.SwitchLines.{CaseFits, switch_says_so}
 use Rattle.read_back.proofs.Chains.{InstSays, line_says}
@@ -253,20 +254,6 @@ arguments_read names have callee (o ∷ os) (t ∷ ts) fit arguments functions w
       arguments_read names have callee os ts fit.1 arguments.1 (later_functions known o os functions) w.1,
     )
 
--- the callee, and the functions that are passed
-callee_parts : (names : Names) (callee : Callee) (ts : List Ty) (inst : Instruction)
-    → AllByRecursion (λ layout. layout < length names.layouts) (layouts_named (record inst { op = ops.Call callee ts }))
-    → AllByRecursion (λ named. named < length names.funcs) (functions_named (record inst { op = ops.Call callee ts }))
-    → CalleeThere names callee × AllByRecursion (λ named. named < length names.funcs) (functions_named (record inst { op = ops.Load }))
-callee_parts names (callees.Fun func) ts inst layouts functions = (functions.0, functions.1)
-callee_parts names (callees.New layout) ts inst layouts functions = (layouts.0, functions)
-callee_parts names callees.Print ts inst layouts functions = (tt, functions)
-callee_parts names callees.Read ts inst layouts functions = (tt, functions)
-callee_parts names callees.TaskStart ts inst layouts functions = (tt, functions)
-callee_parts names callees.Poll ts inst layouts functions = (tt, functions)
-callee_parts names callees.Check ts inst layouts functions = (tt, functions)
-callee_parts names callees.Same ts inst layouts functions = (tt, functions)
-
 answer_is : (ty : Ty) → is_answer ty ≡ true → is_void ty ≡ false → is_first_class ty ≡ true
 answer_is tys.Void answers value = cc
 answer_is (tys.Int w) answers value = refl
@@ -276,7 +263,7 @@ answer_is tys.Token answers value = cc
 call_reads : {of : TextForm} (names : Names) → HaveNames names → (callee : Callee) (ts : List Ty) (inst : Instruction) → IsPrintable of names (ops.Call callee ts) inst → Reads names inst
 call_reads names have callee ts inst p = by (is_void inst.ty) refl
   where
-    there : CalleeThere names callee × AllByRecursion (λ named. named < length names.funcs) (functions_named (record inst { op = ops.Load }))
+    there : CalleeBelow names callee × AllByRecursion (λ named. named < length names.funcs) (functions_named (record inst { op = ops.Load }))
     there = callee_parts names callee ts inst p.printed.layouts p.printed.functions
 
     passed : FunctionsOf (λ named. named < length names.funcs) inst.operands
@@ -501,7 +488,7 @@ statepoint_case names have id callee takes inst p =
     subst (LineIn text_forms.Rewritten names) (made_is inst (Some (result_of inst)) (ops.Statepoint id callee takes) inst.ty inst.operands [] (result-is inst.result p.printed.line.result) p.printed.is refl refl (sym p.printed.line.no_labels) p.printed.bundle)
     (statepoint_reads names have id callee takes (result_of inst) inst.ty inst.operands guarded)
   where
-    there : CalleeThere names callee × AllByRecursion (λ named. named < length names.funcs) (functions_named (record inst { op = ops.Load }))
+    there : CalleeBelow names callee × AllByRecursion (λ named. named < length names.funcs) (functions_named (record inst { op = ops.Load }))
     there = callee_parts names callee takes inst p.printed.layouts p.printed.functions
 
     functions : FunctionsOf (λ named. named < length names.funcs) inst.operands

@@ -1,5 +1,5 @@
--- Printing and reading back, from both halves: the text is read, and its lines stand for the module. So its uses are
--- those of the module, and definite.
+-- Printing and reading back, from both halves: the text is read, and its lines stand for the module. They have no fault of
+-- their own, and those of a module that has none aren't there either; its uses are definite.
 use Rattle.std.proofs.Common.{sym, subst}
 use Rattle.std.specs.List.{All}
 use Rattle.ir_ast.specs.declared.modules.Form.{Form}
@@ -8,34 +8,31 @@ use Rattle.ir_ast.specs.Modules.{ModuleContent}
 use Rattle.ir_cfg.specs.DefiniteUses.{UsesAreDefinite}
 use Rattle.ir_printer.specs.Texts.{text_of}
 use Rattle.ir_lines.specs.Statements.{lines_of}
-use Rattle.ir_lines.specs.PlainFaults.{HasNoPlainFault}
-use Rattle.ir_resolve.proofs.Agrees.{no_text_fault}
 use Rattle.ir_resolve.proofs.Faultless.{resolved_faultless}
 use Rattle.ir_types.proofs.PathLaw.{definite-faultless}
 use Rattle.read_back.specs.Said.{said_by}
 use Rattle.read_back.specs.ReadsBack.{ReadsBack, EachReadsBack}
-use Rattle.read_back.proofs.BackFaultless.{no_fault}
-use Rattle.read_back.proofs.BackModules.{IsBare, IsShaped, shaped_of, module-back}
+use Rattle.read_back.proofs.BackFaultless.{no_text_fault}
+use Rattle.read_back.proofs.BackModules.{IsBare, shaped_of, module-back}
 use Rattle.read_back.proofs.ModulesRead.{TextReads}
 use Rattle.read_back.proofs.TextsRead.{printed_reads}
 
--- a module whose lines have no fault
-read_back : (content : ModuleContent) → IsShaped content → All UsesAreDefinite content.funcs
-    → (text : TextReads content.form (text_of content) (said_by content)) → HasNoPlainFault content.form (lines_of text.found) → ReadsBack content
-read_back content shaped definite text none =
+read_back : (content : ModuleContent) → IsBare content.form content → All UsesAreDefinite content.funcs
+    → TextReads content.form (text_of content) (said_by content) → ReadsBack content
+read_back content bare definite text =
     let lines = lines_of text.found in
-    let same = module-back content shaped lines text.same in
+    let same = module-back content (shaped_of content.form content bare) lines text.same in
+    let unbroken = resolved_faultless content.form lines (no_text_fault content.form content bare lines text.same)
+    (subst HasNoFault (sym same) bare.typed.no_fault) in
     record {
       readings = text.found;
       reads = text.reads;
-      no_fault = definite-faultless content.form lines (resolved_faultless content.form lines (no_text_fault content.form lines none)
-          (subst HasNoFault (sym same) shaped.no_fault)) (subst (λ (c : ModuleContent). All UsesAreDefinite c.funcs) (sym same) definite);
+      no_fault = definite-faultless content.form lines unbroken (subst (λ (c : ModuleContent). All UsesAreDefinite c.funcs) (sym same) definite);
       same = same;
     }
 
 pub reads_back : (form : Form) → EachReadsBack form
 reads_back form content is no_bundle short =
-    let bare : IsBare form content = record { typed = is.typed; no_bundle = no_bundle } in
-    let text = subst (λ (f : Form). TextReads f (text_of content) (said_by content)) (sym is.typed.of_form) (printed_reads form content bare) in
-    read_back content (shaped_of form content bare) is.definite text
-    (subst (λ (f : Form). HasNoPlainFault f (lines_of text.found)) (sym is.typed.of_form) (no_fault form content bare (lines_of text.found) text.same))
+    let own : IsBare form content = record { typed = is.typed; no_bundle = no_bundle } in
+    let bare = subst (λ (f : Form). IsBare f content) (sym is.typed.of_form) own in
+    read_back content bare is.definite (printed_reads content.form content bare)
