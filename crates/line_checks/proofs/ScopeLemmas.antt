@@ -94,7 +94,7 @@ labels-missing names _ = refl
 or-same : (a b c d : Bool) → a ≡ b → c ≡ d → (a || c) ≡ (b || d)
 or-same a b c d e f = ap (λ x. x || c) e ∙ ap (λ x. b || x) f
 
-unknown-same : (scope : Scope) (tables : Tables) (what : Statement) → AreTables scope tables → misses_name tables what ≡ names_unknown scope what
+pub unknown-same : (scope : Scope) (tables : Tables) (what : Statement) → AreTables scope tables → misses_name tables what ≡ names_unknown scope what
 unknown-same scope tables what t =
     let values = λ (name : List ℕ). is_none (value_named scope name) in
     let blocks = λ (name : List ℕ). is_none (block_named scope name) in
@@ -168,13 +168,13 @@ operands-same form scope tables t callee passed =
     (λ b. (not (bytes_eq callee (codes "task_start")) || b) && (is_source form || not (bytes_eq callee (codes "gc_check")) || checks_kind passed))
     (starts-same scope tables t passed)
 
-call-same : (form : Form) (scope : Scope) (tables : Tables) → AreTables scope tables → (answer : TypeWord) (callee : List ℕ) (passed : List Given)
+pub call-same : (form : Form) (scope : Scope) (tables : Tables) → AreTables scope tables → (answer : TypeWord) (callee : List ℕ) (passed : List Given)
     → call_fits form tables answer callee passed ≡ call_agrees form scope answer callee passed
 call-same form scope tables t answer callee passed =
     ap (λ found. agrees answer passed found && operands_fit form tables callee passed) (head-same scope tables t callee)
     ∙ ap (λ b. agrees answer passed (head_named scope callee) && b) (operands-same form scope tables t callee passed)
 
-statepoint-same : (form : Form) (scope : Scope) (tables : Tables) → AreTables scope tables → (made : Guarded)
+pub statepoint-same : (form : Form) (scope : Scope) (tables : Tables) → AreTables scope tables → (made : Guarded)
     → statepoint_fits form tables made ≡ statepoint_agrees form scope made
 statepoint-same form scope tables t made =
     ap

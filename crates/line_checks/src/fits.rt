@@ -18,7 +18,8 @@ fn type_fits(ty: TypeWord, given: Option<TypeWord>) -> bool
     }
 }
 
-fn literal_fits(ty: TypeWord, literal: Literal) -> bool
+/// Whether a literal lies within its type.
+pub fn literal_fits(ty: TypeWord, literal: Literal) -> bool
     ensures { result ≡ literal_fits ty literal }
 {
     match ty {

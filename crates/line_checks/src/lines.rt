@@ -324,7 +324,8 @@ fn orders_pointers(reading: &Reading) -> bool
     }
 }
 
-fn is_cast(reading: &Reading) -> bool
+/// A conversion from or to pointers.
+pub fn is_cast(reading: &Reading) -> bool
     ensures { result ≡ is_cast (said reading.now) }
 {
     matches!(reading, Reading::Cast { .. })
@@ -353,7 +354,8 @@ fn note_tests(tests: Tests, line: u32, first: &mut First)
 }
 
 impl Scope<'_, '_, '_, '_> {
-    fn misses_name(&self, reading: &Reading, used: &[(Value, TypeWord)]) -> bool
+    /// Whether a line that uses these values names something that there isn't.
+    pub fn misses_name(&self, reading: &Reading, used: &[(Value, TypeWord)]) -> bool
         requires { map seen_use used.now ≡ uses (said reading.now) }
         ensures { result ≡ misses_name (tables_in self.now) (said reading.now) }
     {
@@ -414,7 +416,8 @@ impl Scope<'_, '_, '_, '_> {
         self.task_fits(callee, passed) && self.kind_fits(callee, passed)
     }
 
-    fn call_agrees(&self, answer: TypeWord, callee: &[u8], passed: &[Passed]) -> bool
+    /// Whether a call has the types of what the first head of its callee says.
+    pub fn call_agrees(&self, answer: TypeWord, callee: &[u8], passed: &[Passed]) -> bool
         ensures { result ≡ call_fits self.now.form (tables_in self.now) answer callee.now (map seen_passed passed.now) }
     {
         agrees(answer, passed, self.top.head(callee)) && self.takes_operands(callee, passed)
@@ -432,7 +435,8 @@ impl Scope<'_, '_, '_, '_> {
         ) && is_within(32, call.count)
     }
 
-    fn statepoint_agrees(&self, call: &StatepointCall) -> bool
+    /// Whether a statepoint calls by the types of its callee, and spells a number of arguments of `i32`.
+    pub fn statepoint_agrees(&self, call: &StatepointCall) -> bool
         ensures { result ≡ statepoint_fits self.now.form (tables_in self.now) (seen_guarded call.now) }
     {
         self.call_agrees(

@@ -44,7 +44,8 @@ fn layout_made(name: &[u8]) -> &[u8]
     if name.len() < 7 { &[] } else { &name[7..] }
 }
 
-fn owned(alloc: Global, name: &[u8]) -> Result<Name, AllocError>
+/// A name of its own.
+pub fn owned(alloc: Global, name: &[u8]) -> Result<Name, AllocError>
     ensures { IfOk result (λ owned. owned ≡ name.now) }
 {
     let bytes = Vec::from_slice(alloc, name)?;
@@ -409,11 +410,13 @@ fn switch(
     Ok(Some(Inst::of(None, Op::Switch, type_of(ty), operands, labels, none)))
 }
 
-// What the lines of a function can name.
+/// What the lines of a function can name.
 #[derive(Clone, Copy)]
-struct Scope<'s, 't, 'a, 'n> {
-    top: &'s Top<'t, 'a>,
-    local: &'s Local<'n>,
+pub struct Scope<'s, 't, 'a, 'n> {
+    /// The names of the whole text.
+    pub top: &'s Top<'t, 'a>,
+    /// The names of the function.
+    pub local: &'s Local<'n>,
 }
 
 impl Scope<'_, '_, '_, '_> {
@@ -461,7 +464,8 @@ impl Scope<'_, '_, '_, '_> {
         }
     }
 
-    fn call(
+    /// A call that passes these.
+    pub fn call(
         &self,
         alloc: Global,
         name: Option<&[u8]>,
@@ -577,8 +581,8 @@ impl Scope<'_, '_, '_, '_> {
         self.guarded(alloc, name, call, operands)
     }
 
-    // The instruction of a line, where it is one; a `switch` has the cases that stand behind it.
-    fn instruction(
+    /// The instruction of a line, where it is one; a `switch` has the cases that stand behind it.
+    pub fn instruction(
         &self,
         alloc: Global,
         reading: &Reading,
@@ -766,16 +770,16 @@ impl Scope<'_, '_, '_, '_> {
     }
 }
 
-// The lines behind one.
-fn behind<'t, 'a>(lines: &'t [NumberedReading<'a>], i: usize) -> &'t [NumberedReading<'a>]
+/// The lines behind one.
+pub fn behind<'t, 'a>(lines: &'t [NumberedReading<'a>], i: usize) -> &'t [NumberedReading<'a>]
     requires { i < length lines.now }
     ensures { result.now ≡ drop (i + 1) lines.now }
 {
     &lines[i + 1..]
 }
 
-// Adds an instruction and its line behind the others, where there is one.
-fn keep(
+/// Adds an instruction and its line behind the others, where there is one.
+pub fn keep(
     insts: &mut Vec<Inst>,
     numbers: &mut Vec<u32>,
     line: u32,
@@ -794,8 +798,8 @@ fn keep(
     }
 }
 
-// The arguments of a head, which have these names.
-fn arguments_of(
+/// The arguments of a head, which have these names.
+pub fn arguments_of(
     alloc: Global,
     line: u32,
     arguments: &[Argument],
@@ -878,8 +882,8 @@ fn keep_layout(
     }
 }
 
-// The layouts of lines, in their order.
-fn layouts_of(alloc: Global, lines: &[NumberedReading]) -> Result<Vec<Layout>, AllocError>
+/// The layouts of lines, in their order.
+pub fn layouts_of(alloc: Global, lines: &[NumberedReading]) -> Result<Vec<Layout>, AllocError>
     ensures { IfOk result (λ made. made.items ≡ map layout_of (layouts_of (seen_lines lines.now))) }
 {
     let mut layouts = Vec::new(alloc);

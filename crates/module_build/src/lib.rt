@@ -1,6 +1,6 @@
 //! The module that lines stand for.
 #![tactic(auto)]
 
-mod build;
+pub mod build;
 
 pub use build::module_of;

@@ -1,0 +1,27 @@
+use Rattle.std.proofs.Common.{◌∙◌, ap, sym, subst}
+use Rattle.ir_lines.specs.Modules.{Known}
+use Rattle.ir_lines.specs.Tables.{seen_definition}
+use Rattle.module_build.specs.Built.{lined_function}
+use Rattle.module_build.specs.Placed.{IsPlacedFunction}
+use Rattle.text_resolve.specs.Built.{uncast_definition}
+use Rattle.text_resolve.proofs.ScopeLemmas.{notes-function}
+use Rattle.text_resolve.proofs.Uncast.{scope-uncast}
+use Rattle.text_resolve.proofs.functions.resolve_function.Goals as goal
+
+pub function-requires-clause-placed : goal.function-requires-clause-placed
+function-requires-clause-placed c =
+    let own = uncast_definition (seen_definition c.args.func.now) in
+    subst (λ (known : Known). IsPlacedFunction known own)
+    (sym (scope-uncast c.args.top.now (seen_definition c.args.func.now) c.in_ok-local.local c.in_ok-local.ensures.is)) c.requires
+
+pub returns-clause-func : goal.returns-clause-func
+returns-clause-func c =
+    let own = uncast_definition (seen_definition c.args.func.now) in
+    c.in_ok-func.ensures
+    ∙ ap (λ (known : Known). lined_function known own)
+    (scope-uncast c.args.top.now (seen_definition c.args.func.now) c.in_ok-local.local c.in_ok-local.ensures.is)
+
+pub returns-clause-noted : goal.returns-clause-noted
+returns-clause-noted c = λ lines top.
+    notes-function c.args.form lines (seen_definition c.args.func.now) c.args.top.now c.in_ok-local.local c.args.first.now.found c.of-2.new.first.found
+    c.note_body.new.first.found top c.in_ok-local.ensures.is c.in_ok-local.ensures.noted c.in_ok-cases.ensures.noted

@@ -1,0 +1,192 @@
+//! The functions of a resolved text.
+
+ghost use Rattle.std.specs.Prelude.{◌≡◌, [], ◌++◌, map, flat_map, IfOk, OnOk, List};
+ghost use Rattle.std.specs.List.{All};
+ghost use Rattle.ir_ast.specs.Blocks.{EndsAtTerminator};
+ghost use Rattle.line_parts.specs.Seen.{seen_argument};
+ghost use Rattle.ir_lines.specs.Modules.{instruction_said, insts_of, numbers_of, block_of};
+ghost use Rattle.ir_lines.specs.Notes.{Notes};
+ghost use Rattle.ir_lines.specs.Scope.{scope_of};
+ghost use Rattle.ir_lines.specs.Sections.{arguments_named, blocks_of};
+ghost use Rattle.ir_lines.specs.Statements.{Line};
+ghost use Rattle.ir_lines.specs.Tables.{seen_definition, seen_block, IsTop};
+ghost use Rattle.ir_lines.specs.Views.{said, seen_lines};
+ghost use Rattle.ir_resolve.specs.Resolved.{uncast};
+ghost use Rattle.module_build.specs.Built.{known_with, lined_function};
+ghost use Rattle.module_build.specs.Known.{known_in};
+ghost use Rattle.module_build.specs.Placed.{IsPlacedFunction};
+ghost use Rattle.text_resolve.specs.Built.{uncast_lines, uncast_block, uncast_definition, FunctionsLost};
+ghost use Rattle.text_resolve.specs.Lost.{FunctionLost};
+ghost use Rattle.text_resolve.specs.Rows.{rows_of};
+
+use crate::bodies::note_body;
+use case_lines::CaseLines;
+use ir_ast::{Block, Form, Func, Inst};
+use ir_lines::best::First;
+use ir_lines::operands::type_of;
+use ir_lines::scope::{Local, Top};
+use ir_lines::sections::{BlockLines, Definition, HeadNames, blocks};
+use ir_reader::{NumberedReading, Reading};
+use line_checks::lines::Scope as Judged;
+use module_build::build::{Scope, arguments_of, behind, keep, owned};
+use std::alloc::{AllocError, Global};
+
+// The instruction of a line, where it is one. A cast is a call that passes nothing.
+fn instruction(
+    scope: &Scope,
+    alloc: Global,
+    reading: &Reading,
+    behind: &[NumberedReading],
+) -> Result<Option<Inst>, AllocError>
+    ensures { IfOk result (λ made. made ≡ instruction_said (known_in scope.now) (uncast_lines (seen_lines behind.now)) (uncast (said reading.now))) }
+{
+    match reading {
+        Reading::Cast { result, to, .. } => scope.call(alloc, Some(*result), *to, &[], &[]),
+        _ => scope.instruction(alloc, reading, behind),
+    }
+}
+
+fn insts(
+    scope: &Scope,
+    alloc: Global,
+    lines: &[NumberedReading],
+    numbers: &mut Vec<u32>,
+) -> Result<Vec<Inst>, AllocError>
+    ensures insts { IfOk result (λ insts. insts.items ≡ insts_of (known_in scope.now) (uncast_lines (seen_lines lines.now))) }
+    ensures numbers { OnOk result (numbers.new.items
+        ≡ numbers.old.items ++ numbers_of (known_in scope.now) (uncast_lines (seen_lines lines.now))) }
+{
+    let mut insts = Vec::new(alloc);
+    for (i, line) in lines.iter().enumerate() {
+        let made = instruction(scope, alloc, &line.reading, behind(lines, i))?;
+        keep(&mut insts, numbers, line.line, made)?;
+    }
+    Ok(insts)
+}
+
+// A block, and the lines of its instructions behind the others.
+fn block(
+    scope: &Scope,
+    alloc: Global,
+    block: &BlockLines,
+    numbers: &mut Vec<u32>,
+) -> Result<Block, AllocError>
+    requires { EndsAtTerminator (insts_of (known_in scope.now) (uncast_lines (seen_lines block.now.lines.now))) }
+    ensures block { IfOk result (λ made. made ≡ record {
+      name = block.now.name.now;
+      insts = insts_of (known_in scope.now) (uncast_lines (seen_lines block.now.lines.now));
+    }) }
+    ensures numbers { OnOk result (numbers.new.items
+        ≡ numbers.old.items ++ numbers_of (known_in scope.now) (uncast_lines (seen_lines block.now.lines.now))) }
+{
+    let insts = insts(scope, alloc, block.lines, numbers)?;
+    let name = owned(alloc, block.name)?;
+    Ok(Block::of(name, insts))
+}
+
+// The blocks, and the lines of their instructions behind the others.
+fn built_blocks(
+    scope: &Scope,
+    alloc: Global,
+    blocks: &[BlockLines],
+    numbers: &mut Vec<u32>,
+) -> Result<Vec<Block>, AllocError>
+    requires { All (λ block. EndsAtTerminator (insts_of (known_in scope.now) block.lines)) (map uncast_block (map seen_block blocks.now)) }
+    ensures blocks { IfOk result (λ built. built.items ≡ map (block_of (known_in scope.now)) (map uncast_block (map seen_block blocks.now))) }
+    ensures numbers { OnOk result (numbers.new.items ≡ numbers.old.items
+        ++ flat_map (λ block. numbers_of (known_in scope.now) block.lines) (map uncast_block (map seen_block blocks.now))) }
+{
+    let mut built = Vec::new(alloc);
+    for one in blocks {
+        let made = block(scope, alloc, one, numbers)?;
+        built.push(made)?;
+    }
+    Ok(built)
+}
+
+// The function that a definition with these names and blocks stands for, with the lines of its instructions.
+fn function(
+    scope: &Scope,
+    alloc: Global,
+    func: &Definition,
+    names: &HeadNames,
+    blocks: &[BlockLines],
+) -> Result<Func, AllocError>
+    requires names { map (λ n. n.items) names.now.arguments.items
+        ≡ map (λ one. one.name) (arguments_named func.now.line [] (map seen_argument func.now.arguments.now)) }
+    requires blocks { map seen_block blocks.now ≡ blocks_of (seen_definition func.now) }
+    requires placed { IsPlacedFunction (known_in scope.now) (uncast_definition (seen_definition func.now)) }
+    ensures { IfOk result (λ made. made ≡ lined_function (known_in scope.now) (uncast_definition (seen_definition func.now))) }
+{
+    let mut numbers = Vec::new(alloc);
+    let built = built_blocks(scope, alloc, blocks, &mut numbers)?;
+    let name = owned(alloc, func.name)?;
+    let args = arguments_of(alloc, func.line, func.arguments, names.arguments.as_slice())?;
+    let whole = Func::of(name, type_of(func.answer), args, built);
+    Ok(whole.with_lines(numbers))
+}
+
+/// A function, and the lines of the cases of its instructions.
+#[derive(Drop)]
+pub(crate) struct Built {
+    pub(crate) func: Func,
+    pub(crate) cases: CaseLines,
+}
+
+// The function of a definition, with the lines of its cases; notes what resolving it loses.
+fn resolve_function(
+    alloc: Global,
+    form: Form,
+    top: &Top,
+    func: &Definition,
+    first: &mut First,
+) -> Result<Built, AllocError>
+    requires { let own = uncast_definition (seen_definition func.now) in IsPlacedFunction (known_with top.now own) own }
+    ensures func { let own = uncast_definition (seen_definition func.now) in
+        IfOk result (λ built. built.func ≡ lined_function (known_with top.now own) own) }
+    ensures cases { IfOk result (λ built. built.cases ≡ rows_of (seen_definition func.now).body) }
+    ensures noted { (lines : List Line) → IsTop lines top.now → OnOk result (Notes first.old.found first.new.found
+        (FunctionLost form (scope_of lines (seen_definition func.now)) (seen_definition func.now))) }
+{
+    let names = HeadNames::of(alloc, func.arguments)?;
+    let sections = blocks(alloc, func, names.entry.as_slice())?;
+    let local = Local::of(alloc, form, func, &names, sections.as_slice(), first)?;
+    let judged = Judged {
+        form,
+        top,
+        local: &local,
+    };
+    let cases = note_body(&judged, alloc, func.body, first)?;
+    let scope = Scope { top, local: &local };
+    let func = function(&scope, alloc, func, &names, sections.as_slice())?;
+    Ok(Built { func, cases })
+}
+
+/// Adds the functions of definitions behind others, and the lines of their cases behind those of the others; notes what
+/// resolving them loses.
+pub(crate) fn resolve_functions(
+    alloc: Global,
+    form: Form,
+    top: &Top,
+    funcs: &[Definition],
+    made: &mut Vec<Func>,
+    cases: &mut Vec<CaseLines>,
+    first: &mut First,
+) -> Result<(), AllocError>
+    requires { All (λ func. IsPlacedFunction (known_with top.now func) func) (map uncast_definition (map seen_definition funcs.now)) }
+    ensures funcs { OnOk result (made.new.items ≡ made.old.items
+        ++ map (λ func. lined_function (known_with top.now func) func) (map uncast_definition (map seen_definition funcs.now))) }
+    ensures cases { OnOk result (cases.new.items ≡ cases.old.items ++ map (λ func. rows_of func.body) (map seen_definition funcs.now)) }
+    ensures noted { (lines : List Line) → IsTop lines top.now
+        → OnOk result (Notes first.old.found first.new.found (FunctionsLost form lines (map seen_definition funcs.now))) }
+{
+    for func in funcs {
+        let Built {
+            func: built,
+            cases: rows,
+        } = resolve_function(alloc, form, top, func, first)?;
+        made.push(built)?;
+        cases.push(rows)?;
+    }
+    Ok(())
+}

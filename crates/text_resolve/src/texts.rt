@@ -1,0 +1,66 @@
+//! A text resolved.
+
+ghost use Rattle.std.specs.Prelude.{◌≡◌, IfOk, None};
+ghost use Rattle.ir_lines.specs.Notes.{Notes};
+ghost use Rattle.ir_lines.specs.Views.{seen_lines};
+ghost use Rattle.ir_resolve.specs.Resolved.{resolved};
+ghost use Rattle.ir_resolve.specs.TextFaults.{HasTextFault};
+ghost use Rattle.module_build.specs.Placed.{IsPlaced};
+ghost use Rattle.text_resolve.specs.Built.{uncast_lines};
+
+use crate::functions::resolve_functions;
+use case_lines::CaseLines;
+use ir_ast::{Form, Module};
+use ir_lines::best::First;
+use ir_lines::faults::Fault;
+use ir_lines::scope::Top;
+use ir_lines::sections::definitions;
+use ir_reader::NumberedReading;
+use line_checks::tops::note_lines;
+use module_build::build::layouts_of;
+use std::alloc::{AllocError, Global};
+
+/// A text resolved.
+#[derive(Drop)]
+pub struct Resolution {
+    /// The module that its lines stand for, whatever their faults, with the lines of its instructions.
+    pub whole: Module,
+    /// Of each function, of each of its instructions, the lines of its cases.
+    pub cases: Vec<CaseLines>,
+    /// The first of the faults that resolving loses: the least line, and of that the least code.
+    pub fault: Option<Fault>,
+}
+
+/// Resolves the lines of a text in this form, which stand in their places.
+pub fn resolve(
+    alloc: Global,
+    form: Form,
+    lines: &[NumberedReading],
+) -> Result<Resolution, AllocError>
+    requires { IsPlaced (uncast_lines (seen_lines lines.now)) }
+    ensures whole { IfOk result (λ text. text.whole ≡ (resolved form (seen_lines lines.now)).whole) }
+    ensures cases { IfOk result (λ text. text.cases.items ≡ (resolved form (seen_lines lines.now)).cases) }
+    ensures fault { IfOk result (λ text. Notes None text.fault (λ line code. HasTextFault form (seen_lines lines.now) line code)) }
+{
+    let mut first = First::NONE;
+    let top = Top::of(alloc, lines, &mut first)?;
+    note_lines(&top, form, lines, &mut first);
+    let layouts = layouts_of(alloc, lines)?;
+    let found = definitions(alloc, lines)?;
+    let mut funcs = Vec::with_capacity(alloc, found.len())?;
+    let mut cases = Vec::with_capacity(alloc, found.len())?;
+    resolve_functions(
+        alloc,
+        form,
+        &top,
+        found.as_slice(),
+        &mut funcs,
+        &mut cases,
+        &mut first,
+    )?;
+    Ok(Resolution {
+        whole: Module::of(layouts, funcs, form),
+        cases,
+        fault: first.found,
+    })
+}
