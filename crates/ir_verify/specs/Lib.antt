@@ -1,4 +1,6 @@
 pub mod Founds
+pub mod Cases
+pub mod Derivations
 pub mod Bodies
 pub mod FunctionFaults
 pub mod Resolved

@@ -2,6 +2,9 @@
 #![tactic(auto)]
 
 mod best;
+mod bodies;
+mod cases;
+mod derived;
 mod faults;
 mod insts;
 mod types;
