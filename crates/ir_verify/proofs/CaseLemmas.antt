@@ -8,12 +8,12 @@ use Rattle.ir_ast.specs.declared.ops.Operand.{Operand}
 use Rattle.ir_ast.specs.declared.ops.Operand.TheVariants.{Value, Int, Null, Fun}
 use Rattle.sp_ids.specs.declared.ids.ValueId.{ValueId}
 use Rattle.sp_ids.specs.declared.ids.FuncId.{FuncId}
-use Rattle.ir_verify.specs.declared.faults.Fault.{Fault}
+use Rattle.ir_lines.specs.declared.faults.Fault.{Fault}
 use Rattle.ir_verify.specs.declared.cases.Seen.{Seen}
 use Rattle.ir_verify.specs.Cases.{has, same}
-use Rattle.ir_verify.specs.Notes.{Notes}
+use Rattle.ir_lines.specs.Notes.{Notes}
 use Rattle.ir_verify.specs.FunctionFaults.{At, Repeats}
-use Rattle.ir_verify.proofs.NoteLemmas.{notes-same}
+use Rattle.ir_lines.proofs.NoteLemmas.{notes-same}
 
 eq-same : (x y : ℕ) → nat_eq x y ≡ true → x ≡ y
 eq-same x y e = elim (eqb_tells x y) [ inl t ↦ t.1 | inr t ↦ absurd (let bad : true ≡ false = sym e ∙ t.0 in cc) ]

@@ -4,11 +4,11 @@ use Rattle.std.specs.Prelude.{Option, Some, map, slice_get, option_map, IsTrue, 
 use Rattle.std.proofs.lemmas.Bool.Decides.{eqb_tells}
 use Rattle.std.proofs.lemmas.Option.{slice_get-get_or, slice_get-map, slice_get_within}
 use Rattle.list_laws.proofs.Places.{cases_below}
-use Rattle.ir_verify.specs.declared.faults.Fault.{Fault}
-use Rattle.ir_verify.specs.Notes.{Notes, Is}
+use Rattle.ir_lines.specs.declared.faults.Fault.{Fault}
+use Rattle.ir_lines.specs.Notes.{Notes, Is}
 use Rattle.ir_verify.specs.FunctionFaults.{At}
 use Rattle.ir_verify.specs.Founds.{FoundBelow, FoundIn}
-use Rattle.ir_verify.proofs.NoteLemmas.{Either, notes-then, notes-same, notes-nothing}
+use Rattle.ir_lines.proofs.NoteLemmas.{Either, notes-then, notes-same, notes-nothing}
 
 pub notes-none : {X : Type 0} (P : ℕ → X → ℕ → ℕ → Type 0) (xs : List X) (kept : Option Fault) → Notes kept kept (FoundBelow P xs 0)
 notes-none P xs kept = notes-nothing kept (FoundBelow P xs 0) (λ line code f. let b : f.place < 0 = f.below in omega arith)

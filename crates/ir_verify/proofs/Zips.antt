@@ -3,8 +3,8 @@ use Rattle.std.proofs.Common.{◌≡◌, ◌∙◌, ℕ, zero, suc, ◌+◌, ◌
 use Rattle.std.specs.Prelude.{Some, slice_get, ◌↔◌}
 use Rattle.std.specs.List.{All, AllZip}
 use Rattle.std.proofs.lemmas.List.{take_all, take-append-drop, length-drop, length-take-le}
-use Rattle.std.proofs.lemmas.List.Elements.{All-nil, All-cons, All-head, All-tail}
-use Rattle.std.proofs.lemmas.Option.{none-some, same_Some}
+use Rattle.std.proofs.lemmas.List.Elements.{All-nil, All-cons, All-head, All-tail, All-more}
+use Rattle.std.proofs.lemmas.Option.{none-some, same_Some, slice_get_within, get_or_from_slice_get}
 
 pub zip_long : {A B : Type 0} (R : A → B → Type 0) (xs : List A) (ys : List B) → AllZip R xs ys → length xs ≡ length ys
 zip_long R [] [] all = refl
@@ -102,3 +102,8 @@ zip_rest {A} {B} R xs ys y few =
         one_zip R rest y (subst (λ (n : ℕ). AllZip R rest (replicate n y)) (sym left) (zip_back R front rest ys copies long split)),
       )),
     )
+
+pub all_next : {A : Type 0} (P : A → Type 0) (xs : List A) (k : ℕ) (x : A) → All P (take k xs) → slice_get xs k ≡ Some x → P x
+    → All P (take (k + 1) xs)
+all_next P xs k x all at p =
+    All-more P xs k x (slice_get_within xs k x at) all (subst P (sym (get_or_from_slice_get xs k x x at)) p)

@@ -1,5 +1,5 @@
 -- The faults of the instructions of a function, by their places.
-use Rattle.std.specs.Prelude.{◌≡◌, ℕ, ◌+◌, ◌<◌, ◌⊎◌, true, List, ◌∷◌, ◌++◌, length, take, Some, slice_get}
+use Rattle.std.specs.Prelude.{◌≡◌, ℕ, ◌+◌, ◌<◌, ◌⊎◌, true, List, [], ◌∷◌, ◌++◌, length, take, Some, slice_get, unwrap_or}
 use Rattle.sp_ids.specs.declared.ids.BlockId.{BlockId}
 use Rattle.ir_ast.specs.declared.modules.Form.{Form}
 use Rattle.ir_ast.specs.declared.modules.Form.TheVariants.{Source, Rewritten}
@@ -7,7 +7,7 @@ use Rattle.ir_ast.specs.declared.ops.Operand.{Operand}
 use Rattle.ir_ast.specs.declared.ops.Op.TheVariants.{Switch}
 use Rattle.ir_ast.specs.Insts.{Instruction}
 use Rattle.ir_ast.specs.Blocks.{BasicBlock}
-use Rattle.ir_ast.specs.Funcs.{Function, instructions_of}
+use Rattle.ir_ast.specs.Funcs.{Function, LinedFunction, instructions_of}
 use Rattle.ir_ast.specs.Modules.{ModuleContent}
 use Rattle.ir_ast.specs.Ops.{is_terminator}
 use Rattle.ir_ast.specs.Scope.{scope_of}
@@ -15,9 +15,9 @@ use Rattle.ir_ast.specs.Faults.PhiEdges.{is_phi, PhiIsRight}
 use Rattle.ir_ast.specs.Faults.DerivedEscapes.{KeepsDerived}
 use Rattle.ir_ast.specs.Faults.PointerOrder.{orders_pointers}
 use Rattle.ir_ast.specs.Faults.GroupShape.{ShapeOf}
-use Rattle.ir_verify.specs.Resolved.{part_line}
-use Rattle.ir_verify.specs.ModuleFaults.{IsTypedBesidesCalls}
-use Rattle.ir_verify.specs.Bodies.{Body, insts_of, line_in, cases_in}
+use Rattle.ir_resolve.specs.Resolved.{part_line}
+use Rattle.ir_resolve.specs.ModuleFaults.{IsTypedBesidesCalls}
+use Rattle.ir_verify.specs.Bodies.{insts_of, line_in, cases_in}
 use Rattle.ir_verify.specs.Founds.{FoundIn}
 
 -- this code at this line, where something holds
@@ -56,37 +56,46 @@ abbrev pub OrderFault : ℕ → Instruction → ℕ → ℕ → Type 0
 OrderFault line inst = At 15 line (orders_pointers inst.op inst.ty ≡ true)
 
 -- what an instruction breaks by itself
-abbrev pub LineFaultAt : Body → ℕ → Instruction → ℕ → ℕ → Type 0
-LineFaultAt body place inst l c =
-    TypeFault body.content body.func (line_in body place) inst l c
-    ⊎ (OrderFault (line_in body place) inst l c ⊎ PartFault (line_in body place) (cases_in body.cases place) inst l c)
+abbrev pub InstFault : ModuleContent → Function → ℕ → List ℕ → Instruction → ℕ → ℕ → Type 0
+InstFault content func line cases inst l c =
+    TypeFault content func line inst l c ⊎ (OrderFault line inst l c ⊎ PartFault line cases inst l c)
+
+abbrev pub LineFaultAt : ModuleContent → LinedFunction → List (List ℕ) → ℕ → Instruction → ℕ → ℕ → Type 0
+LineFaultAt content func cases place inst = InstFault content func.content (line_in func place) (cases_in cases place) inst
 
 -- ---- of phis
 
 -- of the block with this number, whose first instruction has this place
-abbrev pub PhiFaultAt : Body → ℕ → ℕ → List Instruction → ℕ → Instruction → ℕ → ℕ → Type 0
-PhiFaultAt body block start insts at inst =
-    At 7 (line_in body (start + at)) ((is_phi inst.op ≡ true) × ¬ PhiIsRight body.func block (take at insts) inst)
+abbrev pub PhiFaultAt : LinedFunction → ℕ → ℕ → List Instruction → ℕ → Instruction → ℕ → ℕ → Type 0
+PhiFaultAt func block start insts at inst =
+    At 7 (line_in func (start + at)) ((is_phi inst.op ≡ true) × ¬ PhiIsRight func.content block (take at insts) inst)
 
-abbrev pub BlockFaultAt : Body → ℕ → BasicBlock → ℕ → ℕ → Type 0
-BlockFaultAt body block one =
-    FoundIn (PhiFaultAt body block (length (instructions_of (take block body.func.blocks))) one.insts) one.insts
+-- where the instructions of a block begin
+abbrev pub start_of : Function → ℕ → ℕ
+start_of func block = length (instructions_of (take block func.blocks))
+
+abbrev pub BlockFaultAt : LinedFunction → ℕ → BasicBlock → ℕ → ℕ → Type 0
+BlockFaultAt func block one = FoundIn (PhiFaultAt func block (start_of func.content block) one.insts) one.insts
 
 -- ---- of one of the forms
 
-abbrev pub EscapeAt : Body → ℕ → Instruction → ℕ → ℕ → Type 0
-EscapeAt body place inst = At 9 (line_in body place) (¬ KeepsDerived body.func inst)
+abbrev pub EscapeAt : LinedFunction → ℕ → Instruction → ℕ → ℕ → Type 0
+EscapeAt func place inst = At 9 (line_in func place) (¬ KeepsDerived func.content inst)
 
-abbrev pub ShapeAt : Body → ℕ → Instruction → ℕ → ℕ → Type 0
-ShapeAt body place inst = At 18 (line_in body place) (¬ ShapeOf body.func place inst inst.op)
+abbrev pub ShapeAt : LinedFunction → ℕ → Instruction → ℕ → ℕ → Type 0
+ShapeAt func place inst = At 18 (line_in func place) (¬ ShapeOf func.content place inst inst.op)
 
-abbrev pub FormFault : Form → Body → ℕ → ℕ → Type 0
-FormFault Source body = FoundIn (EscapeAt body) (insts_of body)
-FormFault Rewritten body = FoundIn (ShapeAt body) (insts_of body)
+abbrev pub FormFault : Form → LinedFunction → ℕ → ℕ → Type 0
+FormFault Source func = FoundIn (EscapeAt func) (insts_of func)
+FormFault Rewritten func = FoundIn (ShapeAt func) (insts_of func)
 
--- ---- of a function
+-- ---- of a function, of whose instructions the cases have these lines
 
-abbrev pub FunctionFault : Body → ℕ → ℕ → Type 0
-FunctionFault body l c =
-    FoundIn (LineFaultAt body) (insts_of body) l c
-    ⊎ (FoundIn (BlockFaultAt body) body.func.blocks l c ⊎ FormFault body.content.form body l c)
+abbrev pub FunctionFault : ModuleContent → LinedFunction → List (List ℕ) → ℕ → ℕ → Type 0
+FunctionFault content func cases l c =
+    FoundIn (LineFaultAt content func cases) (insts_of func) l c
+    ⊎ (FoundIn (BlockFaultAt func) func.content.blocks l c ⊎ FormFault content.form func l c)
+
+-- of the function with this number
+abbrev pub FunctionAt : ModuleContent → List (List (List ℕ)) → ℕ → LinedFunction → ℕ → ℕ → Type 0
+FunctionAt content cases number func = FunctionFault content func (unwrap_or (slice_get cases number) [])

@@ -1,6 +1,6 @@
 //! A function as flat tables: its instructions in text order, and its values by number.
 
-ghost use Rattle.std.specs.Prelude.{◌≡◌, ◌++◌, map, IfOk};
+ghost use Rattle.std.specs.Prelude.{◌≡◌, ◌<◌, ◌^◌, ◌++◌, length, map, IfOk};
 ghost use Rattle.std.specs.Option.{option_map};
 ghost use Rattle.ir_ast.specs.Funcs.{instructions_of};
 ghost use Rattle.ir_ast.specs.Values.{definitions_of, definition_type, outcome_type, value_types};
@@ -12,7 +12,8 @@ use std::alloc::Global;
 
 /// The instructions of a function in text order.
 pub(crate) fn instructions(alloc: Global, func: &Func) -> Result<Vec<&Inst>, Memory>
-    ensures { IfOk result (λ insts. seen_insts insts.items ≡ instructions_of func.now.content.blocks) }
+    ensures insts { IfOk result (λ insts. seen_insts insts.items ≡ instructions_of func.now.content.blocks) }
+    ensures few { length (instructions_of func.now.content.blocks) < 2 ^ 30 }
 {
     let mut insts = Vec::new(alloc);
     for block in func.blocks() {

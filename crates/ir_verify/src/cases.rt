@@ -6,10 +6,10 @@ ghost use Rattle.ir_ast.specs.declared.ops.Operand.{Operand};
 ghost use Rattle.ir_verify.specs.Cases.{has, same};
 ghost use Rattle.ir_verify.specs.Founds.{FoundIn};
 ghost use Rattle.ir_verify.specs.FunctionFaults.{At, CaseAt, CaseFault};
-ghost use Rattle.ir_verify.specs.Notes.{Notes};
-ghost use Rattle.ir_verify.specs.Resolved.{part_line};
+ghost use Rattle.ir_lines.specs.Notes.{Notes};
+ghost use Rattle.ir_resolve.specs.Resolved.{part_line};
 
-use crate::best::First;
+use ir_lines::best::First;
 use crate::insts::part_line;
 use indexmap::IndexSet;
 use ir_ast::{Inst, Op, Operand};

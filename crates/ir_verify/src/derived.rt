@@ -102,7 +102,6 @@ fn no_users(alloc: Global, count: usize) -> Result<Vec<Vec<usize>>, AllocError>
     Ok(users)
 }
 
-#[tactic(auto, using(crate::proofs::UserLemmas::adds_used))]
 fn add_used(users: &mut Vec<Vec<usize>>, inst: &Inst, user: usize) -> Result<(), AllocError>
     ensures { IfOk result (λ _. AddsUsers (values_used inst.now) user (map (λ row. row.items) users.old.items) (map (λ row. row.items) users.new.items)) }
 {

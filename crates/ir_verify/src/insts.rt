@@ -5,10 +5,10 @@ ghost use Rattle.ir_ast.specs.Faults.PointerOrder.{is_order, orders_pointers};
 ghost use Rattle.ir_ast.specs.Ops.{is_terminator};
 ghost use Rattle.ir_verify.specs.Founds.{FoundIn};
 ghost use Rattle.ir_verify.specs.FunctionFaults.{LabelAt, EntryFault};
-ghost use Rattle.ir_verify.specs.Notes.{Notes};
-ghost use Rattle.ir_verify.specs.Resolved.{part_line};
+ghost use Rattle.ir_lines.specs.Notes.{Notes};
+ghost use Rattle.ir_resolve.specs.Resolved.{part_line};
 
-use crate::best::First;
+use ir_lines::best::First;
 use ir_ast::{Inst, Op, Pred, Ty};
 use sp_ids::BlockId;
 

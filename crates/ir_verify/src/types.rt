@@ -6,7 +6,7 @@ ghost use Rattle.ir_ast.specs.declared.types.Ty.TheVariants.{Int, Ptr};
 ghost use Rattle.ir_ast.specs.Scope.{scope_of};
 ghost use Rattle.ir_ast.specs.Values.{value_types};
 ghost use Rattle.ir_ast.specs.Faults.TypeClash.{Fits, asked, IsNarrower, IsWider, IsCellType, HasField};
-ghost use Rattle.ir_verify.specs.ModuleFaults.{RuleBesidesCalls, IsTypedBesidesCalls};
+ghost use Rattle.ir_resolve.specs.ModuleFaults.{RuleBesidesCalls, IsTypedBesidesCalls};
 
 use ir_ast::{Cell, Elem, Func, Inst, Layout, Module, Op, Operand, Ty};
 

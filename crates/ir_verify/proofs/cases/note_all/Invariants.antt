@@ -4,7 +4,7 @@ use Rattle.ir_ast.specs.declared.ops.Operand.{Operand}
 use Rattle.ir_verify.specs.Cases.{has}
 use Rattle.ir_verify.specs.Founds.{FoundBelow}
 use Rattle.ir_verify.specs.FunctionFaults.{CaseAt, Repeats}
-use Rattle.ir_verify.specs.Notes.{Notes}
+use Rattle.ir_lines.specs.Notes.{Notes}
 use Rattle.ir_verify.proofs.cases.note_all.Given as goal
 
 abbrev pub invariant-loop-later : goal.invariant-loop-later

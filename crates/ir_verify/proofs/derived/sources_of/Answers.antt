@@ -4,13 +4,16 @@ use Rattle.std.specs.Option.{option_map}
 use Rattle.std.specs.Borrow.{Bor}
 use Rattle.ir_ast.specs.Insts.{Instruction}
 use Rattle.ir_verify.specs.Derivations.{AreSources}
-use Rattle.ir_verify.proofs.UserLemmas.{sources_next}
+use Rattle.ir_verify.proofs.Founds.{seen-at}
+use Rattle.ir_verify.proofs.UserLemmas.{sources_more}
 use Rattle.ir_verify.proofs.derived.sources_of.Goals as goal
 
 pub loop-value-preserved : goal.loop-value-preserved
 loop-value-preserved c =
-    sources_next (option_map (λ (inst : Bor Instruction). inst.now)) c.args.givers.now c.loop-value.value _ c.loop-value.steps.items c.note_giver.new.steps.items _ _
-    c.loop-value-test.true c.loop-value.invariant c.in_ok-note_giver.ensures
+    sources_more (map (option_map (λ (inst : Bor Instruction). inst.now)) c.args.givers.now) c.loop-value.value c.loop-value.steps.items c.note_giver.new.steps.items
+    _ _ c.loop-value.invariant _
+    (seen-at (option_map (λ (inst : Bor Instruction). inst.now)) c.args.givers.now c.loop-value.value c.index-givers-value.result c.loop-value-test.true c.index-givers-value.is)
+    c.in_ok-note_giver.ensures
 
 pub returns : goal.returns
 returns c =

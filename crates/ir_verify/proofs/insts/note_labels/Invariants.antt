@@ -1,6 +1,6 @@
 use Rattle.ir_verify.specs.Founds.{FoundBelow}
 use Rattle.ir_verify.specs.FunctionFaults.{LabelAt}
-use Rattle.ir_verify.specs.Notes.{Notes}
+use Rattle.ir_lines.specs.Notes.{Notes}
 use Rattle.ir_verify.proofs.insts.note_labels.Given as goal
 
 abbrev pub invariant-loop-part : goal.invariant-loop-part
