@@ -1,0 +1,11 @@
+pub mod Founds
+pub mod Zips
+pub mod Values
+pub mod CaseLemmas
+pub mod UserLemmas
+pub mod MainLemmas
+pub mod CountLemmas
+pub mod EdgeLemmas
+pub mod PhiLemmas
+pub mod Union
+pub mod GroupLemmas

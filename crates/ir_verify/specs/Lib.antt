@@ -1,0 +1,8 @@
+pub mod Founds
+pub mod Cases
+pub mod Mains
+pub mod Phis
+pub mod Groups
+pub mod Derivations
+pub mod Bodies
+pub mod FunctionFaults

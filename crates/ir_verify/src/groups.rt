@@ -1,0 +1,264 @@
+//! Statepoint groups (Garbage Collection Safepoints in LLVM, "Intrinsics").
+
+ghost use Rattle.std.specs.Prelude.{◌≡◌, ◌↔◌, ◌+◌, ◌<◌, ◌^◌, ◌++◌, ◌∷◌, [], ℕ, IsTrue, Some, slice_get, map, drop, length, is_some, if◌then◌else◌, OnOk};
+ghost use Rattle.std.specs.List.{All, filter_map};
+ghost use Rattle.std.specs.Option.{option_copied, option_map};
+ghost use Rattle.ir_ast.specs.declared.types.Ty.TheVariants.{Ptr, Token};
+ghost use Rattle.ir_ast.specs.declared.ops.Operand.TheVariants.{Value};
+ghost use Rattle.sp_ids.specs.declared.ids.ValueId.{ValueId};
+ghost use Rattle.ir_ast.specs.Faults.TypeClash.{Fits};
+ghost use Rattle.ir_ast.specs.Funcs.{instructions_of};
+ghost use Rattle.ir_ast.specs.Operands.{value_in, values_used};
+ghost use Rattle.ir_ast.specs.Values.{value_types};
+ghost use Rattle.ir_ast.specs.Faults.GroupShape.{entries_of, is_part};
+ghost use Rattle.ir_verify.specs.Bodies.{seen_insts, insts_of, given_by};
+ghost use Rattle.ir_verify.specs.Founds.{FoundIn};
+ghost use Rattle.ir_verify.specs.FunctionFaults.{ShapeAt};
+ghost use Rattle.ir_verify.specs.Groups.{is_value_of, seen_open, kept_open, behind_op, token_of, ResultFits, IsResultOf, RelocateFits, IsRelocateOf, NamesToken, UsesNo, ShapeBy};
+ghost use Rattle.ir_lines.specs.Notes.{Notes};
+
+use ir_lines::best::First;
+use crate::types::all_fit;
+use ir_ast::{Func, Inst, Op, Operand, Ty};
+
+/// The statepoint with which some instructions end, but for parts of its group.
+#[derive(Clone, Copy)]
+pub(crate) struct Open<'a> {
+    /// The number of its token.
+    pub(crate) number: u64,
+    /// What its callee answers.
+    pub(crate) answer: Ty,
+    pub(crate) live: &'a [Operand],
+    /// No part stands behind it yet.
+    pub(crate) is_fresh: bool,
+}
+
+// ---- what is open
+
+fn is_value_of(operand: Option<&Operand>, token: u64) -> bool
+    ensures { result ≡ is_value_of token (option_copied operand.entry) }
+{
+    match operand {
+        Some(Operand::Value(value)) => u64::from(value.0) == token,
+        _ => false,
+    }
+}
+
+// Whether it is a result or a relocate of this token.
+fn is_part(inst: &Inst, token: u64) -> bool
+    ensures { result ≡ is_part token inst.now }
+{
+    match inst.op() {
+        Op::GcResult => is_value_of(inst.operands().first(), token),
+        Op::GcRelocate => is_value_of(inst.operands().first(), token),
+        _ => false,
+    }
+}
+
+// The "gc-live" entries of a statepoint.
+fn entries(inst: &Inst) -> &[Operand]
+    ensures { result.now ≡ entries_of inst.now }
+{
+    match inst.op() {
+        Op::Statepoint { types, .. } => behind(inst.operands(), types.list().len()),
+        _ => &[],
+    }
+}
+
+fn behind(operands: &[Operand], count: usize) -> &[Operand]
+    ensures { result.now ≡ drop count operands.now }
+{
+    if count < operands.len() {
+        &operands[count..]
+    } else {
+        &[]
+    }
+}
+
+// What is open behind a part.
+fn kept_open<'a>(open: Option<Open<'a>>, inst: &Inst) -> Option<Open<'a>>
+    ensures { option_map seen_open result ≡ kept_open (option_map seen_open open.entry) inst.now }
+{
+    match open {
+        Some(group) => {
+            if is_part(inst, group.number) {
+                Some(Open {
+                    number: group.number,
+                    answer: group.answer,
+                    live: group.live,
+                    is_fresh: false,
+                })
+            } else {
+                None
+            }
+        }
+        None => None,
+    }
+}
+
+// What is open behind an instruction, where so many values stand before its own.
+fn open_behind<'a>(open: Option<Open<'a>>, number: u64, inst: &'a Inst) -> Option<Open<'a>>
+    ensures { option_map seen_open result ≡ behind_op (option_map seen_open open.entry) number inst.now.op inst.now }
+{
+    match inst.op() {
+        Op::Statepoint { .. } => Some(Open {
+            number,
+            answer: *inst.ty(),
+            live: entries(inst),
+            is_fresh: true,
+        }),
+        Op::GcResult => kept_open(open, inst),
+        Op::GcRelocate => kept_open(open, inst),
+        _ => None,
+    }
+}
+
+// ---- results and relocates
+
+// Whether the operands are this token alone.
+fn is_alone(operands: &[Operand], token: u64) -> bool
+    ensures { IsTrue result ↔ (operands.now ≡ token_of token ∷ []) }
+{
+    match operands {
+        [Operand::Value(value)] => u64::from(value.0) == token,
+        _ => false,
+    }
+}
+
+fn is_result_of(group: &Open, inst: &Inst) -> bool
+    ensures { IsTrue result ↔ IsResultOf (seen_open group.now) inst.now }
+{
+    is_alone(inst.operands(), group.number) && group.is_fresh && *inst.ty() == group.answer
+}
+
+// Whether it directly follows its statepoint, with the type of the callee's answer.
+fn result_fits(open: Option<Open>, inst: &Inst) -> bool
+    ensures { IsTrue result ↔ ResultFits (option_map seen_open open.entry) inst.now }
+{
+    match open {
+        Some(group) => is_result_of(&group, inst),
+        None => false,
+    }
+}
+
+fn is_entry(live: &[Operand], place: u64) -> bool
+    ensures { IsTrue result ↔ (place < length live.now) }
+{
+    (place as usize) < live.len()
+}
+
+// Whether an entry is a value.
+fn is_relocated(live: &[Operand], place: u64) -> bool
+    ensures { IsTrue result ↔ ((value : ValueId) × (slice_get live.now place ≡ Some (Value value))) }
+{
+    matches!(live.get(place as usize), Some(Operand::Value(_)))
+}
+
+fn is_relocate_of(group: &Open, inst: &Inst) -> bool
+    ensures { IsTrue result ↔ IsRelocateOf (seen_open group.now) inst.now }
+{
+    match inst.operands() {
+        [Operand::Value(value), Operand::Int(base), Operand::Int(derived)] => {
+            u64::from(value.0) == group.number
+                && is_entry(group.live, *base)
+                && is_relocated(group.live, *derived)
+        }
+        _ => false,
+    }
+}
+
+// Whether it stands in its group, and names two entries of it that it can.
+fn relocate_fits(open: Option<Open>, inst: &Inst) -> bool
+    ensures { IsTrue result ↔ RelocateFits (option_map seen_open open.entry) inst.now }
+{
+    match open {
+        Some(group) => is_relocate_of(&group, inst),
+        None => false,
+    }
+}
+
+// ---- tokens elsewhere
+
+fn is_token(types: &[Ty], operand: Operand) -> bool
+    ensures { IsTrue result ↔ NamesToken types.now operand }
+{
+    match operand {
+        Operand::Value(value) => is_token_type(types.get(value.0 as usize).copied()),
+        Operand::Int(_) | Operand::Null | Operand::Fun(_) => false,
+    }
+}
+
+fn is_token_type(ty: Option<Ty>) -> bool
+    ensures { IsTrue result ↔ (ty ≡ Some Token) }
+{
+    matches!(ty, Some(Ty::Token))
+}
+
+fn no_token(types: &[Ty], operands: &[Operand]) -> bool
+    ensures { IsTrue result ↔ All (λ operand. ¬ NamesToken types.now operand) operands.now }
+{
+    for operand in operands {
+        if is_token(types, *operand) {
+            return false;
+        }
+    }
+    true
+}
+
+fn no_token_kept(types: &[Ty], bundle: &[(Ty, Operand)]) -> bool
+    ensures { IsTrue result ↔ All (λ entry. ¬ NamesToken types.now entry.1) bundle.now }
+{
+    for entry in bundle {
+        if is_token(types, entry.1) {
+            return false;
+        }
+    }
+    true
+}
+
+fn uses_no_token(types: &[Ty], inst: &Inst) -> bool
+    ensures { IsTrue result ↔ UsesNo types.now inst.now }
+{
+    no_token(types, inst.operands()) && no_token_kept(types, inst.bundle())
+}
+
+fn is_plain(types: &[Ty], inst: &Inst) -> bool
+    ensures { IsTrue result ↔ (UsesNo types.now inst.now × All (λ entry. Fits types.now entry Ptr) (entries_of inst.now)) }
+{
+    uses_no_token(types, inst) && all_fit(types, entries(inst), Ty::Ptr)
+}
+
+// Whether an instruction is in shape, behind which group is open.
+fn in_shape(types: &[Ty], open: Option<Open>, inst: &Inst) -> bool
+    ensures { IsTrue result ↔ ShapeBy types.now (option_map seen_open open.entry) inst.now.op inst.now }
+{
+    match inst.op() {
+        Op::GcResult => result_fits(open, inst),
+        Op::GcRelocate => relocate_fits(open, inst),
+        _ => is_plain(types, inst),
+    }
+}
+
+// ---- a function
+
+fn count_given(inst: &Inst) -> u64
+    ensures { result ≡ length (given_by inst.now) }
+{
+    if inst.result().is_some() { 1 } else { 0 }
+}
+
+/// Notes the instructions of a function that are out of shape.
+pub(crate) fn note_shapes(func: &Func, insts: &[&Inst], types: &[Ty], first: &mut First)
+    requires insts { seen_insts insts.now ≡ instructions_of func.now.content.blocks }
+    requires types { types.now ≡ value_types func.now.content }
+    requires few { length (instructions_of func.now.content.blocks) < 2 ^ 30 }
+    ensures { Notes first.old.found first.new.found (FoundIn (ShapeAt func.now) (insts_of func.now)) }
+{
+    let mut number = func.args().len() as u64;
+    let mut open = None;
+    for (place, inst) in insts.iter().enumerate() {
+        first.note_if(!in_shape(types, open, inst), func.line_of(place as u32), 18);
+        open = open_behind(open, number, inst);
+        number += count_given(inst);
+    }
+}

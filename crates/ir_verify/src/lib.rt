@@ -1,0 +1,14 @@
+//! The first rule that a module breaks, by number, with no table of names.
+#![tactic(auto)]
+
+mod bodies;
+mod cases;
+mod derived;
+mod groups;
+mod insts;
+mod mains;
+mod phis;
+mod types;
+mod verify;
+
+pub use verify::first_broken;
