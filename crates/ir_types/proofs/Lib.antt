@@ -1,3 +1,4 @@
 pub mod TextLemmas
 pub mod FirstLemmas
 pub mod PathLaw
+pub mod AnswerLaws

@@ -1,16 +1,13 @@
 //! The module that readings stand for, or the first fault.
 
-ghost use Rattle.std.specs.Prelude.{◌≡◌, IfOk, None, Some};
+ghost use Rattle.std.specs.Prelude.{◌≡◌, IfOk};
 ghost use Rattle.std.specs.List.{All};
 ghost use Rattle.ir_ast.specs.Bundles.{HasNoBundle};
 ghost use Rattle.ir_ast.specs.Formed.{IsFormedModule};
-ghost use Rattle.ir_cfg.specs.TypedModules.{IsTypedModule, IsModuleOf};
+ghost use Rattle.ir_cfg.specs.TypedModules.{IsModuleOf};
 ghost use Rattle.ir_cfg.specs.SourceModules.{IsSourceModule};
 ghost use Rattle.ir_cfg.specs.TargetModules.{IsTargetModule};
-ghost use Rattle.ir_reader.specs.Raws.{IsRead};
-ghost use Rattle.ir_types.specs.Answers.{Answers};
-ghost use Rattle.ir_lines.specs.Modules.{module_of};
-ghost use Rattle.ir_resolve.specs.FaultSet.{HasNoResolvedFault};
+ghost use Rattle.ir_types.specs.Answers.{Answers, PathsAnswer};
 ghost use Rattle.module_laws.specs.TextFunctions.{HasFewInstructions, IsTextFunction};
 ghost use Rattle.ir_lines.specs.Views.{seen_lines};
 
@@ -19,9 +16,9 @@ use crate::paths::first_missed;
 use ir_ast::{Form, Module};
 use ir_lines::faults::Fault;
 use ir_reader::Raw;
-use module_build::module_of;
-use std::alloc::{AllocError, Global};
-use type_checks::first_fault;
+use ir_verify::first_broken;
+use std::alloc::Global;
+use text_resolve::resolve;
 
 /// The source module that the readings of a text in the source form stand for, with the lines of its instructions; or
 /// the first of its faults, the least line and of that the least code. Whether uses are definite is judged over the
@@ -48,46 +45,27 @@ pub fn typed_rewritten(alloc: Global, raw: Raw) -> Result<Module, TypeFault>
     checked(alloc, &raw)
 }
 
-// The module of readings in their form, or the first fault.
+// The module of readings in their form, or the first fault: the text is resolved, and the module that came of it is verified.
 fn checked(alloc: Global, raw: &Raw) -> Result<Module, TypeFault>
     ensures answers { Answers raw.now.form (seen_lines raw.now.lines) result }
     ensures module { IfOk result (λ whole. IsModuleOf raw.now.form whole.content) }
     ensures text { IfOk result (λ whole. All IsTextFunction whole.content.funcs) }
     ensures formed { IfOk result (λ whole. IsFormedModule whole.content) }
 {
-    let form = raw.form();
-    match first_fault(alloc, form, raw.lines())? {
+    let text = resolve(alloc, raw.form(), raw.lines())?;
+    match first_broken(alloc, &text.whole, text.cases.as_slice(), text.fault)? {
         Some(fault) => Err(TypeFault::Fault(fault)),
-        None => with_paths(alloc, raw),
+        None => with_paths(alloc, text.whole),
     }
 }
 
-// The module of readings without a fault but those of paths, or the first of these.
-fn with_paths(alloc: Global, raw: &Raw) -> Result<Module, TypeFault>
-    requires plain { HasNoResolvedFault raw.now.form (seen_lines raw.now.lines) }
-    requires read { IsRead raw.now }
-    ensures answers { Answers raw.now.form (seen_lines raw.now.lines) result }
-    ensures module { IfOk result (λ whole. IsModuleOf raw.now.form whole.content) }
-    ensures text { IfOk result (λ whole. All IsTextFunction whole.content.funcs) }
-    ensures formed { IfOk result (λ whole. IsFormedModule whole.content) }
+// The module of a text without a fault but those of paths, or the first of these.
+fn with_paths(alloc: Global, whole: Module) -> Result<Module, TypeFault>
+    requires { IsFormedModule whole.content }
+    ensures { PathsAnswer whole result }
 {
-    let whole = plain_module(alloc, raw)?;
     match first_missed(alloc, &whole)? {
         Some(line) => Err(TypeFault::Fault(Fault { line, code: 8 })),
         None => Ok(whole),
     }
-}
-
-// The module of readings without a fault but those of paths.
-fn plain_module(alloc: Global, raw: &Raw) -> Result<Module, AllocError>
-    requires { HasNoResolvedFault raw.now.form (seen_lines raw.now.lines) }
-    ensures is { IfOk result (λ whole. whole ≡ module_of raw.now.form (seen_lines raw.now.lines)) }
-    ensures typed { IfOk result (λ whole. IsTypedModule raw.now.form whole.content) }
-    ensures text { IfOk result (λ whole. All IsTextFunction whole.content.funcs) }
-    ensures formed { IfOk result (λ whole. IsFormedModule whole.content) }
-{
-    let form = raw.form();
-    let lines = raw.lines();
-    let whole = module_of(alloc, form, lines)?;
-    Ok(whole)
 }

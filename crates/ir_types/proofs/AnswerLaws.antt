@@ -1,0 +1,129 @@
+-- The first fault of a text resolved and of its module is the least of both; and what is known of a module without one.
+use Rattle.std.proofs.Common.{◌≡◌, ◌∙◌, ℕ, ◌+◌, ◌⊎◌, inl, inr, sym, ap, subst, List, length, Option, Some, None, Result, Ok, Err, IfOk}
+use Rattle.std.specs.List.{All}
+use Rattle.std.specs.Str.Lines.{lines}
+use Rattle.ir_ast.specs.declared.modules.Form.{Form}
+use Rattle.ir_ast.specs.Formed.{IsFormedModule}
+use Rattle.ir_ast.specs.Modules.{LinedModule}
+use Rattle.ir_cfg.specs.DefiniteUses.{UsesAreDefinite}
+use Rattle.ir_cfg.specs.TypedModules.{IsTypedModule, IsModuleOf}
+use Rattle.ir_cfg.proofs.TypedLemmas.{formed_module}
+use Rattle.ir_reader.specs.Raws.{Readings, IsRead}
+use Rattle.ir_lines.specs.declared.faults.Fault.{Fault}
+use Rattle.ir_lines.specs.Statements.{Line}
+use Rattle.ir_lines.specs.Modules.{module_of}
+use Rattle.ir_lines.specs.Notes.{Notes}
+use Rattle.ir_lines.specs.PlainFaults.{ComesFirst}
+use Rattle.ir_lines.specs.Views.{seen_lines}
+use Rattle.ir_lines.proofs.NoteLemmas.{Either, notes-then, notes-same}
+use Rattle.ir_resolve.specs.Resolved.{Resolved, resolved, stands_for}
+use Rattle.ir_resolve.specs.Agreement.{IsLeast}
+use Rattle.ir_resolve.specs.TextFaults.{HasTextFault, pointer_cast}
+use Rattle.ir_resolve.specs.ModuleFaults.{HasModuleFault}
+use Rattle.ir_resolve.specs.FaultSet.{HasResolvedFault, HasNoResolvedFault, of_text, of_module}
+use Rattle.ir_resolve.proofs.NoCasts.{resolved-none}
+use Rattle.module_laws.specs.TextFunctions.{IsTextFunction}
+use Rattle.module_laws.proofs.ReadTexts.{read-lines}
+use Rattle.module_laws.proofs.Rising.{lines-rise}
+use Rattle.module_laws.proofs.TypedTexts.{whole_typed, whole_functions}
+use Rattle.ir_types.specs.declared.faults.TypeFault.{TypeFault}
+use Rattle.ir_types.specs.declared.faults.TypeFault.TheVariants as answers
+use Rattle.ir_types.specs.FaultSet.{IsLeastFault}
+use Rattle.ir_types.specs.FirstMissed.{IsFirstMissed}
+use Rattle.ir_types.specs.Answers.{Answers, PathsAnswer}
+use Rattle.ir_types.proofs.PathLaw.{missed-least, definite-faultless}
+
+-- ---- what was noted
+
+found-in : (fault : Fault) (F : ℕ → ℕ → Type 0) → (None ≡ Some fault) ⊎ F fault.line fault.code → F fault.line fault.code
+found-in fault F (inl e) = absurd (let bad : None ≡ Some fault = e in cc)
+found-in fault F (inr f) = f
+
+first-of : (fault kept : Fault) (line code : ℕ) → Some fault ≡ Some kept → ComesFirst kept.line kept.code line code
+    → ComesFirst fault.line fault.code line code
+first-of fault kept line code e f = let same : kept ≡ fault = cc in subst (λ (one : Fault). ComesFirst one.line one.code line code) same f
+
+-- nothing was noted before: what was noted is the least
+pub noted-least : (F : ℕ → ℕ → Type 0) (fault : Fault) → Notes None (Some fault) F → IsLeast F fault.line fault.code
+noted-least F fault n = record {
+  is = found-in fault F n.source;
+  least = λ line code f. let u = n.least line code f in first-of fault u.fault line code u.is u.first;
+}
+
+-- nothing was noted: there is none
+pub noted-none : (F : ℕ → ℕ → Type 0) → Notes None None F → (line code : ℕ) → ¬ F line code
+noted-none F n line code f = let u = n.least line code f in let bad : None ≡ Some u.fault = u.is in cc
+
+-- ---- the text's own faults, and those of its module
+
+abbrev OfText : Form → List Line → ℕ → ℕ → Type 0
+OfText form lines line code = HasTextFault form lines line code
+
+abbrev OfModule : LinedModule → List (List (List ℕ)) → ℕ → ℕ → Type 0
+OfModule whole cases line code = HasModuleFault (record { whole = whole; cases = cases }) line code
+
+abbrev OfEither : Form → List Line → ℕ → ℕ → Type 0
+OfEither form lines line code = HasResolvedFault form lines line code
+
+to-either : (form : Form) (lines : List Line) (line code : ℕ)
+    → Either (OfText form lines) (OfModule (resolved form lines).whole (resolved form lines).cases) line code → HasResolvedFault form lines line code
+to-either form lines line code (inl own) = of_text own
+to-either form lines line code (inr its) = of_module its
+
+from-either : (form : Form) (lines : List Line) (line code : ℕ) → HasResolvedFault form lines line code
+    → Either (OfText form lines) (OfModule (resolved form lines).whole (resolved form lines).cases) line code
+from-either form lines line code (of_text own) = inl own
+from-either form lines line code (of_module its) = inr its
+
+pub resolved-noted : (form : Form) (lines : List Line) (noted found : Option Fault) (whole : LinedModule) (cases : List (List (List ℕ)))
+    → whole ≡ (resolved form lines).whole → cases ≡ (resolved form lines).cases
+    → Notes None noted (OfText form lines) → Notes noted found (OfModule whole cases) → Notes None found (OfEither form lines)
+resolved-noted form lines noted found whole cases is are own its =
+    let moved : Notes noted found (OfModule (resolved form lines).whole cases) = subst (λ (w : LinedModule). Notes noted found (OfModule w cases)) is its in
+    let both : Notes noted found (OfModule (resolved form lines).whole (resolved form lines).cases) =
+    subst (λ (cs : List (List (List ℕ))). Notes noted found (OfModule (resolved form lines).whole cs)) are moved in
+    notes-same None found (Either (OfText form lines) (OfModule (resolved form lines).whole (resolved form lines).cases)) (OfEither form lines)
+    (to-either form lines) (from-either form lines)
+    (notes-then None noted found (OfText form lines) (OfModule (resolved form lines).whole (resolved form lines).cases) own both)
+
+-- a text without a fault stands for the module that it resolves to
+pub resolved-module : (form : Form) (lines : List Line) (whole : LinedModule) → HasNoResolvedFault form lines → whole ≡ (resolved form lines).whole
+    → whole ≡ module_of form lines
+resolved-module form lines whole none is =
+    is ∙ ap (λ (text : Resolved). text.whole) (resolved-none form lines (λ line cast. none line 16 (of_text (pointer_cast cast))))
+
+-- ---- the answer
+
+pub formed-text : (r : Readings) → IsRead r → (whole : LinedModule) → whole ≡ module_of r.form (seen_lines r.lines) → HasNoResolvedFault r.form (seen_lines r.lines)
+    → IsFormedModule whole.content
+formed-text r read whole is none = formed_module r.form whole.content (whole_typed r read whole is none)
+
+pub answers-paths : (r : Readings) → IsRead r → (whole : LinedModule) → whole ≡ module_of r.form (seen_lines r.lines) → HasNoResolvedFault r.form (seen_lines r.lines)
+    → (answered : Result LinedModule TypeFault) → PathsAnswer whole answered → Answers r.form (seen_lines r.lines) answered
+answers-paths r read whole is none (Ok again) paths = record {
+  is = paths.0 ∙ is;
+  faultless = definite-faultless r.form (seen_lines r.lines) none (subst (λ (w : LinedModule). All UsesAreDefinite w.content.funcs) is paths.1);
+}
+answers-paths r read whole is none (Err (answers.Fault fault)) paths =
+    subst (λ (code : ℕ). IsLeastFault r.form (seen_lines r.lines) fault.line code) (sym paths.1)
+    (missed-least r.form (seen_lines r.lines) (1 + length (lines r.text)) fault.line none (read-lines r read).placed (lines-rise r read)
+    (subst (λ (w : LinedModule). IsFirstMissed w fault.line) is paths.0))
+answers-paths r read whole is none (Err answers.Memory) paths = tt
+
+pub module-paths : (r : Readings) → IsRead r → (whole : LinedModule) → whole ≡ module_of r.form (seen_lines r.lines) → HasNoResolvedFault r.form (seen_lines r.lines)
+    → (answered : Result LinedModule TypeFault) → PathsAnswer whole answered → IfOk answered (λ again. IsModuleOf r.form again.content)
+module-paths r read whole is none (Ok again) paths = subst (λ (w : LinedModule). IsModuleOf r.form w.content) (sym paths.0) (record {
+  typed = whole_typed r read whole is none;
+  definite = paths.1;
+})
+module-paths r read whole is none (Err fault) paths = tt
+
+-- what the module has, it still has
+pub kept-paths : (P : LinedModule → Type 0) (whole : LinedModule) → P whole → (answered : Result LinedModule TypeFault) → PathsAnswer whole answered → IfOk answered P
+kept-paths P whole has (Ok again) paths = subst P (sym paths.0) has
+kept-paths P whole has (Err fault) paths = tt
+
+pub functions-paths : (r : Readings) → IsRead r → (whole : LinedModule) → whole ≡ module_of r.form (seen_lines r.lines) → HasNoResolvedFault r.form (seen_lines r.lines)
+    → (answered : Result LinedModule TypeFault) → PathsAnswer whole answered → IfOk answered (λ again. All IsTextFunction again.content.funcs)
+functions-paths r read whole is none answered paths =
+    kept-paths (λ (w : LinedModule). All IsTextFunction w.content.funcs) whole (whole_functions r read whole is none) answered paths
