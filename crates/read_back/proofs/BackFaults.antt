@@ -1,28 +1,17 @@
 -- The lines that a module is printed as have no fault: the faults of single lines.
-use Rattle.std.proofs.Common.{◌≡◌, ◌∙◌, ℕ, zero, suc, ◌+◌, ◌<◌, ◌≤◌, Bool, true, false, not, ◌&&◌, ◌||◌, ◌⊎◌, inl, inr, if◌then◌else◌, List, [], ◌∷◌, ◌++◌, map, length, drop, refl, ap, sym, subst, arith, codes}
+use Rattle.std.proofs.Common.{◌≡◌, ◌∙◌, ℕ, zero, suc, ◌+◌, ◌<◌, ◌≤◌, Bool, true, false, not, ◌&&◌, ◌||◌, ◌⊎◌, inl, inr, if◌then◌else◌, List, [], ◌∷◌, ◌++◌, map, length, refl, ap, sym, subst, arith, codes}
 use Rattle.std.specs.Prelude.{Option, Some, ⊤, flat_map, slice_get, take}
 use Rattle.std.specs.Str.{bytes_eq}
 use Rattle.std.proofs.lemmas.Bool.{ne_eqb}
-use Rattle.std.specs.List.{AllByRecursion, AllZip, Contains, list_all, list_any, zip, range_with_len}
+use Rattle.std.specs.List.{AllByRecursion, AllZip, Contains, list_all, list_any, range_with_len}
 use Rattle.std.proofs.lemmas.List.Elements.{recursion_from_All, All-from_recursion, All-contains, All-contains_itself, All-weaker, Contains-append_left, Contains-append_right}
-use Rattle.sp_ids.specs.declared.ids.BlockId.{BlockId}
-use Rattle.ir_ast.specs.declared.types.Ty.{Ty}
-use Rattle.ir_ast.specs.declared.types.Ty.TheVariants as tys
 use Rattle.ir_ast.specs.declared.cells.Cell.{Cell}
 use Rattle.ir_ast.specs.declared.cells.Cell.TheVariants as cells
-use Rattle.ir_ast.specs.declared.ops.Op.{Op}
-use Rattle.ir_ast.specs.declared.ops.Op.TheVariants as ops
-use Rattle.ir_ast.specs.declared.ops.Pred.{Pred}
-use Rattle.ir_ast.specs.declared.ops.Pred.TheVariants as preds
-use Rattle.ir_ast.specs.declared.ops.Elem.{Elem}
-use Rattle.ir_ast.specs.declared.ops.Elem.TheVariants as elements
-use Rattle.ir_ast.specs.declared.ops.Operand.{Operand}
 use Rattle.ir_ast.specs.Insts.{Instruction}
 use Rattle.ir_ast.specs.Blocks.{BasicBlock}
 use Rattle.ir_ast.specs.Layouts.{ObjectLayout}
 use Rattle.ir_ast.specs.Funcs.{Function, instructions_of}
 use Rattle.ir_ast.specs.Modules.{ModuleContent}
-use Rattle.ir_ast.specs.Faultless.{FunctionHasNoFault}
 use Rattle.ir_printer.specs.Names.{Names}
 use Rattle.ir_printer.specs.Declarations.{calls, externals, fixed_externals, integer_widths}
 use Rattle.print_tables.specs.declared.externals.External.TheVariants as externs
@@ -46,7 +35,7 @@ use Rattle.ir_lines.specs.Faults.PointerCast.{is_cast, PointerCast}
 use Rattle.std.proofs.lemmas.Slice.Eq.{bytes_eq-Decides}
 use Rattle.module_laws.proofs.LawFacts.{or-right}
 use Rattle.ir_lines.proofs.LawNames.{contains_get, contains_cons, contains_map, get_some}
-use Rattle.read_back.specs.Said.{word_of, cell_word, operator_says, instruction_says, block_says, function_says, layout_says, argument_says, declaration_says, declaration_if_called, said_by, unnamed, step_says, return_says, case_says}
+use Rattle.read_back.specs.Said.{word_of, cell_word, operator_says, instruction_says, block_says, function_says, layout_says, argument_says, declaration_says, declaration_if_called, said_by, unnamed}
 use Rattle.read_back.proofs.BackLines.{said}
 use Rattle.read_back.proofs.BackInsts.{split_all}
 use Rattle.read_back.proofs.BackBlocks.{weaker, all_append, lines_all, InBlock, inner}

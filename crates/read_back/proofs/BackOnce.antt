@@ -1,5 +1,5 @@
 -- The lines that a module is printed as have no fault: each head has a name of its own.
-use Rattle.std.proofs.Common.{◌≡◌, ◌≢◌, ◌∙◌, ◌⊎◌, inl, inr, ℕ, zero, suc, ◌+◌, ◌<◌, ◌≤◌, Bool, true, false, if◌then◌else◌, List, [], ◌∷◌, ◌++◌, map, length, take, drop, refl, ap, sym, subst, arith, codes}
+use Rattle.std.proofs.Common.{◌≡◌, ◌∙◌, ◌⊎◌, inl, inr, ℕ, zero, suc, ◌+◌, ◌<◌, ◌≤◌, Bool, true, false, if◌then◌else◌, List, [], ◌∷◌, ◌++◌, map, length, take, drop, refl, ap, sym, subst, arith, codes}
 use Rattle.std.specs.Prelude.{⊤, flat_map, Option, unwrap_or}
 use Rattle.std.specs.Str.{bytes_eq}
 use Rattle.std.specs.List.{AllByRecursion, Contains, range_with_len}

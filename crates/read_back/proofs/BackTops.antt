@@ -1,15 +1,9 @@
 -- The lines that a module is printed as have no fault: names that stand twice or are reserved, and `@main`.
-use Rattle.std.proofs.Common.{◌≡◌, ◌≢◌, ◌∙◌, ◌⊎◌, inl, inr, ℕ, Bool, true, false, cond, ◌&&◌, List, [], ◌∷◌, ◌++◌, map, refl, ap, sym, subst, arith, codes}
-use Rattle.std.specs.Prelude.{Some, find}
-use Rattle.std.specs.List.{AllByRecursion, AllZip, Contains}
-use Rattle.std.specs.Str.{bytes_eq}
+use Rattle.std.proofs.Common.{◌≡◌, ◌∙◌, ◌⊎◌, inl, inr, ℕ, List, [], ◌∷◌, ◌++◌, map, refl, ap, sym, subst, arith}
+use Rattle.std.specs.List.{Contains}
 use Rattle.std.proofs.lemmas.List.{map-append}
-use Rattle.std.proofs.lemmas.List.Elements.{recursion_from_All, All-contains}
-use Rattle.std.proofs.lemmas.Slice.Eq.{bytes_eq-Decides}
-use Rattle.ir_ast.specs.declared.types.Ty.{Ty}
-use Rattle.ir_ast.specs.declared.types.Ty.TheVariants as tys
+use Rattle.std.proofs.lemmas.List.Elements.{All-contains}
 use Rattle.ir_ast.specs.Blocks.{BasicBlock}
-use Rattle.ir_ast.specs.Layouts.{ObjectLayout}
 use Rattle.ir_ast.specs.Funcs.{Function}
 use Rattle.ir_ast.specs.Modules.{ModuleContent}
 use Rattle.ir_ast.specs.Lists.{Distinct}
@@ -17,18 +11,16 @@ use Rattle.ir_ast.specs.Values.{definition_name}
 use Rattle.ir_ast.specs.Values as defs
 use Rattle.ir_ast.specs.Faultless.{FunctionHasNoFault}
 use Rattle.ir_ast.specs.Faults.Reserved.{IsExternalName, IsInsertedName}
-use Rattle.line_parts.specs.Lists.{Named}
 use Rattle.ir_ast.specs.declared.modules.Form.TheVariants.{Source}
 use Rattle.ir_lines.specs.Statements.{Line}
 use Rattle.ir_lines.specs.Sections.{LayoutLine, Definition, Naming, BlockLines, layouts_of, definitions_of, values_of, blocks_of}
 use Rattle.ir_lines.specs.InBody.{Repeats}
-use Rattle.ir_lines.specs.Faults.NoMain.{takes_nothing, is_status, is_main, NoMain}
 use Rattle.ir_lines.proofs.LawNames.{Apart, apart-distinct, contains_cons, contains_middle, contains_map}
 use Rattle.module_laws.proofs.LawCalls.{contains_mapped}
-use Rattle.read_back.specs.Said.{word_of, argument_says, said_by}
+use Rattle.read_back.specs.Said.{said_by}
 use Rattle.read_back.proofs.BackLines.{said}
 use Rattle.read_back.proofs.BackBlocks.{blocks-are, block-names, value-names}
-use Rattle.read_back.proofs.BackSections.{SaysDefinition, definitions-are, layout-names}
+use Rattle.read_back.proofs.BackSections.{layout-names}
 use Rattle.read_back.proofs.BackModules.{IsBare, IsShaped, shaped_of, names_in, shaped_insts, form_of}
 use Rattle.read_back.proofs.BackFaults.{From, printed_from}
 

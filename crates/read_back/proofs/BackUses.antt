@@ -1,5 +1,5 @@
 -- Each value that a printed line uses is what is printed of an operand, which fits the type that the line asks of it.
-use Rattle.std.proofs.Common.{◌≡◌, ℕ, ◌<◌, true, false, if◌then◌else◌, List, [], ◌∷◌, ◌++◌, map, length, drop, replicate, refl, ap, sym, subst, arith}
+use Rattle.std.proofs.Common.{◌≡◌, ℕ, ◌<◌, true, false, if◌then◌else◌, List, [], ◌∷◌, ◌++◌, map, length, drop, replicate, refl, sym, subst, arith}
 use Rattle.std.specs.Prelude.{Option, take, filter_map}
 use Rattle.std.specs.List.{AllByRecursion, AllZip, list_all, zip}
 use Rattle.std.proofs.lemmas.List.Elements.{All-from_recursion, recursion_from_All}
@@ -199,12 +199,19 @@ inst_uses names (ops.Call callee ts) inst p = (passed_uses names inst.operands t
 inst_uses names (ops.Statepoint id callee ts) inst p = (statepoint_uses names id callee ts inst p, tt)
 inst_uses names ops.GcResult inst p =
     let one = one_given (Good names) inst.operands tys.Token (good_zip names inst.operands (tys.Token ∷ []) p.fits p.line.0.values (pointer_width, tt)) in
-    let starts = p.line.1 in
-    ((subst (λ (os : List Operand). IsUse names (token_use (token_says names (at os 0)))) (sym starts.1)
-    (use_of names tys.Token (operands.Value starts.0) (subst (λ (os : List Operand). Good names (at os 0) tys.Token) starts.1 one.first)), tt), tt)
-inst_uses names ops.GcRelocate inst p =
-    (relocate_uses names inst p.line.1
-    (good_zip names inst.operands (tys.Token ∷ tys.Int 32 ∷ tys.Int 32 ∷ []) p.fits p.line.0.values (pointer_width, (index_width, (index_width, tt)))), tt)
+    let starts = p.line.1 in (
+      (
+        subst (λ (os : List Operand). IsUse names (token_use (token_says names (at os 0)))) (sym starts.1)
+            (use_of names tys.Token (operands.Value starts.0) (subst (λ (os : List Operand). Good names (at os 0) tys.Token) starts.1 one.first)),
+        tt,
+      ),
+      tt,
+    )
+inst_uses names ops.GcRelocate inst p = (
+  relocate_uses names inst p.line.1
+      (good_zip names inst.operands (tys.Token ∷ tys.Int 32 ∷ tys.Int 32 ∷ []) p.fits p.line.0.values (pointer_width, (index_width, (index_width, tt)))),
+  tt,
+)
 inst_uses names ops.Br inst p = (tt, tt)
 inst_uses names ops.CondBr inst p =
     let one = one_given (Good names) inst.operands inst.ty (same_good names inst 1 p.line.operand_count p.line.values p.widths p.fits) in

@@ -22,7 +22,7 @@ use Rattle.ir_ast.specs.declared.ops.Op.TheVariants as ops
 use Rattle.ir_ast.specs.Insts.{Instruction}
 use Rattle.ir_ast.specs.Lines.{Has, Arguments, is_argument, is_element, is_rewritten}
 use Rattle.ir_ast.specs.Faults.GroupShape.{live_entries}
-use Rattle.ir_ast.specs.Operands.{is_value, is_literal, functions_named, layouts_named}
+use Rattle.ir_ast.specs.Operands.{is_value, is_literal, functions_named}
 use Rattle.ir_ast.specs.Ops.{is_terminator}
 use Rattle.ir_ast.specs.Types.{is_void, is_integer, is_first_class, is_answer}
 use Rattle.ir_ast.specs.Values.{value_types}
