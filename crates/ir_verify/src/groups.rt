@@ -2,7 +2,7 @@
 
 ghost use Rattle.std.specs.Prelude.{◌≡◌, ◌↔◌, ◌+◌, ◌<◌, ◌^◌, ◌++◌, ◌∷◌, [], ℕ, IsTrue, Some, slice_get, map, drop, length, is_some, if◌then◌else◌, OnOk};
 ghost use Rattle.std.specs.List.{All, filter_map};
-ghost use Rattle.std.specs.Option.{option_copied, option_map};
+ghost use Rattle.std.specs.Option.{option_map};
 ghost use Rattle.ir_ast.specs.declared.types.Ty.TheVariants.{Ptr, Token};
 ghost use Rattle.ir_ast.specs.declared.ops.Operand.TheVariants.{Value};
 ghost use Rattle.sp_ids.specs.declared.ids.ValueId.{ValueId};
@@ -35,8 +35,8 @@ pub(crate) struct Open<'a> {
 
 // ---- what is open
 
-fn is_value_of(operand: Option<&Operand>, token: u64) -> bool
-    ensures { result ≡ is_value_of token (option_copied operand.entry) }
+fn is_value_of(operand: Option<Operand>, token: u64) -> bool
+    ensures { result ≡ is_value_of token operand }
 {
     match operand {
         Some(Operand::Value(value)) => u64::from(value.0) == token,
@@ -49,8 +49,8 @@ fn is_part(inst: &Inst, token: u64) -> bool
     ensures { result ≡ is_part token inst.now }
 {
     match inst.op() {
-        Op::GcResult => is_value_of(inst.operands().first(), token),
-        Op::GcRelocate => is_value_of(inst.operands().first(), token),
+        Op::GcResult => is_value_of(inst.operands().get(0).copied(), token),
+        Op::GcRelocate => is_value_of(inst.operands().get(0).copied(), token),
         _ => false,
     }
 }
@@ -76,10 +76,10 @@ fn behind(operands: &[Operand], count: usize) -> &[Operand]
 }
 
 // What is open behind a part.
-fn kept_open<'a>(open: Option<Open<'a>>, inst: &Inst) -> Option<Open<'a>>
-    ensures { option_map seen_open result ≡ kept_open (option_map seen_open open.entry) inst.now }
+fn kept_open<'a>(held: Option<Open<'a>>, inst: &Inst) -> Option<Open<'a>>
+    ensures { option_map seen_open result ≡ kept_open (option_map seen_open held.entry) inst.now }
 {
-    match open {
+    match held {
         Some(group) => {
             if is_part(inst, group.number) {
                 Some(Open {
@@ -97,8 +97,8 @@ fn kept_open<'a>(open: Option<Open<'a>>, inst: &Inst) -> Option<Open<'a>>
 }
 
 // What is open behind an instruction, where so many values stand before its own.
-fn open_behind<'a>(open: Option<Open<'a>>, number: u64, inst: &'a Inst) -> Option<Open<'a>>
-    ensures { option_map seen_open result ≡ behind_op (option_map seen_open open.entry) number inst.now.op inst.now }
+fn open_behind<'a>(held: Option<Open<'a>>, number: u64, inst: &'a Inst) -> Option<Open<'a>>
+    ensures { option_map seen_open result ≡ behind_op (option_map seen_open held.entry) number inst.now.op inst.now }
 {
     match inst.op() {
         Op::Statepoint { .. } => Some(Open {
@@ -107,8 +107,8 @@ fn open_behind<'a>(open: Option<Open<'a>>, number: u64, inst: &'a Inst) -> Optio
             live: entries(inst),
             is_fresh: true,
         }),
-        Op::GcResult => kept_open(open, inst),
-        Op::GcRelocate => kept_open(open, inst),
+        Op::GcResult => kept_open(held, inst),
+        Op::GcRelocate => kept_open(held, inst),
         _ => None,
     }
 }
@@ -132,10 +132,10 @@ fn is_result_of(group: &Open, inst: &Inst) -> bool
 }
 
 // Whether it directly follows its statepoint, with the type of the callee's answer.
-fn result_fits(open: Option<Open>, inst: &Inst) -> bool
-    ensures { IsTrue result ↔ ResultFits (option_map seen_open open.entry) inst.now }
+fn result_fits(held: Option<Open>, inst: &Inst) -> bool
+    ensures { IsTrue result ↔ ResultFits (option_map seen_open held.entry) inst.now }
 {
-    match open {
+    match held {
         Some(group) => is_result_of(&group, inst),
         None => false,
     }
@@ -168,10 +168,10 @@ fn is_relocate_of(group: &Open, inst: &Inst) -> bool
 }
 
 // Whether it stands in its group, and names two entries of it that it can.
-fn relocate_fits(open: Option<Open>, inst: &Inst) -> bool
-    ensures { IsTrue result ↔ RelocateFits (option_map seen_open open.entry) inst.now }
+fn relocate_fits(held: Option<Open>, inst: &Inst) -> bool
+    ensures { IsTrue result ↔ RelocateFits (option_map seen_open held.entry) inst.now }
 {
-    match open {
+    match held {
         Some(group) => is_relocate_of(&group, inst),
         None => false,
     }
@@ -229,12 +229,12 @@ fn is_plain(types: &[Ty], inst: &Inst) -> bool
 }
 
 // Whether an instruction is in shape, behind which group is open.
-fn in_shape(types: &[Ty], open: Option<Open>, inst: &Inst) -> bool
-    ensures { IsTrue result ↔ ShapeBy types.now (option_map seen_open open.entry) inst.now.op inst.now }
+fn in_shape(types: &[Ty], held: Option<Open>, inst: &Inst) -> bool
+    ensures { IsTrue result ↔ ShapeBy types.now (option_map seen_open held.entry) inst.now.op inst.now }
 {
     match inst.op() {
-        Op::GcResult => result_fits(open, inst),
-        Op::GcRelocate => relocate_fits(open, inst),
+        Op::GcResult => result_fits(held, inst),
+        Op::GcRelocate => relocate_fits(held, inst),
         _ => is_plain(types, inst),
     }
 }
@@ -254,11 +254,12 @@ pub(crate) fn note_shapes(func: &Func, insts: &[&Inst], types: &[Ty], first: &mu
     requires few { length (instructions_of func.now.content.blocks) < 2 ^ 30 }
     ensures { Notes first.old.found first.new.found (FoundIn (ShapeAt func.now) (insts_of func.now)) }
 {
-    let mut number = func.args().len() as u64;
-    let mut open = None;
+    let args = func.args();
+    let mut number = args.len() as u64;
+    let mut held = None;
     for (place, inst) in insts.iter().enumerate() {
-        first.note_if(!in_shape(types, open, inst), func.line_of(place as u32), 18);
-        open = open_behind(open, number, inst);
+        first.note_if(!in_shape(types, held, inst), func.line_of(place as u32), 18);
+        held = open_behind(held, number, inst);
         number += count_given(inst);
     }
 }
