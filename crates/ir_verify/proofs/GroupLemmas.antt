@@ -50,11 +50,11 @@ part-relocate token inst is = sym (part-by GcRelocate token inst is ∙ first-re
 
 -- a statepoint is no part
 no-part : (op : Op) (token : ℕ) (inst : Instruction) → is_statepoint op ≡ true → is_part token (record inst { op = op }) ≡ false
-no-part (Statepoint id callee types) token inst yes = refl
-no-part op token inst yes = absurd (false≢true yes)
+no-part (Statepoint id callee types) token inst starts_group = refl
+no-part op token inst starts_group = absurd (false≢true starts_group)
 
 head-no-part : (token : ℕ) (inst : Instruction) → is_statepoint inst.op ≡ true → is_part token inst ≡ true → ⊥
-head-no-part token inst yes part = false≢true (sym (no-part inst.op token inst yes) ∙ part)
+head-no-part token inst starts_group part = false≢true (sym (no-part inst.op token inst starts_group) ∙ part)
 
 -- ---- heads
 
@@ -130,12 +130,12 @@ module _ (func : Function) (place number : ℕ) (inst : Instruction) (held : Opt
 
   starts : (op : Op) → inst.op ≡ op → is_statepoint op ≡ true
       → IsOpen func (place + 1) (record { number = number; answer = inst.ty; live = entries_of inst; is_fresh = true })
-  starts op is yes = record {
+  starts op is starts_group = record {
     group = record {
       head = place;
       statepoint = inst;
       stands = at;
-      op = ap is_statepoint is ∙ yes;
+      op = ap is_statepoint is ∙ starts_group;
       gives = numbered;
       before = omega arith;
       between = λ k low high. absurd (omega (arith, low, high));

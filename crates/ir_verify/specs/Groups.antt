@@ -61,6 +61,11 @@ abbrev pub ResultFits : Option OpenGroup → Instruction → Type 0
 ResultFits None inst = ⊥
 ResultFits (Some group) inst = IsResultOf group inst
 
+pub record NamesEntries (group : OpenGroup) (token base derived : ℕ) : Type 0 where
+  pub number : token ≡ group.number
+  pub base_entry : base < length group.live
+  pub derived_entry : (value : ValueId) × (slice_get group.live derived ≡ Some (Value value))
+
 pub record IsRelocateOf (group : OpenGroup) (inst : Instruction) : Type 0 where
   pub base : ℕ
   pub derived : ℕ

@@ -14,7 +14,7 @@ ghost use Rattle.ir_ast.specs.Faults.GroupShape.{entries_of, is_part};
 ghost use Rattle.ir_verify.specs.Bodies.{seen_insts, insts_of, given_by};
 ghost use Rattle.ir_verify.specs.Founds.{FoundIn};
 ghost use Rattle.ir_verify.specs.FunctionFaults.{ShapeAt};
-ghost use Rattle.ir_verify.specs.Groups.{is_value_of, seen_open, kept_open, behind_op, token_of, ResultFits, IsResultOf, RelocateFits, IsRelocateOf, NamesToken, UsesNo, ShapeBy};
+ghost use Rattle.ir_verify.specs.Groups.{is_value_of, seen_open, kept_open, behind_op, token_of, ResultFits, IsResultOf, RelocateFits, IsRelocateOf, NamesEntries, NamesToken, UsesNo, ShapeBy};
 ghost use Rattle.ir_lines.specs.Notes.{Notes};
 
 use ir_lines::best::First;
@@ -154,14 +154,19 @@ fn is_relocated(live: &[Operand], place: u64) -> bool
     matches!(live.get(place as usize), Some(Operand::Value(_)))
 }
 
+// Whether the token is the group's, and the indices name two entries of it.
+fn names_entries(group: &Open, token: u64, base: u64, derived: u64) -> bool
+    ensures { IsTrue result ↔ NamesEntries (seen_open group.now) token base derived }
+{
+    token == group.number && is_entry(group.live, base) && is_relocated(group.live, derived)
+}
+
 fn is_relocate_of(group: &Open, inst: &Inst) -> bool
     ensures { IsTrue result ↔ IsRelocateOf (seen_open group.now) inst.now }
 {
     match inst.operands() {
         [Operand::Value(value), Operand::Int(base), Operand::Int(derived)] => {
-            u64::from(value.0) == group.number
-                && is_entry(group.live, *base)
-                && is_relocated(group.live, *derived)
+            names_entries(group, u64::from(value.0), *base, *derived)
         }
         _ => false,
     }

@@ -1,4 +1,6 @@
-use Rattle.std.proofs.Common.{[]}
+use Rattle.std.proofs.Common.{[], subst}
+use Rattle.ir_ast.specs.declared.modules.Form.{Form}
+use Rattle.ir_lines.specs.Notes.{Notes}
 use Rattle.std.specs.Prelude.{slice_get, unwrap_or}
 use Rattle.ir_lines.proofs.NoteLemmas.{Either, notes-then}
 use Rattle.ir_verify.specs.Bodies.{insts_of}
@@ -19,5 +21,6 @@ returns c =
     on-ok c.note_by_form.result _ _
     (λ by_form. notes-then f g i (FoundIn (LineFaultAt content func rows) (insts_of func))
     (Either (FoundIn (BlockFaultAt func) func.content.blocks) (FormFault content.form func)) c.in_ok-note_lines.ensures
-    (notes-then g h i (FoundIn (BlockFaultAt func) func.content.blocks) (FormFault content.form func) c.in_ok-note_phis.ensures ?))
+    (notes-then g h i (FoundIn (BlockFaultAt func) func.content.blocks) (FormFault content.form func) c.in_ok-note_phis.ensures
+    (subst (λ (form : Form). Notes h i (FormFault form func)) c.form.ensures by_form)))
     c.note_by_form.ensures
