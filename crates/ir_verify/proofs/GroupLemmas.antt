@@ -22,7 +22,7 @@ use Rattle.ir_ast.specs.Operands.{value_in, values_used}
 use Rattle.ir_ast.specs.Faults.TypeClash.{Fits}
 use Rattle.ir_ast.specs.Faults.GroupShape.{Group, ResultInShape, RelocateInShape, ShapeOf, entries_of, is_part, is_statepoint, number_at, UsesNoToken}
 use Rattle.ir_verify.specs.Bodies.{given_by}
-use Rattle.ir_verify.specs.Groups.{is_value_of, OpenGroup, kept_by, kept_open, behind_op, token_of, IsResultOf, IsRelocateOf, ResultFits, RelocateFits, NamesToken, UsesNo, ShapeBy, IsOpen, Opened}
+use Rattle.ir_verify.specs.Groups.{is_value_of, OpenGroup, kept_by, kept_open, behind_op, token_of, IsResultOf, IsRelocateOf, ResultFits, RelocateFits, number_in, NamesEntries, HaveEntries, NamesToken, UsesNo, ShapeBy, IsOpen, Opened}
 use Rattle.ir_verify.proofs.Values.{gives, taken_more}
 
 -- ---- parts by their first operand
@@ -382,3 +382,49 @@ number-below func place =
   where
     min-le : (a b : ℕ) → min a b ≤ a
     min-le a b = omega arith
+
+-- ---- the operands of a relocate
+
+value-first : (token : ℕ) (operand : Operand) → is_value_of token (Some operand) ≡ true → operand ≡ token_of token
+value-first token (Value value) e = elim (eqb_tells value.0 token) [
+  | inl t ↦ ap token_of t.1
+  | inr t ↦ absurd (false≢true (sym t.0 ∙ e))
+]
+value-first token operand e = absurd (false≢true e)
+
+of-three : (group : OpenGroup) (inst : Instruction) (operands : List Operand) → operands ≡ inst.operands → length operands ≡ 3
+    → is_value_of group.number (slice_get operands 0) ≡ true
+    → HaveEntries group (number_in (slice_get operands 1)) (number_in (slice_get operands 2)) → IsRelocateOf group inst
+of-three group inst [] is long first have = absurd (omega arith)
+of-three group inst (x ∷ []) is long first have = absurd (omega arith)
+of-three group inst (x ∷ y ∷ []) is long first have = absurd (omega arith)
+of-three group inst (x ∷ Int base ∷ Int derived ∷ []) is long first have = record {
+  base = base;
+  derived = derived;
+  operands = sym is ∙ ap (λ (o : Operand). o ∷ Int base ∷ Int derived ∷ []) (value-first group.number x first);
+  base_entry = have.base_entry;
+  derived_entry = have.derived_entry;
+}
+of-three group inst (x ∷ Int base ∷ z ∷ []) is long first have = absurd have
+of-three group inst (x ∷ y ∷ z ∷ []) is long first have = absurd have
+of-three group inst (x ∷ y ∷ z ∷ w ∷ rest) is long first have = absurd (omega arith)
+
+pub relocate-is : (group : OpenGroup) (inst : Instruction) (operands : List Operand) → operands ≡ inst.operands → length operands ≡ 3
+    → is_value_of group.number (slice_get operands 0) ≡ true
+    → HaveEntries group (number_in (slice_get operands 1)) (number_in (slice_get operands 2)) → IsRelocateOf group inst
+relocate-is = of-three
+
+pub relocate-long : (group : OpenGroup) (inst : Instruction) (operands : List Operand) → operands ≡ inst.operands → IsRelocateOf group inst → length operands ≡ 3
+relocate-long group inst operands is r = ap length is ∙ ap length r.operands
+
+pub relocate-first : (group : OpenGroup) (inst : Instruction) (operands : List Operand) → operands ≡ inst.operands → IsRelocateOf group inst
+    → is_value_of group.number (slice_get operands 0) ≡ true
+relocate-first group inst operands is r =
+    ap (λ (os : List Operand). is_value_of group.number (slice_get os 0)) (is ∙ r.operands)
+    ∙ elim (eqb_tells group.number group.number) [ inl t ↦ t.0 | inr t ↦ absurd (t.1 refl) ]
+
+pub relocate-entries : (group : OpenGroup) (inst : Instruction) (operands : List Operand) → operands ≡ inst.operands → IsRelocateOf group inst
+    → HaveEntries group (number_in (slice_get operands 1)) (number_in (slice_get operands 2))
+relocate-entries group inst operands is r =
+    subst (λ (os : List Operand). HaveEntries group (number_in (slice_get os 1)) (number_in (slice_get os 2))) (sym (is ∙ r.operands))
+    (record { base_entry = r.base_entry; derived_entry = r.derived_entry })

@@ -61,10 +61,17 @@ abbrev pub ResultFits : Option OpenGroup → Instruction → Type 0
 ResultFits None inst = ⊥
 ResultFits (Some group) inst = IsResultOf group inst
 
-pub record NamesEntries (group : OpenGroup) (token base derived : ℕ) : Type 0 where
-  pub number : token ≡ group.number
+abbrev pub number_in : Option Operand → Option ℕ
+number_in (Some (Int number)) = Some number
+number_in _ = None
+
+pub record NamesEntries (group : OpenGroup) (base derived : ℕ) : Type 0 where
   pub base_entry : base < length group.live
   pub derived_entry : (value : ValueId) × (slice_get group.live derived ≡ Some (Value value))
+
+abbrev pub HaveEntries : OpenGroup → Option ℕ → Option ℕ → Type 0
+HaveEntries group (Some base) (Some derived) = NamesEntries group base derived
+HaveEntries group _ _ = ⊥
 
 pub record IsRelocateOf (group : OpenGroup) (inst : Instruction) : Type 0 where
   pub base : ℕ

@@ -14,7 +14,7 @@ ghost use Rattle.ir_ast.specs.Faults.GroupShape.{entries_of, is_part};
 ghost use Rattle.ir_verify.specs.Bodies.{seen_insts, insts_of, given_by};
 ghost use Rattle.ir_verify.specs.Founds.{FoundIn};
 ghost use Rattle.ir_verify.specs.FunctionFaults.{ShapeAt};
-ghost use Rattle.ir_verify.specs.Groups.{is_value_of, seen_open, kept_open, behind_op, token_of, ResultFits, IsResultOf, RelocateFits, IsRelocateOf, NamesEntries, NamesToken, UsesNo, ShapeBy};
+ghost use Rattle.ir_verify.specs.Groups.{is_value_of, seen_open, kept_open, behind_op, token_of, ResultFits, IsResultOf, RelocateFits, IsRelocateOf, number_in, NamesEntries, HaveEntries, NamesToken, UsesNo, ShapeBy};
 ghost use Rattle.ir_lines.specs.Notes.{Notes};
 
 use ir_lines::best::First;
@@ -44,13 +44,20 @@ fn is_value_of(operand: Option<Operand>, token: u64) -> bool
     }
 }
 
+fn starts_with(operands: &[Operand], token: u64) -> bool
+    ensures { result ≡ is_value_of token (slice_get operands.now 0) }
+{
+    is_value_of(operands.get(0).copied(), token)
+}
+
 // Whether it is a result or a relocate of this token.
 fn is_part(inst: &Inst, token: u64) -> bool
     ensures { result ≡ is_part token inst.now }
 {
+    let operands = inst.operands();
     match inst.op() {
-        Op::GcResult => is_value_of(inst.operands().get(0).copied(), token),
-        Op::GcRelocate => is_value_of(inst.operands().get(0).copied(), token),
+        Op::GcResult => starts_with(operands, token),
+        Op::GcRelocate => starts_with(operands, token),
         _ => false,
     }
 }
@@ -154,22 +161,51 @@ fn is_relocated(live: &[Operand], place: u64) -> bool
     matches!(live.get(place as usize), Some(Operand::Value(_)))
 }
 
-// Whether the token is the group's, and the indices name two entries of it.
-fn names_entries(group: &Open, token: u64, base: u64, derived: u64) -> bool
-    ensures { IsTrue result ↔ NamesEntries (seen_open group.now) token base derived }
+fn number_in(operand: Option<Operand>) -> Option<u64>
+    ensures { result ≡ number_in operand }
 {
-    token == group.number && is_entry(group.live, base) && is_relocated(group.live, derived)
+    match operand {
+        Some(Operand::Int(number)) => Some(number),
+        _ => None,
+    }
+}
+
+fn number_at(operands: &[Operand], place: usize) -> Option<u64>
+    ensures { result ≡ number_in (slice_get operands.now place) }
+{
+    number_in(operands.get(place).copied())
+}
+
+// Whether two indices name two entries of the group that a relocate can.
+fn names_entries(group: &Open, base: u64, derived: u64) -> bool
+    ensures { IsTrue result ↔ NamesEntries (seen_open group.now) base derived }
+{
+    is_entry(group.live, base) && is_relocated(group.live, derived)
+}
+
+fn have_entries(group: &Open, base: Option<u64>, derived: Option<u64>) -> bool
+    ensures { IsTrue result ↔ HaveEntries (seen_open group.now) base derived }
+{
+    match base {
+        Some(base) => match derived {
+            Some(derived) => names_entries(group, base, derived),
+            None => false,
+        },
+        None => false,
+    }
 }
 
 fn is_relocate_of(group: &Open, inst: &Inst) -> bool
     ensures { IsTrue result ↔ IsRelocateOf (seen_open group.now) inst.now }
 {
-    match inst.operands() {
-        [Operand::Value(value), Operand::Int(base), Operand::Int(derived)] => {
-            names_entries(group, u64::from(value.0), *base, *derived)
-        }
-        _ => false,
+    let operands = inst.operands();
+    if operands.len() != 3 {
+        return false;
     }
+    if !starts_with(operands, group.number) {
+        return false;
+    }
+    have_entries(group, number_at(operands, 1), number_at(operands, 2))
 }
 
 // Whether it stands in its group, and names two entries of it that it can.

@@ -1,9 +1,21 @@
-use Rattle.std.proofs.Common.{◌≡◌, ◌∙◌, ◌<◌, ◌≤◌, ℕ, List, length, get_or, arith}
-use Rattle.std.specs.Prelude.{slice_get, Some}
-use Rattle.ir_ast.specs.declared.ops.Operand.{Operand}
-use Rattle.ir_ast.specs.declared.ops.Operand.TheVariants.{Value, Int}
-use Rattle.ir_verify.specs.Groups.{NamesEntries, seen_open, IsRelocateOf}
+use Rattle.std.proofs.Common.{◌≡◌, ◌∙◌, sym, true, false}
+use Rattle.std.specs.Prelude.{slice_get, Option}
+use Rattle.ir_verify.specs.Groups.{number_in, HaveEntries, seen_open}
+use Rattle.ir_verify.proofs.GroupLemmas.{relocate-is, relocate-long, relocate-first, relocate-entries}
 use Rattle.ir_verify.proofs.groups.is_relocate_of.Goals as goal
 
-pub returns-in-Value : goal.returns-in-Value
-returns-in-Value c = let v = c.in-Value.value-is in let b = c.in-Value.base-is in let d = c.in-Value.derived-is in let l = c.in-Value.len_at_least in let m = c.in-Value.len_below in ?
+pub returns-then-operands-ne3 : goal.returns-then-operands-ne3
+returns-then-operands-ne3 c = (
+  (λ is. absurd (let bad : false ≡ true = is in cc)),
+  (λ r. absurd (c.if-operands-ne3.true (relocate-long (seen_open c.args.group.now) c.args.inst.now c.operands-operands.result.now c.operands-operands.ensures r))),
+)
+
+pub returns-then-not-starts_with : goal.returns-then-not-starts_with
+returns-then-not-starts_with c = (
+  (λ is. absurd (let bad : false ≡ true = is in cc)),
+  (λ r. sym c.if-not-starts_with.true ∙ c.starts_with.ensures
+      ∙ relocate-first (seen_open c.args.group.now) c.args.inst.now c.operands-operands.result.now c.operands-operands.ensures r),
+)
+
+pub returns : goal.returns
+returns c = ?
