@@ -154,14 +154,17 @@ edges-all func i into end e = record {
 
 -- ---- empty lists
 
-pub blank : (n place : ℕ) → get_or (replicate n []) place [] ≡ []
+abbrev nobody : List ℕ
+nobody = []
+
+pub blank : (n place : ℕ) → get_or (replicate n nobody) place nobody ≡ nobody
 blank zero place = refl
 blank (suc n) zero = refl
 blank (suc n) (suc place) = blank n place
 
 pub blank-edges : (func : Function) (into : List (List ℕ)) (n : ℕ) → into ≡ replicate n [] → n ≡ length func.blocks → EdgesUpTo func 0 into
 blank-edges func into n is size =
-    no-edges func into (ap length is ∙ length-replicate n [] ∙ size) (λ place. ap (λ (lists : List (List ℕ)). get_or lists place []) is ∙ blank n place)
+    no-edges func into (ap length is ∙ length-replicate n nobody ∙ size) (λ place. ap (λ (lists : List (List ℕ)). get_or lists place []) is ∙ blank n place)
 
 -- ---- one label more
 
@@ -176,3 +179,11 @@ adds-more from labels i label old between new below a is =
 pub adds-all : (from : ℕ) (labels : List BlockId) (i : ℕ) (old new : List (List ℕ)) → length labels ≤ i → AddsEdges from (take i labels) old new
     → AddsEdges from labels old new
 adds-all from labels i old new end a = subst (λ (ls : List BlockId). AddsEdges from ls old new) (take_all i labels end) a
+
+-- an edge leads from a block that there is
+pub edge-inside : (func : Function) (from to : ℕ) → 0 < edges func from to → from < length func.blocks
+edge-inside func from to some = elim (within-or-past from (length func.blocks)) [
+  | inl lt ↦ lt
+  | inr le ↦ absurd (let none : edges func from to ≡ 0
+      = ap (λ o. option_map_or (λ (b : BasicBlock). count_of to (targets b)) o 0) (slice_get_past func.blocks from le) in omega (arith, none, some))
+]

@@ -1,6 +1,6 @@
 -- What is found at the places of a list, one place after another.
 use Rattle.std.proofs.Common.{◌≡◌, ◌∙◌, ℕ, ◌+◌, ◌<◌, ◌⊎◌, inl, inr, List, length, get_or, refl, ap, sym, subst, arith}
-use Rattle.std.specs.Prelude.{Option, Some, map, slice_get, option_map, IsTrue, ◌↔◌, Bool, true, false, nat_eq}
+use Rattle.std.specs.Prelude.{Option, Some, map, slice_get, option_map, IsTrue, ◌↔◌, Bool, true, false, nat_eq, Result, Ok, Err, OnOk}
 use Rattle.std.proofs.lemmas.Bool.Decides.{eqb_tells}
 use Rattle.std.proofs.lemmas.Option.{slice_get-get_or, slice_get-map, slice_get_within}
 use Rattle.list_laws.proofs.Places.{cases_below}
@@ -78,3 +78,12 @@ equal-iff m n = elim (eqb_tells m n) [
   | inl t ↦ ((λ is. t.1), (λ e. t.0))
   | inr t ↦ ((λ is. absurd (let bad : true ≡ false = sym is ∙ t.0 in cc)), (λ e. absurd (t.1 e)))
 ]
+
+-- an element of a list
+pub item-at : {X : Type 0} (xs : List X) (i : ℕ) (x : X) → i < length xs → x ≡ get_or xs i x → slice_get xs i ≡ Some x
+item-at xs i x below is = slice_get-get_or xs i x below ∙ ap Some (sym is)
+
+-- what a call answers in turn
+pub on-ok : {A E : Type 0} (r : Result A E) (P Q : Type 0) → (P → Q) → OnOk r P → OnOk r Q
+on-ok (Ok a) P Q to h = to h
+on-ok (Err e) P Q to h = tt

@@ -1,9 +1,10 @@
 -- The statepoint group that is open before an instruction, one instruction after another.
 use Rattle.std.proofs.Common.{◌≡◌, ◌≢◌, ◌∙◌, ℕ, zero, suc, ◌+◌, ◌<◌, ◌≤◌, ◌⊎◌, inl, inr, Bool, true, false, cond, List, [], ◌∷◌, ◌++◌, length, take, refl, ap, sym, subst, arith, is_some}
-use Rattle.std.specs.Prelude.{Option, Some, None, nat_eq, IsTrue, ◌↔◌, IfSome, slice_get, filter, map}
+use Rattle.std.specs.Prelude.{Option, Some, None, nat_eq, IsTrue, ◌↔◌, IfSome, slice_get, filter, map, min}
 use Rattle.std.specs.List.{All, filter_map}
-use Rattle.std.proofs.lemmas.Bool.{cases_Bool, false≢true}
-use Rattle.std.proofs.lemmas.List.{length-append, length-map}
+use Rattle.std.proofs.lemmas.Bool.{false≢true}
+use Rattle.std.proofs.lemmas.Bool.Decides.{eqb_tells}
+use Rattle.std.proofs.lemmas.List.{length-append, length-map, length-take}
 use Rattle.std.proofs.lemmas.List.Elements.{All-nil, All-cons, All-head, All-tail, All-append, filter_map-append, filter-append}
 use Rattle.std.proofs.lemmas.Option.{none-some, same_Some}
 use Rattle.list_laws.proofs.Contents.{all_front, all_back}
@@ -22,7 +23,7 @@ use Rattle.ir_ast.specs.Operands.{value_in, values_used}
 use Rattle.ir_ast.specs.Faults.TypeClash.{Fits}
 use Rattle.ir_ast.specs.Faults.GroupShape.{Group, ResultInShape, RelocateInShape, ShapeOf, entries_of, is_part, is_statepoint, number_at, UsesNoToken}
 use Rattle.ir_verify.specs.Bodies.{given_by}
-use Rattle.ir_verify.specs.Groups.{is_value_of, OpenGroup, kept_by, kept_open, behind_op, token_of, IsResultOf, IsRelocateOf, ResultFits, RelocateFits, NamesToken, UsesNo, ShapeBy, IsOpen, Opened}
+use Rattle.ir_verify.specs.Groups.{is_value_of, OpenGroup, kept_by, kept_open, behind_op, token_of, IsResultOf, IsRelocateOf, ResultFits, RelocateFits, number_in, NamesEntries, HaveEntries, NamesToken, UsesNo, ShapeBy, IsOpen, Opened}
 use Rattle.ir_verify.proofs.Values.{gives, taken_more}
 
 -- ---- parts by their first operand
@@ -50,11 +51,11 @@ part-relocate token inst is = sym (part-by GcRelocate token inst is ∙ first-re
 
 -- a statepoint is no part
 no-part : (op : Op) (token : ℕ) (inst : Instruction) → is_statepoint op ≡ true → is_part token (record inst { op = op }) ≡ false
-no-part (Statepoint id callee types) token inst yes = refl
-no-part op token inst yes = absurd (false≢true yes)
+no-part (Statepoint id callee types) token inst starts_group = refl
+no-part op token inst starts_group = absurd (false≢true starts_group)
 
 head-no-part : (token : ℕ) (inst : Instruction) → is_statepoint inst.op ≡ true → is_part token inst ≡ true → ⊥
-head-no-part token inst yes part = false≢true (sym (no-part inst.op token inst yes) ∙ part)
+head-no-part token inst starts_group part = false≢true (sym (no-part inst.op token inst starts_group) ∙ part)
 
 -- ---- heads
 
@@ -89,8 +90,8 @@ opened-start func = record {
   only = λ token g. absurd (let b = g.before in omega (arith, b));
 }
 
-module _ (func : Function) (place number : ℕ) (inst : Instruction) (open : Option OpenGroup)
-    (at : slice_get (instructions_of func.blocks) place ≡ Some inst) (numbered : number_at func place ≡ number) (opened : Opened func place open) where
+module _ (func : Function) (place number : ℕ) (inst : Instruction) (held : Option OpenGroup)
+    (at : slice_get (instructions_of func.blocks) place ≡ Some inst) (numbered : number_at func place ≡ number) (opened : Opened func place held) where
 
   -- a group goes on over a part
   goes-on : (group : OpenGroup) → IsOpen func place group → is_part group.number inst ≡ true → IsOpen func (place + 1) (record group { is_fresh = false })
@@ -118,7 +119,7 @@ module _ (func : Function) (place number : ℕ) (inst : Instruction) (open : Opt
       between k low (inr e) =
           subst (λ (n : ℕ). IfSome (slice_get (instructions_of func.blocks) n) (λ (one : Instruction). is_part group.number one ≡ true)) (sym e) here
 
-  kept-is : (open : Option OpenGroup) → Opened func place open → (one : OpenGroup) → kept_open open inst ≡ Some one → IsOpen func (place + 1) one
+  kept-is : (held : Option OpenGroup) → Opened func place held → (one : OpenGroup) → kept_open held inst ≡ Some one → IsOpen func (place + 1) one
   kept-is None o one e = absurd (none-some one e)
   kept-is (Some group) o one e = by (is_part group.number inst) refl e
     where
@@ -130,12 +131,12 @@ module _ (func : Function) (place number : ℕ) (inst : Instruction) (open : Opt
 
   starts : (op : Op) → inst.op ≡ op → is_statepoint op ≡ true
       → IsOpen func (place + 1) (record { number = number; answer = inst.ty; live = entries_of inst; is_fresh = true })
-  starts op is yes = record {
+  starts op is starts_group = record {
     group = record {
       head = place;
       statepoint = inst;
       stands = at;
-      op = ap is_statepoint is ∙ yes;
+      op = ap is_statepoint is ∙ starts_group;
       gives = numbered;
       before = omega arith;
       between = λ k low high. absurd (omega (arith, low, high));
@@ -145,12 +146,12 @@ module _ (func : Function) (place number : ℕ) (inst : Instruction) (open : Opt
     fresh = ((λ t. refl), (λ e. refl));
   }
 
-  behind-is : (op : Op) → inst.op ≡ op → (one : OpenGroup) → behind_op open number op inst ≡ Some one → IsOpen func (place + 1) one
+  behind-is : (op : Op) → inst.op ≡ op → (one : OpenGroup) → behind_op held number op inst ≡ Some one → IsOpen func (place + 1) one
   behind-is (Statepoint id callee types) is one e =
       let first : OpenGroup = record { number = number; answer = inst.ty; live = entries_of inst; is_fresh = true } in
       subst (IsOpen func (place + 1)) (same_Some first one e) (starts (Statepoint id callee types) is refl)
-  behind-is GcResult is one e = kept-is open opened one e
-  behind-is GcRelocate is one e = kept-is open opened one e
+  behind-is GcResult is one e = kept-is held opened one e
+  behind-is GcRelocate is one e = kept-is held opened one e
   behind-is op is one e = absurd (none-some one e)
 
   -- ---- and only that
@@ -171,7 +172,7 @@ module _ (func : Function) (place number : ℕ) (inst : Instruction) (open : Opt
   part-here token g lt =
       some-holds (λ (one : Instruction). is_part token one ≡ true) (slice_get (instructions_of func.blocks) place) inst at (g.between place lt (omega arith))
 
-  kept-only : (token : ℕ) (g : Group func token (place + 1)) → g.head < place → (one : OpenGroup) × (kept_open open inst ≡ Some one) × (one.number ≡ token)
+  kept-only : (token : ℕ) (g : Group func token (place + 1)) → g.head < place → (one : OpenGroup) × (kept_open held inst ≡ Some one) × (one.number ≡ token)
   kept-only token g lt =
       let before = opened.only token (earlier token g lt) in
       let group = before.0 in
@@ -188,7 +189,7 @@ module _ (func : Function) (place number : ℕ) (inst : Instruction) (open : Opt
       ap (λ (one : Instruction). is_statepoint one.op) (sym alike) ∙ g.op
 
   only-by : (op : Op) → inst.op ≡ op → (token : ℕ) (g : Group func token (place + 1)) → (g.head < place) ⊎ (g.head ≡ place)
-      → (one : OpenGroup) × (behind_op open number op inst ≡ Some one) × (one.number ≡ token)
+      → (one : OpenGroup) × (behind_op held number op inst ≡ Some one) × (one.number ≡ token)
   only-by (Statepoint id callee types) is token g (inl lt) =
       absurd (head-no-part token inst (ap is_statepoint is) (part-here token g lt))
   only-by (Statepoint id callee types) is token g (inr e) =
@@ -201,7 +202,7 @@ module _ (func : Function) (place number : ℕ) (inst : Instruction) (open : Opt
       absurd (false≢true (sym (part-by op token inst is) ∙ part-here token g lt))
   only-by op is token g (inr e) = absurd (false≢true (sym (ap is_statepoint is) ∙ head-here token g e))
 
-  pub opened-more : (next : Option OpenGroup) → next ≡ behind_op open number inst.op inst → Opened func (place + 1) next
+  pub opened-more : (next : Option OpenGroup) → next ≡ behind_op held number inst.op inst → Opened func (place + 1) next
   opened-more next e = subst (Opened func (place + 1)) (sym e) (record {
     is = λ one is. behind-is inst.op refl one is;
     only = λ token g. only-by inst.op refl token g (cases_below g.head place g.before);
@@ -233,7 +234,7 @@ number-more func place inst at =
 -- ---- results and relocates
 
 module _ (func : Function) (place : ℕ) (inst : Instruction) where
-  result-to : (open : Option OpenGroup) → Opened func place open → ResultFits open inst → ResultInShape func place inst
+  result-to : (held : Option OpenGroup) → Opened func place held → ResultFits held inst → ResultInShape func place inst
   result-to None opened fits = absurd fits
   result-to (Some group) opened fits =
       let o = opened.is group refl in
@@ -245,8 +246,8 @@ module _ (func : Function) (place : ℕ) (inst : Instruction) where
         type = fits.type ∙ o.answer;
       }
 
-  result-by : (open : Option OpenGroup) → Opened func place open → ResultInShape func place inst → ResultFits open inst
-  result-by open opened shape =
+  result-by : (held : Option OpenGroup) → Opened func place held → ResultInShape func place inst → ResultFits held inst
+  result-by held opened shape =
       let found = opened.only shape.token.0 shape.group in
       let group = found.0 in
       let o = opened.is group found.1 in
@@ -259,7 +260,7 @@ module _ (func : Function) (place : ℕ) (inst : Instruction) where
       } in
       subst (λ (x : Option OpenGroup). ResultFits x inst) (sym found.1) fits
 
-  relocate-to : (open : Option OpenGroup) → Opened func place open → RelocateFits open inst → RelocateInShape func place inst
+  relocate-to : (held : Option OpenGroup) → Opened func place held → RelocateFits held inst → RelocateInShape func place inst
   relocate-to None opened fits = absurd fits
   relocate-to (Some group) opened fits =
       let o = opened.is group refl in
@@ -274,8 +275,8 @@ module _ (func : Function) (place : ℕ) (inst : Instruction) where
         derived_entry = (fits.derived_entry.0, ap (λ (live : List Operand). slice_get live fits.derived) (sym o.live) ∙ fits.derived_entry.1);
       }
 
-  relocate-by : (open : Option OpenGroup) → Opened func place open → RelocateInShape func place inst → RelocateFits open inst
-  relocate-by open opened shape =
+  relocate-by : (held : Option OpenGroup) → Opened func place held → RelocateInShape func place inst → RelocateFits held inst
+  relocate-by held opened shape =
       let found = opened.only shape.token.0 shape.group in
       let group = found.0 in
       let o = opened.is group found.1 in
@@ -291,21 +292,21 @@ module _ (func : Function) (place : ℕ) (inst : Instruction) where
       } in
       subst (λ (x : Option OpenGroup). RelocateFits x inst) (sym found.1) fits
 
-  shape-to : (types : List Ty) (open : Option OpenGroup) → types ≡ value_types func → Opened func place open → (op : Op) → ShapeBy types open op inst → ShapeOf func place inst op
-  shape-to types open typed opened GcResult s = result-to open opened s
-  shape-to types open typed opened GcRelocate s = relocate-to open opened s
-  shape-to types open typed opened op s =
+  shape-to : (types : List Ty) (held : Option OpenGroup) → types ≡ value_types func → Opened func place held → (op : Op) → ShapeBy types held op inst → ShapeOf func place inst op
+  shape-to types held typed opened GcResult s = result-to held opened s
+  shape-to types held typed opened GcRelocate s = relocate-to held opened s
+  shape-to types held typed opened op s =
       subst (λ (ts : List Ty). UsesNo ts inst × All (λ entry. Fits ts entry Ptr) (entries_of inst)) typed s
 
-  shape-by : (types : List Ty) (open : Option OpenGroup) → types ≡ value_types func → Opened func place open → (op : Op) → ShapeOf func place inst op → ShapeBy types open op inst
-  shape-by types open typed opened GcResult s = result-by open opened s
-  shape-by types open typed opened GcRelocate s = relocate-by open opened s
-  shape-by types open typed opened op s =
+  shape-by : (types : List Ty) (held : Option OpenGroup) → types ≡ value_types func → Opened func place held → (op : Op) → ShapeOf func place inst op → ShapeBy types held op inst
+  shape-by types held typed opened GcResult s = result-by held opened s
+  shape-by types held typed opened GcRelocate s = relocate-by held opened s
+  shape-by types held typed opened op s =
       subst (λ (ts : List Ty). UsesNo ts inst × All (λ entry. Fits ts entry Ptr) (entries_of inst)) (sym typed) s
 
-  pub shape-iff : (types : List Ty) (open : Option OpenGroup) → types ≡ value_types func → Opened func place open
-      → ShapeBy types open inst.op inst ↔ ShapeOf func place inst inst.op
-  shape-iff types open typed opened = (shape-to types open typed opened inst.op, shape-by types open typed opened inst.op)
+  pub shape-iff : (types : List Ty) (held : Option OpenGroup) → types ≡ value_types func → Opened func place held
+      → ShapeBy types held inst.op inst ↔ ShapeOf func place inst inst.op
+  shape-iff types held typed opened = (shape-to types held typed opened inst.op, shape-by types held typed opened inst.op)
 
 -- ---- tokens elsewhere
 
@@ -363,3 +364,68 @@ uses-back types inst all =
     let bundle = map (λ (entry : Ty × Operand). entry.1) inst.bundle in
     entries-by types inst.bundle (named-by types bundle (all_back (IsOther types) (filter_map value_in inst.operands) (filter_map value_in bundle)
     (subst (All (IsOther types)) (filter_map-append value_in inst.operands bundle) all)))
+
+filter-within : (xs : List Instruction) → length (filter gives xs) ≤ length xs
+filter-within [] = omega arith
+filter-within (x ∷ xs) = by (gives x) (filter-within xs)
+  where
+    by : (b : Bool) → length (filter gives xs) ≤ length xs → length (cond b (x ∷ filter gives xs) (filter gives xs)) ≤ length (x ∷ xs)
+    by true h = omega (arith, h)
+    by false h = omega (arith, h)
+
+pub number-below : (func : Function) (place : ℕ) → number_at func place ≤ length func.args + place
+number-below func place =
+    let insts = instructions_of func.blocks in
+    let h = filter-within (take place insts) in
+    let t = length-take place insts in
+    let m = min-le place (length insts) in
+    omega (arith, h, t, m)
+  where
+    min-le : (a b : ℕ) → min a b ≤ a
+    min-le a b = omega arith
+
+-- ---- the operands of a relocate
+
+value-first : (token : ℕ) (operand : Operand) → is_value_of token (Some operand) ≡ true → operand ≡ token_of token
+value-first token (Value value) e = elim (eqb_tells value.0 token) [
+  | inl t ↦ ap token_of t.1
+  | inr t ↦ absurd (false≢true (sym t.0 ∙ e))
+]
+value-first token operand e = absurd (false≢true e)
+
+of-three : (group : OpenGroup) (inst : Instruction) (operands : List Operand) → operands ≡ inst.operands → length operands ≡ 3
+    → is_value_of group.number (slice_get operands 0) ≡ true
+    → HaveEntries group (number_in (slice_get operands 1)) (number_in (slice_get operands 2)) → IsRelocateOf group inst
+of-three group inst [] is long first have = absurd (omega arith)
+of-three group inst (x ∷ []) is long first have = absurd (omega arith)
+of-three group inst (x ∷ y ∷ []) is long first have = absurd (omega arith)
+of-three group inst (x ∷ Int base ∷ Int derived ∷ []) is long first have = record {
+  base = base;
+  derived = derived;
+  operands = sym is ∙ ap (λ (o : Operand). o ∷ Int base ∷ Int derived ∷ []) (value-first group.number x first);
+  base_entry = have.base_entry;
+  derived_entry = have.derived_entry;
+}
+of-three group inst (x ∷ Int base ∷ z ∷ []) is long first have = absurd have
+of-three group inst (x ∷ y ∷ z ∷ []) is long first have = absurd have
+of-three group inst (x ∷ y ∷ z ∷ w ∷ rest) is long first have = absurd (omega arith)
+
+pub relocate-is : (group : OpenGroup) (inst : Instruction) (operands : List Operand) → operands ≡ inst.operands → length operands ≡ 3
+    → is_value_of group.number (slice_get operands 0) ≡ true
+    → HaveEntries group (number_in (slice_get operands 1)) (number_in (slice_get operands 2)) → IsRelocateOf group inst
+relocate-is = of-three
+
+pub relocate-long : (group : OpenGroup) (inst : Instruction) (operands : List Operand) → operands ≡ inst.operands → IsRelocateOf group inst → length operands ≡ 3
+relocate-long group inst operands is r = ap length is ∙ ap length r.operands
+
+pub relocate-first : (group : OpenGroup) (inst : Instruction) (operands : List Operand) → operands ≡ inst.operands → IsRelocateOf group inst
+    → is_value_of group.number (slice_get operands 0) ≡ true
+relocate-first group inst operands is r =
+    ap (λ (os : List Operand). is_value_of group.number (slice_get os 0)) (is ∙ r.operands)
+    ∙ elim (eqb_tells group.number group.number) [ inl t ↦ t.0 | inr t ↦ absurd (t.1 refl) ]
+
+pub relocate-entries : (group : OpenGroup) (inst : Instruction) (operands : List Operand) → operands ≡ inst.operands → IsRelocateOf group inst
+    → HaveEntries group (number_in (slice_get operands 1)) (number_in (slice_get operands 2))
+relocate-entries group inst operands is r =
+    subst (λ (os : List Operand). HaveEntries group (number_in (slice_get os 1)) (number_in (slice_get os 2))) (sym (is ∙ r.operands))
+    (record { base_entry = r.base_entry; derived_entry = r.derived_entry })

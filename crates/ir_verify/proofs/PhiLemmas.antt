@@ -1,5 +1,5 @@
 -- The entries of a phi, counted by block, and by their values.
-use Rattle.std.proofs.Common.{◌≡◌, ◌≢◌, ◌∙◌, ℕ, zero, suc, ◌+◌, ◌<◌, ◌≤◌, ◌⊎◌, inl, inr, Bool, true, false, not, cond, List, [], ◌∷◌, ◌++◌, length, get_or, set, take, drop, refl, ap, sym, subst, arith}
+use Rattle.std.proofs.Common.{◌≡◌, ◌≢◌, ◌∙◌, ℕ, zero, suc, ◌+◌, ◌<◌, ◌≤◌, ◌⊎◌, inl, inr, Bool, true, false, not, cond, ◌&&◌, ◌||◌, List, [], ◌∷◌, ◌++◌, length, get_or, set, take, drop, refl, ap, sym, subst, arith}
 use Rattle.std.specs.Prelude.{nat_eq, map, IsTrue, ◌↔◌, Option, Some, None, slice_get, slice_index}
 use Rattle.std.specs.List.{All, Contains, list_all}
 use Rattle.std.specs.List.Sorted.{IsNonDecreasing}
@@ -30,21 +30,23 @@ use Rattle.ir_verify.proofs.Values.{taken_more}
 pub label-counts : (one : ℕ) (labels : List BlockId) → times one (numbers_of labels) ≡ count_of one labels
 label-counts one labels = count_by-map (λ n. nat_eq n one) (λ (label : BlockId). label.0) labels
 
-pub uncounted-iff : (into : List ℕ) (labels : List BlockId) (numbers : List ℕ) (wrong : Bool)
+pub uncounted : (into : List ℕ) (labels : List BlockId) (numbers : List ℕ) (wrong : Bool)
     → IsNonDecreasing numbers → IsNonDecreasing into → ((one : ℕ) → times one numbers ≡ count_of one labels)
-    → wrong ≡ not (bytes_eq numbers into) → (IsTrue wrong ↔ ¬ Counts into labels)
-uncounted-iff into labels numbers wrong up down counts is = (
-  (λ t. to (not-true (bytes_eq numbers into) (sym is ∙ t)) (same-or-apart numbers into up down)),
-  (λ u. is ∙ ap not (by (bytes_eq numbers into) refl u)),
-)
+    → wrong ≡ not (bytes_eq numbers into) → wrong ≡ true → ¬ Counts into labels
+uncounted into labels numbers wrong up down counts is t =
+    to (not-true (bytes_eq numbers into) (sym is ∙ t)) (same-or-apart numbers into up down)
   where
     to : bytes_eq numbers into ≡ false → (numbers ≡ into) ⊎ IsApart numbers into → ¬ Counts into labels
     to e (inl same) all = let f : true ≡ false = sym ((bytes_eq-Decides numbers into).1 same) ∙ e in cc
     to e (inr a) all = a.1 (counts a.0 ∙ all a.0)
 
-    by : (b : Bool) → bytes_eq numbers into ≡ b → (¬ Counts into labels) → b ≡ false
-    by false e u = refl
-    by true e u = absurd (u (λ from. sym (counts from) ∙ ap (times from) ((bytes_eq-Decides numbers into).0 e)))
+pub counted : (into : List ℕ) (labels : List BlockId) (numbers : List ℕ) (wrong : Bool)
+    → ((one : ℕ) → times one numbers ≡ count_of one labels) → wrong ≡ not (bytes_eq numbers into) → wrong ≡ false → Counts into labels
+counted into labels numbers wrong counts is f = by (bytes_eq numbers into) refl (sym is ∙ f)
+  where
+    by : (b : Bool) → bytes_eq numbers into ≡ b → not b ≡ false → Counts into labels
+    by true e n = λ from. sym (counts from) ∙ ap (times from) ((bytes_eq-Decides numbers into).0 e)
+    by false e n = absurd (let bad : true ≡ false = n in cc)
 
 counts-cons : (block : ℕ) (l : BlockId) (ls : List BlockId) → count_of block (l ∷ ls) ≡ cond (nat_eq l.0 block) 1 0 + count_of block ls
 counts-cons block l ls = sum_by-cons (λ (label : BlockId). cond (nat_eq label.0 block) 1 0) l ls
@@ -172,7 +174,7 @@ many-differ labels operands many agree =
 
 -- ---- what is wrong with a phi
 
-pub is_late : List Instruction → Bool
+abbrev pub is_late : List Instruction → Bool
 is_late before = not (list_all (λ inst. is_phi inst.op) before)
 
 pub wrong-iff : (func : Function) (block : ℕ) (before : List Instruction) (into : List ℕ) (late wrong : Bool) (inst : Instruction)
@@ -220,3 +222,26 @@ start-within func i block at =
     let more = start-more func i block at in
     let up = start-up func.blocks (i + 1) in
     omega (arith, more, up)
+
+pub late-more : (insts : List Instruction) (i : ℕ) (inst : Instruction) → slice_get insts i ≡ Some inst
+    → is_late (take (i + 1) insts) ≡ (is_late (take i insts) || not (is_phi inst.op))
+late-more insts i inst at =
+    ap is_late (taken_more insts i inst at) ∙ by (take i insts)
+  where
+    by : (before : List Instruction) → is_late (before ++ inst ∷ []) ≡ (is_late before || not (is_phi inst.op))
+    by [] = one (is_phi inst.op)
+      where
+        one : (b : Bool) → not (b && true) ≡ (false || not b)
+        one true = refl
+        one false = refl
+    by (x ∷ xs) = more (is_phi x.op) (by xs)
+      where
+        more : (b : Bool) → is_late (xs ++ inst ∷ []) ≡ (is_late xs || not (is_phi inst.op))
+            → not (b && list_all (λ one. is_phi one.op) (xs ++ inst ∷ [])) ≡ (not (b && list_all (λ one. is_phi one.op) xs) || not (is_phi inst.op))
+        more true e = e
+        more false e = refl
+
+pub wrong-by : (wrong late : Bool) (into : List ℕ) (inst : Instruction) → late ≡ false → (wrong ≡ false → AreRight into inst) → IsWrong late into inst
+    → wrong ≡ true
+wrong-by true late into inst early right w = refl
+wrong-by false late into inst early right w = absurd (w.1 (early, right refl))

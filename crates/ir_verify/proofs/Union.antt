@@ -165,7 +165,7 @@ module _ (text : Resolved) (funcs : List LinedFunction) (are : AreFuncs text fun
     pub stands : slice_get funcs number ≡ Some lined
     pub inside : slice_get (insts_of lined) place ≡ Some inst
 
-  at-here : (number : ℕ) (lined : LinedFunction) (place : ℕ) (inst : Instruction) → Here number lined place inst → Stands text
+  abbrev at-here : (number : ℕ) (lined : LinedFunction) (place : ℕ) (inst : Instruction) → Here number lined place inst → Stands text
   at-here number lined place inst h = record {
     number = number;
     func = lined.content;

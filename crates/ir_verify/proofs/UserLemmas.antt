@@ -1,14 +1,16 @@
 -- Users of values, and the marks of a search along them.
 use Rattle.std.proofs.Common.{◌≡◌, ◌∙◌, ℕ, zero, suc, ◌<◌, ◌≤◌, ◌+◌, Bool, true, false, cond, List, [], ◌∷◌, ◌++◌, length, get_or, set, take, replicate, Option, Some, None, slice_get, refl, ap, sym, subst, arith, inl, inr, ◌⊎◌, append-nil}
-use Rattle.std.specs.Prelude.{map, if◌then◌else◌}
-use Rattle.std.specs.List.{Contains, filter_map}
+use Rattle.std.specs.Prelude.{map, if◌then◌else◌, ◌||◌, IsTrue, ◌↔◌}
+use Rattle.std.specs.List.{All, Contains, filter_map, list_any}
 use Rattle.std.specs.Option.{option_to_list}
 use Rattle.std.proofs.lemmas.Bool.{false≢true}
 use Rattle.std.proofs.lemmas.List.{length-set, take_more, length-replicate, take-map, length-map, get_or-map}
 use Rattle.std.proofs.lemmas.List.Elements.{Contains-append_left, Contains-append_right, Contains-append_cases, filter_map-append}
 use Rattle.std.proofs.lemmas.Option.{none-some, same_Some, slice_get-get_or, slice_get_within}
 use Rattle.list_laws.proofs.Places.{cases_below, get_front, get_middle, get_pushed, get_map, map_back}
-use Rattle.list_laws.proofs.Contents.{contains_none, contains_one, contains_first}
+use Rattle.list_laws.proofs.Contents.{contains_none, contains_one, contains_first, contains_later, get_contained, all_at, all_contained}
+use Rattle.std.proofs.lemmas.List.Folds.{list_any_at}
+use Rattle.ir_ast.specs.Faults.DerivedEscapes.{values_leaving, KeepsDerived}
 use Rattle.edge_rows.proofs.Rows.{pushed, pushed-kept, pushed-added, pushed-source}
 use Rattle.graph_search.specs.Edges.{Edge, AreInside}
 use Rattle.graph_search.specs.Paths.{MarksReached, ReachedFrom, at_start, along}
@@ -20,7 +22,7 @@ use Rattle.ir_ast.specs.Values.{Definition, argument, outcome, definitions_of, G
 use Rattle.ir_ast.specs.Operands.{value_in, values_used}
 use Rattle.ir_ast.specs.Derived.{is_step, is_merge, Derived, by_step, by_merge}
 use Rattle.ir_verify.specs.Bodies.{inst_of}
-use Rattle.ir_verify.specs.Derivations.{AddsUsers, Follows, steps_by, merged_by, UsedBy, StepsAt, AreSources, AreMarks}
+use Rattle.ir_verify.specs.Derivations.{AddsUsers, Follows, steps_by, merged_by, UsedBy, StepsAt, AreSources, AreMarks, has_mark}
 
 -- ---- adding users
 
@@ -288,3 +290,43 @@ module _ (func : Function) where
 
   pub derived_marked : (marks : List Bool) → AreMarks (map inst_of (definitions_of func)) marks → (value : ℕ) → Derived func value → slice_get marks value ≡ Some true
   derived_marked marks are value derived = are.reached.complete value (derived_reached are.found are.users are.sources value derived)
+
+-- ---- what leaves
+
+any-found : {X : Type 0} (p : X → Bool) (xs : List X) → list_any p xs ≡ true → (x : X) × Contains xs x × (p x ≡ true)
+any-found p [] e = absurd (false≢true e)
+any-found {X} p (x ∷ xs) e = by (p x) refl (λ t. any-found p xs t) e
+  where
+    by : (b : Bool) → p x ≡ b → (list_any p xs ≡ true → (y : X) × Contains xs y × (p y ≡ true)) → (b || list_any p xs) ≡ true
+        → (y : X) × Contains (x ∷ xs) y × (p y ≡ true)
+    by true is later t = (x, contains_first x xs, is)
+    by false is later t = let f = later t in (f.0, contains_later x f.0 xs f.1, f.2)
+
+found-any : {X : Type 0} (p : X → Bool) (xs : List X) (x : X) → Contains xs x → p x ≡ true → list_any p xs ≡ true
+found-any {X} p xs x there is = list_any_at p xs there.0 x there.1 (ap p there.2 ∙ is)
+
+mark-of : (marks : List Bool) (value : ℕ) → has_mark marks value ≡ true → slice_get marks value ≡ Some true
+mark-of [] value e = absurd (false≢true e)
+mark-of (m ∷ ms) zero e = ap Some e
+mark-of (m ∷ ms) (suc value) e = mark-of ms value e
+
+of-mark : (marks : List Bool) (value : ℕ) → slice_get marks value ≡ Some true → has_mark marks value ≡ true
+of-mark [] value e = absurd (none-some true e)
+of-mark (m ∷ ms) zero e = same_Some m true e
+of-mark (m ∷ ms) (suc value) e = of-mark ms value e
+
+pub escapes-iff : (func : Function) (marks : List Bool) (inst : Instruction) (lets : Bool) → AreMarks (map inst_of (definitions_of func)) marks
+    → lets ≡ list_any (has_mark marks) (values_leaving inst) → (IsTrue lets ↔ ¬ KeepsDerived func inst)
+escapes-iff func marks inst lets are is = (
+  (λ t keeps. let f = any-found (has_mark marks) (values_leaving inst) (sym is ∙ t) in
+      let at = get_contained (values_leaving inst) f.0 f.1 in
+      all_at (λ (value : ℕ). ¬ Derived func value) (values_leaving inst) at.0 f.0 keeps at.1
+      (marked_derived func marks are f.0 (mark-of marks f.0 f.2))),
+  (λ n. is ∙ by (list_any (has_mark marks) (values_leaving inst)) refl n),
+)
+  where
+    by : (b : Bool) → list_any (has_mark marks) (values_leaving inst) ≡ b → (¬ KeepsDerived func inst) → b ≡ true
+    by true e n = refl
+    by false e n = absurd (n (all_contained (λ (value : ℕ). ¬ Derived func value) (values_leaving inst)
+        (λ value there derived. false≢true (sym e ∙ found-any (has_mark marks) (values_leaving inst) value there
+        (of-mark marks value (derived_marked func marks are value derived))))))

@@ -41,11 +41,11 @@ kept_open (Some group) inst = kept_by (is_part group.number inst) group
 
 -- what is open behind an instruction, where so many values stand before its own
 abbrev pub behind_op : Option OpenGroup → ℕ → Op → Instruction → Option OpenGroup
-behind_op open number (Statepoint id callee types) inst =
+behind_op held number (Statepoint id callee types) inst =
     Some (record { number = number; answer = inst.ty; live = entries_of inst; is_fresh = true })
-behind_op open number GcResult inst = kept_open open inst
-behind_op open number GcRelocate inst = kept_open open inst
-behind_op open number op inst = None
+behind_op held number GcResult inst = kept_open held inst
+behind_op held number GcRelocate inst = kept_open held inst
+behind_op held number op inst = None
 
 -- ---- results and relocates
 
@@ -60,6 +60,18 @@ pub record IsResultOf (group : OpenGroup) (inst : Instruction) : Type 0 where
 abbrev pub ResultFits : Option OpenGroup → Instruction → Type 0
 ResultFits None inst = ⊥
 ResultFits (Some group) inst = IsResultOf group inst
+
+abbrev pub number_in : Option Operand → Option ℕ
+number_in (Some (Int number)) = Some number
+number_in _ = None
+
+pub record NamesEntries (group : OpenGroup) (base derived : ℕ) : Type 0 where
+  pub base_entry : base < length group.live
+  pub derived_entry : (value : ValueId) × (slice_get group.live derived ≡ Some (Value value))
+
+abbrev pub HaveEntries : OpenGroup → Option ℕ → Option ℕ → Type 0
+HaveEntries group (Some base) (Some derived) = NamesEntries group base derived
+HaveEntries group _ _ = ⊥
 
 pub record IsRelocateOf (group : OpenGroup) (inst : Instruction) : Type 0 where
   pub base : ℕ
@@ -82,18 +94,18 @@ abbrev pub UsesNo : List Ty → Instruction → Type 0
 UsesNo types inst = All (λ value. slice_get types value ≢ Some Token) (values_used inst)
 
 abbrev pub ShapeBy : List Ty → Option OpenGroup → Op → Instruction → Type 0
-ShapeBy types open GcResult inst = ResultFits open inst
-ShapeBy types open GcRelocate inst = RelocateFits open inst
-ShapeBy types open op inst = UsesNo types inst × All (λ entry. Fits types entry Ptr) (entries_of inst)
+ShapeBy types held GcResult inst = ResultFits held inst
+ShapeBy types held GcRelocate inst = RelocateFits held inst
+ShapeBy types held op inst = UsesNo types inst × All (λ entry. Fits types entry Ptr) (entries_of inst)
 
 -- ---- the group that is open before a place
 
-pub record IsOpen (func : Function) (place : ℕ) (open : OpenGroup) : Type 0 where
-  pub group : Group func open.number place
-  pub answer : open.answer ≡ group.statepoint.ty
-  pub live : open.live ≡ entries_of group.statepoint
-  pub fresh : (open.is_fresh ≡ true) ↔ (group.head + 1 ≡ place)
+pub record IsOpen (func : Function) (place : ℕ) (held : OpenGroup) : Type 0 where
+  pub group : Group func held.number place
+  pub answer : held.answer ≡ group.statepoint.ty
+  pub live : held.live ≡ entries_of group.statepoint
+  pub fresh : (held.is_fresh ≡ true) ↔ (group.head + 1 ≡ place)
 
-pub record Opened (func : Function) (place : ℕ) (open : Option OpenGroup) : Type 0 where
-  pub is : (one : OpenGroup) → open ≡ Some one → IsOpen func place one
-  pub only : (token : ℕ) → Group func token place → (one : OpenGroup) × (open ≡ Some one) × (one.number ≡ token)
+pub record Opened (func : Function) (place : ℕ) (held : Option OpenGroup) : Type 0 where
+  pub is : (one : OpenGroup) → held ≡ Some one → IsOpen func place one
+  pub only : (token : ℕ) → Group func token place → (one : OpenGroup) × (held ≡ Some one) × (one.number ≡ token)

@@ -2,7 +2,7 @@
 
 ghost use Rattle.std.specs.Prelude.{◌≡◌, ◌↔◌, ◌+◌, ◌<◌, ◌^◌, ◌++◌, ◌∷◌, [], ℕ, IsTrue, Some, slice_get, map, drop, length, is_some, if◌then◌else◌, OnOk};
 ghost use Rattle.std.specs.List.{All, filter_map};
-ghost use Rattle.std.specs.Option.{option_copied, option_map};
+ghost use Rattle.std.specs.Option.{option_map};
 ghost use Rattle.ir_ast.specs.declared.types.Ty.TheVariants.{Ptr, Token};
 ghost use Rattle.ir_ast.specs.declared.ops.Operand.TheVariants.{Value};
 ghost use Rattle.sp_ids.specs.declared.ids.ValueId.{ValueId};
@@ -14,7 +14,7 @@ ghost use Rattle.ir_ast.specs.Faults.GroupShape.{entries_of, is_part};
 ghost use Rattle.ir_verify.specs.Bodies.{seen_insts, insts_of, given_by};
 ghost use Rattle.ir_verify.specs.Founds.{FoundIn};
 ghost use Rattle.ir_verify.specs.FunctionFaults.{ShapeAt};
-ghost use Rattle.ir_verify.specs.Groups.{is_value_of, seen_open, kept_open, behind_op, token_of, ResultFits, IsResultOf, RelocateFits, IsRelocateOf, NamesToken, UsesNo, ShapeBy};
+ghost use Rattle.ir_verify.specs.Groups.{is_value_of, seen_open, kept_open, behind_op, token_of, ResultFits, IsResultOf, RelocateFits, IsRelocateOf, number_in, NamesEntries, HaveEntries, NamesToken, UsesNo, ShapeBy};
 ghost use Rattle.ir_lines.specs.Notes.{Notes};
 
 use ir_lines::best::First;
@@ -35,8 +35,8 @@ pub(crate) struct Open<'a> {
 
 // ---- what is open
 
-fn is_value_of(operand: Option<&Operand>, token: u64) -> bool
-    ensures { result ≡ is_value_of token (option_copied operand.entry) }
+fn is_value_of(operand: Option<Operand>, token: u64) -> bool
+    ensures { result ≡ is_value_of token operand }
 {
     match operand {
         Some(Operand::Value(value)) => u64::from(value.0) == token,
@@ -44,13 +44,20 @@ fn is_value_of(operand: Option<&Operand>, token: u64) -> bool
     }
 }
 
+fn starts_with(operands: &[Operand], token: u64) -> bool
+    ensures { result ≡ is_value_of token (slice_get operands.now 0) }
+{
+    is_value_of(operands.get(0).copied(), token)
+}
+
 // Whether it is a result or a relocate of this token.
 fn is_part(inst: &Inst, token: u64) -> bool
     ensures { result ≡ is_part token inst.now }
 {
+    let operands = inst.operands();
     match inst.op() {
-        Op::GcResult => is_value_of(inst.operands().first(), token),
-        Op::GcRelocate => is_value_of(inst.operands().first(), token),
+        Op::GcResult => starts_with(operands, token),
+        Op::GcRelocate => starts_with(operands, token),
         _ => false,
     }
 }
@@ -76,10 +83,10 @@ fn behind(operands: &[Operand], count: usize) -> &[Operand]
 }
 
 // What is open behind a part.
-fn kept_open<'a>(open: Option<Open<'a>>, inst: &Inst) -> Option<Open<'a>>
-    ensures { option_map seen_open result ≡ kept_open (option_map seen_open open.entry) inst.now }
+fn kept_open<'a>(held: Option<Open<'a>>, inst: &Inst) -> Option<Open<'a>>
+    ensures { option_map seen_open result ≡ kept_open (option_map seen_open held.entry) inst.now }
 {
-    match open {
+    match held {
         Some(group) => {
             if is_part(inst, group.number) {
                 Some(Open {
@@ -97,8 +104,8 @@ fn kept_open<'a>(open: Option<Open<'a>>, inst: &Inst) -> Option<Open<'a>>
 }
 
 // What is open behind an instruction, where so many values stand before its own.
-fn open_behind<'a>(open: Option<Open<'a>>, number: u64, inst: &'a Inst) -> Option<Open<'a>>
-    ensures { option_map seen_open result ≡ behind_op (option_map seen_open open.entry) number inst.now.op inst.now }
+fn open_behind<'a>(held: Option<Open<'a>>, number: u64, inst: &'a Inst) -> Option<Open<'a>>
+    ensures { option_map seen_open result ≡ behind_op (option_map seen_open held.entry) number inst.now.op inst.now }
 {
     match inst.op() {
         Op::Statepoint { .. } => Some(Open {
@@ -107,8 +114,8 @@ fn open_behind<'a>(open: Option<Open<'a>>, number: u64, inst: &'a Inst) -> Optio
             live: entries(inst),
             is_fresh: true,
         }),
-        Op::GcResult => kept_open(open, inst),
-        Op::GcRelocate => kept_open(open, inst),
+        Op::GcResult => kept_open(held, inst),
+        Op::GcRelocate => kept_open(held, inst),
         _ => None,
     }
 }
@@ -132,10 +139,10 @@ fn is_result_of(group: &Open, inst: &Inst) -> bool
 }
 
 // Whether it directly follows its statepoint, with the type of the callee's answer.
-fn result_fits(open: Option<Open>, inst: &Inst) -> bool
-    ensures { IsTrue result ↔ ResultFits (option_map seen_open open.entry) inst.now }
+fn result_fits(held: Option<Open>, inst: &Inst) -> bool
+    ensures { IsTrue result ↔ ResultFits (option_map seen_open held.entry) inst.now }
 {
-    match open {
+    match held {
         Some(group) => is_result_of(&group, inst),
         None => false,
     }
@@ -154,24 +161,58 @@ fn is_relocated(live: &[Operand], place: u64) -> bool
     matches!(live.get(place as usize), Some(Operand::Value(_)))
 }
 
-fn is_relocate_of(group: &Open, inst: &Inst) -> bool
-    ensures { IsTrue result ↔ IsRelocateOf (seen_open group.now) inst.now }
+fn number_in(operand: Option<Operand>) -> Option<u64>
+    ensures { result ≡ number_in operand }
 {
-    match inst.operands() {
-        [Operand::Value(value), Operand::Int(base), Operand::Int(derived)] => {
-            u64::from(value.0) == group.number
-                && is_entry(group.live, *base)
-                && is_relocated(group.live, *derived)
-        }
-        _ => false,
+    match operand {
+        Some(Operand::Int(number)) => Some(number),
+        _ => None,
     }
 }
 
-// Whether it stands in its group, and names two entries of it that it can.
-fn relocate_fits(open: Option<Open>, inst: &Inst) -> bool
-    ensures { IsTrue result ↔ RelocateFits (option_map seen_open open.entry) inst.now }
+fn number_at(operands: &[Operand], place: usize) -> Option<u64>
+    ensures { result ≡ number_in (slice_get operands.now place) }
 {
-    match open {
+    number_in(operands.get(place).copied())
+}
+
+// Whether two indices name two entries of the group that a relocate can.
+fn names_entries(group: &Open, base: u64, derived: u64) -> bool
+    ensures { IsTrue result ↔ NamesEntries (seen_open group.now) base derived }
+{
+    is_entry(group.live, base) && is_relocated(group.live, derived)
+}
+
+fn have_entries(group: &Open, base: Option<u64>, derived: Option<u64>) -> bool
+    ensures { IsTrue result ↔ HaveEntries (seen_open group.now) base derived }
+{
+    match base {
+        Some(base) => match derived {
+            Some(derived) => names_entries(group, base, derived),
+            None => false,
+        },
+        None => false,
+    }
+}
+
+fn is_relocate_of(group: &Open, inst: &Inst) -> bool
+    ensures { IsTrue result ↔ IsRelocateOf (seen_open group.now) inst.now }
+{
+    let operands = inst.operands();
+    if operands.len() != 3 {
+        return false;
+    }
+    if !starts_with(operands, group.number) {
+        return false;
+    }
+    have_entries(group, number_at(operands, 1), number_at(operands, 2))
+}
+
+// Whether it stands in its group, and names two entries of it that it can.
+fn relocate_fits(held: Option<Open>, inst: &Inst) -> bool
+    ensures { IsTrue result ↔ RelocateFits (option_map seen_open held.entry) inst.now }
+{
+    match held {
         Some(group) => is_relocate_of(&group, inst),
         None => false,
     }
@@ -229,12 +270,12 @@ fn is_plain(types: &[Ty], inst: &Inst) -> bool
 }
 
 // Whether an instruction is in shape, behind which group is open.
-fn in_shape(types: &[Ty], open: Option<Open>, inst: &Inst) -> bool
-    ensures { IsTrue result ↔ ShapeBy types.now (option_map seen_open open.entry) inst.now.op inst.now }
+fn in_shape(types: &[Ty], held: Option<Open>, inst: &Inst) -> bool
+    ensures { IsTrue result ↔ ShapeBy types.now (option_map seen_open held.entry) inst.now.op inst.now }
 {
     match inst.op() {
-        Op::GcResult => result_fits(open, inst),
-        Op::GcRelocate => relocate_fits(open, inst),
+        Op::GcResult => result_fits(held, inst),
+        Op::GcRelocate => relocate_fits(held, inst),
         _ => is_plain(types, inst),
     }
 }
@@ -254,11 +295,12 @@ pub(crate) fn note_shapes(func: &Func, insts: &[&Inst], types: &[Ty], first: &mu
     requires few { length (instructions_of func.now.content.blocks) < 2 ^ 30 }
     ensures { Notes first.old.found first.new.found (FoundIn (ShapeAt func.now) (insts_of func.now)) }
 {
-    let mut number = func.args().len() as u64;
-    let mut open = None;
+    let args = func.args();
+    let mut number = args.len() as u64;
+    let mut held = None;
     for (place, inst) in insts.iter().enumerate() {
-        first.note_if(!in_shape(types, open, inst), func.line_of(place as u32), 18);
-        open = open_behind(open, number, inst);
+        first.note_if(!in_shape(types, held, inst), func.line_of(place as u32), 18);
+        held = open_behind(held, number, inst);
         number += count_given(inst);
     }
 }

@@ -85,7 +85,8 @@ fn push_numbers(labels: &[BlockId], numbers: &mut Vec<usize>) -> Result<(), Memo
 // Whether the labels, counted, aren't those of these blocks, which are in ascending order; `numbers` is room to work in.
 fn are_uncounted(labels: &[BlockId], into: &[usize], numbers: &mut Vec<usize>) -> Result<bool, Memory>
     requires { IsNonDecreasing into.now }
-    ensures { IfOk result (λ wrong. IsTrue wrong ↔ ¬ Counts into.now labels.now) }
+    ensures apart { IfOk result (λ wrong. IsTrue wrong → ¬ Counts into.now labels.now) }
+    ensures counts { IfOk result (λ wrong. wrong ≡ false → Counts into.now labels.now) }
 {
     numbers.clear();
     push_numbers(labels, numbers)?;
@@ -121,7 +122,8 @@ fn differs(labels: &[BlockId], operands: &[Operand], earlier: usize, place: usiz
 // first doesn't matter, since a place is looked up among the labels.
 fn differ(labels: &[BlockId], operands: &[Operand], places: &mut Vec<usize>) -> bool
     requires { All (λ label. label.0 < length places.old.items) labels.now }
-    ensures agree { IsTrue result ↔ ¬ Agree labels.now operands.now }
+    ensures apart { IsTrue result → ¬ Agree labels.now operands.now }
+    ensures agree { result ≡ false → Agree labels.now operands.now }
     ensures size { length places.new.items ≡ length places.old.items }
 {
     if labels.len() < operands.len() {
@@ -149,14 +151,18 @@ pub(crate) struct Room {
 fn are_wrong(inst: &Inst, into: &[usize], room: &mut Room) -> Result<bool, Memory>
     requires ascending { IsNonDecreasing into.now }
     requires inside { (from : ℕ) → 0 < times from into.now → from < length room.old.places.items }
-    ensures wrong { IfOk result (λ wrong. IsTrue wrong ↔ ¬ AreRight into.now inst.now) }
+    ensures wrong { IfOk result (λ wrong. IsTrue wrong → ¬ AreRight into.now inst.now) }
+    ensures right { IfOk result (λ wrong. wrong ≡ false → AreRight into.now inst.now) }
     ensures size { OnOk result (length room.new.places.items ≡ length room.old.places.items) }
 {
-    let uncounted = are_uncounted(inst.labels(), into, &mut room.numbers)?;
+    let labels = inst.labels();
+    let operands = inst.operands();
+    let uncounted = are_uncounted(labels, into, &mut room.numbers)?;
     if uncounted {
         return Ok(true);
     }
-    Ok(differ(inst.labels(), inst.operands(), &mut room.places))
+    let different = differ(labels, operands, &mut room.places);
+    Ok(different)
 }
 
 // ---- phis
@@ -165,6 +171,13 @@ fn is_phi(op: &Op) -> bool
     ensures { result ≡ is_phi op.now }
 {
     matches!(op, Op::Phi)
+}
+
+// Whether an instruction that is no phi stands before what is next.
+fn is_late(late: bool, inst: &Inst) -> bool
+    ensures { result ≡ (late || not (is_phi inst.now.op)) }
+{
+    late || !is_phi(inst.op())
 }
 
 // Whether an instruction is a wrong phi, which may stand after one that is none.
@@ -180,7 +193,8 @@ fn is_wrong(inst: &Inst, late: bool, into: &[usize], room: &mut Room) -> Result<
     if late {
         return Ok(true);
     }
-    are_wrong(inst, into, room)
+    let wrong = are_wrong(inst, into, room)?;
+    Ok(wrong)
 }
 
 // Makes `sorted` the numbers in ascending order.
@@ -216,7 +230,7 @@ fn note_block(
     for (at, inst) in insts.iter().enumerate() {
         let wrong = is_wrong(inst, late, into, room)?;
         first.note_if(wrong, func.line_of((start + at) as u32), 7);
-        late = late || !is_phi(inst.op());
+        late = is_late(late, inst);
     }
     Ok(())
 }

@@ -11,6 +11,6 @@ use Rattle.ir_verify.proofs.groups.note_shapes.Given as goal
 abbrev pub invariant-loop-place : goal.invariant-loop-place
 invariant-loop-place l = record {
   number : l.number ≡ number_at l.func.content l.place;
-  opened : Opened l.func.content l.place (option_map seen_open l.open);
+  opened : Opened l.func.content l.place (option_map seen_open l.held);
   noted : Notes l.initial.first.found l.first.found (FoundBelow (ShapeAt l.func) (insts_of l.func) l.place);
 }
