@@ -8,6 +8,7 @@ use Rattle.ir_ast.specs.Modules.{LinedModule}
 use Rattle.ir_cfg.specs.DefiniteUses.{UsesAreDefinite}
 use Rattle.ir_cfg.specs.TypedModules.{IsTypedModule, IsModuleOf}
 use Rattle.ir_cfg.proofs.TypedLemmas.{formed_module}
+use Rattle.ir_reader.specs.declared.raw.NumberedReading.{NumberedReading}
 use Rattle.ir_reader.specs.Raws.{Readings, IsRead}
 use Rattle.ir_lines.specs.declared.faults.Fault.{Fault}
 use Rattle.ir_lines.specs.Statements.{Line}
@@ -16,7 +17,7 @@ use Rattle.ir_lines.specs.Notes.{Notes}
 use Rattle.ir_lines.specs.PlainFaults.{ComesFirst}
 use Rattle.ir_lines.specs.Views.{seen_lines}
 use Rattle.ir_lines.proofs.NoteLemmas.{Either, notes-then, notes-same}
-use Rattle.ir_resolve.specs.Resolved.{Resolved, resolved, stands_for}
+use Rattle.ir_resolve.specs.Resolved.{Resolved, resolved}
 use Rattle.ir_resolve.specs.Agreement.{IsLeast}
 use Rattle.ir_resolve.specs.TextFaults.{HasTextFault, pointer_cast}
 use Rattle.ir_resolve.specs.ModuleFaults.{HasModuleFault}
@@ -91,6 +92,29 @@ pub resolved-module : (form : Form) (lines : List Line) (whole : LinedModule) �
     → whole ≡ module_of form lines
 resolved-module form lines whole none is =
     is ∙ ap (λ (text : Resolved). text.whole) (resolved-none form lines (λ line cast. none line 16 (of_text (pointer_cast cast))))
+
+-- ---- of readings
+
+-- what was noted of the readings in their form, whose module and cases these are
+pub text-noted : (r : Readings) (form : Form) (ls : List NumberedReading) → form ≡ r.form → ls ≡ r.lines → (noted found : Option Fault)
+    (whole : LinedModule) (cases given : List (List (List ℕ))) → whole ≡ (resolved form (seen_lines ls)).whole → cases ≡ (resolved form (seen_lines ls)).cases
+    → given ≡ cases → Notes None noted (OfText form (seen_lines ls)) → Notes noted found (OfModule whole given)
+    → Notes None found (OfEither r.form (seen_lines r.lines))
+text-noted r form ls f l noted found whole cases given is are g own its =
+    subst (λ (m : Form). Notes None found (OfEither m (seen_lines r.lines))) f
+    (subst (λ (xs : List NumberedReading). Notes None found (OfEither form (seen_lines xs))) l
+    (resolved-noted form (seen_lines ls) noted found whole given is (g ∙ are) own its))
+
+pub text-unbroken : (r : Readings) (found : Option Fault) → found ≡ None → Notes None found (OfEither r.form (seen_lines r.lines))
+    → HasNoResolvedFault r.form (seen_lines r.lines)
+text-unbroken r found is noted =
+    noted-none (OfEither r.form (seen_lines r.lines)) (subst (λ (f : Option Fault). Notes None f (OfEither r.form (seen_lines r.lines))) is noted)
+
+pub text-module : (r : Readings) (form : Form) (ls : List NumberedReading) → form ≡ r.form → ls ≡ r.lines → (whole : LinedModule)
+    → HasNoResolvedFault r.form (seen_lines r.lines) → whole ≡ (resolved form (seen_lines ls)).whole → whole ≡ module_of r.form (seen_lines r.lines)
+text-module r form ls f l whole none is =
+    resolved-module r.form (seen_lines r.lines) whole none
+    (is ∙ ap (λ (m : Form). (resolved m (seen_lines ls)).whole) f ∙ ap (λ (xs : List NumberedReading). (resolved r.form (seen_lines xs)).whole) l)
 
 -- ---- the answer
 
