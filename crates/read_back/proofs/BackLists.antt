@@ -144,9 +144,6 @@ CalleeBelow names (callees.Fun func) = func.0 < length names.funcs
 CalleeBelow names (callees.New layout) = layout < length names.layouts
 CalleeBelow names _ = ⊤
 
-fixed_name : (name : List ℕ) → Contains Rattle.ir_ast.specs.Faults.Reserved.externals name → IsExternalName name
-fixed_name name c = inl c
-
 pub callee-back : (names : Names) (known : Known) → Setting names known → NamesAreFree names → (callee : Callee) → CalleeBelow names callee
     → callee_of known (callee_name names callee) ≡ callee
 callee-back names known s free (callees.Fun func) below =
