@@ -1,7 +1,7 @@
 -- Instructions with lists: phis, calls, and switches with their cases.
 use Rattle.std.proofs.Common.{◌≡◌, ◌∙◌, ℕ, ◌<◌, true, false, ◌&&◌, inl, inr, List, [], ◌∷◌, ◌++◌, map, length, replicate, refl, ap, sym, subst, arith, codes}
 use Rattle.std.specs.Prelude.{Some, None, filter_map, ⊤, ◌⊎◌}
-use Rattle.std.specs.List.{All, AllByRecursion, AllZip, zip, Contains}
+use Rattle.std.specs.List.{All, AllByRecursion, AllZip, zip}
 use Rattle.sp_ids.specs.declared.ids.BlockId.{BlockId}
 use Rattle.sp_ids.specs.declared.ids.FuncId.{FuncId}
 use Rattle.ir_ast.specs.declared.types.Ty.{Ty}
