@@ -144,7 +144,7 @@ callee_parts names callees.Check ts inst layouts functions = (tt, functions)
 callee_parts names callees.Same ts inst layouts functions = (tt, functions)
 
 -- those that an instruction without a bundle passes
-passed_functions : (P : ℕ → Type 0) (inst : Instruction) → inst.bundle ≡ [] → AllByRecursion P (functions_named (record inst { op = ops.Load })) → FunctionsOf P inst.operands
+pub passed_functions : (P : ℕ → Type 0) (inst : Instruction) → inst.bundle ≡ [] → AllByRecursion P (functions_named (record inst { op = ops.Load })) → FunctionsOf P inst.operands
 passed_functions P inst bundle all =
     subst (λ (b : List (Ty × Operand)). AllByRecursion P
     (functions_named (record { result = inst.result; op = ops.Load; ty = inst.ty; operands = inst.operands; labels = inst.labels; bundle = b }))) bundle all
