@@ -1,17 +1,13 @@
 -- What the absence of faults tells of the lines of a function.
 use Rattle.std.proofs.Common.{◌≡◌, ◌∙◌, ℕ, Bool, true, false, not, ◌&&◌, ◌||◌, List, [], ◌∷◌, refl, ap, sym}
-use Rattle.std.specs.Prelude.{is_none, filter_map, ⊤}
-use Rattle.std.specs.List.{AllByRecursion, Contains, list_any, cons_option}
+use Rattle.std.specs.List.{AllByRecursion, Contains, list_any}
 use Rattle.std.proofs.lemmas.Bool.Decides.{Decides-eqb}
 use Rattle.line_parts.specs.declared.readings.TypeWord.{TypeWord}
 use Rattle.line_parts.specs.declared.readings.TypeWord.TheVariants.{Void, Int, Managed, Plain}
-use Rattle.line_parts.specs.Parts.{Val}
-use Rattle.line_parts.specs.Parts as values
 use Rattle.ir_lines.specs.Statements.{Line, Statement}
-use Rattle.ir_lines.specs.Parts.{local_name}
 use Rattle.ir_lines.specs.Sections.{Definition, definitions_of}
-use Rattle.ir_lines.specs.Scope.{Scope, scope_of, value_named}
-use Rattle.ir_lines.specs.Types.{same_type, same_types, fits}
+use Rattle.ir_lines.specs.Scope.{Scope, scope_of}
+use Rattle.ir_lines.specs.Types.{same_type, same_types}
 use Rattle.ir_lines.specs.InBody.{InBody}
 
 pub not-true : (b : Bool) → ¬ (b ≡ true) → b ≡ false

@@ -1,9 +1,9 @@
 -- The function of a definition of a text without a fault.
-use Rattle.std.proofs.Common.{◌≡◌, ◌∙◌, ℕ, ◌<◌, ◌≤◌, ◌+◌, Bool, true, false, if◌then◌else◌, List, [], ◌∷◌, ◌++◌, map, length, drop, refl, ap, sym, subst, arith, length-append}
-use Rattle.std.specs.Prelude.{Option, Some, None, IfSome, is_none, filter_map, flat_map, count_by, decimal, unwrap_or, slice_get}
+use Rattle.std.proofs.Common.{◌≡◌, ℕ, ◌<◌, ◌≤◌, ◌+◌, Bool, true, false, if◌then◌else◌, List, [], ◌∷◌, ◌++◌, map, length, drop, refl, ap, sym, subst, arith, length-append}
+use Rattle.std.specs.Prelude.{Option, Some, None, IfSome, is_none, filter_map, flat_map, decimal, unwrap_or, slice_get}
 use Rattle.std.specs.List.{All, AllByRecursion, AllZip, list_any, list_all}
 use Rattle.std.proofs.lemmas.List.{length-map}
-use Rattle.std.proofs.lemmas.List.Elements.{All-nil, All-cons, All-append, All-same, All-map, All-weaker, All-contains, All-from_recursion, recursion_from_All, All-head, All-tail}
+use Rattle.std.proofs.lemmas.List.Elements.{All-nil, All-cons, All-append, All-same, All-map, All-weaker, All-contains, All-from_recursion, recursion_from_All}
 use Rattle.std.proofs.lemmas.List.Sums.{count_by-le-length}
 use Rattle.std.proofs.lemmas.Option.{slice_get_within}
 use Rattle.std.proofs.lemmas.Bool.{agree_below_at}
@@ -33,7 +33,7 @@ use Rattle.ir_cfg.specs.Limits.{IsName, HasNames}
 use Rattle.std.specs.Fmt.{digits}
 use Rattle.sp_text.specs.Tokens.{is_name}
 use Rattle.line_parts.specs.declared.readings.TypeWord.{TypeWord}
-use Rattle.line_parts.specs.declared.readings.TypeWord.TheVariants.{Void, Int, Managed, Plain}
+use Rattle.line_parts.specs.declared.readings.TypeWord.TheVariants.{Int, Managed}
 use Rattle.line_parts.specs.Lists.{Named}
 use Rattle.ir_lines.specs.Statements.{Line, Statement, label, binary, compare, convert, select, phi, scalar_step, layout_step, load, store, call, jump, branch, switch, ret_void, ret, unreachable, cast, statepoint, gc_result, gc_relocate}
 use Rattle.ir_lines.specs.Parts.{gives, token_type}
@@ -46,7 +46,7 @@ use Rattle.ir_resolve.specs.TextFaults.{reserved}
 use Rattle.ir_resolve.specs.ModuleFaults.{IsTypedBesidesCalls}
 use Rattle.ir_resolve.specs.FaultSet.{of_text}
 use Rattle.ir_resolve.proofs.Unbroken.{IsUnbroken, unbroken_of, unbroken_typed, unbroken_cases}
-use Rattle.ir_lines.specs.ReadLines.{SaysRead, IsReadArgument, IsNameIfAny, IsValueType, IsReadCall, instruction_count}
+use Rattle.ir_lines.specs.ReadLines.{SaysRead, IsReadArgument, IsNameIfAny, IsReadCall, instruction_count}
 use Rattle.module_laws.proofs.LawBodies.{body_insts, func_insts}
 use Rattle.module_laws.proofs.LawFacts.{or-left, or-right}
 use Rattle.module_laws.proofs.LawValues.{few_insts, length-named}

@@ -1,9 +1,9 @@
 -- Phis, calls and terminators; and the instruction of any line.
-use Rattle.std.proofs.Common.{◌≡◌, ◌≢◌, ◌∙◌, ℕ, suc, ◌<◌, ◌-◌, ◌^◌, true, false, not, ◌||◌, ◌==◌, List, [], ◌∷◌, ◌++◌, map, length, min, refl, ap, sym, subst, arith}
-use Rattle.std.specs.Prelude.{Option, Some, None, IfSome, is_none, is_some, find, slice_get, option_map, filter_map, flat_map, ⊤}
-use Rattle.std.specs.List.{All, AllByRecursion, AllZip, Contains, list_any, list_all}
+use Rattle.std.proofs.Common.{◌≡◌, ◌∙◌, ℕ, suc, ◌<◌, true, false, not, List, [], ◌∷◌, map, length, refl, ap, sym, subst, arith}
+use Rattle.std.specs.Prelude.{Option, Some, None, is_none, is_some, option_map, flat_map}
+use Rattle.std.specs.List.{All, AllByRecursion, list_any, list_all}
 use Rattle.std.proofs.lemmas.List.{length-map}
-use Rattle.std.proofs.lemmas.List.Elements.{All-nil, All-cons, All-append, All-from_recursion, recursion_from_All}
+use Rattle.std.proofs.lemmas.List.Elements.{All-nil, All-append, All-from_recursion, recursion_from_All}
 use Rattle.sp_ids.specs.declared.ids.BlockId.{BlockId}
 use Rattle.ir_ast.specs.declared.types.Ty.{Ty}
 use Rattle.ir_ast.specs.declared.types.Ty.TheVariants as tys
@@ -24,11 +24,10 @@ use Rattle.line_parts.specs.Parts.{Val, is_case_value}
 use Rattle.line_parts.specs.Parts as values
 use Rattle.line_parts.specs.Lists.{Given, given, function}
 use Rattle.ir_lines.specs.Statements.{Line, Statement, layout_step, call, switch, switch_case}
-use Rattle.ir_lines.specs.Parts.{passed_value, entry_use}
 use Rattle.ir_lines.specs.Sections.{Definition, LayoutLine, BlockLines, blocks_of, layouts_of}
-use Rattle.ir_lines.specs.Scope.{scope_of, layout_named, block_named, block_number}
+use Rattle.ir_lines.specs.Scope.{scope_of, layout_named, block_named}
 use Rattle.ir_lines.specs.Places.{number_in}
-use Rattle.ir_lines.specs.Modules.{Known, known_of, type_of, layout_of, operand_in, operand_of, entry_operand, entry_label, label_of, label_in, passed_operand, given_type, instruction, instruction_said, place_of, block_of, callee_of, case_values, case_labels}
+use Rattle.ir_lines.specs.Modules.{known_of, type_of, layout_of, operand_in, operand_of, entry_operand, entry_label, label_of, passed_operand, given_type, instruction, place_of, block_of, callee_of, case_values, case_labels}
 use Rattle.ir_lines.specs.Faults.TypeClash.{call_agrees}
 use Rattle.ir_lines.specs.ReadLines.{SaysRead, IsValueType, IsReadCall, IsReadPassed}
 use Rattle.ir_lines.proofs.LawNames.{stands, stands_below, number-is}

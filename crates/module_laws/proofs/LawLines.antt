@@ -1,7 +1,7 @@
 -- What is known of each line of a function of a text without a fault of its own.
-use Rattle.std.proofs.Common.{◌≡◌, ◌∙◌, ℕ, ◌<◌, ◌≤◌, ◌^◌, ◌%◌, ◌-◌, Bool, true, false, not, ◌||◌, List, [], ◌∷◌, ◌++◌, map, length, get_or, refl, ap, sym, subst, arith, replicate}
-use Rattle.std.specs.Prelude.{Some, is_none, slice_get, option_map, if◌then◌else◌}
-use Rattle.std.specs.List.{All, AllByRecursion, AllZip, Contains, list_any}
+use Rattle.std.proofs.Common.{◌≡◌, ◌∙◌, ℕ, ◌<◌, ◌^◌, ◌%◌, ◌-◌, true, false, ◌||◌, List, ◌++◌, map, length, get_or, refl, arith}
+use Rattle.std.specs.Prelude.{is_none, if◌then◌else◌}
+use Rattle.std.specs.List.{All, AllByRecursion, Contains, list_any}
 use Rattle.std.proofs.lemmas.List.Elements.{All-contains, Contains-get_or, recursion_from_All}
 use Rattle.std.proofs.Common.{mod-lt}
 use Rattle.std.proofs.lemmas.Nat.{pow_pos}
@@ -16,7 +16,7 @@ use Rattle.line_parts.specs.Parts.{Val}
 use Rattle.line_parts.specs.Parts as values
 use Rattle.ir_lines.specs.Statements.{Line, Statement, cast}
 use Rattle.ir_lines.specs.Parts.{uses, is_of_group, values_named, targets, entry_labels, functions_named, layouts_named}
-use Rattle.ir_lines.specs.Sections.{Definition, Naming, definitions_of, values_of}
+use Rattle.ir_lines.specs.Sections.{Definition, definitions_of, values_of}
 use Rattle.ir_lines.specs.Scope.{Scope, scope_of, value_named, block_named, head_named, layout_named}
 use Rattle.ir_lines.specs.Modules.{known_of, operand_in, wrapped, function_of}
 use Rattle.ir_lines.specs.ReadLines.{IsReadLines, IsReadFunction, SaysRead}

@@ -21,7 +21,7 @@ use Rattle.ir_cfg.specs.Limits.{IsName, IsWithinLimits}
 use Rattle.line_parts.specs.declared.readings.TypeWord.{TypeWord}
 use Rattle.ir_lines.specs.Statements.{Line}
 use Rattle.ir_lines.specs.Sections.{Definition, LayoutLine, BlockLines, layouts_of, definitions_of, blocks_of, arguments_named}
-use Rattle.ir_lines.specs.Modules.{known_of, type_of, cell_of, layout_of, argument_of, block_of, function_of}
+use Rattle.ir_lines.specs.Modules.{known_of, cell_of, layout_of, argument_of, block_of, function_of}
 use Rattle.ir_resolve.specs.TextFaults.{bad_layout, reserved}
 use Rattle.ir_resolve.specs.FaultSet.{HasNoResolvedFault, of_text}
 use Rattle.ir_lines.specs.Faults.BadLayout.{is_bad_layout, are_cells}
