@@ -1,6 +1,6 @@
 -- The calls that a module is printed with agree with the heads of what they call, and each statepoint has as many arguments
 -- as it counts.
-use Rattle.std.proofs.Common.{◌≡◌, ◌≢◌, ◌∙◌, inl, inr, ℕ, zero, suc, pos, ◌^◌, ◌<◌, ◌≤◌, Bool, true, false, not, ◌&&◌, ◌||◌, if◌then◌else◌, List, [], ◌∷◌, ◌++◌, map, length, drop, refl, ap, sym, subst, arith, codes}
+use Rattle.std.proofs.Common.{◌≡◌, ◌≢◌, ◌∙◌, inl, inr, ℕ, suc, pos, ◌^◌, ◌≤◌, Bool, true, false, not, ◌&&◌, ◌||◌, if◌then◌else◌, List, [], ◌∷◌, ◌++◌, map, length, drop, refl, ap, sym, subst, arith, codes}
 use Rattle.std.specs.Prelude.{Option, Some, None, take, slice_get, option_map}
 use Rattle.std.specs.Option.{option_map_or}
 use Rattle.std.specs.Str.{bytes_eq}
@@ -53,6 +53,7 @@ use Rattle.ir_resolve.specs.TextFaults.{says_wrong, miscounts}
 use Rattle.ir_lines.specs.Modules.{passed_type}
 use Rattle.ir_lines.specs.Faults.TypeClash.{is_task, starts_task, gives_kind, checks_kind, agrees, call_agrees, takes_types, statepoint_agrees}
 use Rattle.ir_lines.specs.TextForms.{is_source}
+use Rattle.list_laws.proofs.Places.{get_taken}
 use Rattle.ir_lines.proofs.LawNames.{stands, contains_get, same_by_name}
 use Rattle.module_laws.proofs.LawFacts.{not-true}
 use Rattle.module_laws.proofs.LawHeads.{HeadFrom, from_definition, from_declaration, heads-from}
@@ -404,12 +405,6 @@ call_keeps form content shaped lines e one func k callees.Same below found ts ty
 
 -- ---- statepoints
 
-get_front : {X : Type 0} (n : ℕ) (xs : List X) (i : ℕ) → i < n → slice_get (take n xs) i ≡ slice_get xs i
-get_front zero xs i low = absurd (omega arith)
-get_front (suc n) [] i low = refl
-get_front (suc n) (x ∷ xs) zero low = refl
-get_front (suc n) (x ∷ xs) (suc i) low = get_front n xs i (omega arith)
-
 -- what is asked of the operands of a call is asked of the arguments in front
 takes_front : (content : ModuleContent) (func : Function) (callee : Callee) (ts : List Ty) (ty : Ty) (os : List Operand)
     → (module_scope.scope_of content func).called callee ≡ Some (record { answer = ty; params = ts }) → TakesOperands (module_scope.scope_of content func) callee os
@@ -418,12 +413,12 @@ takes_front content func callees.TaskStart ts ty os signature takes =
     let sig : Signature = record { answer = tys.Void; params = tys.Void ∷ tys.Ptr ∷ [] } in
     let same : sig ≡ record { answer = ty; params = ts } = same_Some sig (record { answer = ty; params = ts }) signature in
     let long : 2 ≡ length ts = ap (λ (s : Signature). length s.params) same in
-    (takes.0, get_front (length ts) os 0 (omega arith) ∙ takes.1, takes.2)
+    (takes.0, get_taken os 0 (length ts) (omega arith) ∙ takes.1, takes.2)
 takes_front content func callees.Check ts ty os signature takes =
     let sig : Signature = record { answer = tys.Void; params = tys.Ptr ∷ tys.Ptr ∷ tys.Int 64 ∷ [] } in
     let same : sig ≡ record { answer = ty; params = ts } = same_Some sig (record { answer = ty; params = ts }) signature in
     let long : 3 ≡ length ts = ap (λ (s : Signature). length s.params) same in
-    (takes.0, get_front (length ts) os 2 (omega arith) ∙ takes.1)
+    (takes.0, get_taken os 2 (length ts) (omega arith) ∙ takes.1)
 takes_front content func (callees.Fun named) ts ty os signature takes = tt
 takes_front content func (callees.New layout) ts ty os signature takes = tt
 takes_front content func callees.Print ts ty os signature takes = tt

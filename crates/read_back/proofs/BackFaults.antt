@@ -4,6 +4,7 @@ use Rattle.std.specs.Prelude.{Option, Some, ⊤, flat_map, slice_get, take}
 use Rattle.std.specs.Str.{bytes_eq}
 use Rattle.std.proofs.lemmas.Bool.{ne_eqb}
 use Rattle.std.specs.List.{AllByRecursion, AllZip, Contains, list_all, list_any, range_with_len}
+use Rattle.std.proofs.lemmas.List.Folds.{list_any_at}
 use Rattle.std.proofs.lemmas.List.Elements.{recursion_from_All, All-from_recursion, All-contains, All-contains_itself, All-weaker, Contains-append_left, Contains-append_right}
 use Rattle.ir_ast.specs.declared.cells.Cell.{Cell}
 use Rattle.ir_ast.specs.declared.cells.Cell.TheVariants as cells
@@ -34,7 +35,7 @@ use Rattle.ir_lines.specs.Faults.NoStrategy.{lacks_strategy, NoStrategy}
 use Rattle.ir_lines.specs.Faults.PointerCast.{is_cast, PointerCast}
 use Rattle.std.proofs.lemmas.Slice.Eq.{bytes_eq-Decides}
 use Rattle.module_laws.proofs.LawFacts.{or-right}
-use Rattle.ir_lines.proofs.LawNames.{contains_get, contains_cons, contains_map, get_some}
+use Rattle.ir_lines.proofs.LawNames.{contains_get, contains_map, get_some}
 use Rattle.read_back.specs.Said.{word_of, cell_word, operator_says, instruction_says, block_says, function_says, layout_says, argument_says, declaration_says, declaration_if_called, said_by, unnamed}
 use Rattle.read_back.proofs.BackLines.{said}
 use Rattle.read_back.proofs.BackInsts.{split_all}
@@ -248,13 +249,7 @@ pointer_cast-clear content lines e line f =
 -- ---- declarations
 
 pub any_true : {X : Type 0} (p : X → Bool) (xs : List X) (x : X) → Contains xs x → p x ≡ true → list_any p xs ≡ true
-any_true p [] x c e = absurd (omega (arith, c.1))
-any_true {X} p (y ∷ ys) x c e = by (p y) refl (contains_cons y x ys c) (λ later. any_true p ys x later e)
-  where
-    by : (b : Bool) → p y ≡ b → (y ≡ x) ⊎ Contains ys x → (Contains ys x → list_any p ys ≡ true) → list_any p (y ∷ ys) ≡ true
-    by true is at more = ap (λ (b : Bool). b || list_any p ys) is
-    by false is (inl same) more = absurd (let bad : true ≡ false = sym e ∙ ap p (sym same) ∙ is in cc)
-    by false is (inr later) more = ap (λ (b : Bool). b || list_any p ys) is ∙ more later
+any_true p xs x c e = list_any_at p xs c.0 x c.1 (ap p c.2 ∙ e)
 
 -- the name of a helper, or one of LLVM's own
 abbrev is_reserved : List ℕ → Bool

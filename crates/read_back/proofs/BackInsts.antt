@@ -1,9 +1,8 @@
 -- An instruction, by its operator.
 use Rattle.std.proofs.Common.{◌≡◌, ◌∙◌, ℕ, zero, suc, ◌-◌, ◌^◌, ◌<◌, true, false, ◌&&◌, ◌||◌, ◌==◌, inl, inr, List, [], ◌∷◌, ◌++◌, map, length, drop, replicate, refl, ap, sym, subst, arith}
-use Rattle.std.specs.Prelude.{Option, Some, None, is_none, ◌⊎◌, flat_map, take}
+use Rattle.std.specs.Prelude.{Option, Some, None, is_none, ◌⊎◌, flat_map, take, slice_get, unwrap_or}
 use Rattle.std.specs.List.{All, AllByRecursion, AllZip, list_all, zip}
 use Rattle.std.proofs.lemmas.List.Elements.{All-from_recursion, recursion_from_All}
-use Rattle.sp_ids.specs.declared.ids.BlockId.{BlockId}
 use Rattle.sp_ids.specs.declared.ids.FuncId.{FuncId}
 use Rattle.ir_ast.specs.declared.types.Ty.{Ty}
 use Rattle.ir_ast.specs.declared.types.Ty.TheVariants as tys
@@ -40,7 +39,7 @@ use Rattle.ir_printer.specs.Operands.{operand_at, label_at}
 use Rattle.read_back.specs.Said.{width_in, value_at, target_at, operator_says, binary_says, compare_says, convert_says, select_says, phi_says, step_says, load_says, store_says, call_says, statepoint_says, gc_result_says, gc_relocate_says, jump_says, branch_says, case_says, switch_says, return_says}
 use Rattle.ir_cfg.specs.Statepoints.{IdIsWord}
 use Rattle.read_back.proofs.BackNames.{Setting, Good, operand-back, label-back}
-use Rattle.read_back.proofs.BackLines.{said, cons_parts, single, same-inst, no_result, integer-is, integer-word, void-is, at, lab, binary-back, compare-back, convert-back, select-back, load-back, store-back, step-back, jump-back, branch-back, return-back}
+use Rattle.read_back.proofs.BackLines.{said, cons_parts, single, same-inst, no_result, integer-is, integer-word, void-is, binary-back, compare-back, convert-back, select-back, load-back, store-back, step-back, jump-back, branch-back, return-back}
 use Rattle.read_back.proofs.BackLists.{Below, each_given, phi-back, Passes, NamesAreFree, CalleeBelow, call-back, Cases, cases-back}
 use Rattle.read_back.proofs.BackGroups.{statepoint-back, result-back, relocate-back}
 use Rattle.read_back.proofs.Fronts.{FunctionsOf, front_fit, front_functions}
@@ -145,7 +144,7 @@ callee_parts names callees.Check ts inst layouts functions = (tt, functions)
 callee_parts names callees.Same ts inst layouts functions = (tt, functions)
 
 -- those that an instruction without a bundle passes
-passed_functions : (P : ℕ → Type 0) (inst : Instruction) → inst.bundle ≡ [] → AllByRecursion P (functions_named (record inst { op = ops.Load })) → FunctionsOf P inst.operands
+pub passed_functions : (P : ℕ → Type 0) (inst : Instruction) → inst.bundle ≡ [] → AllByRecursion P (functions_named (record inst { op = ops.Load })) → FunctionsOf P inst.operands
 passed_functions P inst bundle all =
     subst (λ (b : List (Ty × Operand)). AllByRecursion P
     (functions_named (record { result = inst.result; op = ops.Load; ty = inst.ty; operands = inst.operands; labels = inst.labels; bundle = b }))) bundle all
@@ -206,15 +205,10 @@ statepoint_case names known s free id callee ts inst p rest =
 
 -- ---- switches
 
-first_is : (os : List Operand) (P : Operand → Type 0) → 0 < length os → AllByRecursion P os
-    → P (at os 0) × AllByRecursion P (drop 1 os) × ((x : Operand) (xs : List Operand) → x ≡ at os 0 → xs ≡ drop 1 os → x ∷ xs ≡ os)
-first_is [] P some h = absurd (omega arith)
-first_is (o ∷ os) P some h = (h.0, h.1, λ x xs e f. ap (λ y. y ∷ xs) e ∙ ap (λ ys. o ∷ ys) f)
-
-first_label : (ls : List BlockId) (P : BlockId → Type 0) → 0 < length ls → AllByRecursion P ls
-    → P (lab ls 0) × AllByRecursion P (drop 1 ls) × ((x : BlockId) (xs : List BlockId) → x ≡ lab ls 0 → xs ≡ drop 1 ls → x ∷ xs ≡ ls)
-first_label [] P some h = absurd (omega arith)
-first_label (o ∷ os) P some h = (h.0, h.1, λ x xs e f. ap (λ y. y ∷ xs) e ∙ ap (λ ys. o ∷ ys) f)
+pub first_of : {X : Type 0} (xs : List X) (other : X) (P : X → Type 0) → 0 < length xs → AllByRecursion P xs
+    → P (unwrap_or (slice_get xs 0) other) × AllByRecursion P (drop 1 xs) × ((x : X) (ys : List X) → x ≡ unwrap_or (slice_get xs 0) other → ys ≡ drop 1 xs → x ∷ ys ≡ xs)
+first_of [] other P some h = absurd (omega arith)
+first_of (z ∷ zs) other P some h = (h.0, h.1, λ x ys e f. ap (λ y. y ∷ ys) e ∙ ap (λ ks. z ∷ ks) f)
 
 less_one : {X Y : Type 0} (xs : List X) (ys : List Y) → length xs ≡ length ys → length (drop 1 xs) ≡ length (drop 1 ys)
 less_one [] [] e = refl
@@ -232,9 +226,9 @@ switch-back names known s inst o has some good below [] rest e =
 switch-back names known s inst o has some good below (k ∷ ks) rest e =
     let head = switch (width_in inst.ty) (value_at names inst.ty inst 0) (target_at names inst 0) in
     let parts = cons_parts k.says (said ks) head (map (case_says names inst.ty) (zip (drop 1 inst.operands) (drop 1 inst.labels)) ++ switch_end ∷ []) e in
-    let os = first_is inst.operands (λ x. Good names x inst.ty) some (each_given (Good names) inst.ty inst.operands good) in
+    let os = first_of inst.operands operands.Null (λ x. Good names x inst.ty) some (each_given (Good names) inst.ty inst.operands good) in
     let count : length inst.labels ≡ length inst.operands = has.label_count in
-    let ls = first_label inst.labels (Below names) (omega arith) below in
+    let ls = first_of inst.labels (record { 0 = 0 }) (Below names) (omega arith) below in
     let cases : Cases names known inst.ty (drop 1 inst.operands) (drop 1 inst.labels) ks rest =
     cases-back names known s inst.ty has.type (drop 1 inst.operands) (drop 1 inst.labels) ks rest (less_one inst.labels inst.operands count) os.1 ls.1 parts.1 in
     let is : instruction_said known (ks ++ rest) head ≡ Some inst =

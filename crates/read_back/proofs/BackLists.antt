@@ -1,7 +1,7 @@
 -- Instructions with lists: phis, calls, and switches with their cases.
 use Rattle.std.proofs.Common.{◌≡◌, ◌∙◌, ℕ, ◌<◌, true, false, ◌&&◌, inl, inr, List, [], ◌∷◌, ◌++◌, map, length, replicate, refl, ap, sym, subst, arith, codes}
 use Rattle.std.specs.Prelude.{Some, None, filter_map, ⊤, ◌⊎◌}
-use Rattle.std.specs.List.{All, AllByRecursion, AllZip, zip, Contains}
+use Rattle.std.specs.List.{All, AllByRecursion, AllZip, zip}
 use Rattle.sp_ids.specs.declared.ids.BlockId.{BlockId}
 use Rattle.sp_ids.specs.declared.ids.FuncId.{FuncId}
 use Rattle.ir_ast.specs.declared.types.Ty.{Ty}
@@ -143,9 +143,6 @@ abbrev pub CalleeBelow : Names → Callee → Type 0
 CalleeBelow names (callees.Fun func) = func.0 < length names.funcs
 CalleeBelow names (callees.New layout) = layout < length names.layouts
 CalleeBelow names _ = ⊤
-
-fixed_name : (name : List ℕ) → Contains Rattle.ir_ast.specs.Faults.Reserved.externals name → IsExternalName name
-fixed_name name c = inl c
 
 pub callee-back : (names : Names) (known : Known) → Setting names known → NamesAreFree names → (callee : Callee) → CalleeBelow names callee
     → callee_of known (callee_name names callee) ≡ callee

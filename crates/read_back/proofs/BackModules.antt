@@ -165,7 +165,7 @@ printed_in of content shaped func c plain inst d = one
               (All-contains (λ (f : Function). All (λ (i : Instruction). IdIsWord i.op) (instructions_of f.blocks)) content.funcs func shaped.ids c) d;
         }
 
-pub printed_inst : (content : ModuleContent) → IsBare Source content → (func : Function) → Contains content.funcs func
+printed_inst : (content : ModuleContent) → IsBare Source content → (func : Function) → Contains content.funcs func
     → (inst : Instruction) → Contains (instructions_of func.blocks) inst → IsPrinted (names_in content func) inst.op inst
 printed_inst content source func c inst d =
     let clean : FunctionHasNoFault content func = All-contains (FunctionHasNoFault content) content.funcs func source.typed.no_fault.functions c in
@@ -234,7 +234,7 @@ setting content shaped lines e one func says c few names =
       few_layouts = omega arith;
     }
 
-pub function-names : (layouts : List ObjectLayout) (funcs : List Function) (ones : List Definition) (fs : List Function) → AllZip (SaysDefinition layouts funcs) ones fs
+function-names : (layouts : List ObjectLayout) (funcs : List Function) (ones : List Definition) (fs : List Function) → AllZip (SaysDefinition layouts funcs) ones fs
     → map (λ d. d.name) ones ≡ map (λ f. f.name) fs
 function-names layouts funcs [] [] h = refl
 function-names layouts funcs [] (f ∷ fs) h = absurd h
@@ -244,7 +244,7 @@ function-names layouts funcs (d ∷ ds) (f ∷ fs) h =
 
 -- ---- the module
 
-pub function-back : (content : ModuleContent) → IsShaped content → (known : Known) (one : Definition) (func : Function)
+function-back : (content : ModuleContent) → IsShaped content → (known : Known) (one : Definition) (func : Function)
     → SaysDefinition content.layouts content.funcs one func → Contains content.funcs func → Setting (names_in content func) known
     → function_of known one ≡ func
 function-back content shaped known one func says c s =
@@ -277,7 +277,7 @@ blocks_few (b ∷ bs) ends =
     let one : 1 ≤ length b.insts = (let l = ap length ends.0.whole ∙ length-append ends.0.before (ends.0.last ∷ []) in omega arith) in
     omega (arith, length-append b.insts (instructions_of bs))
 
-pub few_in : (content : ModuleContent) → IsShaped content → (func : Function) → Contains content.funcs func → length func.blocks < 2 ^ 32
+few_in : (content : ModuleContent) → IsShaped content → (func : Function) → Contains content.funcs func → length func.blocks < 2 ^ 32
 few_in content shaped func c =
     let insts = All-contains (λ (f : Function). length (instructions_of f.blocks) < 2 ^ 30) content.funcs func shaped.few c in
     let end = All-contains (λ (f : Function). All (λ (block : BasicBlock). EndsAtTerminator block.insts) f.blocks) content.funcs func shaped.ends c in

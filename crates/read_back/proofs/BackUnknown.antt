@@ -1,5 +1,5 @@
 -- The lines that a module is printed as name what there is.
-use Rattle.std.proofs.Common.{◌≡◌, ◌∙◌, ◌⊎◌, inl, inr, ℕ, zero, suc, ◌+◌, ◌<◌, ◌≤◌, Bool, true, false, not, ◌||◌, ◌==◌, if◌then◌else◌, List, [], ◌∷◌, ◌++◌, map, length, drop, refl, ap, sym, subst, arith}
+use Rattle.std.proofs.Common.{◌≡◌, ◌∙◌, ℕ, zero, suc, ◌+◌, ◌<◌, Bool, true, false, not, ◌||◌, ◌==◌, if◌then◌else◌, List, [], ◌∷◌, ◌++◌, map, length, drop, refl, ap, sym, subst, arith}
 use Rattle.std.specs.Prelude.{Option, Some, None, IfSome, is_none, unwrap_or, find, flat_map, take, slice_get, filter_map}
 use Rattle.std.specs.Option.{option_map_or}
 use Rattle.std.specs.Str.{bytes_eq}
@@ -7,7 +7,7 @@ use Rattle.std.specs.List.{AllByRecursion, AllZip, Contains, list_any, cons_opti
 use Rattle.std.proofs.lemmas.Bool.Decides.{Decides-eqb}
 use Rattle.std.proofs.lemmas.Option.{slice_get_within}
 use Rattle.std.proofs.lemmas.List.{length-map}
-use Rattle.std.proofs.lemmas.List.Elements.{Contains-append_left, Contains-append_right, Contains-append_cases}
+use Rattle.std.proofs.lemmas.List.Elements.{recursion_from_All, Contains-append_left, Contains-append_right}
 use Rattle.sp_ids.specs.Numbers.{wrapped, signed}
 use Rattle.sp_ids.specs.declared.ids.BlockId.{BlockId}
 use Rattle.ir_ast.specs.declared.modules.Form.{Form}
@@ -43,7 +43,9 @@ use Rattle.ir_lines.specs.Parts.{uses, targets, entry_labels, functions_named, l
 use Rattle.ir_lines.specs.Sections.{LayoutLine, Head, Definition, Naming, BlockLines, layouts_of, heads_of, values_of, blocks_of}
 use Rattle.ir_lines.specs.Scope.{Scope, scope_of, value_named, block_named, head_named, layout_named}
 use Rattle.ir_lines.specs.Faults.UnknownName.{names_unknown, UnknownName}
-use Rattle.ir_lines.proofs.LawNames.{get_some, contains_get, contains_map, contains_cons, contains_later, contains_first}
+use Rattle.std.proofs.lemmas.List.FromFn.{length-range_with_len, get_or-range_with_len}
+use Rattle.list_laws.proofs.Contents.{contains_joined, joined_contains, all_contained}
+use Rattle.ir_lines.proofs.LawNames.{get_some, contains_get, contains_map}
 use Rattle.module_laws.proofs.LawCalls.{found_by_name, contains_mapped}
 use Rattle.read_back.specs.Said.{literal_of, value_says, passed_says, target_at, entry_says, step_says, case_says, return_says, operator_says, declaration_says, said_by}
 use Rattle.read_back.proofs.BackLines.{said}
@@ -186,20 +188,11 @@ return_others scope names tys.Token inst = (tt, tt, tt)
 
 -- ---- calls
 
-contains_range : (first more k : ℕ) → first ≤ k → k < first + more → Contains (range_with_len first more) k
-contains_range first zero k low high = absurd (omega arith)
-contains_range first (suc more) k low high = by (first == k) refl (λ above. contains_range (first + 1) more k above (omega arith))
-  where
-    by : (b : Bool) → (first == k) ≡ b → (first + 1 ≤ k → Contains (range_with_len (first + 1) more) k) → Contains (first ∷ range_with_len (first + 1) more) k
-    by true e later = subst (λ (n : ℕ). Contains (first ∷ range_with_len (first + 1) more) n) ((Decides-eqb first k).0 e) (contains_first first (range_with_len (first + 1) more))
-    by false e later =
-        let other : ¬ (first ≡ k) = λ same. let bad : true ≡ false = sym ((Decides-eqb first k).1 same) ∙ e in cc in
-        contains_later first k (range_with_len (first + 1) more) (later (omega arith))
-
 made_external : (layouts : List ObjectLayout) (k : ℕ) → k < length layouts → Contains (externals layouts) (externs.New k)
 made_external layouts k below =
     Contains-append_left (map externs.New (range_with_len 0 (length layouts))) (fixed_externals ++ (map externs.ResultOf integer_widths ++ externs.ResultPointer ∷ [])) (externs.New k)
-    (contains_map externs.New (range_with_len 0 (length layouts)) k (contains_range 0 (length layouts) k (omega arith) (omega arith)))
+    (contains_map externs.New (range_with_len 0 (length layouts)) k
+    (k, omega (arith, length-range_with_len 0 (length layouts)), get_or-range_with_len 0 (length layouts) k k below ∙ (let e : 0 + k ≡ k = omega arith in e)))
 
 fixed_external : (layouts : List ObjectLayout) (i : ℕ) (e : External) → slice_get fixed_externals i ≡ Some e → Contains (externals layouts) e
 fixed_external layouts i e at =
@@ -295,20 +288,9 @@ head_there content lines e one name c =
 
 called_name : (layouts : List ObjectLayout) (funcs : List Function) (es : List External) (e : External) (name : List ℕ) → Contains es e → calls funcs e ≡ true
     → Contains (declared_names layouts e) name → Contains (all_names layouts funcs es) name
-called_name layouts funcs [] e name c called d = absurd (omega (arith, c.1))
-called_name layouts funcs (f ∷ fs) e name c called d = by (contains_cons f e fs c) (λ later. called_name layouts funcs fs e name later called d)
-  where
-    here : Contains (names_if layouts funcs e) name
-    here = subst (λ (b : Bool). Contains (flat_map head_names (if b then declaration_says layouts e else [])) name) (sym called) d
-
-    by : (f ≡ e) ⊎ Contains fs e → (Contains fs e → Contains (all_names layouts funcs fs) name) → Contains (all_names layouts funcs (f ∷ fs)) name
-    by (inl same) more = Contains-append_left (names_if layouts funcs f) (all_names layouts funcs fs) name
-        (subst (λ (x : External). Contains (names_if layouts funcs x) name) (sym same) here)
-    by (inr later) more = Contains-append_right (names_if layouts funcs f) (all_names layouts funcs fs) name (more later)
-
-each_contained : (P : List ℕ → Type 0) (xs : List (List ℕ)) → ((x : List ℕ) → Contains xs x → P x) → AllByRecursion P xs
-each_contained P [] h = tt
-each_contained P (x ∷ xs) h = (h x (contains_first x xs), each_contained P xs (λ y c. h y (contains_later x y xs c)))
+called_name layouts funcs es e name c called d =
+    joined_contains (names_if layouts funcs) es e name c
+    (subst (λ (b : Bool). Contains (flat_map head_names (if b then declaration_says layouts e else [])) name) (sym called) d)
 
 -- an instruction stands in a block
 pub some_block : (blocks : List BasicBlock) (inst : Instruction) → Contains (instructions_of blocks) inst → 0 < length blocks
@@ -332,31 +314,23 @@ knows content shaped lines e one func says c some =
           (subst (λ (n : List ℕ). Contains (map (λ (g : Function). g.name) content.funcs) n) (sym name)
           (contains_map (λ (g : Function). g.name) content.funcs f.0 (contains_get content.funcs k f.0 f.1))));
       layout = λ k below. named_there (λ (l : LayoutLine). l.name) (λ (l : ObjectLayout). l.name) (layouts_of lines) content.layouts k (layout-names content lines e) below;
-      declared = λ x there called. each_contained (HeadFound (scope_of lines one)) (declared_names content.layouts x) (λ name d.
+      declared = λ x there called. recursion_from_All (HeadFound (scope_of lines one)) (declared_names content.layouts x)
+          (all_contained (HeadFound (scope_of lines one)) (declared_names content.layouts x) (λ name d.
           head_there content lines e one name
           (Contains-append_left (all_names content.layouts content.funcs (externals content.layouts)) (map (λ (g : Function). g.name) content.funcs) name
-          (called_name content.layouts content.funcs (externals content.layouts) x name there called d)));
+          (called_name content.layouts content.funcs (externals content.layouts) x name there called d))));
     }
 
 -- ---- what a line calls is called
-
-block_with : (blocks : List BasicBlock) (inst : Instruction) → Contains (instructions_of blocks) inst → (block : BasicBlock) × Contains blocks block × Contains block.insts inst
-block_with [] inst c = absurd (omega (arith, c.1))
-block_with (b ∷ bs) inst c = by (Contains-append_cases b.insts (instructions_of bs) inst c) (λ d. block_with bs inst d)
-  where
-    by : Contains b.insts inst ⊎ Contains (instructions_of bs) inst → (Contains (instructions_of bs) inst → (block : BasicBlock) × Contains bs block × Contains block.insts inst)
-        → (block : BasicBlock) × Contains (b ∷ bs) block × Contains block.insts inst
-    by (inl d) later = (b, contains_first b bs, d)
-    by (inr d) later = let more = later d in (more.0, contains_later b more.0 bs more.1, more.2)
 
 pub is_called : (funcs : List Function) (func : Function) (inst : Instruction) (e : External) → Contains funcs func → Contains (instructions_of func.blocks) inst
     → is_call_of e inst.op inst.ty ≡ true → calls funcs e ≡ true
 unfolding calls
 is_called funcs func inst e c d is =
-    let b = block_with func.blocks inst d in
+    let b = contains_joined (λ (block : BasicBlock). block.insts) func.blocks inst d in
     any_true (λ (f : Function). list_any (λ (block : BasicBlock). list_any (λ (i : Instruction). is_call_of e i.op i.ty) block.insts) f.blocks) funcs func c
-    (any_true (λ (block : BasicBlock). list_any (λ (i : Instruction). is_call_of e i.op i.ty) block.insts) func.blocks b.0 b.1
-    (any_true (λ (i : Instruction). is_call_of e i.op i.ty) b.0.insts inst b.2 is))
+    (any_true (λ (block : BasicBlock). list_any (λ (i : Instruction). is_call_of e i.op i.ty) block.insts) func.blocks b.of b.inside
+    (any_true (λ (i : Instruction). is_call_of e i.op i.ty) b.of.insts inst b.given is))
 
 -- ---- code 4
 

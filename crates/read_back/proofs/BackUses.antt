@@ -1,5 +1,5 @@
 -- Each value that a printed line uses is what is printed of an operand, which fits the type that the line asks of it.
-use Rattle.std.proofs.Common.{◌≡◌, ℕ, ◌<◌, true, false, if◌then◌else◌, List, [], ◌∷◌, ◌++◌, map, length, drop, replicate, refl, sym, subst, arith}
+use Rattle.std.proofs.Common.{◌≡◌, ℕ, true, false, if◌then◌else◌, List, [], ◌∷◌, ◌++◌, map, length, drop, replicate, refl, sym, subst, arith}
 use Rattle.std.specs.Prelude.{Option, take, filter_map}
 use Rattle.std.specs.List.{AllByRecursion, AllZip, list_all, zip}
 use Rattle.std.proofs.lemmas.List.Elements.{All-from_recursion, recursion_from_All}
@@ -35,7 +35,7 @@ use Rattle.read_back.proofs.BackLines.{at, integer-word, condition-is, one_given
 use Rattle.read_back.proofs.BackLists.{each_given, Passes}
 use Rattle.read_back.proofs.BackBlocks.{all_append}
 use Rattle.read_back.proofs.BackNames.{Good}
-use Rattle.read_back.proofs.BackInsts.{IsPrintedIn, WidthsOf, good_zip, same_good, one_width, pointer_width, passing, guards}
+use Rattle.read_back.proofs.BackInsts.{IsPrintedIn, WidthsOf, good_zip, same_good, one_width, pointer_width, passing, guards, first_of}
 use Rattle.read_back.proofs.Fronts.{zip_take}
 
 pub record IsUse (names : Names) (used : Val × TypeWord) : Type 0 where
@@ -87,10 +87,6 @@ cases_uses names ty [] ls is good = (tt, tt)
 cases_uses names ty (o ∷ os) [] is good = (tt, tt)
 cases_uses names ty (o ∷ os) (l ∷ ls) is good = ((integer_use names ty o good.0 is, tt), cases_uses names ty os ls is good.1)
 
-first_and_rest : (os : List Operand) (P : Operand → Type 0) → 0 < length os → AllByRecursion P os → P (at os 0) × AllByRecursion P (drop 1 os)
-first_and_rest [] P some h = absurd (omega arith)
-first_and_rest (o ∷ os) P some h = (h.0, h.1)
-
 index_widths : (elem : Elem) (width : ℕ) (place : Option ℕ) → AllByRecursion IsWidth (operator_widths (ops.Gep elem width place)) → WidthsOf (tys.Int width)
 index_widths (elements.Int w) width place h = All-from_recursion IsWidth (width ∷ []) h.1
 index_widths elements.Ptr width place h = All-from_recursion IsWidth (width ∷ []) h
@@ -114,9 +110,9 @@ return_uses : (names : Names) (ty : Ty) (inst : Instruction) → is_answer ty �
     → AllByRecursion (λ o. Good names o ty) inst.operands → Uses names (return_says names ty inst)
 return_uses names tys.Void inst answer count good = tt
 return_uses names (tys.Int w) inst answer count good =
-    (use_of names (tys.Int w) (operand_at inst 0) (first_and_rest inst.operands (λ o. Good names o (tys.Int w)) (omega arith) good).0, tt)
+    (use_of names (tys.Int w) (operand_at inst 0) (first_of inst.operands operands.Null (λ o. Good names o (tys.Int w)) (omega arith) good).0, tt)
 return_uses names tys.Ptr inst answer count good =
-    (use_of names tys.Ptr (operand_at inst 0) (first_and_rest inst.operands (λ o. Good names o tys.Ptr) (omega arith) good).0, tt)
+    (use_of names tys.Ptr (operand_at inst 0) (first_of inst.operands operands.Null (λ o. Good names o tys.Ptr) (omega arith) good).0, tt)
 return_uses names tys.Token inst answer count good = absurd (let bad : false ≡ true = answer in cc)
 
 -- ---- calls and statepoints
@@ -218,7 +214,7 @@ inst_uses names ops.CondBr inst p =
     let given : Good names (operand_at inst 0) (tys.Int 1) = subst (λ (t : Ty). Good names (operand_at inst 0) t) (sym (condition-is inst.ty p.line.type)) one.first in
     ((use_of names (tys.Int 1) (operand_at inst 0) given, tt), tt)
 inst_uses names ops.Switch inst p =
-    let parts = first_and_rest inst.operands (λ o. Good names o inst.ty) p.line.1 (all_good names inst p.line.0.values p.widths p.fits) in (
+    let parts = first_of inst.operands operands.Null (λ o. Good names o inst.ty) p.line.1 (all_good names inst p.line.0.values p.widths p.fits) in (
       (integer_use names inst.ty (operand_at inst 0) parts.0 p.line.0.type, tt),
       cases_uses names inst.ty (drop 1 inst.operands) (drop 1 inst.labels) p.line.0.type parts.1,
     )

@@ -46,7 +46,7 @@ use Rattle.line_parts.specs.Parts.{is_scalar_type}
 use Rattle.read_back.specs.Said.{width_in, result_of, parameter_says, operator_says, binary_says, convert_says}
 use Rattle.read_back.proofs.Fronts.{FunctionsOf, later_functions, front_fit, zip_take, front_functions}
 use Rattle.read_back.proofs.BackLists.{CalleeBelow}
-use Rattle.read_back.proofs.BackInsts.{IsPrintedIn, split_all, callee_parts}
+use Rattle.read_back.proofs.BackInsts.{IsPrintedIn, split_all, callee_parts, passed_functions}
 use Rattle.read_back.proofs.BackLines.{result-is, no_result, integer-is, void-is, pointer-is, condition-is}
 use Rattle.read_back.proofs.Operands.{HaveNames, IsNarrow, in_types}
 use Rattle.read_back.proofs.OneLine.{OneLine, LineIn, counted_as, one_in, made, binary_reads, compare_reads, load_reads, store_reads, jump_reads, return_void_reads, unreachable_reads}
@@ -267,8 +267,7 @@ call_reads names have callee ts inst p = by (is_void inst.ty) refl
     there = callee_parts names callee ts inst p.printed.layouts p.printed.functions
 
     passed : FunctionsOf (λ named. named < length names.funcs) inst.operands
-    passed = subst (λ (b : List (Ty × Operand)). AllByRecursion (λ named. named < length names.funcs)
-        (functions_named (record { result = inst.result; op = ops.Load; ty = inst.ty; operands = inst.operands; labels = inst.labels; bundle = b }))) p.printed.bundle there.1
+    passed = passed_functions (λ named. named < length names.funcs) inst p.printed.bundle there.1
 
     all : AllByRecursion (PassedReads (is_task_start (callee_name names callee)) names) (zip ts inst.operands)
     all = arguments_read names have callee inst.operands ts p.printed.fits p.printed.line.arguments passed (recursion_from_All IsWidth (flat_map type_widths ts) p.printed.own_widths)
@@ -492,8 +491,7 @@ statepoint_case names have id callee takes inst p =
     there = callee_parts names callee takes inst p.printed.layouts p.printed.functions
 
     functions : FunctionsOf (λ named. named < length names.funcs) inst.operands
-    functions = subst (λ (b : List (Ty × Operand)). AllByRecursion (λ named. named < length names.funcs)
-        (functions_named (record { result = inst.result; op = ops.Load; ty = inst.ty; operands = inst.operands; labels = inst.labels; bundle = b }))) p.printed.bundle there.1
+    functions = passed_functions (λ named. named < length names.funcs) inst p.printed.bundle there.1
 
     front : List Operand
     front = take (length takes) inst.operands
