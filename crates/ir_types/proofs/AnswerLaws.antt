@@ -6,7 +6,7 @@ use Rattle.ir_ast.specs.declared.modules.Form.{Form}
 use Rattle.ir_ast.specs.Formed.{IsFormedModule}
 use Rattle.ir_ast.specs.Modules.{LinedModule}
 use Rattle.ir_cfg.specs.DefiniteUses.{UsesAreDefinite}
-use Rattle.ir_cfg.specs.TypedModules.{IsTypedModule, IsModuleOf}
+use Rattle.ir_cfg.specs.TypedModules.{IsModuleOf}
 use Rattle.ir_cfg.proofs.TypedLemmas.{formed_module}
 use Rattle.ir_reader.specs.declared.raw.NumberedReading.{NumberedReading}
 use Rattle.ir_reader.specs.Raws.{Readings, IsRead}

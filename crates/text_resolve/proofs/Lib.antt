@@ -5,3 +5,4 @@ pub mod Contained
 pub mod Heads
 pub mod ScopeLemmas
 pub mod TextUnion
+pub mod Placing

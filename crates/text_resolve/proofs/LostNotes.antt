@@ -1,6 +1,6 @@
 -- What a line loses, code by code, and what it loses by itself and by its cases.
 use Rattle.std.proofs.Common.{◌≡◌, ℕ, inl, inr, Bool, List}
-use Rattle.std.specs.Prelude.{Option, IsTrue}
+use Rattle.std.specs.Prelude.{Option}
 use Rattle.ir_ast.specs.declared.modules.Form.{Form}
 use Rattle.ir_lines.specs.declared.faults.Fault.{Fault}
 use Rattle.ir_lines.specs.Statements.{Line}

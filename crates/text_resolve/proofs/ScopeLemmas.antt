@@ -15,11 +15,11 @@ use Rattle.ir_lines.specs.Tables.{seen_head, IsTop, IsLocal}
 use Rattle.ir_lines.specs.Faults.UnknownName.{names_unknown}
 use Rattle.ir_lines.specs.Faults.PointerCast.{is_cast}
 use Rattle.ir_lines.proofs.NoteLemmas.{notes-then}
-use Rattle.line_checks.specs.LineFaults.{Tables, AreTables, misses_name}
+use Rattle.line_checks.specs.LineFaults.{Tables, AreTables}
 use Rattle.line_checks.proofs.Founds.{notes-alike}
 use Rattle.line_checks.proofs.ScopeLemmas.{unknown-same, fits-same, call-same, statepoint-same}
 use Rattle.ir_resolve.specs.TextFaults.{says_wrong, misspells}
-use Rattle.text_resolve.specs.Lost.{any_outside, LostBy, Lost, LostIn, miscounts_in, says_wrong_in, misspells_in, WidthsBehind, LineLost, LineLostAt, BodyLost, LineLostOf, BodyLostOf, FunctionLost}
+use Rattle.text_resolve.specs.Lost.{any_outside, LostBy, Lost, LostIn, miscounts_in, says_wrong_in, misspells_in, LineLostAt, BodyLost, LineLostOf, BodyLostOf, FunctionLost}
 
 says-same : (form : Form) (scope : Scope) (tables : Tables) (what : Statement) → AreTables scope tables → says_wrong_in form tables what ≡ says_wrong form scope what
 says-same form scope tables (call result answer callee passed) t = ap not (call-same form scope tables t answer callee passed)

@@ -1,5 +1,5 @@
 -- What the passes find together is what resolving the text loses.
-use Rattle.std.proofs.Common.{◌≡◌, ◌≢◌, ◌∙◌, ℕ, ◌⊎◌, inl, inr, Bool, true, false, List, [], ◌∷◌, ◌++◌, ◌||◌, refl, ap, sym, subst}
+use Rattle.std.proofs.Common.{◌≡◌, ◌∙◌, ℕ, ◌⊎◌, inl, inr, Bool, true, false, List, [], ◌∷◌, ◌++◌, refl, ap, sym, subst}
 use Rattle.std.specs.Prelude.{Option, map, not}
 use Rattle.std.specs.List.{Contains}
 use Rattle.std.proofs.lemmas.Bool.{not-true}
@@ -22,12 +22,11 @@ use Rattle.ir_lines.specs.Faults.NoStrategy.{is_strategy, lacks_strategy}
 use Rattle.ir_lines.specs.Faults.BadLayout.{are_cells, is_bad_layout}
 use Rattle.ir_lines.specs.Faults.Reserved.{Reserved, defines_external, declares_helper, names_value, names_label}
 use Rattle.ir_lines.proofs.NoteLemmas.{Either, notes-then, notes-same}
-use Rattle.line_checks.specs.Founds.{Found}
 use Rattle.line_checks.specs.TopFaults.{OuterFault, OuterFaults, DeclareFault, DefineFault}
 use Rattle.ir_resolve.specs.TextFaults.{HasTextFault, name_twice, unknown_name, misspelled, case_width, no_strategy, unknown_extern, bad_layout, reserved, pointer_cast, miscounted, CaseOfOtherWidth, miscounts}
-use Rattle.text_resolve.specs.Lost.{unknown_name as lost_name, spelled_wrong, pointer_cast as lost_cast, counted_wrong, Lost, miscounts_in, spells_wrong_count, IsOtherWidth, OtherWidths, WidthsBehind, LineLostOf, BodyLostOf, FunctionLost}
+use Rattle.text_resolve.specs.Lost.{unknown_name as lost_name, spelled_wrong, pointer_cast as lost_cast, counted_wrong, Lost, miscounts_in, IsOtherWidth, WidthsBehind, LineLostOf, BodyLostOf, FunctionLost}
 use Rattle.text_resolve.specs.Built.{FunctionsLost}
-use Rattle.text_resolve.proofs.Contained.{contained-found, found-contained, found-at}
+use Rattle.text_resolve.proofs.Contained.{contained-found, found-contained}
 use Rattle.text_resolve.proofs.Heads.{IsDefined, line-defined, IsDefinition, defined-line, IsHeadLine, line-of-head, SaysHead}
 
 abbrev names : List Line → List (List ℕ)

@@ -1,6 +1,6 @@
 -- The text without its casts: its instructions, the tables of its names, and the lines of its cases.
-use Rattle.std.proofs.Common.{◌≡◌, ◌∙◌, ℕ, ◌<◌, ◌≤◌, Bool, true, false, List, [], ◌∷◌, ◌++◌, length, get_or, drop, refl, ap, sym, subst, arith}
-use Rattle.std.specs.Prelude.{Option, Some, None, Result, Ok, Err, IfOk, map, flat_map}
+use Rattle.std.proofs.Common.{◌≡◌, ◌∙◌, ℕ, ◌<◌, ◌≤◌, true, false, List, [], ◌∷◌, ◌++◌, length, get_or, drop, refl, ap, sym, subst, arith}
+use Rattle.std.specs.Prelude.{Some, None, Result, Ok, Err, IfOk, map, flat_map}
 use Rattle.std.specs.List.{All}
 use Rattle.std.proofs.lemmas.List.{map-append, length-map, append-nil, drop_all}
 use Rattle.std.proofs.Math.ListN.{get_or-map}
@@ -10,7 +10,6 @@ use Rattle.ir_ast.specs.declared.types.Ty.TheVariants as tys
 use Rattle.ir_ast.specs.declared.ops.Operand.{Operand}
 use Rattle.ir_ast.specs.declared.ops.Op.TheVariants as ops
 use Rattle.ir_ast.specs.declared.funcs.Arg.{Arg}
-use Rattle.ir_ast.specs.Insts.{Instruction}
 use Rattle.ir_ast.specs.Blocks.{BasicBlock}
 use Rattle.ir_ast.specs.Funcs.{Function, LinedFunction, IsSmall}
 use denote.Bor.{Bor}
@@ -22,13 +21,13 @@ use Rattle.line_parts.specs.declared.readings.TypeWord.TheVariants as types
 use Rattle.line_parts.specs.declared.readings.Value.{Value}
 use Rattle.ir_lines.specs.declared.scope.Top.{Top}
 use Rattle.ir_lines.specs.declared.scope.Local.{Local}
-use Rattle.ir_lines.specs.Statements.{Statement, Line, layout, declare, define, close, label, switch, switch_case, switch_end, cast, call}
-use Rattle.ir_lines.specs.Sections.{LayoutLine, Head, Definition, Naming, BlockLines, arguments_named, layout_said, layouts_of, head_said, heads_of, definitions_of, values_of, blocks_of, cases_of, is_case}
+use Rattle.ir_lines.specs.Statements.{Statement, Line, layout, declare, define, close, label, switch, switch_case, switch_end, cast}
+use Rattle.ir_lines.specs.Sections.{LayoutLine, Head, Definition, Naming, BlockLines, arguments_named, layout_said, layouts_of, head_said, heads_of, definitions_of, blocks_of, cases_of}
 use Rattle.ir_lines.specs.Modules.{Known, known_of, type_of, operand_in, operand_of, label_in, label_of, case_values, case_labels, instruction, instruction_said, numbers_of, block_of, argument_of, function_of}
 use Rattle.ir_lines.specs.Tables.{IsTop, IsLocal}
 use Rattle.ir_lines.specs.Views.{said}
 use Rattle.ir_lines.specs.Faults.PointerCast.{is_cast}
-use Rattle.ir_resolve.specs.Resolved.{uncast, uncast_line, Spot, case_lines, spot_said, spots_of, function_cases}
+use Rattle.ir_resolve.specs.Resolved.{uncast, Spot, case_lines, spot_said, spots_of, function_cases}
 use Rattle.ir_resolve.proofs.Casts.{definitions-same, blocks-same, labels-same, values-same}
 use Rattle.ir_lines.proofs.Steps.{all-at}
 use Rattle.module_build.specs.Built.{known_with, lined_function}

@@ -2,12 +2,13 @@
 
 ghost use Rattle.std.specs.Prelude.{◌≡◌, ◌≢◌, ◌↔◌, [], ◌∷◌, ◌++◌, map, IsTrue, IfOk, OnOk, if◌then◌else◌};
 ghost use Rattle.ir_lines.specs.Notes.{Notes};
+ghost use Rattle.ir_lines.specs.ReadLines.{is_instruction};
 ghost use Rattle.ir_lines.specs.Sections.{cases_of};
 ghost use Rattle.ir_lines.specs.Views.{said, seen_line, seen_lines};
 ghost use Rattle.ir_resolve.specs.Resolved.{case_lines};
 ghost use Rattle.line_checks.specs.LineFaults.{tables_in};
 ghost use Rattle.text_resolve.specs.Lost.{OtherWidths, WidthsBehind, LineLost, BodyLost};
-ghost use Rattle.text_resolve.specs.Rows.{is_instruction, row_said, rows_of};
+ghost use Rattle.text_resolve.specs.Rows.{row_said, rows_of};
 
 use crate::lines::note_line;
 use case_lines::CaseLines;

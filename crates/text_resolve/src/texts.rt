@@ -18,7 +18,8 @@ use ir_lines::sections::definitions;
 use ir_reader::NumberedReading;
 use line_checks::tops::note_lines;
 use module_build::build::layouts_of;
-use std::alloc::{AllocError, Global};
+use sp_ids::Memory;
+use std::alloc::Global;
 
 /// A text resolved.
 #[derive(Drop)]
@@ -32,11 +33,7 @@ pub struct Resolution {
 }
 
 /// Resolves the lines of a text in this form, which stand in their places.
-pub fn resolve(
-    alloc: Global,
-    form: Form,
-    lines: &[NumberedReading],
-) -> Result<Resolution, AllocError>
+pub fn resolve(alloc: Global, form: Form, lines: &[NumberedReading]) -> Result<Resolution, Memory>
     requires { IsPlaced (uncast_lines (seen_lines lines.now)) }
     ensures whole { IfOk result (λ text. text.whole ≡ (resolved form (seen_lines lines.now)).whole) }
     ensures cases { IfOk result (λ text. text.cases.items ≡ (resolved form (seen_lines lines.now)).cases) }

@@ -1,4 +1,4 @@
-use Rattle.std.proofs.Common.{List, Some, None, Option, sym, subst}
+use Rattle.std.proofs.Common.{List, None, Option, sym, subst}
 use Rattle.std.specs.Prelude.{map}
 use Rattle.ir_ast.specs.Formed.{IsFormedModule}
 use Rattle.ir_reader.specs.declared.raw.NumberedReading.{NumberedReading}

@@ -1,4 +1,4 @@
-use Rattle.std.proofs.Common.{◌≡◌, ◌∙◌, ◌+◌, ◌≤◌, ◌++◌, drop, length, List, ap, sym, subst, arith}
+use Rattle.std.proofs.Common.{◌≡◌, ◌∙◌, ◌+◌, ◌≤◌, ◌++◌, length, List, ap, sym, subst, arith}
 use Rattle.std.proofs.lemmas.List.{length-map, drop-map}
 use Rattle.ir_reader.specs.declared.raw.NumberedReading.{NumberedReading}
 use Rattle.ir_lines.specs.Notes.{Notes}

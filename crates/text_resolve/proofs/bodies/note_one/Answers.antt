@@ -1,11 +1,9 @@
 use Rattle.std.proofs.Common.{◌≡◌, ◌∙◌, ℕ, [], ◌∷◌, ◌++◌, List, ap}
 use Rattle.std.specs.Prelude.{if◌then◌else◌}
+use Rattle.ir_lines.specs.ReadLines.{is_instruction}
 use Rattle.ir_lines.specs.Views.{said, seen_line, seen_lines}
 use Rattle.ir_resolve.specs.Resolved.{case_lines}
 use Rattle.line_checks.specs.LineFaults.{tables_in}
-use Rattle.text_resolve.specs.Lost.{LineLost}
-use Rattle.text_resolve.specs.Rows.{is_instruction}
-use Rattle.ir_lines.specs.Notes.{Notes}
 use Rattle.text_resolve.proofs.LostNotes.{notes-line}
 use Rattle.text_resolve.proofs.ScopeLemmas.{always}
 use Rattle.text_resolve.proofs.Uncast.{if-ok}

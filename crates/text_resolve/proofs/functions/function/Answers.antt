@@ -1,7 +1,7 @@
 use Rattle.std.proofs.Common.{◌∙◌, [], ◌++◌, ℕ, List, ap}
 use Rattle.std.specs.Prelude.{map, flat_map}
 use Rattle.std.proofs.lemmas.List.Elements.{All-same}
-use Rattle.ir_ast.specs.Blocks.{BasicBlock, EndsAtTerminator}
+use Rattle.ir_ast.specs.Blocks.{EndsAtTerminator}
 use Rattle.ir_ast.specs.Funcs.{Function}
 use Rattle.ir_lines.specs.Sections.{BlockLines, arguments_named, blocks_of}
 use Rattle.ir_lines.specs.Tables.{seen_definition, seen_block}

@@ -1,4 +1,4 @@
-use Rattle.std.proofs.Common.{◌≡◌, ◌∙◌, List, length, ap, sym, arith}
+use Rattle.std.proofs.Common.{◌∙◌, List, length, ap, sym, arith}
 use Rattle.std.specs.Prelude.{map, None}
 use Rattle.std.proofs.lemmas.List.{length-map}
 use Rattle.ir_lines.specs.declared.sections.Definition.{Definition as DefinitionTable}
