@@ -54,9 +54,6 @@ positive n e = grind (arith, nat_tests)
 
 -- ---- the operands before a place
 
-pub repeats-none : (operands : List Operand) (value : Operand) → ¬ Repeats operands 0 value
-repeats-none operands value r = let a = r.in_order in let b : r.earlier < 0 = a in omega arith
-
 repeats-later : (operands : List Operand) (later : ℕ) (value : Operand) → Repeats operands later value → Repeats operands (later + 1) value
 repeats-later operands later value r = record {
   earlier = r.earlier;

@@ -22,9 +22,9 @@ use Rattle.ir_ast.specs.Values.{value_types}
 use Rattle.ir_ast.specs.Operands.{value_in, values_used}
 use Rattle.ir_ast.specs.Faults.TypeClash.{Fits}
 use Rattle.ir_ast.specs.Faults.GroupShape.{Group, ResultInShape, RelocateInShape, ShapeOf, entries_of, is_part, is_statepoint, number_at, UsesNoToken}
-use Rattle.ir_verify.specs.Bodies.{given_by}
+use Rattle.body_tables.specs.Bodies.{given_by}
 use Rattle.ir_verify.specs.Groups.{is_value_of, OpenGroup, kept_by, kept_open, behind_op, token_of, IsResultOf, IsRelocateOf, ResultFits, RelocateFits, number_in, NamesEntries, HaveEntries, NamesToken, UsesNo, ShapeBy, IsOpen, Opened}
-use Rattle.ir_verify.proofs.Values.{gives, taken_more}
+use Rattle.body_tables.proofs.Values.{gives, taken_more}
 
 -- ---- parts by their first operand
 

@@ -23,7 +23,7 @@ use Rattle.ir_ast.specs.Faults.PhiEdges.{is_phi, PhiIsRight}
 use Rattle.ir_verify.specs.FunctionFaults.{start_of}
 use Rattle.ir_verify.specs.Phis.{times, numbers_of, AreEdges, Counts, Agree, AreRight, IsWrong}
 use Rattle.ir_verify.proofs.CountLemmas.{count_by-map, IsApart, same-or-apart}
-use Rattle.ir_verify.proofs.Values.{taken_more}
+use Rattle.body_tables.proofs.Values.{taken_more}
 
 -- ---- labels, counted
 

@@ -48,9 +48,6 @@ pub one_zip : {A B : Type 0} (R : A → B → Type 0) (xs : List A) (y : B) → 
 one_zip R [] y all = All-nil (λ x. R x y)
 one_zip R (x ∷ xs) y all = All-cons (λ z. R z y) x xs all.0 (one_zip R xs y all.1)
 
-pub one_iff : {A B : Type 0} (R : A → B → Type 0) (xs : List A) (y : B) → All (λ x. R x y) xs ↔ AllZip R xs (replicate (length xs) y)
-one_iff R xs y = (zip_one R xs y, one_zip R xs y)
-
 -- ---- joined lists
 
 pub zip_join : {A B : Type 0} (R : A → B → Type 0) (xs zs : List A) (ys ws : List B) → AllZip R xs ys → AllZip R zs ws

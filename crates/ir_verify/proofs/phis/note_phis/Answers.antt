@@ -8,7 +8,8 @@ use Rattle.ir_lines.specs.Notes.{Notes}
 use Rattle.ir_verify.specs.Founds.{FoundIn}
 use Rattle.ir_verify.specs.FunctionFaults.{BlockFaultAt, PhiFaultAt, start_of}
 use Rattle.ir_verify.specs.Phis.{times}
-use Rattle.ir_verify.proofs.Founds.{notes-step, item-at}
+use Rattle.ir_verify.proofs.Founds.{notes-step}
+use Rattle.body_tables.proofs.Elements.{item-at}
 use Rattle.ir_verify.proofs.PhiLemmas.{start-more, start-within}
 use Rattle.ir_verify.proofs.phis.note_phis.Goals as goal
 
