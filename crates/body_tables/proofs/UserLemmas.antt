@@ -1,19 +1,19 @@
 -- Users of values, and the marks of a search along them.
 use Rattle.std.proofs.Common.{◌≡◌, ◌∙◌, ℕ, zero, suc, ◌<◌, ◌≤◌, ◌+◌, Bool, true, false, cond, List, [], ◌∷◌, ◌++◌, length, get_or, set, take, replicate, Option, Some, None, slice_get, refl, ap, sym, subst, arith, inl, inr, ◌⊎◌, append-nil}
-use Rattle.std.specs.Prelude.{map, if◌then◌else◌, ◌||◌, IsTrue, ◌↔◌}
-use Rattle.std.specs.List.{All, Contains, filter_map, list_any}
+use Rattle.std.specs.Prelude.{map, ◌||◌, IsTrue, ◌↔◌}
+use Rattle.std.specs.List.{Contains, filter_map, list_any}
 use Rattle.std.specs.Option.{option_to_list}
 use Rattle.std.proofs.lemmas.Bool.{false≢true}
 use Rattle.std.proofs.lemmas.List.{length-set, take_more, length-replicate, take-map, length-map, get_or-map}
 use Rattle.std.proofs.lemmas.List.Elements.{Contains-append_left, Contains-append_right, Contains-append_cases, filter_map-append}
-use Rattle.std.proofs.lemmas.Option.{none-some, same_Some, slice_get-get_or, slice_get_within}
-use Rattle.list_laws.proofs.Places.{cases_below, get_front, get_middle, get_pushed, get_map, map_back}
+use Rattle.std.proofs.lemmas.Option.{none-some, same_Some, slice_get_within}
+use Rattle.list_laws.proofs.Places.{cases_below, get_map, map_back}
 use Rattle.list_laws.proofs.Contents.{contains_none, contains_one, contains_first, contains_later, get_contained, all_at, all_contained}
 use Rattle.std.proofs.lemmas.List.Folds.{list_any_at}
 use Rattle.ir_ast.specs.Faults.DerivedEscapes.{values_leaving, KeepsDerived}
 use Rattle.edge_rows.proofs.Rows.{pushed, pushed-kept, pushed-added, pushed-source}
 use Rattle.graph_search.specs.Edges.{Edge, AreInside}
-use Rattle.graph_search.specs.Paths.{MarksReached, ReachedFrom, at_start, along}
+use Rattle.graph_search.specs.Paths.{ReachedFrom, at_start, along}
 use Rattle.ir_ast.specs.declared.ops.Operand.{Operand}
 use Rattle.ir_ast.specs.declared.types.Ty.{Ty}
 use Rattle.ir_ast.specs.Insts.{Instruction}
@@ -96,7 +96,6 @@ adds_operand operands i operand user old rows new below first next =
     rw (take_more operands i operand below, filter_map-append value_in (take i operands) (get_or operands i operand ∷ []))
     (adds_append (filter_map value_in (take i operands)) (filter_map value_in (get_or operands i operand ∷ [])) user old rows new first
     (subst (λ (vs : List ℕ). AddsUsers vs user rows new) (one_operand (get_or operands i operand)) next))
-
 
 -- one entry of a bundle more
 pub adds_entry : (bundle : List (Ty × Operand)) (i : ℕ) (entry : Ty × Operand) (user : ℕ) (old rows new : List (List ℕ)) → i < length bundle

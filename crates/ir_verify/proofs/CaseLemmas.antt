@@ -6,11 +6,8 @@ use Rattle.std.proofs.lemmas.Bool.Decides.{eqb_tells, nat_tests}
 use Rattle.list_laws.proofs.Places.{cases_below}
 use Rattle.ir_ast.specs.declared.ops.Operand.{Operand}
 use Rattle.ir_ast.specs.declared.ops.Operand.TheVariants.{Value, Int, Null, Fun}
-use Rattle.sp_ids.specs.declared.ids.ValueId.{ValueId}
-use Rattle.sp_ids.specs.declared.ids.FuncId.{FuncId}
 use Rattle.ir_lines.specs.declared.faults.Fault.{Fault}
-use Rattle.ir_verify.specs.declared.cases.Seen.{Seen}
-use Rattle.ir_verify.specs.Cases.{has, same}
+use Rattle.ir_verify.specs.Cases.{same}
 use Rattle.ir_lines.specs.Notes.{Notes}
 use Rattle.ir_verify.specs.FunctionFaults.{At, Repeats}
 use Rattle.ir_lines.proofs.NoteLemmas.{notes-same}

@@ -1,8 +1,8 @@
 -- What is found at the places of a list, one place after another.
-use Rattle.std.proofs.Common.{◌≡◌, ◌∙◌, ℕ, ◌+◌, ◌<◌, ◌⊎◌, inl, inr, List, length, get_or, refl, ap, sym, subst, arith}
-use Rattle.std.specs.Prelude.{Option, Some, map, slice_get, option_map, IsTrue, ◌↔◌, Bool, true, false, nat_eq, Result, Ok, Err, OnOk}
+use Rattle.std.proofs.Common.{◌≡◌, ◌∙◌, ℕ, ◌+◌, ◌<◌, ◌⊎◌, inl, inr, List, length, sym, subst, arith}
+use Rattle.std.specs.Prelude.{Option, Some, slice_get, IsTrue, ◌↔◌, Bool, true, false, nat_eq, Result, Ok, Err, OnOk}
 use Rattle.std.proofs.lemmas.Bool.Decides.{eqb_tells}
-use Rattle.std.proofs.lemmas.Option.{slice_get-get_or, slice_get-map, slice_get_within}
+use Rattle.std.proofs.lemmas.Option.{slice_get_within}
 use Rattle.list_laws.proofs.Places.{cases_below}
 use Rattle.ir_lines.specs.declared.faults.Fault.{Fault}
 use Rattle.ir_lines.specs.Notes.{Notes, Is}

@@ -18,9 +18,9 @@ ghost use Rattle.ir_verify.specs.FunctionFaults.{ShapeAt};
 ghost use Rattle.ir_verify.specs.Groups.{is_value_of, seen_open, kept_open, behind_op, token_of, ResultFits, IsResultOf, RelocateFits, IsRelocateOf, number_in, NamesEntries, HaveEntries, NamesToken, UsesNo, ShapeBy};
 ghost use Rattle.ir_lines.specs.Notes.{Notes};
 
-use ir_lines::best::First;
 use crate::types::all_fit;
 use ir_ast::{Func, Inst, Op, Operand, Ty};
+use ir_lines::best::First;
 
 /// The statepoint with which some instructions end, but for parts of its group.
 #[derive(Clone, Copy)]

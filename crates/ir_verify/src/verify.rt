@@ -11,9 +11,7 @@ ghost use Rattle.ir_resolve.specs.ModuleFaults.{HasModuleFault};
 ghost use Rattle.ir_lines.specs.Notes.{Notes};
 ghost use Rattle.ir_resolve.specs.Resolved.{cases_at};
 
-use ir_lines::best::First;
 use crate::cases::note_cases;
-use ir_lines::faults::Fault;
 use crate::groups::note_shapes;
 use crate::insts::{note_entry, orders_pointers};
 use crate::mains::has_main;
@@ -22,6 +20,8 @@ use crate::types::is_typed;
 use body_tables::{derived, instructions, lets_out, types};
 use case_lines::CaseLines;
 use ir_ast::{Form, Func, Inst, Module, Ty};
+use ir_lines::best::First;
+use ir_lines::faults::Fault;
 use sp_ids::Memory;
 use std::alloc::Global;
 
@@ -94,7 +94,11 @@ fn note_escapes(
 {
     let marks = derived(alloc, func, insts)?;
     for (place, inst) in insts.iter().enumerate() {
-        first.note_if(lets_out(marks.as_slice(), inst), func.line_of(place as u32), 9);
+        first.note_if(
+            lets_out(marks.as_slice(), inst),
+            func.line_of(place as u32),
+            9,
+        );
     }
     Ok(())
 }

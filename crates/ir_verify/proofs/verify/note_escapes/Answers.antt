@@ -1,15 +1,12 @@
-use Rattle.std.proofs.Common.{◌≡◌, ◌∙◌, ℕ, List, Bool, Option, length, sym, ap, subst, arith}
-use Rattle.std.specs.Prelude.{map, slice_get, Some}
+use Rattle.std.proofs.Common.{◌≡◌, ◌∙◌, List, Bool, length, sym, ap, arith}
+use Rattle.std.specs.Prelude.{slice_get, Some}
 use Rattle.std.specs.List.{list_any}
-use Rattle.std.specs.Option.{option_map}
 use Rattle.std.specs.Borrow.{Bor}
 use Rattle.std.proofs.lemmas.List.{length-map}
 use Rattle.ir_ast.specs.Insts.{Instruction}
-use Rattle.ir_ast.specs.Values.{definitions_of}
 use Rattle.ir_ast.specs.Faults.DerivedEscapes.{values_leaving}
 use Rattle.ir_verify.specs.Bodies.{insts_of, line_in}
-use Rattle.body_tables.specs.Bodies.{seen_insts, inst_of}
-use Rattle.body_tables.specs.Derivations.{AreMarks, has_mark}
+use Rattle.body_tables.specs.Derivations.{has_mark}
 use Rattle.ir_verify.specs.FunctionFaults.{EscapeAt}
 use Rattle.ir_verify.proofs.Founds.{notes-step, notes-all, notes-at_line}
 use Rattle.body_tables.proofs.Elements.{seen-at}

@@ -4,8 +4,7 @@ use Rattle.std.specs.Borrow.{Bor}
 use Rattle.std.proofs.lemmas.List.{length-map}
 use Rattle.ir_ast.specs.Insts.{Instruction}
 use Rattle.ir_lines.specs.Notes.{Notes}
-use Rattle.ir_verify.specs.Bodies.{insts_of, line_in, cases_in}
-use Rattle.body_tables.specs.Bodies.{seen_insts}
+use Rattle.ir_verify.specs.Bodies.{insts_of, cases_in}
 use Rattle.ir_verify.specs.FunctionFaults.{InstFault, LineFaultAt}
 use Rattle.ir_verify.proofs.Founds.{notes-step, notes-all}
 use Rattle.body_tables.proofs.Elements.{seen-at}

@@ -1,2 +1,0 @@
-use Rattle.body_tables.proofs.UserLemmas.{escapes-iff}
-use Rattle.body_tables.proofs.derivation.any_marked.Goals as goal
