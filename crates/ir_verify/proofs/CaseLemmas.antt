@@ -6,11 +6,8 @@ use Rattle.std.proofs.lemmas.Bool.Decides.{eqb_tells, nat_tests}
 use Rattle.list_laws.proofs.Places.{cases_below}
 use Rattle.ir_ast.specs.declared.ops.Operand.{Operand}
 use Rattle.ir_ast.specs.declared.ops.Operand.TheVariants.{Value, Int, Null, Fun}
-use Rattle.sp_ids.specs.declared.ids.ValueId.{ValueId}
-use Rattle.sp_ids.specs.declared.ids.FuncId.{FuncId}
 use Rattle.ir_lines.specs.declared.faults.Fault.{Fault}
-use Rattle.ir_verify.specs.declared.cases.Seen.{Seen}
-use Rattle.ir_verify.specs.Cases.{has, same}
+use Rattle.ir_verify.specs.Cases.{same}
 use Rattle.ir_lines.specs.Notes.{Notes}
 use Rattle.ir_verify.specs.FunctionFaults.{At, Repeats}
 use Rattle.ir_lines.proofs.NoteLemmas.{notes-same}
@@ -53,9 +50,6 @@ positive : (n : ℕ) → nat_lt 0 n ≡ true → 0 < n
 positive n e = grind (arith, nat_tests)
 
 -- ---- the operands before a place
-
-pub repeats-none : (operands : List Operand) (value : Operand) → ¬ Repeats operands 0 value
-repeats-none operands value r = let a = r.in_order in let b : r.earlier < 0 = a in omega arith
 
 repeats-later : (operands : List Operand) (later : ℕ) (value : Operand) → Repeats operands later value → Repeats operands (later + 1) value
 repeats-later operands later value r = record {

@@ -1,8 +1,8 @@
 -- What is found at the places of a list, one place after another.
-use Rattle.std.proofs.Common.{◌≡◌, ◌∙◌, ℕ, ◌+◌, ◌<◌, ◌⊎◌, inl, inr, List, length, get_or, refl, ap, sym, subst, arith}
-use Rattle.std.specs.Prelude.{Option, Some, map, slice_get, option_map, IsTrue, ◌↔◌, Bool, true, false, nat_eq, Result, Ok, Err, OnOk}
+use Rattle.std.proofs.Common.{◌≡◌, ◌∙◌, ℕ, ◌+◌, ◌<◌, ◌⊎◌, inl, inr, List, length, sym, subst, arith}
+use Rattle.std.specs.Prelude.{Option, Some, slice_get, IsTrue, ◌↔◌, Bool, true, false, nat_eq, Result, Ok, Err, OnOk}
 use Rattle.std.proofs.lemmas.Bool.Decides.{eqb_tells}
-use Rattle.std.proofs.lemmas.Option.{slice_get-get_or, slice_get-map, slice_get_within}
+use Rattle.std.proofs.lemmas.Option.{slice_get_within}
 use Rattle.list_laws.proofs.Places.{cases_below}
 use Rattle.ir_lines.specs.declared.faults.Fault.{Fault}
 use Rattle.ir_lines.specs.Notes.{Notes, Is}
@@ -42,17 +42,7 @@ pub notes-all : {X : Type 0} (P : ℕ → X → ℕ → ℕ → Type 0) (xs : Li
     → n ≡ length xs → Notes old new (FoundBelow P xs n) → Notes old new (FoundIn P xs)
 notes-all P xs n old new e m = subst (λ (k : ℕ). Notes old new (FoundBelow P xs k)) e m
 
--- an element of what a list shows
-pub seen-at : {X Y : Type 0} (f : X → Y) (xs : List X) (i : ℕ) (x : X) → i < length xs → x ≡ get_or xs i x → slice_get (map f xs) i ≡ Some (f x)
-seen-at f xs i x below is = slice_get-map f xs i ∙ ap (option_map f) (slice_get-get_or xs i x below ∙ ap Some (sym is))
-
--- the place of an element, where the same is found at the same places
-pub found-more : {X : Type 0} (P Q : ℕ → X → ℕ → ℕ → Type 0) (xs : List X)
-    → ((place : ℕ) (here : X) (line code : ℕ) → slice_get xs place ≡ Some here → P place here line code → Q place here line code)
-    → (line code : ℕ) → FoundIn P xs line code → FoundIn Q xs line code
-found-more P Q xs to line code f =
-    record { place = f.place; below = f.below; here = f.here; stands = f.stands; faulty = to f.place f.here line code f.stands f.faulty }
-
+-- the place of an element
 pub found-at : {X : Type 0} (P : ℕ → X → ℕ → ℕ → Type 0) (xs : List X) (place : ℕ) (here : X) (line code : ℕ)
     → slice_get xs place ≡ Some here → P place here line code → FoundIn P xs line code
 found-at P xs place here line code is faulty =
@@ -64,10 +54,6 @@ pub notes-at : (line k : ℕ) (a : Bool) (P : Type 0) (old new : Option Fault) �
 notes-at line k a P old new is n =
     notes-same old new (λ l c. IsTrue a × Is line k l c) (At k line P) (λ l c t. (t.1.1, t.1.0, is.0 t.0)) (λ l c f. (is.1 f.2, (f.1, f.0))) n
 
--- a fault that is found only where something holds
-pub notes-where : (P : Type 0) (F : ℕ → ℕ → Type 0) (old new : Option Fault) → P → Notes old new F → Notes old new (λ l c. P × F l c)
-notes-where P F old new p n = notes-same old new F (λ l c. P × F l c) (λ l c f. (p, f)) (λ l c f. f.1) n
-
 pub notes-at_line : (line other k : ℕ) (a : Bool) (P : Type 0) (old new : Option Fault) → line ≡ other → (IsTrue a ↔ P)
     → Notes old new (λ l c. IsTrue a × Is line k l c) → Notes old new (At k other P)
 notes-at_line line other k a P old new e is n =
@@ -78,10 +64,6 @@ equal-iff m n = elim (eqb_tells m n) [
   | inl t ↦ ((λ is. t.1), (λ e. t.0))
   | inr t ↦ ((λ is. absurd (let bad : true ≡ false = sym is ∙ t.0 in cc)), (λ e. absurd (t.1 e)))
 ]
-
--- an element of a list
-pub item-at : {X : Type 0} (xs : List X) (i : ℕ) (x : X) → i < length xs → x ≡ get_or xs i x → slice_get xs i ≡ Some x
-item-at xs i x below is = slice_get-get_or xs i x below ∙ ap Some (sym is)
 
 -- what a call answers in turn
 pub on-ok : {A E : Type 0} (r : Result A E) (P Q : Type 0) → (P → Q) → OnOk r P → OnOk r Q

@@ -1,15 +1,14 @@
 -- The statepoint group that is open before an instruction, one instruction after another.
-use Rattle.std.proofs.Common.{◌≡◌, ◌≢◌, ◌∙◌, ℕ, zero, suc, ◌+◌, ◌<◌, ◌≤◌, ◌⊎◌, inl, inr, Bool, true, false, cond, List, [], ◌∷◌, ◌++◌, length, take, refl, ap, sym, subst, arith, is_some}
-use Rattle.std.specs.Prelude.{Option, Some, None, nat_eq, IsTrue, ◌↔◌, IfSome, slice_get, filter, map, min}
+use Rattle.std.proofs.Common.{◌≡◌, ◌≢◌, ◌∙◌, ℕ, ◌+◌, ◌<◌, ◌≤◌, ◌⊎◌, inl, inr, Bool, true, false, cond, List, [], ◌∷◌, length, take, refl, ap, sym, subst, arith}
+use Rattle.std.specs.Prelude.{Option, Some, None, ◌↔◌, IfSome, slice_get, filter, map, min}
 use Rattle.std.specs.List.{All, filter_map}
 use Rattle.std.proofs.lemmas.Bool.{false≢true}
 use Rattle.std.proofs.lemmas.Bool.Decides.{eqb_tells}
-use Rattle.std.proofs.lemmas.List.{length-append, length-map, length-take}
+use Rattle.std.proofs.lemmas.List.{length-append, length-take}
 use Rattle.std.proofs.lemmas.List.Elements.{All-nil, All-cons, All-head, All-tail, All-append, filter_map-append, filter-append}
 use Rattle.std.proofs.lemmas.Option.{none-some, same_Some}
 use Rattle.list_laws.proofs.Contents.{all_front, all_back}
 use Rattle.list_laws.proofs.Places.{cases_below}
-use Rattle.sp_ids.specs.declared.ids.ValueId.{ValueId}
 use Rattle.ir_ast.specs.declared.types.Ty.{Ty}
 use Rattle.ir_ast.specs.declared.types.Ty.TheVariants.{Ptr, Token}
 use Rattle.ir_ast.specs.declared.ops.Operand.{Operand}
@@ -19,12 +18,12 @@ use Rattle.ir_ast.specs.declared.ops.Op.TheVariants.{Statepoint, GcResult, GcRel
 use Rattle.ir_ast.specs.Insts.{Instruction}
 use Rattle.ir_ast.specs.Funcs.{Function, instructions_of}
 use Rattle.ir_ast.specs.Values.{value_types}
-use Rattle.ir_ast.specs.Operands.{value_in, values_used}
+use Rattle.ir_ast.specs.Operands.{value_in}
 use Rattle.ir_ast.specs.Faults.TypeClash.{Fits}
-use Rattle.ir_ast.specs.Faults.GroupShape.{Group, ResultInShape, RelocateInShape, ShapeOf, entries_of, is_part, is_statepoint, number_at, UsesNoToken}
-use Rattle.ir_verify.specs.Bodies.{given_by}
-use Rattle.ir_verify.specs.Groups.{is_value_of, OpenGroup, kept_by, kept_open, behind_op, token_of, IsResultOf, IsRelocateOf, ResultFits, RelocateFits, number_in, NamesEntries, HaveEntries, NamesToken, UsesNo, ShapeBy, IsOpen, Opened}
-use Rattle.ir_verify.proofs.Values.{gives, taken_more}
+use Rattle.ir_ast.specs.Faults.GroupShape.{Group, ResultInShape, RelocateInShape, ShapeOf, entries_of, is_part, is_statepoint, number_at}
+use Rattle.body_tables.specs.Bodies.{given_by}
+use Rattle.ir_verify.specs.Groups.{is_value_of, OpenGroup, kept_by, kept_open, behind_op, token_of, IsResultOf, IsRelocateOf, ResultFits, RelocateFits, number_in, HaveEntries, NamesToken, UsesNo, ShapeBy, IsOpen, Opened}
+use Rattle.body_tables.proofs.Values.{gives, taken_more}
 
 -- ---- parts by their first operand
 
@@ -92,7 +91,6 @@ opened-start func = record {
 
 module _ (func : Function) (place number : ℕ) (inst : Instruction) (held : Option OpenGroup)
     (at : slice_get (instructions_of func.blocks) place ≡ Some inst) (numbered : number_at func place ≡ number) (opened : Opened func place held) where
-
   -- a group goes on over a part
   goes-on : (group : OpenGroup) → IsOpen func place group → is_part group.number inst ≡ true → IsOpen func (place + 1) (record group { is_fresh = false })
   goes-on group o part = record {
@@ -176,10 +174,11 @@ module _ (func : Function) (place number : ℕ) (inst : Instruction) (held : Opt
   kept-only token g lt =
       let before = opened.only token (earlier token g lt) in
       let group = before.0 in
-      let part : is_part group.number inst ≡ true = ap (λ n. is_part n inst) before.2 ∙ part-here token g lt in
-      (record group { is_fresh = false },
-      ap (λ (o : Option OpenGroup). kept_open o inst) before.1 ∙ ap (λ (b : Bool). kept_by b group) part,
-      before.2)
+      let part : is_part group.number inst ≡ true = ap (λ n. is_part n inst) before.2 ∙ part-here token g lt in (
+        record group { is_fresh = false },
+        ap (λ (o : Option OpenGroup). kept_open o inst) before.1 ∙ ap (λ (b : Bool). kept_by b group) part,
+        before.2,
+      )
 
   -- the statepoint of a group is no part, and a part is no statepoint
   head-here : (token : ℕ) (g : Group func token (place + 1)) → g.head ≡ place → is_statepoint inst.op ≡ true

@@ -1,8 +1,6 @@
 pub mod Founds
 pub mod Zips
-pub mod Values
 pub mod CaseLemmas
-pub mod UserLemmas
 pub mod MainLemmas
 pub mod CountLemmas
 pub mod EdgeLemmas

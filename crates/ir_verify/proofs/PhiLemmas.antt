@@ -1,14 +1,14 @@
 -- The entries of a phi, counted by block, and by their values.
-use Rattle.std.proofs.Common.{◌≡◌, ◌≢◌, ◌∙◌, ℕ, zero, suc, ◌+◌, ◌<◌, ◌≤◌, ◌⊎◌, inl, inr, Bool, true, false, not, cond, ◌&&◌, ◌||◌, List, [], ◌∷◌, ◌++◌, length, get_or, set, take, drop, refl, ap, sym, subst, arith}
-use Rattle.std.specs.Prelude.{nat_eq, map, IsTrue, ◌↔◌, Option, Some, None, slice_get, slice_index}
-use Rattle.std.specs.List.{All, Contains, list_all}
+use Rattle.std.proofs.Common.{◌≡◌, ◌≢◌, ◌∙◌, ℕ, zero, suc, ◌+◌, ◌<◌, ◌≤◌, ◌⊎◌, inl, inr, Bool, true, false, not, cond, ◌&&◌, ◌||◌, List, [], ◌∷◌, ◌++◌, length, set, take, drop, refl, ap, sym, arith}
+use Rattle.std.specs.Prelude.{nat_eq, IsTrue, ◌↔◌, Some, slice_get, slice_index}
+use Rattle.std.specs.List.{All, list_all}
 use Rattle.std.specs.List.Sorted.{IsNonDecreasing}
 use Rattle.std.specs.Str.{bytes_eq}
-use Rattle.std.proofs.lemmas.Bool.{not-true, cases_Bool}
+use Rattle.std.proofs.lemmas.Bool.{not-true}
 use Rattle.std.proofs.lemmas.Bool.Decides.{eqb_tells}
-use Rattle.std.proofs.lemmas.List.{get_or-set_same, get_or-set_other, take_more, length-append, length-take-le, take_all, take-append-drop}
+use Rattle.std.proofs.lemmas.List.{get_or-set_same, get_or-set_other, length-append, take-append-drop}
 use Rattle.std.proofs.lemmas.Grind.{flat_map-append}
-use Rattle.std.proofs.lemmas.Option.{slice_get_past, slice_get_within, get_or_from_slice_get, slice_get-get_or, none-some, same_Some}
+use Rattle.std.proofs.lemmas.Option.{slice_get_past, none-some, same_Some}
 use Rattle.std.proofs.lemmas.List.Sums.{sum_by-cons}
 use Rattle.std.proofs.lemmas.Slice.Eq.{bytes_eq-Decides}
 use Rattle.list_laws.proofs.Places.{cases_below, get_some}
@@ -17,13 +17,13 @@ use Rattle.sp_ids.specs.declared.ids.BlockId.{BlockId}
 use Rattle.ir_ast.specs.declared.ops.Operand.{Operand}
 use Rattle.ir_ast.specs.Insts.{Instruction}
 use Rattle.ir_ast.specs.Blocks.{BasicBlock}
-use Rattle.ir_ast.specs.Funcs.{Function, LinedFunction, instructions_of}
-use Rattle.ir_ast.specs.Edges.{targets, count_of, edges}
+use Rattle.ir_ast.specs.Funcs.{Function, instructions_of}
+use Rattle.ir_ast.specs.Edges.{count_of, edges}
 use Rattle.ir_ast.specs.Faults.PhiEdges.{is_phi, PhiIsRight}
 use Rattle.ir_verify.specs.FunctionFaults.{start_of}
-use Rattle.ir_verify.specs.Phis.{times, numbers_of, AreEdges, Counts, Agree, AreRight, IsWrong}
+use Rattle.ir_verify.specs.Phis.{times, numbers_of, Counts, Agree, AreRight, IsWrong}
 use Rattle.ir_verify.proofs.CountLemmas.{count_by-map, IsApart, same-or-apart}
-use Rattle.ir_verify.proofs.Values.{taken_more}
+use Rattle.body_tables.proofs.Values.{taken_more}
 
 -- ---- labels, counted
 
@@ -181,15 +181,21 @@ pub wrong-iff : (func : Function) (block : ℕ) (before : List Instruction) (int
     → late ≡ not (list_all (λ one. is_phi one.op) before) → ((from : ℕ) → times from into ≡ edges func from block)
     → (IsTrue wrong ↔ IsWrong late into inst) → (IsTrue wrong ↔ (is_phi inst.op ≡ true) × ¬ PhiIsRight func block before inst)
 wrong-iff func block before into late wrong inst is counts so = (
-  (λ t. let w = so.0 t in (w.0, λ right. w.1 (
-    is ∙ ap not right.first,
-    ((λ from. right.counted from ∙ sym (counts from)), right.agree),
-  ))),
-  (λ w. so.1 (w.0, λ right. w.1 (record {
-    first = first (list_all (λ one. is_phi one.op) before) (sym is ∙ right.0);
-    counted = λ from. right.1.0 from ∙ counts from;
-    agree = right.1.1;
-  }))),
+  (λ t. let w = so.0 t in (
+    w.0,
+    λ right. w.1 (
+      is ∙ ap not right.first,
+      ((λ from. right.counted from ∙ sym (counts from)), right.agree),
+    ),
+  )),
+  (λ w. so.1 (
+    w.0,
+    λ right. w.1 (record {
+      first = first (list_all (λ one. is_phi one.op) before) (sym is ∙ right.0);
+      counted = λ from. right.1.0 from ∙ counts from;
+      agree = right.1.1;
+    }),
+  )),
 )
   where
     first : (b : Bool) → not b ≡ false → b ≡ true

@@ -1,28 +1,26 @@
 -- What is found in the functions of a module, and in the module, is what it breaks.
-use Rattle.std.proofs.Common.{◌≡◌, ◌∙◌, ℕ, ◌+◌, ◌<◌, ◌⊎◌, inl, inr, Bool, true, false, List, [], ◌∷◌, ◌++◌, length, take, drop, refl, ap, sym, subst, arith}
-use Rattle.std.specs.Prelude.{map, Option, Some, None, slice_get, slice_index, unwrap_or}
-use Rattle.std.proofs.lemmas.Bool.{cases_Bool}
-use Rattle.std.proofs.lemmas.Option.{slice_get_within, none-some, same_Some}
+use Rattle.std.proofs.Common.{◌≡◌, ◌∙◌, ℕ, ◌+◌, inl, inr, Bool, true, false, List, [], ◌∷◌, ◌++◌, length, take, drop, refl, ap, sym, subst, arith}
+use Rattle.std.specs.Prelude.{map, Option, Some, slice_get, slice_index, unwrap_or}
+use Rattle.std.proofs.lemmas.Option.{slice_get_within}
 use Rattle.std.proofs.Math.Seq.{take-append_seam}
 use Rattle.std.proofs.lemmas.List.{length-take-le}
 use Rattle.list_laws.proofs.Places.{get_middle, split_at, get_map, map_back}
 use Rattle.ir_ast.specs.declared.modules.Form.{Form}
 use Rattle.ir_ast.specs.declared.modules.Form.TheVariants.{Source, Rewritten}
 use Rattle.ir_ast.specs.Insts.{Instruction}
-use Rattle.ir_ast.specs.Blocks.{BasicBlock}
 use Rattle.ir_ast.specs.Funcs.{Function, LinedFunction, instructions_of, content_of, lines_of}
-use Rattle.ir_ast.specs.Modules.{ModuleContent, LinedModule, line_at}
+use Rattle.ir_ast.specs.Modules.{line_at}
 use Rattle.ir_ast.specs.Scope.{scope_of}
 use Rattle.ir_ast.specs.Faults.DerivedEscapes.{KeepsDerived}
-use Rattle.ir_ast.specs.Faults.PhiEdges.{is_phi, PhiIsRight}
+use Rattle.ir_ast.specs.Faults.PhiEdges.{PhiIsRight}
 use Rattle.ir_ast.specs.Faults.PointerOrder.{orders_pointers}
 use Rattle.ir_ast.specs.Faults.GroupShape.{ShapeOf}
 use Rattle.ir_ast.specs.Faults.NoMain.{HasMain}
 use Rattle.ir_resolve.specs.Resolved.{Resolved, cases_at, part_line}
 use Rattle.ir_resolve.specs.ModuleFaults.{HasModuleFault, type_clash, case_again, entry_has_pred, phi_edges, derived_escapes, no_main, pointer_order, group_shape, Stands, Breaks, CaseAgain, NamesEntry, PhiIsWrong, IsTypedBesidesCalls, its_line, its_part}
 use Rattle.ir_verify.specs.Bodies.{insts_of, line_in, cases_in}
-use Rattle.ir_verify.specs.Founds.{FoundBelow, FoundIn}
-use Rattle.ir_verify.specs.FunctionFaults.{At, Repeats, CaseAt, CaseFault, LabelAt, EntryFault, PartFault, TypeFault, OrderFault, LineFaultAt, PhiFaultAt, start_of, BlockFaultAt, EscapeAt, ShapeAt, FormFault, FunctionFault, FunctionAt}
+use Rattle.ir_verify.specs.Founds.{FoundIn}
+use Rattle.ir_verify.specs.FunctionFaults.{At, CaseAt, LabelAt, PartFault, LineFaultAt, PhiFaultAt, start_of, BlockFaultAt, EscapeAt, ShapeAt, FormFault, FunctionFault, FunctionAt}
 use Rattle.ir_lines.proofs.NoteLemmas.{Either}
 use Rattle.ir_verify.proofs.Founds.{found-at}
 
@@ -81,8 +79,11 @@ module _ (text : Resolved) (funcs : List LinedFunction) (are : AreFuncs text fun
   to-type : (l : ℕ) → Breaks text l (λ func place inst. IsTypedBesidesCalls (scope_of text.whole.content func) inst) → Found l 5
   to-type l b =
       let i = is-at b.at in
-      in-line b.at i l 5 (inl (refl, sym b.its ∙ i.line,
-      subst (λ (func : Function). ¬ IsTypedBesidesCalls (scope_of text.whole.content func) b.at.inst) i.content b.breaks))
+      in-line b.at i l 5 (inl (
+        refl,
+        sym b.its ∙ i.line,
+        subst (λ (func : Function). ¬ IsTypedBesidesCalls (scope_of text.whole.content func) b.at.inst) i.content b.breaks,
+      ))
 
   ordered : (b : Bool) → (¬ (b ≡ false)) → b ≡ true
   ordered true n = refl
@@ -101,17 +102,23 @@ module _ (text : Resolved) (funcs : List LinedFunction) (are : AreFuncs text fun
   to-case l a =
       let i = is-at a.at in
       let cases = cases_in (unwrap_or (slice_get text.cases a.at.number) []) a.at.place in
-      in-line a.at i l 5 (inr (inr (inl (a.switch,
-      found-at (CaseAt (line_in i.lined a.at.place) cases a.at.inst.operands) a.at.inst.operands a.later a.value l 5 a.is_later
-      (refl, part-at a.at i a.later l a.its,
-      record { earlier = a.earlier; behind_tested = a.behind_tested; in_order = a.in_order; same = a.is_earlier })))))
+      in-line a.at i l 5 (inr (inr (inl (
+        a.switch,
+        found-at (CaseAt (line_in i.lined a.at.place) cases a.at.inst.operands) a.at.inst.operands a.later a.value l 5 a.is_later (
+          refl,
+          part-at a.at i a.later l a.its,
+          record { earlier = a.earlier; behind_tested = a.behind_tested; in_order = a.in_order; same = a.is_earlier },
+        ),
+      ))))
 
   to-entry : (l : ℕ) → NamesEntry text l → Found l 6
   to-entry l a =
       let i = is-at a.at in
       let cases = cases_in (unwrap_or (slice_get text.cases a.at.number) []) a.at.place in
-      in-line a.at i l 6 (inr (inr (inr (a.ends,
-      found-at (LabelAt (line_in i.lined a.at.place) cases) a.at.inst.labels a.part a.label l 6 a.is_label (refl, part-at a.at i a.part l a.its, a.first)))))
+      in-line a.at i l 6 (inr (inr (inr (
+        a.ends,
+        found-at (LabelAt (line_in i.lined a.at.place) cases) a.at.inst.labels a.part a.label l 6 a.is_label (refl, part-at a.at i a.part l a.its, a.first),
+      ))))
 
   to-phi : (l : ℕ) → PhiIsWrong text l → Found l 7
   to-phi l p =

@@ -1,5 +1,5 @@
 -- What holds of the elements of two lists, pair by pair.
-use Rattle.std.proofs.Common.{◌≡◌, ◌∙◌, ℕ, zero, suc, ◌+◌, ◌<◌, ◌≤◌, ◌-◌, drop, List, [], ◌∷◌, ◌++◌, length, take, replicate, refl, ap, sym, subst, arith, add-one}
+use Rattle.std.proofs.Common.{◌≡◌, ℕ, zero, suc, ◌+◌, ◌≤◌, ◌-◌, drop, List, [], ◌∷◌, ◌++◌, length, take, replicate, refl, ap, sym, subst, arith, add-one}
 use Rattle.std.specs.Prelude.{Some, slice_get, ◌↔◌}
 use Rattle.std.specs.List.{All, AllZip}
 use Rattle.std.proofs.lemmas.List.{take_all, take-append-drop, length-drop, length-take-le}
@@ -48,9 +48,6 @@ pub one_zip : {A B : Type 0} (R : A → B → Type 0) (xs : List A) (y : B) → 
 one_zip R [] y all = All-nil (λ x. R x y)
 one_zip R (x ∷ xs) y all = All-cons (λ z. R z y) x xs all.0 (one_zip R xs y all.1)
 
-pub one_iff : {A B : Type 0} (R : A → B → Type 0) (xs : List A) (y : B) → All (λ x. R x y) xs ↔ AllZip R xs (replicate (length xs) y)
-one_iff R xs y = (zip_one R xs y, one_zip R xs y)
-
 -- ---- joined lists
 
 pub zip_join : {A B : Type 0} (R : A → B → Type 0) (xs zs : List A) (ys ws : List B) → AllZip R xs ys → AllZip R zs ws
@@ -90,17 +87,15 @@ zip_rest {A} {B} R xs ys y few =
     let whole : front ++ rest ≡ xs = take-append-drop (length ys) xs in
     let left : length rest ≡ length xs - length ys = length-drop (length ys) xs in
     let long : length front ≡ length ys = length-take-le (length ys) xs few in
-    let same : AllZip R (front ++ rest) (ys ++ copies) ≡ AllZip R xs (ys ++ copies) = ap (λ (zs : List A). AllZip R zs (ys ++ copies)) whole in
-    (
+    let same : AllZip R (front ++ rest) (ys ++ copies) ≡ AllZip R xs (ys ++ copies) = ap (λ (zs : List A). AllZip R zs (ys ++ copies)) whole in (
       (λ both. subst (λ (zs : List A). AllZip R zs (ys ++ copies)) whole
           (zip_join R front rest ys copies both.0
           (subst (λ (n : ℕ). AllZip R rest (replicate n y)) left (zip_one R rest y both.1)))),
       (λ all.
-      let split : AllZip R (front ++ rest) (ys ++ copies) = subst (λ (zs : List A). AllZip R zs (ys ++ copies)) (sym whole) all in
-      (
-        zip_front R front rest ys copies long split,
-        one_zip R rest y (subst (λ (n : ℕ). AllZip R rest (replicate n y)) (sym left) (zip_back R front rest ys copies long split)),
-      )),
+          let split : AllZip R (front ++ rest) (ys ++ copies) = subst (λ (zs : List A). AllZip R zs (ys ++ copies)) (sym whole) all in (
+            zip_front R front rest ys copies long split,
+            one_zip R rest y (subst (λ (n : ℕ). AllZip R rest (replicate n y)) (sym left) (zip_back R front rest ys copies long split)),
+          )),
     )
 
 pub all_next : {A : Type 0} (P : A → Type 0) (xs : List A) (k : ℕ) (x : A) → All P (take k xs) → slice_get xs k ≡ Some x → P x

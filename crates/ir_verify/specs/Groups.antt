@@ -1,5 +1,5 @@
 -- The statepoint group that is open before an instruction, and what an instruction must be beside it.
-use Rattle.std.specs.Prelude.{◌≡◌, ◌≢◌, ⊤, ℕ, ◌+◌, ◌<◌, ◌↔◌, Bool, true, false, nat_eq, List, [], ◌∷◌, length, Option, Some, None, slice_get, if◌then◌else◌}
+use Rattle.std.specs.Prelude.{◌≡◌, ◌≢◌, ℕ, ◌+◌, ◌<◌, ◌↔◌, Bool, true, false, nat_eq, List, [], ◌∷◌, length, Option, Some, None, slice_get, if◌then◌else◌}
 use Rattle.std.specs.List.{All}
 use Rattle.sp_ids.specs.declared.ids.ValueId.{ValueId}
 use Rattle.ir_ast.specs.declared.types.Ty.{Ty}

@@ -3,6 +3,5 @@ pub mod Cases
 pub mod Mains
 pub mod Phis
 pub mod Groups
-pub mod Derivations
 pub mod Bodies
 pub mod FunctionFaults

@@ -9,10 +9,10 @@ ghost use Rattle.ir_verify.specs.FunctionFaults.{At, CaseAt, CaseFault};
 ghost use Rattle.ir_lines.specs.Notes.{Notes};
 ghost use Rattle.ir_resolve.specs.Resolved.{part_line};
 
-use ir_lines::best::First;
 use crate::insts::part_line;
 use indexmap::IndexSet;
 use ir_ast::{Inst, Op, Operand};
+use ir_lines::best::First;
 use sp_ids::Memory;
 use std::alloc::Global;
 

@@ -11,15 +11,16 @@ ghost use Rattle.ir_ast.specs.Funcs.{instructions_of};
 ghost use Rattle.ir_ast.specs.Operands.{value_in, values_used};
 ghost use Rattle.ir_ast.specs.Values.{value_types};
 ghost use Rattle.ir_ast.specs.Faults.GroupShape.{entries_of, is_part};
-ghost use Rattle.ir_verify.specs.Bodies.{seen_insts, insts_of, given_by};
+ghost use Rattle.ir_verify.specs.Bodies.{insts_of};
+ghost use Rattle.body_tables.specs.Bodies.{seen_insts, given_by};
 ghost use Rattle.ir_verify.specs.Founds.{FoundIn};
 ghost use Rattle.ir_verify.specs.FunctionFaults.{ShapeAt};
 ghost use Rattle.ir_verify.specs.Groups.{is_value_of, seen_open, kept_open, behind_op, token_of, ResultFits, IsResultOf, RelocateFits, IsRelocateOf, number_in, NamesEntries, HaveEntries, NamesToken, UsesNo, ShapeBy};
 ghost use Rattle.ir_lines.specs.Notes.{Notes};
 
-use ir_lines::best::First;
 use crate::types::all_fit;
 use ir_ast::{Func, Inst, Op, Operand, Ty};
+use ir_lines::best::First;
 
 /// The statepoint with which some instructions end, but for parts of its group.
 #[derive(Clone, Copy)]

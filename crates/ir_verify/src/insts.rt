@@ -8,8 +8,8 @@ ghost use Rattle.ir_verify.specs.FunctionFaults.{LabelAt, EntryFault};
 ghost use Rattle.ir_lines.specs.Notes.{Notes};
 ghost use Rattle.ir_resolve.specs.Resolved.{part_line};
 
-use ir_lines::best::First;
 use ir_ast::{Inst, Op, Pred, Ty};
+use ir_lines::best::First;
 use sp_ids::BlockId;
 
 fn is_order(pred: Pred) -> bool

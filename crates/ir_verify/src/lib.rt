@@ -1,9 +1,7 @@
 //! The first rule that a module breaks, by number, with no table of names.
 #![tactic(auto)]
 
-mod bodies;
 mod cases;
-mod derived;
 mod groups;
 mod insts;
 mod mains;

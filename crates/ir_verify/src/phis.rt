@@ -10,8 +10,8 @@ ghost use Rattle.ir_verify.specs.FunctionFaults.{PhiFaultAt, BlockFaultAt};
 ghost use Rattle.ir_lines.specs.Notes.{Notes};
 ghost use Rattle.ir_verify.specs.Phis.{times, numbers_of, AddsEdges, AreEdges, Counts, Agree, AreRight, IsWrong};
 
-use ir_lines::best::First;
 use ir_ast::{Block, Func, Inst, Op, Operand};
+use ir_lines::best::First;
 use sp_ids::{BlockId, Memory};
 use std::alloc::Global;
 
@@ -83,7 +83,11 @@ fn push_numbers(labels: &[BlockId], numbers: &mut Vec<usize>) -> Result<(), Memo
 }
 
 // Whether the labels, counted, aren't those of these blocks, which are in ascending order; `numbers` is room to work in.
-fn are_uncounted(labels: &[BlockId], into: &[usize], numbers: &mut Vec<usize>) -> Result<bool, Memory>
+fn are_uncounted(
+    labels: &[BlockId],
+    into: &[usize],
+    numbers: &mut Vec<usize>,
+) -> Result<bool, Memory>
     requires { IsNonDecreasing into.now }
     ensures apart { IfOk result (λ wrong. IsTrue wrong → ¬ Counts into.now labels.now) }
     ensures counts { IfOk result (λ wrong. wrong ≡ false → Counts into.now labels.now) }
@@ -113,9 +117,7 @@ fn differs(labels: &[BlockId], operands: &[Operand], earlier: usize, place: usiz
     ensures same { result ≡ false → earlier < place → slice_get labels.now earlier ≡ slice_get labels.now place
         → slice_get operands.now earlier ≡ slice_get operands.now place }
 {
-    earlier < place
-        && same_label(labels, earlier, place)
-        && !same_operand(operands, earlier, place)
+    earlier < place && same_label(labels, earlier, place) && !same_operand(operands, earlier, place)
 }
 
 // Whether entries of one block differ; `places` is room to work in, with a place for each block. What stands there at
@@ -249,7 +251,15 @@ pub(crate) fn note_phis(alloc: Global, func: &Func, first: &mut First) -> Result
     for (number, block) in func.blocks().iter().enumerate() {
         sort_into(into[number].as_slice(), &mut ascending)?;
         let insts = block.insts();
-        note_block(func, number, start, insts, ascending.as_slice(), &mut room, first)?;
+        note_block(
+            func,
+            number,
+            start,
+            insts,
+            ascending.as_slice(),
+            &mut room,
+            first,
+        )?;
         start += insts.len();
     }
     Ok(())

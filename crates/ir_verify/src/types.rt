@@ -159,7 +159,11 @@ fn operands_fit(values: &[Ty], inst: &Inst) -> bool
     let ty = *inst.ty();
     match inst.op() {
         Op::Select => each_fits(values, operands, &[Ty::Int(1), ty, ty]),
-        Op::Gep { index_width, .. } => each_fits(values, operands, &[Ty::Ptr, Ty::Int(*index_width)]),
+        Op::Gep { index_width, .. } => each_fits(
+            values,
+            operands,
+            &[Ty::Ptr, Ty::Int(*index_width)],
+        ),
         Op::Load => each_fits(values, operands, &[Ty::Ptr]),
         Op::Store => each_fits(values, operands, &[ty, Ty::Ptr]),
         Op::Call { types, .. } => each_fits(values, operands, types.list()),

@@ -3,25 +3,25 @@
 ghost use Rattle.std.specs.Prelude.{◌≡◌, ◌<◌, ◌^◌, [], length, IfOk, OnOk, map, slice_get, unwrap_or};
 ghost use Rattle.ir_ast.specs.Funcs.{instructions_of};
 ghost use Rattle.ir_ast.specs.Values.{value_types};
-ghost use Rattle.ir_verify.specs.Bodies.{seen_insts, insts_of};
+ghost use Rattle.ir_verify.specs.Bodies.{insts_of};
+ghost use Rattle.body_tables.specs.Bodies.{seen_insts};
 ghost use Rattle.ir_verify.specs.Founds.{FoundIn};
 ghost use Rattle.ir_verify.specs.FunctionFaults.{InstFault, LineFaultAt, EscapeAt, FormFault, FunctionFault, FunctionAt};
 ghost use Rattle.ir_resolve.specs.ModuleFaults.{HasModuleFault};
 ghost use Rattle.ir_lines.specs.Notes.{Notes};
 ghost use Rattle.ir_resolve.specs.Resolved.{cases_at};
 
-use ir_lines::best::First;
-use crate::bodies::{givers, instructions, types};
 use crate::cases::note_cases;
-use crate::derived::{derived, lets_out};
-use ir_lines::faults::Fault;
 use crate::groups::note_shapes;
 use crate::insts::{note_entry, orders_pointers};
 use crate::mains::has_main;
 use crate::phis::note_phis;
 use crate::types::is_typed;
+use body_tables::{derived, instructions, lets_out, types};
 use case_lines::CaseLines;
 use ir_ast::{Form, Func, Inst, Module, Ty};
+use ir_lines::best::First;
+use ir_lines::faults::Fault;
 use sp_ids::Memory;
 use std::alloc::Global;
 
@@ -92,10 +92,13 @@ fn note_escapes(
     requires few { length (instructions_of func.now.content.blocks) < 2 ^ 30 }
     ensures { OnOk result (Notes first.old.found first.new.found (FoundIn (EscapeAt func.now) (insts_of func.now))) }
 {
-    let givers = givers(alloc, func, insts)?;
-    let marks = derived(alloc, givers.as_slice())?;
+    let marks = derived(alloc, func, insts)?;
     for (place, inst) in insts.iter().enumerate() {
-        first.note_if(lets_out(marks.as_slice(), inst), func.line_of(place as u32), 9);
+        first.note_if(
+            lets_out(marks.as_slice(), inst),
+            func.line_of(place as u32),
+            9,
+        );
     }
     Ok(())
 }

@@ -1,15 +1,17 @@
-use Rattle.std.proofs.Common.{◌≡◌, ◌∙◌, ◌+◌, ◌<◌, ◌^◌, ℕ, List, length, arith, sym, ap, subst}
-use Rattle.std.specs.Prelude.{slice_get, Some, None, ◌↔◌, IsTrue}
+use Rattle.std.proofs.Common.{◌≡◌, ◌∙◌, ◌+◌, List, length, arith, sym, ap}
+use Rattle.std.specs.Prelude.{slice_get, Some, ◌↔◌, IsTrue}
 use Rattle.std.specs.Option.{option_map}
 use Rattle.std.specs.Borrow.{Bor}
 use Rattle.std.proofs.lemmas.List.{length-map}
 use Rattle.ir_ast.specs.Insts.{Instruction}
 use Rattle.ir_ast.specs.Faults.GroupShape.{number_at, ShapeOf}
 use Rattle.ir_lines.proofs.NoteLemmas.{not-iff}
-use Rattle.ir_verify.specs.Bodies.{seen_insts, insts_of, line_in, given_by}
+use Rattle.ir_verify.specs.Bodies.{insts_of, line_in}
+use Rattle.body_tables.specs.Bodies.{given_by}
 use Rattle.ir_verify.specs.FunctionFaults.{ShapeAt}
-use Rattle.ir_verify.specs.Groups.{seen_open, Opened}
-use Rattle.ir_verify.proofs.Founds.{notes-none, notes-step, notes-all, notes-at_line, seen-at}
+use Rattle.ir_verify.specs.Groups.{seen_open}
+use Rattle.ir_verify.proofs.Founds.{notes-none, notes-step, notes-all, notes-at_line}
+use Rattle.body_tables.proofs.Elements.{seen-at}
 use Rattle.ir_verify.proofs.GroupLemmas.{opened-start, opened-more, number-start, number-more, number-below, shape-iff}
 use Rattle.ir_verify.proofs.groups.note_shapes.Goals as goal
 

@@ -1,11 +1,9 @@
-use Rattle.std.proofs.Common.{◌≡◌, ◌∙◌, List, take, true, false, sym, subst, ap, arith, ℕ}
+use Rattle.std.proofs.Common.{◌≡◌, ◌∙◌, List, take, true, false, sym, subst, ap, arith}
 use Rattle.std.specs.Prelude.{map, slice_get, Some, length}
 use Rattle.std.specs.List.{All}
 use Rattle.std.proofs.lemmas.List.{length-map}
-use Rattle.std.proofs.lemmas.List.Elements.{All-more}
-use Rattle.std.proofs.lemmas.Option.{slice_get-get_or}
 use Rattle.ir_ast.specs.Funcs.{Function, content_of}
-use Rattle.ir_verify.proofs.Founds.{seen-at}
+use Rattle.body_tables.proofs.Elements.{seen-at}
 use Rattle.ir_verify.proofs.Zips.{all_taken, all_next}
 use Rattle.ir_verify.proofs.MainLemmas.{IsOther, main_at, main_is, main_none}
 use Rattle.ir_verify.proofs.mains.has_main.Goals as goal

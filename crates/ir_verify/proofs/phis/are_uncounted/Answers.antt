@@ -1,8 +1,7 @@
-use Rattle.std.proofs.Common.{◌≡◌, ◌∙◌, ◌++◌, ℕ, List, [], ap, cond, sym}
+use Rattle.std.proofs.Common.{◌≡◌, ◌∙◌, ◌++◌, ℕ, List, ap, cond}
 use Rattle.std.specs.Prelude.{nat_eq, not}
 use Rattle.std.specs.Str.{bytes_eq}
 use Rattle.std.proofs.lemmas.List.Sorted.{IsNonDecreasingBy-from_sort, sum_by-IsPermutation}
-use Rattle.ir_ast.specs.Edges.{count_of}
 use Rattle.ir_verify.specs.Phis.{times, numbers_of}
 use Rattle.ir_verify.proofs.PhiLemmas.{label-counts, uncounted, counted}
 use Rattle.ir_verify.proofs.phis.are_uncounted.Goals as goal

@@ -1,5 +1,5 @@
-use Rattle.std.proofs.Common.{◌≡◌, ◌∙◌, ◌<◌, ℕ, length, get_or, set, arith, true, false, sym, ap, subst}
-use Rattle.std.specs.Prelude.{refl, slice_get, slice_index, Some}
+use Rattle.std.proofs.Common.{◌≡◌, ◌∙◌, ◌<◌, ℕ, length, get_or, arith, subst}
+use Rattle.std.specs.Prelude.{refl, slice_get, slice_index}
 use Rattle.std.proofs.lemmas.List.{length-set, get_or_read}
 use Rattle.std.proofs.lemmas.Option.{slice_get-get_or}
 use Rattle.sp_ids.specs.declared.ids.BlockId.{BlockId}

@@ -1,10 +1,11 @@
-use Rattle.std.proofs.Common.{◌≡◌, ◌∙◌, ◌+◌, ℕ, ◌||◌, Bool, not, length, take, refl, sym, ap, arith}
+use Rattle.std.proofs.Common.{◌∙◌, ◌+◌, ◌||◌, not, take, refl, sym, ap, arith}
 use Rattle.ir_ast.specs.Faults.PhiEdges.{is_phi}
 use Rattle.ir_verify.specs.Bodies.{line_in}
 use Rattle.ir_verify.specs.FunctionFaults.{PhiFaultAt}
-use Rattle.ir_verify.proofs.Founds.{notes-none, notes-step, notes-all, notes-at_line, item-at}
+use Rattle.ir_verify.proofs.Founds.{notes-none, notes-step, notes-at_line}
+use Rattle.body_tables.proofs.Elements.{item-at}
 use Rattle.ir_verify.proofs.EdgeLemmas.{edge-inside}
-use Rattle.ir_verify.proofs.PhiLemmas.{is_late, late-more, wrong-iff}
+use Rattle.ir_verify.proofs.PhiLemmas.{late-more, wrong-iff}
 use Rattle.ir_verify.proofs.phis.note_block.Goals as goal
 
 pub loop-at-init : goal.loop-at-init

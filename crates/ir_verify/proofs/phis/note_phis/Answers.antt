@@ -1,14 +1,14 @@
-use Rattle.std.proofs.Common.{◌≡◌, ◌∙◌, ◌<◌, ◌≤◌, ◌+◌, ℕ, List, [], length, get_or, ap, sym, subst, arith}
+use Rattle.std.proofs.Common.{◌≡◌, ◌∙◌, ◌<◌, ◌+◌, ℕ, List, [], length, get_or, ap, sym, subst, arith}
 use Rattle.std.specs.Prelude.{map, slice_get, Some}
 use Rattle.std.proofs.lemmas.List.{length-map, get_or-map}
-use Rattle.std.proofs.lemmas.Option.{slice_get_within}
 use Rattle.ir_ast.specs.Insts.{Instruction}
 use Rattle.ir_ast.specs.Blocks.{BasicBlock}
 use Rattle.ir_lines.specs.Notes.{Notes}
 use Rattle.ir_verify.specs.Founds.{FoundIn}
 use Rattle.ir_verify.specs.FunctionFaults.{BlockFaultAt, PhiFaultAt, start_of}
 use Rattle.ir_verify.specs.Phis.{times}
-use Rattle.ir_verify.proofs.Founds.{notes-step, item-at}
+use Rattle.ir_verify.proofs.Founds.{notes-step}
+use Rattle.body_tables.proofs.Elements.{item-at}
 use Rattle.ir_verify.proofs.PhiLemmas.{start-more, start-within}
 use Rattle.ir_verify.proofs.phis.note_phis.Goals as goal
 

@@ -3,7 +3,7 @@ use Rattle.std.specs.Prelude.{map, slice_get, Some}
 use Rattle.sp_ids.specs.declared.ids.BlockId.{BlockId}
 use Rattle.ir_ast.specs.Blocks.{BasicBlock}
 use Rattle.ir_verify.specs.Phis.{AddsEdges}
-use Rattle.ir_verify.proofs.Founds.{item-at}
+use Rattle.body_tables.proofs.Elements.{item-at}
 use Rattle.ir_verify.proofs.EdgeLemmas.{blank-edges, edges-more, edges-all}
 use Rattle.ir_verify.proofs.phis.sources.Goals as goal
 

@@ -1,4 +1,4 @@
-use Rattle.std.proofs.Common.{◌≡◌, length, take}
+use Rattle.std.proofs.Common.{take}
 use Rattle.std.specs.List.{AllZip}
 use Rattle.ir_ast.specs.Faults.TypeClash.{Fits}
 use Rattle.ir_verify.proofs.types.each_fits.Given as goal

@@ -1,4 +1,3 @@
-use Rattle.std.proofs.Common.{◌≡◌, ◌∙◌}
 use Rattle.ir_ast.specs.Faults.NoMain.{HasMain}
 use Rattle.ir_resolve.specs.Resolved.{Resolved}
 use Rattle.ir_resolve.specs.ModuleFaults.{HasModuleFault}

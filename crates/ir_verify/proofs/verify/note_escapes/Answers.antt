@@ -1,17 +1,16 @@
-use Rattle.std.proofs.Common.{◌≡◌, ◌∙◌, ℕ, List, Bool, Option, length, sym, ap, subst, arith}
-use Rattle.std.specs.Prelude.{map, slice_get, Some}
+use Rattle.std.proofs.Common.{◌≡◌, ◌∙◌, List, Bool, length, sym, ap, arith}
+use Rattle.std.specs.Prelude.{slice_get, Some}
 use Rattle.std.specs.List.{list_any}
-use Rattle.std.specs.Option.{option_map}
 use Rattle.std.specs.Borrow.{Bor}
 use Rattle.std.proofs.lemmas.List.{length-map}
 use Rattle.ir_ast.specs.Insts.{Instruction}
-use Rattle.ir_ast.specs.Values.{definitions_of}
 use Rattle.ir_ast.specs.Faults.DerivedEscapes.{values_leaving}
-use Rattle.ir_verify.specs.Bodies.{seen_insts, insts_of, line_in, inst_of}
-use Rattle.ir_verify.specs.Derivations.{AreMarks, has_mark}
+use Rattle.ir_verify.specs.Bodies.{insts_of, line_in}
+use Rattle.body_tables.specs.Derivations.{has_mark}
 use Rattle.ir_verify.specs.FunctionFaults.{EscapeAt}
-use Rattle.ir_verify.proofs.Founds.{notes-step, notes-all, notes-at_line, seen-at}
-use Rattle.ir_verify.proofs.UserLemmas.{escapes-iff}
+use Rattle.ir_verify.proofs.Founds.{notes-step, notes-all, notes-at_line}
+use Rattle.body_tables.proofs.Elements.{seen-at}
+use Rattle.body_tables.proofs.UserLemmas.{escapes-iff}
 use Rattle.ir_verify.proofs.verify.note_escapes.Goals as goal
 
 pub loop-place-preserved : goal.loop-place-preserved
@@ -26,14 +25,10 @@ loop-place-preserved c =
     let f = c.args.first.now.found in
     let g = c.loop-place.first.found in
     let h = c.note_if.new.self.found in
-    let givers : map (option_map (λ (one : Bor Instruction). one.now)) c.as_slice.result.now ≡ map inst_of (definitions_of func.content)
-    = ap (map (option_map (λ (one : Bor Instruction). one.now))) c.as_slice.ensures.value ∙ c.in_ok-givers.ensures in
-    let are : AreMarks (map inst_of (definitions_of func.content)) marks
-    = subst (λ (gs : List (Option Instruction)). AreMarks gs marks) givers c.in_ok-marks.ensures in
     notes-step (EscapeAt func) (insts_of func) place inst f g h at c.loop-place.invariant
     (notes-at_line c.line_of.result (line_in func place) 9 c.lets_out.result _ g h c.line_of.ensures
-    (escapes-iff func.content marks inst c.lets_out.result are
-    (c.lets_out.ensures ∙ ap (λ (ms : List Bool). list_any (has_mark ms) (values_leaving inst)) c.as_slice-in-loop-place.ensures.value)) c.note_if.ensures)
+    (escapes-iff func.content marks inst c.lets_out.result c.in_ok-marks.ensures
+    (c.lets_out.ensures ∙ ap (λ (ms : List Bool). list_any (has_mark ms) (values_leaving inst)) c.as_slice.ensures.value)) c.note_if.ensures)
 
 pub returns : goal.returns
 returns c =

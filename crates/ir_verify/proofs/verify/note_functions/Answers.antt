@@ -1,6 +1,7 @@
 use Rattle.std.proofs.Common.{arith}
 use Rattle.ir_verify.specs.FunctionFaults.{FunctionAt}
-use Rattle.ir_verify.proofs.Founds.{notes-step, notes-all, item-at}
+use Rattle.ir_verify.proofs.Founds.{notes-step, notes-all}
+use Rattle.body_tables.proofs.Elements.{item-at}
 use Rattle.ir_verify.proofs.verify.note_functions.Goals as goal
 
 pub loop-number-preserved : goal.loop-number-preserved

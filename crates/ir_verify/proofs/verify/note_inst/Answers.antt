@@ -1,4 +1,4 @@
-use Rattle.std.proofs.Common.{◌≡◌, ◌∙◌, sym, true}
+use Rattle.std.proofs.Common.{◌∙◌, sym}
 use Rattle.ir_ast.specs.Scope.{scope_of}
 use Rattle.ir_resolve.specs.ModuleFaults.{IsTypedBesidesCalls}
 use Rattle.ir_lines.proofs.NoteLemmas.{Either, notes-then, not-iff}

@@ -4,9 +4,10 @@ use Rattle.std.specs.Borrow.{Bor}
 use Rattle.std.proofs.lemmas.List.{length-map}
 use Rattle.ir_ast.specs.Insts.{Instruction}
 use Rattle.ir_lines.specs.Notes.{Notes}
-use Rattle.ir_verify.specs.Bodies.{seen_insts, insts_of, line_in, cases_in}
+use Rattle.ir_verify.specs.Bodies.{insts_of, cases_in}
 use Rattle.ir_verify.specs.FunctionFaults.{InstFault, LineFaultAt}
-use Rattle.ir_verify.proofs.Founds.{notes-step, notes-all, seen-at}
+use Rattle.ir_verify.proofs.Founds.{notes-step, notes-all}
+use Rattle.body_tables.proofs.Elements.{seen-at}
 use Rattle.ir_verify.proofs.verify.note_lines.Goals as goal
 
 pub loop-place-preserved : goal.loop-place-preserved

@@ -1,0 +1,10 @@
+use Rattle.std.specs.Prelude.{map}
+use Rattle.body_tables.proofs.UserLemmas.{adds_none, adds_operand}
+use Rattle.body_tables.proofs.derivation.add_operands.Goals as goal
+
+pub loop-operand-init : goal.loop-operand-init
+loop-operand-init c = adds_none c.args.user (map (λ row. row.items) c.args.users.now.items)
+
+pub loop-operand-preserved : goal.loop-operand-preserved
+loop-operand-preserved c =
+    adds_operand c.args.operands.now c.loop-operand.operand-index _ c.args.user _ _ _ c.loop-operand-test.true c.loop-operand.invariant c.in_ok-add_operand.ensures

@@ -1,0 +1,10 @@
+use Rattle.std.proofs.Common.{take}
+use Rattle.std.specs.Prelude.{map}
+use Rattle.std.specs.List.{filter_map}
+use Rattle.ir_ast.specs.Operands.{value_in}
+use Rattle.body_tables.specs.Derivations.{AddsUsers}
+use Rattle.body_tables.proofs.derivation.add_operands.Given as goal
+
+abbrev pub invariant-loop-operand : goal.invariant-loop-operand
+invariant-loop-operand l =
+    AddsUsers (filter_map value_in (take l.operand-index l.operands)) l.user (map (λ row. row.items) l.initial.users.items) (map (λ row. row.items) l.users.items)

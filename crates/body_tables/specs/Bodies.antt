@@ -1,0 +1,15 @@
+-- The instructions of a function as references, and what they give.
+use Rattle.std.specs.Prelude.{if◌then◌else◌, is_some, List, [], ◌∷◌, Option, Some, None, map}
+use Rattle.std.specs.Borrow.{Bor}
+use Rattle.ir_ast.specs.Insts.{Instruction}
+use Rattle.ir_ast.specs.Values.{Definition, argument, outcome}
+
+abbrev pub seen_insts : List (Bor Instruction) → List Instruction
+seen_insts insts = map (λ inst. inst.now) insts
+
+abbrev pub inst_of : Definition → Option Instruction
+inst_of (argument arg) = None
+inst_of (outcome inst) = Some inst
+
+abbrev pub given_by : Instruction → List Definition
+given_by inst = if is_some inst.result then outcome inst ∷ [] else []

@@ -1,0 +1,99 @@
+//! A function as flat tables: its instructions in text order, and its values by number.
+
+ghost use Rattle.std.specs.Prelude.{◌≡◌, ◌<◌, ◌^◌, ◌++◌, length, map, IfOk};
+ghost use Rattle.std.specs.Option.{option_map};
+ghost use Rattle.ir_ast.specs.Funcs.{instructions_of};
+ghost use Rattle.ir_ast.specs.Values.{definitions_of, definition_type, outcome_type, value_types};
+ghost use Rattle.body_tables.specs.Bodies.{seen_insts, inst_of, given_by};
+
+use ir_ast::{Block, Func, Inst, Op, Ty};
+use sp_ids::Memory;
+use std::alloc::Global;
+
+/// The instructions of a function in text order.
+pub fn instructions(alloc: Global, func: &Func) -> Result<Vec<&Inst>, Memory>
+    ensures insts { IfOk result (λ insts. seen_insts insts.items ≡ instructions_of func.now.content.blocks) }
+    ensures few { length (instructions_of func.now.content.blocks) < 2 ^ 30 }
+{
+    let mut insts = Vec::new(alloc);
+    for block in func.blocks() {
+        add_block(block, &mut insts)?;
+    }
+    Ok(insts)
+}
+
+fn add_block<'a>(block: &'a Block, insts: &mut Vec<&'a Inst>) -> Result<(), Memory>
+    ensures { IfOk result (λ _. seen_insts insts.new.items ≡ seen_insts insts.old.items ++ block.now.insts) }
+{
+    for inst in block.insts() {
+        insts.push(inst)?;
+    }
+    Ok(())
+}
+
+// The type of an instruction's result.
+fn outcome_type(inst: &Inst) -> Ty
+    ensures { result ≡ outcome_type inst.now.op inst.now.ty }
+{
+    match inst.op() {
+        Op::Icmp(_) => Ty::Int(1),
+        Op::Trunc(width) => Ty::Int(*width),
+        Op::Zext(width) => Ty::Int(*width),
+        Op::Sext(width) => Ty::Int(*width),
+        Op::Statepoint { .. } => Ty::Token,
+        _ => *inst.ty(),
+    }
+}
+
+fn push_type(inst: &Inst, types: &mut Vec<Ty>) -> Result<(), Memory>
+    ensures { IfOk result (λ _. types.new.items ≡ types.old.items ++ map definition_type (given_by inst.now)) }
+{
+    if inst.result().is_some() {
+        types.push(outcome_type(inst))?;
+    }
+    Ok(())
+}
+
+/// The types of the values of a function that has these instructions.
+pub fn types(alloc: Global, func: &Func, insts: &[&Inst]) -> Result<Vec<Ty>, Memory>
+    requires { seen_insts insts.now ≡ instructions_of func.now.content.blocks }
+    ensures { IfOk result (λ types. types.items ≡ value_types func.now.content) }
+{
+    let mut types = Vec::new(alloc);
+    for arg in func.args() {
+        types.push(arg.ty)?;
+    }
+    for inst in insts {
+        push_type(inst, &mut types)?;
+    }
+    Ok(types)
+}
+
+fn push_giver<'a>(inst: &'a Inst, givers: &mut Vec<Option<&'a Inst>>) -> Result<(), Memory>
+    ensures { IfOk result (λ _. map (option_map (λ inst. inst.now)) givers.new.items
+        ≡ map (option_map (λ inst. inst.now)) givers.old.items ++ map inst_of (given_by inst.now)) }
+{
+    if inst.result().is_some() {
+        givers.push(Some(inst))?;
+    }
+    Ok(())
+}
+
+/// The instruction that gives each value of a function that has these instructions; none gives an argument.
+pub(crate) fn givers<'a>(
+    alloc: Global,
+    func: &Func,
+    insts: &[&'a Inst],
+) -> Result<Vec<Option<&'a Inst>>, Memory>
+    requires { seen_insts insts.now ≡ instructions_of func.now.content.blocks }
+    ensures { IfOk result (λ givers. map (option_map (λ inst. inst.now)) givers.items ≡ map inst_of (definitions_of func.now.content)) }
+{
+    let mut givers = Vec::new(alloc);
+    for _arg in func.args() {
+        givers.push(None)?;
+    }
+    for inst in insts {
+        push_giver(inst, &mut givers)?;
+    }
+    Ok(givers)
+}

@@ -1,2 +1,0 @@
-use Rattle.ir_verify.proofs.UserLemmas.{escapes-iff}
-use Rattle.ir_verify.proofs.derived.any_marked.Goals as goal
