@@ -28,7 +28,7 @@ fn is_main(func: &Func) -> bool
 
 /// Whether the first function named `@main` takes nothing and answers `i32` or `i64`.
 pub(crate) fn has_main(module: &Module) -> bool
-    ensures { IsTrue result ↔ HasMain module.now.content }
+    ensures { IsTrue result ↔ HasMain «module».now.content }
 {
     for func in module.funcs() {
         if is_named_main(func) {

@@ -175,7 +175,7 @@ fn operands_fit(values: &[Ty], inst: &Inst) -> bool
 }
 
 fn keeps_rule(module: &Module, func: &Func, inst: &Inst) -> bool
-    ensures { IsTrue result ↔ RuleBesidesCalls (scope_of module.now.content func.now.content) inst.now.op inst.now }
+    ensures { IsTrue result ↔ RuleBesidesCalls (scope_of «module».now.content func.now.content) inst.now.op inst.now }
 {
     let ty = *inst.ty();
     match inst.op() {
@@ -193,7 +193,7 @@ fn keeps_rule(module: &Module, func: &Func, inst: &Inst) -> bool
 /// Whether the line has the types that it asks, besides those of what it calls.
 pub(crate) fn is_typed(module: &Module, func: &Func, values: &[Ty], inst: &Inst) -> bool
     requires { values.now ≡ value_types func.now.content }
-    ensures { IsTrue result ↔ IsTypedBesidesCalls (scope_of module.now.content func.now.content) inst.now }
+    ensures { IsTrue result ↔ IsTypedBesidesCalls (scope_of «module».now.content func.now.content) inst.now }
 {
     operands_fit(values, inst) && keeps_rule(module, func, inst)
 }

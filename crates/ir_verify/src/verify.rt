@@ -47,7 +47,7 @@ fn note_inst(
     first: &mut First,
 ) -> Result<(), Memory>
     requires { types.now ≡ value_types func.now.content }
-    ensures { OnOk result (Notes first.old.found first.new.found (InstFault module.now.content func.now.content line cases.now inst.now)) }
+    ensures { OnOk result (Notes first.old.found first.new.found (InstFault «module».now.content func.now.content line cases.now inst.now)) }
 {
     first.note_if(!is_typed(module, func, types, inst), line, 5);
     first.note_if(orders_pointers(inst), line, 15);
@@ -71,7 +71,7 @@ fn note_lines(
     requires types { types.now ≡ value_types func.now.content }
     requires few { length (instructions_of func.now.content.blocks) < 2 ^ 30 }
     ensures { OnOk result (Notes first.old.found first.new.found
-        (FoundIn (LineFaultAt module.now.content func.now (unwrap_or (slice_get cases.now number) [])) (insts_of func.now))) }
+        (FoundIn (LineFaultAt «module».now.content func.now (unwrap_or (slice_get cases.now number) [])) (insts_of func.now))) }
 {
     for (place, inst) in insts.iter().enumerate() {
         let line = func.line_of(place as u32);
@@ -135,7 +135,7 @@ fn note_function(
     func: &Func,
     first: &mut First,
 ) -> Result<(), Memory>
-    ensures { OnOk result (Notes first.old.found first.new.found (FunctionAt module.now.content cases.now number func.now)) }
+    ensures { OnOk result (Notes first.old.found first.new.found (FunctionAt «module».now.content cases.now number func.now)) }
 {
     let insts = instructions(alloc, func)?;
     let insts = insts.as_slice();
@@ -153,7 +153,7 @@ fn note_functions(
     funcs: &[Func],
     first: &mut First,
 ) -> Result<(), Memory>
-    ensures { OnOk result (Notes first.old.found first.new.found (FoundIn (FunctionAt module.now.content cases.now) funcs.now)) }
+    ensures { OnOk result (Notes first.old.found first.new.found (FoundIn (FunctionAt «module».now.content cases.now) funcs.now)) }
 {
     for (number, func) in funcs.iter().enumerate() {
         note_function(alloc, module, cases, number, func, first)?;
@@ -170,7 +170,7 @@ pub fn first_broken(
     noted: Option<Fault>,
 ) -> Result<Option<Fault>, Memory>
     ensures { IfOk result (λ found. Notes noted found (λ line code.
-        HasModuleFault (record { whole = module.now; cases = cases.now }) line code)) }
+        HasModuleFault (record { whole = «module».now; cases = cases.now }) line code)) }
 {
     let mut first = First { found: noted };
     first.note_if(!has_main(module), 0, 11);
