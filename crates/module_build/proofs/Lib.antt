@@ -3,3 +3,4 @@ pub mod Bodies
 pub mod Sizes
 pub mod ArgumentLists
 pub mod BuiltLemmas
+pub mod Placing

@@ -16,7 +16,7 @@ use Rattle.ir_lines.specs.Modules.{Known, known_of, with_line, instruction_said,
 use Rattle.ir_lines.specs.TextLines.{place_behind, Stand}
 use Rattle.module_build.proofs.Bodies.{Inside, inside_function, stays}
 use Rattle.module_build.proofs.BuiltLemmas.{one-line_each}
-use Rattle.module_laws.proofs.Placing.{opens_function, define-opens, entry-is}
+use Rattle.module_build.proofs.Placing.{opens_function, define-opens, entry-is}
 use Rattle.module_laws.proofs.Rising.{Within, within-later, within-spans, within-from, within-to, within-order, numbers}
 
 -- ---- the lines of a body

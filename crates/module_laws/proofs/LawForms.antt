@@ -31,7 +31,7 @@ use Rattle.module_laws.proofs.LawTyped.{content}
 use Rattle.module_laws.proofs.LawFunctions.{kept, each_inst, local_known, global_known, function_source, function_widths, has_block, are_lines, has_names, has_no_bundle, few_made}
 use Rattle.module_laws.proofs.LawRows.{small, id_words}
 use Rattle.module_laws.proofs.LawModules.{each_function, layouts_filled, layouts_typed, limits_kept, names_once, names_free, module_typed, total_made}
-use Rattle.module_laws.proofs.Placing.{read-placed}
+use Rattle.module_build.proofs.Placing.{read-placed}
 use Rattle.module_laws.proofs.ReadCounts.{total_all}
 
 -- ---- what only one of the two forms asks

@@ -18,7 +18,6 @@ pub mod Rising
 pub mod InOrder
 pub mod Formed
 pub mod ReadTexts
-pub mod Placing
 pub mod ReadCounts
 pub mod ReadTypes
 pub mod ReadLaw

@@ -24,7 +24,7 @@ use Rattle.ir_resolve.specs.Statements.{AreRead, Rise}
 use Rattle.module_build.specs.Placed.{IsPlacedFunction, IsPlaced}
 use Rattle.module_build.proofs.Bodies.{Body}
 use Rattle.module_laws.proofs.LawHeads.{SaysOf, says-defined}
-use Rattle.module_laws.proofs.Placing.{IsPlacedBody, definitions-placed, read-placed}
+use Rattle.module_build.proofs.Placing.{IsPlacedBody, definitions-placed, read-placed}
 use Rattle.module_laws.proofs.ReadTexts.{read-runs, read-lines}
 use Rattle.module_laws.proofs.Rising.{Within, numbers, within-later, lines-rise}
 use Rattle.module_laws.proofs.ReadNames.{runs_names}

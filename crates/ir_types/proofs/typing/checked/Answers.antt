@@ -9,7 +9,7 @@ use Rattle.ir_resolve.specs.Resolved.{uncast_line}
 use Rattle.ir_resolve.specs.FaultSet.{HasResolvedFault}
 use Rattle.module_build.specs.Placed.{IsPlaced}
 use Rattle.module_laws.proofs.ReadTexts.{read-lines}
-use Rattle.module_laws.proofs.Placing.{resolved-placed}
+use Rattle.text_resolve.proofs.Placing.{resolved-placed}
 use Rattle.ir_types.proofs.AnswerLaws.{noted-least, text-noted, text-unbroken, text-module, formed-text, answers-paths, module-paths, kept-paths, functions-paths}
 use Rattle.ir_types.proofs.PathLaw.{plain-least}
 use Rattle.ir_types.proofs.typing.checked.Goals as goal

@@ -1,6 +1,6 @@
 -- The lines of a text that was read are in their places.
-use Rattle.std.proofs.Common.{◌≡◌, ◌∙◌, ℕ, ◌<◌, ◌≤◌, ◌^◌, refl, sym, ap, subst, Bool, true, false, cond, ◌&&◌, List, [], ◌∷◌, length, Option, Some, None, arith}
-use Rattle.std.specs.Prelude.{take_while, nat_le, not, map}
+use Rattle.std.proofs.Common.{◌≡◌, ◌∙◌, ℕ, ◌<◌, ◌≤◌, ◌^◌, refl, sym, ap, subst, Bool, true, false, cond, ◌&&◌, List, [], ◌∷◌, length, arith}
+use Rattle.std.specs.Prelude.{Option, Some, None, take_while, nat_le, not}
 use Rattle.std.specs.List.{All, list_all}
 use Rattle.std.proofs.lemmas.List.{length-map}
 use Rattle.std.proofs.lemmas.List.Elements.{All-nil, All-cons, All-append, All-head, All-tail, All-weaker}
@@ -11,18 +11,16 @@ use Rattle.ir_reader.specs.declared.states.Place.{Place}
 use Rattle.ir_reader.specs.declared.states.Place.TheVariants as places
 use Rattle.line_parts.specs.declared.readings.TypeWord.{TypeWord}
 use Rattle.line_parts.specs.Lists.{Named}
-use Rattle.ir_reader.specs.Limits.{type_fits, value_fits, name_fits, argument_fits}
-use Rattle.ir_lines.specs.Statements.{Statement, Line, define, cast}
+use Rattle.ir_reader.specs.Limits.{type_fits, name_fits, argument_fits}
+use Rattle.ir_lines.specs.Statements.{Statement, Line, define}
 use Rattle.ir_lines.specs.Sections.{is_close, Definition, definition_said, definitions_of, arguments_named, blocks_of}
 use Rattle.ir_lines.specs.Modules.{Known, known_of, block_of, argument_of}
-use Rattle.ir_resolve.specs.Resolved.{uncast, uncast_line}
-use Rattle.module_build.specs.Placed.{IsPlacedFunction, IsPlaced}
 use Rattle.ir_lines.specs.TextLines.{place_behind, Stand, statement_fits, IsTextLines}
-use Rattle.module_build.proofs.Bodies.{Body, Inside, body-of, blocks-end, inside_function}
-use Rattle.module_laws.proofs.ReadCounts.{StaysIn, stays_in}
+use Rattle.module_build.specs.Placed.{IsPlacedFunction, IsPlaced}
+use Rattle.module_build.proofs.Bodies.{Body, Inside, body-of, blocks-end, inside_function, stays}
 use Rattle.module_build.proofs.Sizes.{few-layouts, few-definitions, few-arguments, few-blocks, few-instructions}
 
-both : (x y : Bool) → (x && y) ≡ true → (x ≡ true) × (y ≡ true)
+pub both : (x y : Bool) → (x && y) ≡ true → (x ≡ true) × (y ≡ true)
 both true y e = (refl, e)
 both false y e = absurd (let bad : false ≡ true = e in cc)
 
@@ -51,8 +49,7 @@ entry-is next e = absurd (let bad : false ≡ true = e in cc)
 -- a brace ends the body, so that the body is shorter than what stands behind the head
 closed_within : (ls : List Line) (place : Place) → Inside place → Stand place ls → length (take_while inside_function ls) < length ls
 closed_within [] place in' stand = absurd (subst Inside stand in')
-closed_within (l ∷ ls) place in' stand =
-    by (is_close l.says) refl (λ e. closed_within ls stand.next (subst StaysIn stand.is (stays_in place l.says in' e)) stand.more)
+closed_within (l ∷ ls) place in' stand = by (is_close l.says) refl (λ e. closed_within ls stand.next (stays place l.says stand.next in' e stand.is) stand.more)
   where
     cut : (b : Bool) → is_close l.says ≡ b → length (take_while inside_function (l ∷ ls)) ≡ length (cond (not b) (l ∷ take_while inside_function ls) [])
     cut b e = ap length (take_while-cons inside_function l ls ∙ ap (λ (x : Bool). cond (not x) (l ∷ take_while inside_function ls) []) e)
@@ -104,8 +101,6 @@ definitions-placed (l ∷ ls) place stand fits few =
     (line-placed l.number l.says place stand.next ls stand.is stand.more (All-head Fits l ls fits) fewer)
     (definitions-placed ls stand.next stand.more (All-tail Fits l ls fits) (omega (arith, fewer)))
 
--- ---- the text
-
 body-placed : (known : Known) (func : Definition) → IsPlacedBody func → IsPlacedFunction known func
 body-placed known func h =
     let arguments = few-arguments func.line [] func.arguments in
@@ -122,48 +117,16 @@ body-placed known func h =
       };
     }
 
-lines-placed : (lines : List Line) → Stand places.Top lines → All Fits lines → length lines ≤ 16777217 → IsPlaced lines
+pub lines-placed : (lines : List Line) → Stand places.Top lines → All Fits lines → length lines ≤ 16777217 → IsPlaced lines
 lines-placed lines stand fits few =
     let layouts = few-layouts lines in
     let functions = few-definitions lines in
     record {
       functions = All-weaker IsPlacedBody (λ func. IsPlacedFunction (known_of lines func) func)
-          (λ func h. body-placed (known_of lines func) func h) (definitions_of lines)
-          (definitions-placed lines places.Top stand fits few);
+          (λ func h. body-placed (known_of lines func) func h) (definitions_of lines) (definitions-placed lines places.Top stand fits few);
       few_layouts = omega (arith, layouts, few);
       few_functions = omega (arith, functions, few);
     }
 
 pub read-placed : (form : Form) (lines : List Line) → IsTextLines form lines → IsPlaced lines
 read-placed form lines read = lines-placed lines read.placed read.fit read.few
-
--- ---- the text without its casts
-
-same-place : (place : Place) (what : Statement) → place_behind place (uncast what) ≡ place_behind place what
-same-place places.Top (cast result op from value to) = refl
-same-place places.Entry (cast result op from value to) = refl
-same-place places.Block (cast result op from value to) = refl
-same-place places.Closed (cast result op from value to) = refl
-same-place places.Cases (cast result op from value to) = refl
-same-place place what = refl
-
-stands-on : (place : Place) (ls : List Line) → Stand place ls → Stand place (map uncast_line ls)
-stands-on place [] stand = stand
-stands-on place (l ∷ ls) stand = record {
-  next = stand.next;
-  is = same-place place l.says ∙ stand.is;
-  more = stands-on stand.next ls stand.more;
-}
-
-still-fits : (what : Statement) → statement_fits what ≡ true → statement_fits (uncast what) ≡ true
-still-fits (cast result op from value to) e = ap (λ (fits : Bool). fits && true) (both (value_fits value) (type_fits to) (both (type_fits from) (value_fits value && type_fits to) e).1).1
-still-fits what e = e
-
-all-fit : (ls : List Line) → All Fits ls → All Fits (map uncast_line ls)
-all-fit [] fits = All-nil Fits
-all-fit (l ∷ ls) fits = All-cons Fits (uncast_line l) (map uncast_line ls) (still-fits l.says (All-head Fits l ls fits)) (all-fit ls (All-tail Fits l ls fits))
-
-pub resolved-placed : (form : Form) (lines : List Line) → IsTextLines form lines → IsPlaced (map uncast_line lines)
-resolved-placed form lines read =
-    let few : length (map uncast_line lines) ≤ 16777217 = let e = length-map lines uncast_line in omega (arith, e, read.few) in
-    lines-placed (map uncast_line lines) (stands-on places.Top lines read.placed) (all-fit lines read.fit) few
