@@ -1,10 +1,9 @@
 //! The blocks of the final text.
 
 ghost use Rattle.std.specs.Prelude.{◌≡◌, ◌<◌, ◌^◌, map, length, IfOk};
-ghost use Rattle.ssa_rebuild.specs.Forest.{list_at};
+ghost use Rattle.version_walk.specs.Forest.{list_at};
 ghost use Rattle.ssa_rebuild.specs.Written.{blocks_written, block_lines, block_after};
 
-use crate::slots::Slot;
 use crate::stream::Stream;
 use crate::writing::{Writing, push_lines, push_phis};
 use ir_ast::Block;
@@ -12,6 +11,7 @@ use ir_cfg::Cfg;
 use sp_ids::{BlockId, Memory, ValueId};
 use statepoint_insert::Group;
 use std::alloc::Global;
+use version_walk::Packed;
 
 /// The blocks with their inserted phis, and with groups in place of calls, under the numbers of these rows.
 pub(crate) fn all_blocks(
@@ -19,7 +19,7 @@ pub(crate) fn all_blocks(
     cfg: &Cfg,
     groups: &[Group],
     joins: &[Vec<ValueId>],
-    rows: &[Vec<Slot>],
+    rows: &[Vec<Packed>],
     writing: Writing,
     blocks: Vec<Block>,
 ) -> Result<Vec<Block>, Memory>
@@ -45,7 +45,7 @@ fn one_block(
     cfg: &Cfg,
     groups: &[Group],
     joins: &[Vec<ValueId>],
-    rows: &[Vec<Slot>],
+    rows: &[Vec<Packed>],
     number: u32,
     block: Block,
     writing: &mut Writing,
@@ -68,7 +68,7 @@ fn one_block(
     Ok(Block::of(name, lines))
 }
 
-fn row_at(rows: &[Vec<Slot>], number: usize) -> &[Slot]
+fn row_at(rows: &[Vec<Packed>], number: usize) -> &[Packed]
     ensures { result.now ≡ list_at rows.now number }
 {
     match rows.get(number) {

@@ -12,7 +12,6 @@ ghost use Rattle.ssa_rebuild.specs.Written.{zeros_of};
 use crate::arrivals::all_arrivals;
 use crate::blocks::all_blocks;
 use crate::rows::bodies;
-use crate::slots::Slot;
 use crate::solve::{joined, solve};
 use crate::stream::Stream;
 use crate::writing::Writing;
@@ -21,6 +20,7 @@ use ir_cfg::Cfg;
 use sp_ids::{Memory, ValueId};
 use statepoint_insert::{Counts, Group, Marked};
 use std::alloc::Global;
+use version_walk::Packed;
 
 /// The function in SSA form again: each use takes the version of its value that stands there, phis named `%sp.mN` are inserted at
 /// the front of the blocks where versions meet, and groups stand in place of calls (Garbage Collection Safepoints in LLVM,
@@ -52,7 +52,7 @@ fn all_numbers(
     marked: &Marked,
     cfg: &Cfg,
     joins: &[Vec<ValueId>],
-) -> Result<(Vec<Vec<Slot>>, Vec<u32>), Memory>
+) -> Result<(Vec<Vec<Packed>>, Vec<u32>), Memory>
     requires cfg { cfg.now ≡ graph_of marked.now.before }
     requires joins { AreJoins marked.now.before marked.now.table joins.now }
     ensures rows { IfOk result (λ numbers. AreNumbered marked.now.before marked.now.table numbers.0.items) }

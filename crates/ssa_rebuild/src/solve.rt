@@ -8,13 +8,13 @@ ghost use Rattle.ssa_rebuild.specs.Solved.{AreNumbered};
 use crate::listed::listed;
 use crate::numbers::Numbers;
 use crate::rows::{add_all_entries, bodies, parents};
-use crate::slots::Slot;
 use crate::walk::answer_blocks;
 use ir_cfg::Cfg;
 use live_sets::joins;
 use sp_ids::{Memory, ValueId};
 use statepoint_insert::Marked;
 use std::alloc::Global;
+use version_walk::Packed;
 
 /// The values for which phis are inserted at the front of each block.
 pub(crate) fn joined(alloc: Global, marked: &Marked, cfg: &Cfg) -> Result<Vec<Vec<ValueId>>, Memory>
@@ -34,7 +34,7 @@ pub(crate) fn solve(
     marked: &Marked,
     cfg: &Cfg,
     joins: &[Vec<ValueId>],
-) -> Result<Vec<Vec<Slot>>, Memory>
+) -> Result<Vec<Vec<Packed>>, Memory>
     requires cfg { cfg.now ≡ graph_of marked.now.before }
     requires joins { AreJoins marked.now.before marked.now.table joins.now }
     ensures { IfOk result (λ answers. AreNumbered marked.now.before marked.now.table answers.items) }

@@ -3,10 +3,10 @@
 ghost use Rattle.std.specs.Prelude.{◌≡◌, take, drop, slice_index, map, IfOk};
 ghost use Rattle.ssa_rebuild.specs.Written.{number_of};
 
-use crate::slots::Slot;
 use sp_ids::Memory;
 use std::alloc::Global;
 use std::marker::Model;
+use version_walk::{Packed, Slot};
 
 /// Numbers in the order of the text: the list of those that are still to be taken.
 #[derive(Drop)]
@@ -34,7 +34,7 @@ impl Stream {
     }
 
     /// The numbers of a row.
-    pub(crate) fn of_row(alloc: Global, row: &[Slot]) -> Result<Stream, Memory>
+    pub(crate) fn of_row(alloc: Global, row: &[Packed]) -> Result<Stream, Memory>
         ensures { IfOk result (λ stream. stream ≡ map number_of row.now) }
     {
         let mut numbers = Vec::with_capacity(alloc, row.len())?;

@@ -3,7 +3,7 @@ use Rattle.std.specs.Global.{Vec}
 use Rattle.sp_ids.specs.declared.ids.ValueId.{ValueId}
 use Rattle.ir_ast.specs.Funcs.{Function}
 use Rattle.rewriting_forms.specs.Numbered.{preds}
-use Rattle.ssa_rebuild.specs.declared.slots.Slot.{Slot}
+use Rattle.version_walk.specs.declared.slots.Slot.{Slot}
 use Rattle.ssa_rebuild.specs.Rows.{body_rows, group_list, values_in, entries_all}
 use Rattle.ssa_rebuild.specs.Arrivals.{HoldsAll, arriving_numbers}
 use Rattle.ssa_rebuild.proofs.RebuiltLaws.{arrived}

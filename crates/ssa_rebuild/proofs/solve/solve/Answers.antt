@@ -6,8 +6,8 @@ use Rattle.ir_ast.specs.Funcs.{Function}
 use Rattle.live_sets.specs.Joins.{AreJoins}
 use Rattle.statepoint_insert.specs.Groups.{groups_of}
 use Rattle.statepoint_insert.specs.Marked.{IsReady}
-use Rattle.ssa_rebuild.specs.declared.slots.Slot.{Slot}
-use Rattle.ssa_rebuild.specs.Forest.{AreInside}
+use Rattle.version_walk.specs.declared.slots.Slot.{Slot}
+use Rattle.version_walk.specs.Forest.{AreInside}
 use Rattle.ssa_rebuild.specs.Rows.{all_owns, body_rows, group_list, slots_in, starts_of, values_in}
 use Rattle.ssa_rebuild.specs.Solved.{AreNumbered}
 use Rattle.ssa_rebuild.proofs.PartLaws.{bodies_whole, parents_inside, parents_whole}
