@@ -177,7 +177,7 @@ fn pop(row: &[Packed], block: usize, arrivals: &mut Arrivals) -> Result<(), Memo
     match row.get(place) {
         None => Err(Memory),
         Some(slot) => {
-            arrivals.numbers.push(number_of(*slot))?;
+            arrivals.numbers.push(number_of(slot.slot()))?;
             arrivals.places[block] = place + 1;
             Ok(())
         }

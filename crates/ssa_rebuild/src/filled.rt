@@ -11,7 +11,7 @@ use smallvec::SmallVec;
 use sp_ids::{Memory, ValueId};
 use std::alloc::Global;
 
-fn put(operand: Operand, numbers: &mut Stream) -> Operand
+fn put(operand: Operand, numbers: &mut Stream<'_>) -> Operand
     ensures value { result ≡ put numbers.old operand }
     ensures rest { numbers.new ≡ put_left numbers.old operand }
 {
@@ -29,7 +29,7 @@ fn put(operand: Operand, numbers: &mut Stream) -> Operand
 pub(crate) fn filled(
     alloc: Global,
     operands: &[Operand],
-    numbers: &mut Stream,
+    numbers: &mut Stream<'_>,
 ) -> Result<Operands, Memory>
     ensures value { IfOk result (λ after. after.items ≡ filled numbers.old operands.now) }
     ensures rest { IfOk result (λ _. numbers.new ≡ left numbers.old operands.now) }
@@ -45,7 +45,7 @@ pub(crate) fn filled(
 pub(crate) fn filled_bundle(
     alloc: Global,
     bundle: &[(Ty, Operand)],
-    numbers: &mut Stream,
+    numbers: &mut Stream<'_>,
 ) -> Result<Vec<(Ty, Operand)>, Memory>
     ensures value { IfOk result (λ after. after.items ≡ filled_bundle numbers.old bundle.now) }
     ensures rest { IfOk result (λ _. numbers.new ≡ left numbers.old (held_in bundle.now)) }

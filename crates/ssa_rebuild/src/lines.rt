@@ -86,7 +86,7 @@ fn push_call(
     push_uses(inst.operands(), row)?;
     push_entries(relocates, row)?;
     push_held(inst.bundle(), row)?;
-    row.push(Slot::Token)?;
+    row.push(Packed::of(Slot::Token)?)?;
     push_own(to, row)?;
     push_relocated(relocates, row)?;
     Ok(())
@@ -115,7 +115,7 @@ pub(crate) fn push_use(operand: Operand, row: &mut Vec<Packed>) -> Result<(), Me
     ensures { IfOk result (λ _. row.new.items ≡ row.old.items ++ uses_of (operand ∷ [])) }
 {
     match operand {
-        Operand::Value(value) => row.push(Slot::Use(value))?,
+        Operand::Value(value) => row.push(Packed::of(Slot::Use(value))?)?,
         Operand::Int(_) | Operand::Null | Operand::Fun(_) => {}
     }
     Ok(())
@@ -134,7 +134,7 @@ fn push_own(to: Option<u32>, row: &mut Vec<Packed>) -> Result<(), Memory>
     ensures { IfOk result (λ _. row.new.items ≡ row.old.items ++ own_slots to) }
 {
     match to {
-        Some(value) => row.push(Slot::Own(ValueId(value)))?,
+        Some(value) => row.push(Packed::of(Slot::Own(ValueId(value)))?)?,
         None => {}
     }
     Ok(())
@@ -144,7 +144,7 @@ fn push_entries(relocates: &[Relocate], row: &mut Vec<Packed>) -> Result<(), Mem
     ensures { IfOk result (λ _. row.new.items ≡ row.old.items ++ map use_slot (map (λ relocate. relocate.value.0) relocates.now)) }
 {
     for relocate in relocates {
-        row.push(Slot::Use(relocate.value))?;
+        row.push(Packed::of(Slot::Use(relocate.value))?)?;
     }
     Ok(())
 }
@@ -153,7 +153,7 @@ fn push_relocated(relocates: &[Relocate], row: &mut Vec<Packed>) -> Result<(), M
     ensures { IfOk result (λ _. row.new.items ≡ row.old.items ++ map give_slot (map (λ relocate. relocate.value.0) relocates.now)) }
 {
     for relocate in relocates {
-        row.push(Slot::Give(relocate.value))?;
+        row.push(Packed::of(Slot::Give(relocate.value))?)?;
     }
     Ok(())
 }
@@ -163,7 +163,7 @@ pub(crate) fn push_joined(values: &[ValueId], row: &mut Vec<Packed>) -> Result<(
     ensures { IfOk result (λ _. row.new.items ≡ row.old.items ++ map give_slot (values_in values.now)) }
 {
     for value in values {
-        row.push(Slot::Give(*value))?;
+        row.push(Packed::of(Slot::Give(*value))?)?;
     }
     Ok(())
 }

@@ -68,7 +68,7 @@ fn push_owns(row: &[Packed], first: u32, own: &mut Vec<u32>) -> Result<u32, Memo
 {
     let mut next = first;
     for slot in row {
-        next = push_own(*slot, next, own)?;
+        next = push_own(slot.slot(), next, own)?;
     }
     Ok(next)
 }

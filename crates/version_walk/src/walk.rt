@@ -6,7 +6,7 @@ ghost use Rattle.version_walk.specs.Walks.{HasRoom, IsSized, KeepsWalk, AreAnswe
 
 use crate::forest::Forest;
 use crate::lists::at;
-use crate::slots::Packed;
+use crate::slots::{Packed, Slot};
 use crate::versions::Versions;
 use sp_ids::Memory;
 use std::alloc::Global;
@@ -41,10 +41,11 @@ pub fn answer_blocks(
     ensures { IfOk result (λ answers. AreAnswered parents.now (record { starts = starts.now; own = own.items; rows = rows.items }) answers.items) }
 {
     let forest = Forest::of(alloc, parents)?;
+    let log = Vec::with_capacity(alloc, room_for(rows.as_slice()))?;
     let mut walk = Walk {
         versions: Versions {
             current: own,
-            log: Vec::new(alloc),
+            log,
         },
         rows,
         done: no_marks(alloc, parents.len())?,
@@ -55,6 +56,29 @@ pub fn answer_blocks(
         walk.turn(&forest, starts)?;
     }
     Ok(walk.rows)
+}
+
+// Room for the changes of all definitions.
+fn room_for(rows: &[Vec<Packed>]) -> usize {
+    let mut room = 0_usize;
+    for row in rows {
+        room = room.saturating_add(changes_in(row.as_slice()));
+    }
+    room
+}
+
+fn changes_in(row: &[Packed]) -> usize {
+    let mut count = 0;
+    for slot in row {
+        if is_change(slot.slot()) {
+            count += 1;
+        }
+    }
+    count
+}
+
+fn is_change(slot: Slot) -> bool {
+    matches!(slot, Slot::Own(_) | Slot::Give(_))
 }
 
 fn no_marks(alloc: Global, count: usize) -> Result<Vec<bool>, Memory>

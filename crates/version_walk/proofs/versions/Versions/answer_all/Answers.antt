@@ -1,4 +1,4 @@
-use Rattle.std.proofs.Common.{◌∙◌, sym, refl, ap, length, take, List, ◌++◌, arith, append-nil}
+use Rattle.std.proofs.Common.{◌≡◌, ◌∙◌, ◌+◌, sym, refl, ap, subst, length, take, drop, set, List, ◌++◌, Some, arith, append-nil}
 use Rattle.std.proofs.lemmas.List.{length-set, drop_all, take_all}
 use Rattle.std.proofs.lemmas.Option.{slice_get_read}
 use Rattle.version_walk.specs.declared.slots.Slot.{Slot}
@@ -17,15 +17,20 @@ pub loop-place-preserved : goal.loop-place-preserved
 loop-place-preserved c =
     let row = c.loop-place.row.items in
     let place = c.loop-place.place in
-    let stands = slice_get_read row (length row) place c.index-slot.result.now (λ _. length row) (omega (arith, c.loop-place-test.true, c.loop-place.invariant.whole)) c.index-slot.ensures in
+    let slot = c.slot-slot.result in
+    let stands = slice_get_read row (length row) place c.index.result.now (λ _. length row) (omega (arith, c.loop-place-test.true, c.loop-place.invariant.whole)) c.index.ensures
+        ∙ ap Some (sym c.slot-slot.ensures) in
+    let put : Number c.in_ok-number.number ≡ c.in_ok-row.field-0 = sym c.in_ok-row.ensures in
     record {
-      row = answered_more c.loop-place.self.current.items c.answer.new.self.current.items c.loop-place.next c.next_after-next.result c.in_ok-number.number _ row place
-          c.index-slot.result.now stands c.in_ok-number.ensures.number c.next_after-next.ensures c.in_ok-number.ensures.current c.loop-place.invariant.row;
+      row = subst (λ (y : Slot). answered c.args.self.now.current.items c.args.start c.args.row.now.items
+          ≡ take (place + 1) (set row place y) ++ answered c.answer.new.self.current.items c.next_after-next.result (drop (place + 1) (set row place y))) put
+          (answered_more c.loop-place.self.current.items c.answer.new.self.current.items c.loop-place.next c.next_after-next.result c.in_ok-number.number _ row place
+          slot stands c.in_ok-number.ensures.number c.next_after-next.ensures c.in_ok-number.ensures.current c.loop-place.invariant.row);
       current = behind_more c.loop-place.self.current.items c.answer.new.self.current.items c.loop-place.next c.next_after-next.result _ row place
-          c.index-slot.result.now (Number c.in_ok-number.number) stands c.next_after-next.ensures c.in_ok-number.ensures.current c.loop-place.invariant.current;
+          slot c.in_ok-row.field-0 stands c.next_after-next.ensures c.in_ok-number.ensures.current c.loop-place.invariant.current;
       log = logged_more c.args.self.now c.loop-place.self c.answer.new.self c.loop-place.invariant.log c.in_ok-number.ensures.log;
-      whole = length-set row place (Number c.in_ok-number.number) ∙ c.loop-place.invariant.whole;
-      room = let le = next_le c.loop-place.next c.index-slot.result.now in omega (arith, le, c.next_after-next.ensures, c.loop-place.invariant.room);
+      whole = length-set row place c.in_ok-row.field-0 ∙ c.loop-place.invariant.whole;
+      room = let le = next_le c.loop-place.next slot in omega (arith, le, c.next_after-next.ensures, c.loop-place.invariant.room);
     }
 
 pub returns : goal.returns
