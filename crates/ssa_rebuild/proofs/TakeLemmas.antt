@@ -16,7 +16,7 @@ use Rattle.version_walk.specs.declared.slots.Slot.TheVariants.{Number}
 use Rattle.ssa_rebuild.specs.declared.arrivals.Arrivals.{Arrivals}
 use Rattle.version_walk.specs.Forest.{list_at}
 use Rattle.ssa_rebuild.specs.Rows.{valued, values_in, use_numbers}
-use Rattle.ssa_rebuild.specs.Written.{number_of}
+use Rattle.ssa_rebuild.specs.Answers.{number_of}
 use Rattle.ssa_rebuild.specs.Arrivals.{Behind, labeled_numbers, inserted_numbers, into_numbers, arriving_numbers, AreToCome, Pops, Takes, HoldsAll}
 use Rattle.ssa_rebuild.proofs.RowLemmas.{flat_more}
 

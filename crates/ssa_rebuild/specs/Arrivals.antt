@@ -17,7 +17,7 @@ use Rattle.version_walk.specs.declared.slots.Slot.TheVariants.{Number}
 use Rattle.ssa_rebuild.specs.declared.arrivals.Arrivals.{Arrivals}
 use Rattle.version_walk.specs.Forest.{list_at}
 use Rattle.ssa_rebuild.specs.Rows.{values_in, use_numbers, number_behind}
-use Rattle.ssa_rebuild.specs.Written.{number_of}
+use Rattle.ssa_rebuild.specs.Answers.{number_of}
 
 -- the number of each value at the end of each block
 abbrev pub Behind : Type 0

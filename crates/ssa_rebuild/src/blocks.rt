@@ -26,7 +26,7 @@ pub(crate) fn all_blocks<'a>(
 ) -> Result<Vec<Block>, Memory>
     requires joins { length joins.now ≡ length cfg.now }
     requires few { length joins.now < 2 ^ 32 }
-    ensures { IfOk result (λ after. after.items ≡ blocks_written cfg.now groups.now joins.now rows.now 0 writing blocks.items) }
+    ensures { IfOk result (λ after. after.items ≡ blocks_written cfg.now groups.now joins.now rows.now 0 writing.entry blocks.items) }
 {
     let mut now = writing;
     let mut after = Vec::with_capacity(alloc, blocks.len())?;

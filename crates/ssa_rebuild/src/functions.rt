@@ -6,7 +6,8 @@ ghost use Rattle.rewriting_forms.specs.Rewritten.{rewritten};
 ghost use Rattle.live_sets.specs.Joins.{AreJoins};
 ghost use Rattle.ssa_rebuild.specs.Arrivals.{entry_numbers};
 ghost use Rattle.ssa_rebuild.specs.Solved.{AreNumbered};
-ghost use Rattle.ssa_rebuild.specs.Written.{number_of, zeros_of};
+ghost use Rattle.ssa_rebuild.specs.Answers.{number_of};
+ghost use Rattle.ssa_rebuild.specs.Written.{zeros_of};
 
 use crate::arrivals::all_arrivals;
 use crate::blocks::all_blocks;
@@ -60,8 +61,9 @@ fn all_numbers(
     ensures entries { IfOk result (λ numbers. numbers.1.items ≡ entry_numbers marked.now.before marked.now.table joins.now) }
 {
     let func = marked.func();
-    let rooms = row_rooms(alloc, func, cfg, marked.groups(), joins)?;
-    let bodies = bodies(alloc, func, marked.groups(), joins, rooms.as_slice())?;
+    let groups = marked.groups();
+    let rooms = row_rooms(alloc, func, cfg, groups, joins)?;
+    let bodies = bodies(alloc, func, groups, joins, rooms.as_slice())?;
     let places = lengths(alloc, bodies.as_slice())?;
     let rows = solve(alloc, marked, cfg, joins, bodies)?;
     let entries = all_arrivals(alloc, func, cfg, joins, rows.as_slice(), places)?;

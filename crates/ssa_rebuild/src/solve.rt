@@ -3,19 +3,19 @@
 ghost use Rattle.std.specs.Prelude.{◌≡◌, length, map, IfOk};
 ghost use Rattle.ir_cfg.specs.Graphs.{graph_of};
 ghost use Rattle.live_sets.specs.Joins.{AreJoins};
+ghost use Rattle.statepoint_insert.specs.Groups.{groups_of};
 ghost use Rattle.ssa_rebuild.specs.Rows.{body_rows, group_list, slots_in, values_in};
 ghost use Rattle.ssa_rebuild.specs.Solved.{AreNumbered};
 
 use crate::listed::listed;
 use crate::numbers::Numbers;
 use crate::rows::{add_all_entries, parents};
-use crate::walk::answer_blocks;
 use ir_cfg::Cfg;
 use live_sets::joins;
 use sp_ids::{Memory, ValueId};
 use statepoint_insert::Marked;
 use std::alloc::Global;
-use version_walk::Packed;
+use version_walk::{Packed, answer_blocks};
 
 /// The values for which phis are inserted at the front of each block.
 pub(crate) fn joined(alloc: Global, marked: &Marked, cfg: &Cfg) -> Result<Vec<Vec<ValueId>>, Memory>
@@ -40,7 +40,7 @@ pub(crate) fn solve(
     requires cfg { cfg.now ≡ graph_of marked.now.before }
     requires joins { AreJoins marked.now.before marked.now.table joins.now }
     requires bodies { slots_in bodies.items
-        ≡ body_rows (map group_list marked.now.groups) (map (λ join. values_in join.items) joins.now) 0 (length marked.now.before.args) marked.now.before.blocks }
+        ≡ body_rows (map group_list (groups_of marked.now.before marked.now.table)) (map (λ join. values_in join.items) joins.now) 0 (length marked.now.before.args) marked.now.before.blocks }
     ensures { IfOk result (λ answers. AreNumbered marked.now.before marked.now.table answers.items) }
 {
     let func = marked.func();

@@ -1,7 +1,7 @@
 //! Numbers that are taken one after another.
 
 ghost use Rattle.std.specs.Prelude.{◌≡◌, take, drop, slice_index, map, IfOk};
-ghost use Rattle.ssa_rebuild.specs.Written.{number_of};
+ghost use Rattle.ssa_rebuild.specs.Answers.{number_of};
 
 use sp_ids::Memory;
 use std::alloc::Global;
@@ -16,7 +16,7 @@ pub(crate) struct Stream<'a> {
 
 impl<'a> Model for Stream<'a> {
     ghost use Rattle.std.specs.Prelude.{ℕ, List, map};
-    ghost use Rattle.ssa_rebuild.specs.Written.{number_of};
+    ghost use Rattle.ssa_rebuild.specs.Answers.{number_of};
 
     ghost Value = { List ℕ };
 
