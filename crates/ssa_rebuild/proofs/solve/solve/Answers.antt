@@ -26,7 +26,7 @@ answer_blocks-requires-clause-inside c =
     subst AreInside (sym (c.as_slice-2.ensures.value ∙ c.in_ok-above.ensures)) (parents_inside c.func-func.result.now.content)
 
 module _ (bodies : List (Vec Slot)) (joins : List (Vec ValueId)) (table : List Operand) where
-  Are : Function → Type 0
+  abbrev Are : Function → Type 0
   Are func = slots_in bodies ≡ body_rows (map group_list (groups_of func table)) (map (λ join. values_in join.items) joins) 0 (length func.args) func.blocks
 
 pub answer_blocks-requires-clause-whole : goal.answer_blocks-requires-clause-whole
