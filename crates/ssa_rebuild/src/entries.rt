@@ -39,7 +39,11 @@ fn add_joined(
     Ok(())
 }
 
-fn add_inserted(rows: &mut Vec<Vec<Packed>>, preds: &[BlockId], value: ValueId) -> Result<(), Memory>
+fn add_inserted(
+    rows: &mut Vec<Vec<Packed>>,
+    preds: &[BlockId],
+    value: ValueId,
+) -> Result<(), Memory>
     ensures { IfOk result (λ _. Grows rows.old.items rows.new.items (λ p. inserted_entries p (map (λ block. block.0) preds.now) value.0)) }
 {
     for block in preds {

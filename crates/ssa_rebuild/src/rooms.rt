@@ -28,7 +28,13 @@ pub(crate) fn row_rooms(
         for block in cfg.preds(BlockId(number as u32)) {
             grow(&mut rooms, block.0 as usize, joined);
         }
-        call = add_lines(func.blocks()[number].insts(), number, groups, call, &mut rooms);
+        call = add_lines(
+            func.blocks()[number].insts(),
+            number,
+            groups,
+            call,
+            &mut rooms,
+        );
     }
     Ok(rooms)
 }

@@ -114,7 +114,12 @@ fn push_line(
     Ok(())
 }
 
-fn plain(alloc: Global, inst: Inst, body: &mut Stream<'_>, entries: &mut Stream<'_>) -> Result<Inst, Memory>
+fn plain(
+    alloc: Global,
+    inst: Inst,
+    body: &mut Stream<'_>,
+    entries: &mut Stream<'_>,
+) -> Result<Inst, Memory>
     ensures line { IfOk result (λ line. line ≡ plain_written body.old entries.old inst) }
     ensures body { IfOk result (λ _. body.new ≡ plain_left body.old inst) }
     ensures entries { IfOk result (λ _. entries.new ≡ entries_left entries.old inst) }

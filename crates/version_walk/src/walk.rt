@@ -43,10 +43,7 @@ pub fn answer_blocks(
     let forest = Forest::of(alloc, parents)?;
     let log = Vec::with_capacity(alloc, room_for(rows.as_slice()))?;
     let mut walk = Walk {
-        versions: Versions {
-            current: own,
-            log,
-        },
+        versions: Versions { current: own, log },
         rows,
         done: no_marks(alloc, parents.len())?,
         pending: Vec::new(alloc),

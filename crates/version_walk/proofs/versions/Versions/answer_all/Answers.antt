@@ -19,7 +19,7 @@ loop-place-preserved c =
     let place = c.loop-place.place in
     let slot = c.slot-slot.result in
     let stands = slice_get_read row (length row) place c.index.result.now (λ _. length row) (omega (arith, c.loop-place-test.true, c.loop-place.invariant.whole)) c.index.ensures
-        ∙ ap Some (sym c.slot-slot.ensures) in
+    ∙ ap Some (sym c.slot-slot.ensures) in
     let put : Number c.in_ok-number.number ≡ c.in_ok-row.field-0 = sym c.in_ok-row.ensures in
     record {
       row = subst (λ (y : Slot). answered c.args.self.now.current.items c.args.start c.args.row.now.items
