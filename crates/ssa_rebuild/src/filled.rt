@@ -34,7 +34,7 @@ pub(crate) fn filled(
     ensures value { IfOk result (λ after. after.items ≡ filled numbers.old operands.now) }
     ensures rest { IfOk result (λ _. numbers.new ≡ left numbers.old operands.now) }
 {
-    let mut after = SmallVec::new(alloc);
+    let mut after = SmallVec::with_capacity(alloc, operands.len())?;
     for operand in operands {
         after.push(put(*operand, numbers))?;
     }
@@ -50,7 +50,7 @@ pub(crate) fn filled_bundle(
     ensures value { IfOk result (λ after. after.items ≡ filled_bundle numbers.old bundle.now) }
     ensures rest { IfOk result (λ _. numbers.new ≡ left numbers.old (held_in bundle.now)) }
 {
-    let mut after = Vec::new(alloc);
+    let mut after = Vec::with_capacity(alloc, bundle.len())?;
     for (ty, operand) in bundle {
         after.push((*ty, put(*operand, numbers)))?;
     }
@@ -61,7 +61,7 @@ pub(crate) fn filled_bundle(
 pub(crate) fn values(alloc: Global, numbers: &[u32]) -> Result<Operands, Memory>
     ensures { IfOk result (λ operands. operands.items ≡ map (λ number. named number) numbers.now) }
 {
-    let mut operands = SmallVec::new(alloc);
+    let mut operands = SmallVec::with_capacity(alloc, numbers.len())?;
     for number in numbers {
         operands.push(Operand::Value(ValueId(*number)))?;
     }
