@@ -221,7 +221,7 @@ fn list_of(alloc: Global, set: &BTreeSet<u32>, to: Option<ValueId>) -> Result<Ve
     ensures ordered { IfOk result (λ _. IsStrictlySortedBy nat_cmp set.now.keys) }
     ensures list { IfOk result (λ list. list.items ≡ map valued (filter (λ v. not (names to v)) set.now.keys)) }
 {
-    let mut list = Vec::new(alloc);
+    let mut list = Vec::with_capacity(alloc, set.len())?;
     for number in set.iter() {
         let value = ValueId(*number);
         if !is_named(to, value) {

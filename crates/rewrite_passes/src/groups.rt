@@ -2,13 +2,14 @@ ghost use Rattle.std.specs.Prelude.{◌≡◌, length, map, IfOk};
 ghost use Rattle.std.specs.List.{All};
 ghost use Rattle.ir_ast.specs.Funcs.{content_of, lines_of};
 ghost use Rattle.ir_cfg.specs.Unreached.{zeros_of};
+ghost use Rattle.statepoint_insert.specs.Marked.{marked_of};
 ghost use Rattle.rewrite_passes.specs.Before.{CanHaveGroups, rewritten_of};
 
 use crate::before::Before;
 use ir_ast::Func;
 use sp_ids::Memory;
 use ssa_rebuild::rebuild;
-use statepoint_insert::insert;
+use statepoint_insert::{Marked, insert};
 use std::alloc::Global;
 
 /// The rewritten functions: a statepoint with its relocates stands in place of each call that isn't of a leaf, and each use takes the
@@ -31,7 +32,15 @@ fn regrouped(alloc: Global, before: Before) -> Result<Func, Memory>
     ensures content { IfOk result (λ func. func.content ≡ rewritten_of before) }
     ensures lines { IfOk result (λ func. func.lines ≡ zeros_of func.content) }
 {
-    let (func, bases, live) = before.into_parts();
-    let marked = insert(alloc, func, &live, &bases)?;
+    let marked = marked(alloc, before)?;
     rebuild(alloc, marked)
+}
+
+// The function with its groups. The live lists are gone.
+fn marked(alloc: Global, before: Before) -> Result<Marked, Memory>
+    requires { CanHaveGroups before }
+    ensures { IfOk result (λ marked. marked ≡ marked_of before.func before.bases) }
+{
+    let (func, bases, live) = before.into_parts();
+    insert(alloc, func, &live, &bases)
 }

@@ -13,9 +13,9 @@ use Rattle.rewriting_forms.specs.Liveness.{live_lists}
 use Rattle.rewriting_forms.specs.Names.{Name, joined, Naming}
 use Rattle.rewriting_forms.specs.Rewritten.{joined_at, names_of, place_in}
 use Rattle.statepoint_insert.specs.Groups.{GroupContent, groups_of}
-use Rattle.ssa_rebuild.specs.declared.slots.Slot.{Slot}
-use Rattle.ssa_rebuild.specs.declared.slots.Slot.TheVariants.{Number}
-use Rattle.ssa_rebuild.specs.Forest.{list_at}
+use Rattle.version_walk.specs.declared.slots.Slot.{Slot}
+use Rattle.version_walk.specs.declared.slots.Slot.TheVariants.{Number}
+use Rattle.version_walk.specs.Forest.{list_at}
 use Rattle.ssa_rebuild.specs.Rows.{give_slot, lines_slots, group_list, values_in, body_rows, entries_all, entries_from, use_numbers, lines_numbers, number_behind, block_numbers, valued}
 use Rattle.ssa_rebuild.specs.Arrivals.{AreToCome}
 use Rattle.ssa_rebuild.proofs.RowLaws.{rows_from, entries_are}

@@ -11,8 +11,8 @@ use Rattle.rewriting_forms.specs.Liveness.{live_list}
 use Rattle.rewriting_forms.specs.Names.{Name, own, relocated, joined, Naming}
 use Rattle.rewriting_forms.specs.Rewritten.{line_names, joined_at}
 use Rattle.rewriting_laws.proofs.NameLemmas.{at_rest}
-use Rattle.ssa_rebuild.specs.declared.slots.Slot.{Slot}
-use Rattle.ssa_rebuild.specs.declared.slots.Slot.TheVariants.{Token}
+use Rattle.version_walk.specs.declared.slots.Slot.{Slot}
+use Rattle.version_walk.specs.declared.slots.Slot.TheVariants.{Token}
 use Rattle.ssa_rebuild.specs.Rows.{use_slot, give_slot, uses_of, held_in, own_slots, own_uses, plain_slots, call_slots, line_slots, lines_slots, use_numbers, number_at, line_numbers, lines_numbers}
 use Rattle.ssa_rebuild.proofs.StartLaws.{plain_names_are, call_names_are}
 

@@ -16,11 +16,11 @@ use Rattle.rewriting_forms.specs.Rewritten.{line_names, joined_at, names_of, pla
 use Rattle.rewriting_laws.specs.Laws.{IsReached}
 use Rattle.rewriting_laws.proofs.NameLemmas.{line_is, at_rest, among_here, among_there}
 use Rattle.rewriting_laws.proofs.PlaceLaws.{Rising}
-use Rattle.ssa_rebuild.specs.declared.slots.Slot.{Slot}
-use Rattle.ssa_rebuild.specs.declared.slots.Slot.TheVariants.{Token, Number}
-use Rattle.ssa_rebuild.specs.Slots.{answered, current_behind, next_behind}
+use Rattle.version_walk.specs.declared.slots.Slot.{Slot}
+use Rattle.version_walk.specs.declared.slots.Slot.TheVariants.{Token, Number}
+use Rattle.version_walk.specs.Slots.{answered, current_behind, next_behind}
 use Rattle.ssa_rebuild.specs.Rows.{use_slot, give_slot, uses_of, held_in, own_slots, own_uses, plain_slots, call_slots, line_slots, lines_slots, entries_from, block_slots, start_of, use_numbers, AreKnown, line_numbers, lines_numbers, block_numbers}
-use Rattle.ssa_rebuild.proofs.SlotLemmas.{answered_append}
+use Rattle.version_walk.proofs.SlotLemmas.{answered_append}
 use Rattle.ssa_rebuild.proofs.NumberLemmas.{rises_front, rises_back, block_rises}
 use Rattle.ssa_rebuild.proofs.VersionLemmas.{Shows, line_shows, lines_show, front_shows, body_rises, body_start, before}
 

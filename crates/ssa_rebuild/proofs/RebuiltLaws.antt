@@ -21,9 +21,9 @@ use Rattle.rewriting_forms.specs.Rewritten.{joined_at, names_of, place_in, rewri
 use Rattle.statepoint_insert.specs.Calls.{calls_before}
 use Rattle.statepoint_insert.specs.Groups.{GroupContent, groups_of}
 use Rattle.live_sets.specs.Joins.{AreJoins}
-use Rattle.ssa_rebuild.specs.declared.slots.Slot.{Slot}
+use Rattle.version_walk.specs.declared.slots.Slot.{Slot}
 use Rattle.ssa_rebuild.specs.declared.writing.Writing.{Writing}
-use Rattle.ssa_rebuild.specs.Forest.{list_at}
+use Rattle.version_walk.specs.Forest.{list_at}
 use Rattle.ssa_rebuild.specs.Rows.{valued, group_list, values_in, body_rows, entries_all, number_behind}
 use Rattle.ssa_rebuild.specs.Solved.{AreNumbered}
 use Rattle.ssa_rebuild.specs.Written.{blocks_written}

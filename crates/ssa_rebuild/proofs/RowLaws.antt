@@ -20,7 +20,7 @@ use Rattle.rewriting_forms.specs.Rewritten.{joined_at}
 use Rattle.rewriting_laws.proofs.NameLemmas.{at_rest}
 use Rattle.statepoint_insert.specs.Calls.{calls_in, calls_before}
 use Rattle.statepoint_insert.proofs.CallLaws.{call_list}
-use Rattle.ssa_rebuild.specs.declared.slots.Slot.{Slot}
+use Rattle.version_walk.specs.declared.slots.Slot.{Slot}
 use Rattle.ssa_rebuild.specs.Rows.{give_slot, plain_slots, call_slots, lines_slots, listed_slots, count_of_call, calls_of, body_rows, phi_entries, inserted_entries, entries_into, entries_all}
 
 count_cons : (line : Line) (lines : List Line) → count_by calls (line ∷ lines) ≡ cond (calls line) 1 0 + count_by calls lines

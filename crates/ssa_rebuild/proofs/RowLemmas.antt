@@ -18,12 +18,12 @@ use Rattle.ir_ast.specs.Blocks.{BasicBlock}
 use Rattle.object_meaning.specs.Lines.{Line, following, numbered, after_all}
 use Rattle.object_meaning.specs.TargetRuns.{plain_lines}
 use Rattle.rewriting_forms.specs.Numbered.{calls}
-use Rattle.ssa_rebuild.specs.declared.slots.Slot.{Slot}
-use Rattle.ssa_rebuild.specs.declared.slots.Slot.TheVariants.{Use}
-use Rattle.ssa_rebuild.specs.Slots.{next_behind}
-use Rattle.ssa_rebuild.specs.Forest.{list_at}
+use Rattle.version_walk.specs.declared.slots.Slot.{Slot}
+use Rattle.version_walk.specs.declared.slots.Slot.TheVariants.{Use}
+use Rattle.version_walk.specs.Slots.{next_behind}
+use Rattle.version_walk.specs.Forest.{list_at}
 use Rattle.ssa_rebuild.specs.Rows.{valued, values_in, held_in, uses_of, one_slots, listed_slots, count_of_call, calls_of, entries_for, inserted_entries, Grows, give_slot, body_rows, owns, starts_of, all_owns, slots_in, entries_all, phi_entries}
-use Rattle.ssa_rebuild.proofs.ForestLemmas.{at_same, at_other, list_is}
+use Rattle.version_walk.proofs.ForestLemmas.{at_same, at_other, list_is}
 
 -- ---- lists that are joined
 

@@ -20,10 +20,10 @@ use Rattle.rewriting_laws.proofs.NameLemmas.{among_filter}
 use Rattle.statepoint_insert.specs.Groups.{GroupContent, relocate_in, group_of, groups_of}
 use Rattle.live_sets.specs.Joins.{AreJoins}
 use Rattle.live_sets.specs.Values.{valued as value_id}
-use Rattle.ssa_rebuild.specs.declared.slots.Slot.{Slot}
-use Rattle.ssa_rebuild.specs.Slots.{answered}
-use Rattle.ssa_rebuild.specs.Forest.{list_at}
-use Rattle.ssa_rebuild.specs.Walks.{AreAnswered}
+use Rattle.version_walk.specs.declared.slots.Slot.{Slot}
+use Rattle.version_walk.specs.Slots.{answered}
+use Rattle.version_walk.specs.Forest.{list_at}
+use Rattle.version_walk.specs.Walks.{AreAnswered}
 use Rattle.ssa_rebuild.specs.Rows.{give_slot, uses_of, lines_slots, block_slots, start_of, group_list, values_in, body_rows, Grows, entries_all, entries_from, starts_of, all_owns, slots_in, only, only_preds}
 use Rattle.ssa_rebuild.specs.Solved.{AreNumbered}
 use Rattle.ssa_rebuild.proofs.VersionLemmas.{Shows, IsTask, begins_shows, reached_begins}

@@ -14,11 +14,11 @@ use Rattle.rewriting_forms.specs.Names.{Name, own, relocated, joined, token, Nam
 use Rattle.rewriting_forms.specs.Rewritten.{line_names, joined_at, block_names}
 use Rattle.rewriting_laws.proofs.NameLemmas.{line_is, at_rest}
 use Rattle.rewriting_laws.proofs.PlaceLaws.{Rising}
-use Rattle.ssa_rebuild.specs.declared.slots.Slot.{Slot}
-use Rattle.ssa_rebuild.specs.declared.slots.Slot.TheVariants.{Use, Own, Give, Token, Number}
-use Rattle.ssa_rebuild.specs.Slots.{next_behind}
+use Rattle.version_walk.specs.declared.slots.Slot.{Slot}
+use Rattle.version_walk.specs.declared.slots.Slot.TheVariants.{Use, Own, Give, Token, Number}
+use Rattle.version_walk.specs.Slots.{next_behind}
 use Rattle.ssa_rebuild.specs.Rows.{use_slot, give_slot, uses_of, held_in, own_slots, own_uses, plain_slots, call_slots, line_slots, lines_slots, entries_from, block_slots, owns}
-use Rattle.ssa_rebuild.proofs.SlotLemmas.{next_append}
+use Rattle.version_walk.proofs.SlotLemmas.{next_append}
 use Rattle.ssa_rebuild.proofs.NumberLemmas.{rises_front, rises_back}
 use Rattle.ssa_rebuild.proofs.VersionLemmas.{uses_next, list_next, gives_next}
 

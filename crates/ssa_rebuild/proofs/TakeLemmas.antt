@@ -11,12 +11,12 @@ use Rattle.ir_ast.specs.declared.ops.Operand.{Operand}
 use Rattle.ir_ast.specs.declared.ops.Operand.TheVariants.{Value}
 use Rattle.ir_ast.specs.Blocks.{BasicBlock}
 use Rattle.rewriting_laws.proofs.NameLemmas.{at_rest}
-use Rattle.ssa_rebuild.specs.declared.slots.Slot.{Slot}
-use Rattle.ssa_rebuild.specs.declared.slots.Slot.TheVariants.{Number}
+use Rattle.version_walk.specs.declared.slots.Slot.{Slot}
+use Rattle.version_walk.specs.declared.slots.Slot.TheVariants.{Number}
 use Rattle.ssa_rebuild.specs.declared.arrivals.Arrivals.{Arrivals}
-use Rattle.ssa_rebuild.specs.Forest.{list_at}
+use Rattle.version_walk.specs.Forest.{list_at}
 use Rattle.ssa_rebuild.specs.Rows.{valued, values_in, use_numbers}
-use Rattle.ssa_rebuild.specs.Written.{number_of}
+use Rattle.ssa_rebuild.specs.Answers.{number_of}
 use Rattle.ssa_rebuild.specs.Arrivals.{Behind, labeled_numbers, inserted_numbers, into_numbers, arriving_numbers, AreToCome, Pops, Takes, HoldsAll}
 use Rattle.ssa_rebuild.proofs.RowLemmas.{flat_more}
 

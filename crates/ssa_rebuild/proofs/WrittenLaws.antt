@@ -38,12 +38,13 @@ use Rattle.statepoint_insert.specs.Renumbered.{AreCounted}
 use Rattle.statepoint_insert.specs.Texts.{statepoint_line, result_lines, relocate_lines, first_rank}
 use Rattle.statepoint_insert.proofs.CallLaws.{call_list}
 use Rattle.statepoint_insert.proofs.OldNames.{old_name_is}
-use Rattle.ssa_rebuild.specs.declared.slots.Slot.{Slot}
-use Rattle.ssa_rebuild.specs.declared.slots.Slot.TheVariants.{Number}
+use Rattle.version_walk.specs.declared.slots.Slot.{Slot}
+use Rattle.version_walk.specs.declared.slots.Slot.TheVariants.{Number}
 use Rattle.ssa_rebuild.specs.declared.writing.Writing.{Writing}
-use Rattle.ssa_rebuild.specs.Forest.{list_at}
+use Rattle.version_walk.specs.Forest.{list_at}
 use Rattle.ssa_rebuild.specs.Rows.{valued, own_uses, held_in, use_numbers, number_behind, line_numbers, lines_numbers, block_numbers, count_of_call, entries_from}
-use Rattle.ssa_rebuild.specs.Written.{number_of, filled, filled_bundle, left, results_in, entries_left, operands_written, plain_written, plain_left, token_on, call_left, call_lines, call_written, no_group, group_at, counts_with, line_written, after, written, behind, phi_line, phi_after, phi_lines, phis_behind, begun, block_lines, block_after, blocks_written}
+use Rattle.ssa_rebuild.specs.Answers.{number_of}
+use Rattle.ssa_rebuild.specs.Written.{filled, filled_bundle, left, results_in, entries_left, operands_written, plain_written, plain_left, token_on, call_left, call_lines, call_written, no_group, group_at, counts_with, line_written, after, written, behind, phi_line, phi_after, phi_lines, phis_behind, begun, block_lines, block_after, blocks_written}
 use Rattle.ssa_rebuild.specs.Arrivals.{labeled_numbers, phi_numbers, inserted_numbers, into_numbers, arriving_numbers}
 use Rattle.ssa_rebuild.proofs.RowLaws.{count_more, calls_of_is, calls_next, range_more, insts_are}
 use Rattle.ssa_rebuild.proofs.FilledLaws.{filled_is, bundle_is, left_is, phi_filled, phi_left}

@@ -12,12 +12,12 @@ use Rattle.ir_ast.specs.Faults.PhiEdges.{is_phi}
 use Rattle.rewriting_forms.specs.Numbered.{preds}
 use Rattle.rewriting_forms.specs.Names.{naming_of}
 use Rattle.rewriting_forms.specs.Rewritten.{names_of, place_in}
-use Rattle.ssa_rebuild.specs.declared.slots.Slot.{Slot}
-use Rattle.ssa_rebuild.specs.declared.slots.Slot.TheVariants.{Number}
+use Rattle.version_walk.specs.declared.slots.Slot.{Slot}
+use Rattle.version_walk.specs.declared.slots.Slot.TheVariants.{Number}
 use Rattle.ssa_rebuild.specs.declared.arrivals.Arrivals.{Arrivals}
-use Rattle.ssa_rebuild.specs.Forest.{list_at}
+use Rattle.version_walk.specs.Forest.{list_at}
 use Rattle.ssa_rebuild.specs.Rows.{values_in, use_numbers, number_behind}
-use Rattle.ssa_rebuild.specs.Written.{number_of}
+use Rattle.ssa_rebuild.specs.Answers.{number_of}
 
 -- the number of each value at the end of each block
 abbrev pub Behind : Type 0

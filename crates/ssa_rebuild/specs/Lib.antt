@@ -1,7 +1,4 @@
-pub mod Slots
-pub mod Versions
-pub mod Forest
-pub mod Walks
+pub mod Answers
 pub mod Rows
 pub mod Solved
 pub mod Marks

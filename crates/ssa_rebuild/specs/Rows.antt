@@ -18,10 +18,10 @@ use Rattle.rewriting_forms.specs.Liveness.{live_list}
 use Rattle.rewriting_forms.specs.Names.{Name, own, joined, Naming, names_at, names_at_end}
 use Rattle.rewriting_forms.specs.Rewritten.{joined_at, line_names, block_names}
 use Rattle.statepoint_insert.specs.Groups.{GroupContent}
-use Rattle.ssa_rebuild.specs.Slots.{next_behind}
-use Rattle.ssa_rebuild.specs.Forest.{list_at}
-use Rattle.ssa_rebuild.specs.declared.slots.Slot.{Slot}
-use Rattle.ssa_rebuild.specs.declared.slots.Slot.TheVariants.{Use, Own, Give, Token, Number}
+use Rattle.version_walk.specs.Slots.{next_behind}
+use Rattle.version_walk.specs.Forest.{list_at}
+use Rattle.version_walk.specs.declared.slots.Slot.{Slot}
+use Rattle.version_walk.specs.declared.slots.Slot.TheVariants.{Use, Own, Give, Token, Number}
 
 abbrev pub valued : ℕ → ValueId
 valued number = record { 0 = number }

@@ -19,18 +19,11 @@ use Rattle.rewriting_forms.specs.Numbered.{named, is_call}
 use Rattle.statepoint_insert.specs.declared.texts.Counts.{Counts}
 use Rattle.statepoint_insert.specs.Groups.{GroupContent}
 use Rattle.statepoint_insert.specs.Texts.{statepoint_line, result_lines, relocate_lines, first_rank}
-use Rattle.ssa_rebuild.specs.declared.slots.Slot.{Slot}
-use Rattle.ssa_rebuild.specs.declared.slots.Slot.TheVariants.{Use, Own, Give, Token, Number}
+use Rattle.version_walk.specs.declared.slots.Slot.{Slot}
 use Rattle.ssa_rebuild.specs.declared.writing.Writing.{Writing}
-use Rattle.ssa_rebuild.specs.Forest.{list_at}
+use Rattle.version_walk.specs.Forest.{list_at}
+use Rattle.ssa_rebuild.specs.Answers.{number_of}
 use Rattle.ssa_rebuild.specs.Rows.{own_uses, held_in}
-
-abbrev pub number_of : Slot → ℕ
-number_of (Number number) = number
-number_of (Use value) = 0
-number_of (Own value) = 0
-number_of (Give value) = 0
-number_of Token = 0
 
 -- an operand with the next of these numbers, where it is a value
 abbrev pub put : List ℕ → Operand → Operand

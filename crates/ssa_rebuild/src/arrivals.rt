@@ -9,12 +9,12 @@ ghost use Rattle.ssa_rebuild.specs.Rows.{valued, values_in, entries_for, inserte
 ghost use Rattle.ssa_rebuild.specs.Arrivals.{Pops, Takes, HoldsAll, labeled_numbers, phi_numbers, inserted_numbers, arriving_numbers};
 
 use crate::lines::is_phi;
-use crate::slots::Slot;
 use crate::stream::number_of;
 use ir_ast::{Func, Inst, Operand};
 use ir_cfg::Cfg;
 use sp_ids::{BlockId, Memory, ValueId};
 use std::alloc::Global;
+use version_walk::Packed;
 
 /// Where the next entry of each block stands in its row, and the numbers of the entries so far.
 #[derive(Drop)]
@@ -30,7 +30,7 @@ pub(crate) fn all_arrivals(
     func: &Func,
     cfg: &Cfg,
     joins: &[Vec<ValueId>],
-    rows: &[Vec<Slot>],
+    rows: &[Vec<Packed>],
     places: Vec<usize>,
 ) -> Result<Vec<u32>, Memory>
     requires cfg { cfg.now ≡ graph_of func.now.content }
@@ -59,7 +59,7 @@ pub(crate) fn all_arrivals(
 }
 
 fn take_entries(
-    rows: &[Vec<Slot>],
+    rows: &[Vec<Packed>],
     preds: &[BlockId],
     joined: &[ValueId],
     insts: &[Inst],
@@ -75,7 +75,7 @@ fn take_entries(
 }
 
 fn take_joined(
-    rows: &[Vec<Slot>],
+    rows: &[Vec<Packed>],
     preds: &[BlockId],
     joined: &[ValueId],
     arrivals: &mut Arrivals,
@@ -91,7 +91,7 @@ fn take_joined(
 }
 
 fn take_inserted(
-    rows: &[Vec<Slot>],
+    rows: &[Vec<Packed>],
     preds: &[BlockId],
     value: ValueId,
     arrivals: &mut Arrivals,
@@ -106,7 +106,7 @@ fn take_inserted(
     Ok(())
 }
 
-fn take_phis(rows: &[Vec<Slot>], insts: &[Inst], arrivals: &mut Arrivals) -> Result<(), Memory>
+fn take_phis(rows: &[Vec<Packed>], insts: &[Inst], arrivals: &mut Arrivals) -> Result<(), Memory>
     ensures { IfOk result (λ _. Takes rows.now arrivals.old arrivals.new (λ p. flat_map (phi_entries p) insts.now) (λ here. flat_map (phi_numbers here) insts.now)) }
 {
     for inst in insts {
@@ -115,7 +115,7 @@ fn take_phis(rows: &[Vec<Slot>], insts: &[Inst], arrivals: &mut Arrivals) -> Res
     Ok(())
 }
 
-fn take_phi(rows: &[Vec<Slot>], inst: &Inst, arrivals: &mut Arrivals) -> Result<(), Memory>
+fn take_phi(rows: &[Vec<Packed>], inst: &Inst, arrivals: &mut Arrivals) -> Result<(), Memory>
     ensures { IfOk result (λ _. Takes rows.now arrivals.old arrivals.new (λ p. phi_entries p inst.now) (λ here. phi_numbers here inst.now)) }
 {
     if is_phi(inst.op()) {
@@ -125,7 +125,7 @@ fn take_phi(rows: &[Vec<Slot>], inst: &Inst, arrivals: &mut Arrivals) -> Result<
 }
 
 fn take_labeled(
-    rows: &[Vec<Slot>],
+    rows: &[Vec<Packed>],
     labels: &[BlockId],
     operands: &[Operand],
     arrivals: &mut Arrivals,
@@ -139,7 +139,7 @@ fn take_labeled(
 }
 
 fn take_entry(
-    rows: &[Vec<Slot>],
+    rows: &[Vec<Packed>],
     label: BlockId,
     operand: Operand,
     arrivals: &mut Arrivals,
@@ -154,7 +154,7 @@ fn take_entry(
 
 // The next entry of a block, which is of this value. Where the row has none, it is want of memory.
 fn take_number(
-    rows: &[Vec<Slot>],
+    rows: &[Vec<Packed>],
     block: BlockId,
     value: ValueId,
     arrivals: &mut Arrivals,
@@ -169,7 +169,7 @@ fn take_number(
     Ok(())
 }
 
-fn pop(row: &[Slot], block: usize, arrivals: &mut Arrivals) -> Result<(), Memory>
+fn pop(row: &[Packed], block: usize, arrivals: &mut Arrivals) -> Result<(), Memory>
     requires { block < length arrivals.old.places.items }
     ensures { IfOk result (λ _. Pops row.now block arrivals.old arrivals.new) }
 {
@@ -177,7 +177,7 @@ fn pop(row: &[Slot], block: usize, arrivals: &mut Arrivals) -> Result<(), Memory
     match row.get(place) {
         None => Err(Memory),
         Some(slot) => {
-            arrivals.numbers.push(number_of(*slot))?;
+            arrivals.numbers.push(number_of(slot.slot()))?;
             arrivals.places[block] = place + 1;
             Ok(())
         }

@@ -1,10 +1,10 @@
 //! The blocks of the final text.
 
 ghost use Rattle.std.specs.Prelude.{◌≡◌, ◌<◌, ◌^◌, map, length, IfOk};
-ghost use Rattle.ssa_rebuild.specs.Forest.{list_at};
+ghost use Rattle.version_walk.specs.Forest.{list_at};
 ghost use Rattle.ssa_rebuild.specs.Written.{blocks_written, block_lines, block_after};
 
-use crate::slots::Slot;
+use crate::rooms::text_room;
 use crate::stream::Stream;
 use crate::writing::{Writing, push_lines, push_phis};
 use ir_ast::Block;
@@ -12,20 +12,21 @@ use ir_cfg::Cfg;
 use sp_ids::{BlockId, Memory, ValueId};
 use statepoint_insert::Group;
 use std::alloc::Global;
+use version_walk::Packed;
 
 /// The blocks with their inserted phis, and with groups in place of calls, under the numbers of these rows.
-pub(crate) fn all_blocks(
+pub(crate) fn all_blocks<'a>(
     alloc: Global,
     cfg: &Cfg,
     groups: &[Group],
     joins: &[Vec<ValueId>],
-    rows: &[Vec<Slot>],
-    writing: Writing,
+    rows: &'a [Vec<Packed>],
+    writing: Writing<'a>,
     blocks: Vec<Block>,
 ) -> Result<Vec<Block>, Memory>
     requires joins { length joins.now ≡ length cfg.now }
     requires few { length joins.now < 2 ^ 32 }
-    ensures { IfOk result (λ after. after.items ≡ blocks_written cfg.now groups.now joins.now rows.now 0 writing blocks.items) }
+    ensures { IfOk result (λ after. after.items ≡ blocks_written cfg.now groups.now joins.now rows.now 0 writing.entry blocks.items) }
 {
     let mut now = writing;
     let mut after = Vec::with_capacity(alloc, blocks.len())?;
@@ -40,27 +41,29 @@ pub(crate) fn all_blocks(
     Ok(after)
 }
 
-fn one_block(
+fn one_block<'a>(
     alloc: Global,
     cfg: &Cfg,
     groups: &[Group],
     joins: &[Vec<ValueId>],
-    rows: &[Vec<Slot>],
+    rows: &'a [Vec<Packed>],
     number: u32,
     block: Block,
-    writing: &mut Writing,
+    writing: &mut Writing<'a>,
 ) -> Result<Block, Memory>
     requires { number < length cfg.now }
     ensures block { IfOk result (λ after. after ≡ record { name = block.name; insts = block_lines cfg.now groups.now joins.now rows.now number writing.old block.insts }) }
     ensures writing { IfOk result (λ _. writing.new ≡ block_after cfg.now groups.now joins.now rows.now number writing.old block.insts) }
 {
     let (name, insts) = block.into_parts();
-    let mut lines = Vec::with_capacity(alloc, insts.len())?;
-    writing.body = Stream::of_row(alloc, row_at(rows, number as usize))?;
+    let joined = join_at(joins, number as usize);
+    let room = text_room(insts.as_slice(), groups, writing.counts.tokens as usize);
+    let mut lines = Vec::with_capacity(alloc, room.saturating_add(joined.len()))?;
+    writing.body = Stream::of(row_at(rows, number as usize));
     push_phis(
         alloc,
         cfg.preds(BlockId(number)),
-        join_at(joins, number as usize),
+        joined,
         writing,
         &mut lines,
     )?;
@@ -68,7 +71,7 @@ fn one_block(
     Ok(Block::of(name, lines))
 }
 
-fn row_at(rows: &[Vec<Slot>], number: usize) -> &[Slot]
+fn row_at(rows: &[Vec<Packed>], number: usize) -> &[Packed]
     ensures { result.now ≡ list_at rows.now number }
 {
     match rows.get(number) {

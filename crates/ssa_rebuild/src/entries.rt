@@ -5,14 +5,14 @@ ghost use Rattle.std.specs.List.{flat_map};
 ghost use Rattle.ssa_rebuild.specs.Rows.{Grows, entries_for, inserted_entries, phi_entries, values_in};
 
 use crate::lines::{is_phi, push_use};
-use crate::slots::Slot;
 use ir_ast::{Inst, Operand};
 use sp_ids::{BlockId, Memory, ValueId};
+use version_walk::Packed;
 
 /// Adds the uses of the entries into a block, to the rows of the blocks for which they stand: those of its inserted phis, and then
 /// those of its own.
 pub(crate) fn add_entries(
-    rows: &mut Vec<Vec<Slot>>,
+    rows: &mut Vec<Vec<Packed>>,
     preds: &[BlockId],
     joined: &[ValueId],
     insts: &[Inst],
@@ -26,7 +26,7 @@ pub(crate) fn add_entries(
 }
 
 fn add_joined(
-    rows: &mut Vec<Vec<Slot>>,
+    rows: &mut Vec<Vec<Packed>>,
     preds: &[BlockId],
     joined: &[ValueId],
 ) -> Result<(), Memory>
@@ -39,7 +39,11 @@ fn add_joined(
     Ok(())
 }
 
-fn add_inserted(rows: &mut Vec<Vec<Slot>>, preds: &[BlockId], value: ValueId) -> Result<(), Memory>
+fn add_inserted(
+    rows: &mut Vec<Vec<Packed>>,
+    preds: &[BlockId],
+    value: ValueId,
+) -> Result<(), Memory>
     ensures { IfOk result (λ _. Grows rows.old.items rows.new.items (λ p. inserted_entries p (map (λ block. block.0) preds.now) value.0)) }
 {
     for block in preds {
@@ -48,7 +52,7 @@ fn add_inserted(rows: &mut Vec<Vec<Slot>>, preds: &[BlockId], value: ValueId) ->
     Ok(())
 }
 
-fn add_phis(rows: &mut Vec<Vec<Slot>>, insts: &[Inst]) -> Result<(), Memory>
+fn add_phis(rows: &mut Vec<Vec<Packed>>, insts: &[Inst]) -> Result<(), Memory>
     ensures { IfOk result (λ _. Grows rows.old.items rows.new.items (λ p. flat_map (phi_entries p) insts.now)) }
 {
     for inst in insts {
@@ -57,7 +61,7 @@ fn add_phis(rows: &mut Vec<Vec<Slot>>, insts: &[Inst]) -> Result<(), Memory>
     Ok(())
 }
 
-fn add_phi(rows: &mut Vec<Vec<Slot>>, inst: &Inst) -> Result<(), Memory>
+fn add_phi(rows: &mut Vec<Vec<Packed>>, inst: &Inst) -> Result<(), Memory>
     ensures { IfOk result (λ _. Grows rows.old.items rows.new.items (λ p. phi_entries p inst.now)) }
 {
     if is_phi(inst.op()) {
@@ -67,7 +71,7 @@ fn add_phi(rows: &mut Vec<Vec<Slot>>, inst: &Inst) -> Result<(), Memory>
 }
 
 fn add_labeled(
-    rows: &mut Vec<Vec<Slot>>,
+    rows: &mut Vec<Vec<Packed>>,
     labels: &[BlockId],
     operands: &[Operand],
 ) -> Result<(), Memory>
@@ -79,7 +83,7 @@ fn add_labeled(
     Ok(())
 }
 
-fn add_entry(rows: &mut Vec<Vec<Slot>>, label: BlockId, operand: Operand) -> Result<(), Memory>
+fn add_entry(rows: &mut Vec<Vec<Packed>>, label: BlockId, operand: Operand) -> Result<(), Memory>
     ensures { IfOk result (λ _. Grows rows.old.items rows.new.items (λ p. if label.0 == p then operand ∷ [] else [])) }
 {
     let block = label.0 as usize;

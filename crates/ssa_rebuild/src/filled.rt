@@ -11,7 +11,7 @@ use smallvec::SmallVec;
 use sp_ids::{Memory, ValueId};
 use std::alloc::Global;
 
-fn put(operand: Operand, numbers: &mut Stream) -> Operand
+fn put(operand: Operand, numbers: &mut Stream<'_>) -> Operand
     ensures value { result ≡ put numbers.old operand }
     ensures rest { numbers.new ≡ put_left numbers.old operand }
 {
@@ -29,12 +29,12 @@ fn put(operand: Operand, numbers: &mut Stream) -> Operand
 pub(crate) fn filled(
     alloc: Global,
     operands: &[Operand],
-    numbers: &mut Stream,
+    numbers: &mut Stream<'_>,
 ) -> Result<Operands, Memory>
     ensures value { IfOk result (λ after. after.items ≡ filled numbers.old operands.now) }
     ensures rest { IfOk result (λ _. numbers.new ≡ left numbers.old operands.now) }
 {
-    let mut after = SmallVec::new(alloc);
+    let mut after = SmallVec::with_capacity(alloc, operands.len())?;
     for operand in operands {
         after.push(put(*operand, numbers))?;
     }
@@ -45,12 +45,12 @@ pub(crate) fn filled(
 pub(crate) fn filled_bundle(
     alloc: Global,
     bundle: &[(Ty, Operand)],
-    numbers: &mut Stream,
+    numbers: &mut Stream<'_>,
 ) -> Result<Vec<(Ty, Operand)>, Memory>
     ensures value { IfOk result (λ after. after.items ≡ filled_bundle numbers.old bundle.now) }
     ensures rest { IfOk result (λ _. numbers.new ≡ left numbers.old (held_in bundle.now)) }
 {
-    let mut after = Vec::new(alloc);
+    let mut after = Vec::with_capacity(alloc, bundle.len())?;
     for (ty, operand) in bundle {
         after.push((*ty, put(*operand, numbers)))?;
     }
@@ -61,7 +61,7 @@ pub(crate) fn filled_bundle(
 pub(crate) fn values(alloc: Global, numbers: &[u32]) -> Result<Operands, Memory>
     ensures { IfOk result (λ operands. operands.items ≡ map (λ number. named number) numbers.now) }
 {
-    let mut operands = SmallVec::new(alloc);
+    let mut operands = SmallVec::with_capacity(alloc, numbers.len())?;
     for number in numbers {
         operands.push(Operand::Value(ValueId(*number)))?;
     }

@@ -8,10 +8,10 @@ ghost use Rattle.object_meaning.specs.TargetRuns.{plain_lines};
 ghost use Rattle.rewriting_forms.specs.Numbered.{is_call};
 ghost use Rattle.ssa_rebuild.specs.Rows.{give_slot, use_slot, uses_of, held_in, own_slots, own_uses, plain_slots, call_slots, one_slots, listed_slots, count_of_call, calls_of, group_list, values_in};
 
-use crate::slots::Slot;
 use ir_ast::{Callee, Inst, Op, Operand, Ty};
 use sp_ids::{Memory, ValueId};
 use statepoint_insert::{Group, Relocate};
+use version_walk::{Packed, Slot};
 
 /// Adds the slots of these lines of a block, of which the first result is the value `first`, and the first call the one with
 /// this number; gives the number of the next call.
@@ -20,7 +20,7 @@ pub(crate) fn push_lines(
     first: u32,
     groups: &[Group],
     start: usize,
-    row: &mut Vec<Slot>,
+    row: &mut Vec<Packed>,
 ) -> Result<usize, Memory>
     requires values { first + length insts.now < 2 ^ 32 }
     requires calls { start + length insts.now < 2 ^ 64 }
@@ -42,7 +42,7 @@ fn push_line(
     to: Option<u32>,
     groups: &[Group],
     call: usize,
-    row: &mut Vec<Slot>,
+    row: &mut Vec<Packed>,
 ) -> Result<usize, Memory>
     requires { call + 1 < 2 ^ 64 }
     ensures row { IfOk result (λ _. row.new.items ≡ row.old.items ++ one_slots (map group_list groups.now) call (record { to = to; inst = inst.now })) }
@@ -66,7 +66,7 @@ pub(crate) fn relocates_at(groups: &[Group], call: usize) -> &[Relocate]
     }
 }
 
-fn push_plain(inst: &Inst, to: Option<u32>, row: &mut Vec<Slot>) -> Result<(), Memory>
+fn push_plain(inst: &Inst, to: Option<u32>, row: &mut Vec<Packed>) -> Result<(), Memory>
     ensures { IfOk result (λ _. row.new.items ≡ row.old.items ++ plain_slots (record { to = to; inst = inst.now })) }
 {
     push_own_uses(inst, row)?;
@@ -79,20 +79,20 @@ fn push_call(
     inst: &Inst,
     to: Option<u32>,
     relocates: &[Relocate],
-    row: &mut Vec<Slot>,
+    row: &mut Vec<Packed>,
 ) -> Result<(), Memory>
     ensures { IfOk result (λ _. row.new.items ≡ row.old.items ++ call_slots (map (λ relocate. relocate.value.0) relocates.now) (record { to = to; inst = inst.now })) }
 {
     push_uses(inst.operands(), row)?;
     push_entries(relocates, row)?;
     push_held(inst.bundle(), row)?;
-    row.push(Slot::Token)?;
+    row.push(Packed::of(Slot::Token)?)?;
     push_own(to, row)?;
     push_relocated(relocates, row)?;
     Ok(())
 }
 
-fn push_own_uses(inst: &Inst, row: &mut Vec<Slot>) -> Result<(), Memory>
+fn push_own_uses(inst: &Inst, row: &mut Vec<Packed>) -> Result<(), Memory>
     ensures { IfOk result (λ _. row.new.items ≡ row.old.items ++ uses_of (own_uses inst.now)) }
 {
     if !is_phi(inst.op()) {
@@ -101,7 +101,7 @@ fn push_own_uses(inst: &Inst, row: &mut Vec<Slot>) -> Result<(), Memory>
     Ok(())
 }
 
-fn push_uses(operands: &[Operand], row: &mut Vec<Slot>) -> Result<(), Memory>
+fn push_uses(operands: &[Operand], row: &mut Vec<Packed>) -> Result<(), Memory>
     ensures { IfOk result (λ _. row.new.items ≡ row.old.items ++ uses_of operands.now) }
 {
     for operand in operands {
@@ -111,17 +111,17 @@ fn push_uses(operands: &[Operand], row: &mut Vec<Slot>) -> Result<(), Memory>
 }
 
 /// Adds the use of an operand, where it is a value.
-pub(crate) fn push_use(operand: Operand, row: &mut Vec<Slot>) -> Result<(), Memory>
+pub(crate) fn push_use(operand: Operand, row: &mut Vec<Packed>) -> Result<(), Memory>
     ensures { IfOk result (λ _. row.new.items ≡ row.old.items ++ uses_of (operand ∷ [])) }
 {
     match operand {
-        Operand::Value(value) => row.push(Slot::Use(value))?,
+        Operand::Value(value) => row.push(Packed::of(Slot::Use(value))?)?,
         Operand::Int(_) | Operand::Null | Operand::Fun(_) => {}
     }
     Ok(())
 }
 
-fn push_held(bundle: &[(Ty, Operand)], row: &mut Vec<Slot>) -> Result<(), Memory>
+fn push_held(bundle: &[(Ty, Operand)], row: &mut Vec<Packed>) -> Result<(), Memory>
     ensures { IfOk result (λ _. row.new.items ≡ row.old.items ++ uses_of (held_in bundle.now)) }
 {
     for entry in bundle {
@@ -130,40 +130,40 @@ fn push_held(bundle: &[(Ty, Operand)], row: &mut Vec<Slot>) -> Result<(), Memory
     Ok(())
 }
 
-fn push_own(to: Option<u32>, row: &mut Vec<Slot>) -> Result<(), Memory>
+fn push_own(to: Option<u32>, row: &mut Vec<Packed>) -> Result<(), Memory>
     ensures { IfOk result (λ _. row.new.items ≡ row.old.items ++ own_slots to) }
 {
     match to {
-        Some(value) => row.push(Slot::Own(ValueId(value)))?,
+        Some(value) => row.push(Packed::of(Slot::Own(ValueId(value)))?)?,
         None => {}
     }
     Ok(())
 }
 
-fn push_entries(relocates: &[Relocate], row: &mut Vec<Slot>) -> Result<(), Memory>
+fn push_entries(relocates: &[Relocate], row: &mut Vec<Packed>) -> Result<(), Memory>
     ensures { IfOk result (λ _. row.new.items ≡ row.old.items ++ map use_slot (map (λ relocate. relocate.value.0) relocates.now)) }
 {
     for relocate in relocates {
-        row.push(Slot::Use(relocate.value))?;
+        row.push(Packed::of(Slot::Use(relocate.value))?)?;
     }
     Ok(())
 }
 
-fn push_relocated(relocates: &[Relocate], row: &mut Vec<Slot>) -> Result<(), Memory>
+fn push_relocated(relocates: &[Relocate], row: &mut Vec<Packed>) -> Result<(), Memory>
     ensures { IfOk result (λ _. row.new.items ≡ row.old.items ++ map give_slot (map (λ relocate. relocate.value.0) relocates.now)) }
 {
     for relocate in relocates {
-        row.push(Slot::Give(relocate.value))?;
+        row.push(Packed::of(Slot::Give(relocate.value))?)?;
     }
     Ok(())
 }
 
 /// Adds the definitions of the phis that are inserted for these pointers.
-pub(crate) fn push_joined(values: &[ValueId], row: &mut Vec<Slot>) -> Result<(), Memory>
+pub(crate) fn push_joined(values: &[ValueId], row: &mut Vec<Packed>) -> Result<(), Memory>
     ensures { IfOk result (λ _. row.new.items ≡ row.old.items ++ map give_slot (values_in values.now)) }
 {
     for value in values {
-        row.push(Slot::Give(*value))?;
+        row.push(Packed::of(Slot::Give(*value))?)?;
     }
     Ok(())
 }

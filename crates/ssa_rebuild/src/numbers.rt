@@ -2,13 +2,13 @@
 
 ghost use Rattle.std.specs.Prelude.{◌≡◌, ◌<◌, ◌+◌, ◌^◌, ◌++◌, ◌∷◌, [], length, IfOk};
 ghost use Rattle.std.specs.List.{range_with_len};
-ghost use Rattle.ssa_rebuild.specs.Slots.{next_behind};
+ghost use Rattle.version_walk.specs.Slots.{next_behind};
 ghost use Rattle.ssa_rebuild.specs.Rows.{owns, starts_of, all_owns, slots_in};
-ghost use Rattle.ssa_rebuild.specs.Walks.{HasRoom};
+ghost use Rattle.version_walk.specs.Walks.{HasRoom};
 
-use crate::slots::Slot;
 use sp_ids::Memory;
 use std::alloc::Global;
+use version_walk::{Packed, Slot};
 
 /// The number of the first definition of each block, and that of each value's own definition.
 #[derive(Drop)]
@@ -20,7 +20,7 @@ pub(crate) struct Numbers {
 impl Numbers {
     /// The numbers for these slots of all blocks, behind those of so many arguments. Where a number isn't below 2^32, it is want of
     /// memory.
-    pub(crate) fn of(alloc: Global, args: u32, rows: &[Vec<Slot>]) -> Result<Numbers, Memory>
+    pub(crate) fn of(alloc: Global, args: u32, rows: &[Vec<Packed>]) -> Result<Numbers, Memory>
         ensures starts { IfOk result (λ numbers. numbers.starts.items ≡ starts_of args (slots_in rows.now)) }
         ensures own { IfOk result (λ numbers. numbers.own.items ≡ range_with_len 0 args ++ all_owns args (slots_in rows.now)) }
         ensures room { IfOk result (λ numbers. HasRoom numbers.starts.items rows.now) }
@@ -47,7 +47,7 @@ fn rising(alloc: Global, count: u32) -> Result<Vec<u32>, Memory>
     Ok(numbers)
 }
 
-fn push_row(row: &[Slot], first: u32, numbers: &mut Numbers) -> Result<u32, Memory>
+fn push_row(row: &[Packed], first: u32, numbers: &mut Numbers) -> Result<u32, Memory>
     ensures starts { IfOk result (λ _. numbers.new.starts.items ≡ numbers.old.starts.items ++ first ∷ []) }
     ensures own { IfOk result (λ _. numbers.new.own.items ≡ numbers.old.own.items ++ owns first row.now) }
     ensures next { IfOk result (λ next. next ≡ next_behind first row.now) }
@@ -61,14 +61,14 @@ fn push_row(row: &[Slot], first: u32, numbers: &mut Numbers) -> Result<u32, Memo
     Ok(next)
 }
 
-fn push_owns(row: &[Slot], first: u32, own: &mut Vec<u32>) -> Result<u32, Memory>
+fn push_owns(row: &[Packed], first: u32, own: &mut Vec<u32>) -> Result<u32, Memory>
     requires { first + length row.now < 2 ^ 32 }
     ensures own { IfOk result (λ _. own.new.items ≡ own.old.items ++ owns first row.now) }
     ensures next { IfOk result (λ next. next ≡ next_behind first row.now) }
 {
     let mut next = first;
     for slot in row {
-        next = push_own(*slot, next, own)?;
+        next = push_own(slot.slot(), next, own)?;
     }
     Ok(next)
 }

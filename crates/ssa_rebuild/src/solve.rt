@@ -1,20 +1,21 @@
 //! The numbers of all slots of a function.
 
-ghost use Rattle.std.specs.Prelude.{◌≡◌, IfOk};
+ghost use Rattle.std.specs.Prelude.{◌≡◌, length, map, IfOk};
 ghost use Rattle.ir_cfg.specs.Graphs.{graph_of};
 ghost use Rattle.live_sets.specs.Joins.{AreJoins};
+ghost use Rattle.statepoint_insert.specs.Groups.{groups_of};
+ghost use Rattle.ssa_rebuild.specs.Rows.{body_rows, group_list, slots_in, values_in};
 ghost use Rattle.ssa_rebuild.specs.Solved.{AreNumbered};
 
 use crate::listed::listed;
 use crate::numbers::Numbers;
-use crate::rows::{add_all_entries, bodies, parents};
-use crate::slots::Slot;
-use crate::walk::answer_blocks;
+use crate::rows::{add_all_entries, parents};
 use ir_cfg::Cfg;
 use live_sets::joins;
 use sp_ids::{Memory, ValueId};
 use statepoint_insert::Marked;
 use std::alloc::Global;
+use version_walk::{Packed, answer_blocks};
 
 /// The values for which phis are inserted at the front of each block.
 pub(crate) fn joined(alloc: Global, marked: &Marked, cfg: &Cfg) -> Result<Vec<Vec<ValueId>>, Memory>
@@ -28,19 +29,22 @@ pub(crate) fn joined(alloc: Global, marked: &Marked, cfg: &Cfg) -> Result<Vec<Ve
     Ok(joined)
 }
 
-/// For each block the numbers of the versions that its slots ask for.
+/// For each block the numbers of the versions that its slots ask for, of which these are those of its lines.
 pub(crate) fn solve(
     alloc: Global,
     marked: &Marked,
     cfg: &Cfg,
     joins: &[Vec<ValueId>],
-) -> Result<Vec<Vec<Slot>>, Memory>
+    bodies: Vec<Vec<Packed>>,
+) -> Result<Vec<Vec<Packed>>, Memory>
     requires cfg { cfg.now ≡ graph_of marked.now.before }
     requires joins { AreJoins marked.now.before marked.now.table joins.now }
+    requires bodies { slots_in bodies.items
+        ≡ body_rows (map group_list (groups_of marked.now.before marked.now.table)) (map (λ join. values_in join.items) joins.now) 0 (length marked.now.before.args) marked.now.before.blocks }
     ensures { IfOk result (λ answers. AreNumbered marked.now.before marked.now.table answers.items) }
 {
     let func = marked.func();
-    let mut rows = bodies(alloc, func, marked.groups(), joins)?;
+    let mut rows = bodies;
     add_all_entries(func, cfg, joins, &mut rows)?;
     let above = parents(alloc, func, cfg)?;
     let args = func.args().len() as u32;

@@ -1,62 +1,52 @@
 //! Numbers that are taken one after another.
 
 ghost use Rattle.std.specs.Prelude.{◌≡◌, take, drop, slice_index, map, IfOk};
-ghost use Rattle.ssa_rebuild.specs.Written.{number_of};
+ghost use Rattle.ssa_rebuild.specs.Answers.{number_of};
 
-use crate::slots::Slot;
 use sp_ids::Memory;
 use std::alloc::Global;
 use std::marker::Model;
+use version_walk::{Packed, Slot};
 
-/// Numbers in the order of the text: the list of those that are still to be taken.
+/// Numbers in the order of the text: the slots of those that are still to be taken. Contracts see the list of the numbers.
 #[derive(Drop)]
-pub(crate) struct Stream {
-    numbers: Vec<u32>,
-    at: usize,
+pub(crate) struct Stream<'a> {
+    slots: &'a [Packed],
 }
 
-impl Model for Stream {
-    ghost use Rattle.std.specs.Prelude.{ℕ, List, drop, length, ◌≤◌};
+impl<'a> Model for Stream<'a> {
+    ghost use Rattle.std.specs.Prelude.{ℕ, List, map};
+    ghost use Rattle.ssa_rebuild.specs.Answers.{number_of};
 
     ghost Value = { List ℕ };
 
-    ghost view = { λ stream. drop stream.at stream.numbers.items };
-
-    ghost invariant = { λ stream. stream.at ≤ length stream.numbers.items };
+    ghost view = { λ stream. map number_of stream.slots.now };
 }
 
-impl Stream {
-    /// All of these numbers.
-    pub(crate) fn of(numbers: Vec<u32>) -> Stream
-        ensures { result ≡ numbers.items }
+impl<'a> Stream<'a> {
+    /// The numbers of all of these slots.
+    pub(crate) fn of(slots: &'a [Packed]) -> Stream<'a>
+        ensures { result ≡ map number_of slots.now }
     {
-        Stream { numbers, at: 0 }
-    }
-
-    /// The numbers of a row.
-    pub(crate) fn of_row(alloc: Global, row: &[Slot]) -> Result<Stream, Memory>
-        ensures { IfOk result (λ stream. stream ≡ map number_of row.now) }
-    {
-        let mut numbers = Vec::with_capacity(alloc, row.len())?;
-        for slot in row {
-            numbers.push(number_of(*slot))?;
-        }
-        Ok(Stream::of(numbers))
+        Stream { slots }
     }
 
     /// The next number, or 0 where all are taken.
     pub(crate) fn first(&self) -> u32
         ensures { result ≡ slice_index self.now 0 }
     {
-        self.numbers.get(self.at).copied().unwrap_or(0)
+        match self.slots.first() {
+            Some(slot) => number_of(slot.slot()),
+            None => 0,
+        }
     }
 
     /// Leaves so many numbers out.
     pub(crate) fn skip(&mut self, count: usize)
         ensures { self.new ≡ drop count self.old }
     {
-        let rest = self.numbers.len() - self.at;
-        self.at += count.min(rest);
+        let behind = count.min(self.slots.len());
+        self.slots = &self.slots[behind..];
     }
 
     /// Takes so many numbers, or all where fewer are left.
@@ -64,11 +54,32 @@ impl Stream {
         ensures taken { IfOk result (λ taken. taken.items ≡ take count self.old) }
         ensures rest { IfOk result (λ _. self.new ≡ drop count self.old) }
     {
-        let behind = self.at + count.min(self.numbers.len() - self.at);
-        let taken = Vec::from_slice(alloc, &self.numbers[self.at..behind])?;
-        self.at = behind;
+        let behind = count.min(self.slots.len());
+        let taken = numbers_of(alloc, &self.slots[..behind])?;
+        self.slots = &self.slots[behind..];
         Ok(taken)
     }
+}
+
+fn numbers_of(alloc: Global, slots: &[Packed]) -> Result<Vec<u32>, Memory>
+    ensures { IfOk result (λ numbers. numbers.items ≡ map number_of slots.now) }
+{
+    let mut numbers = Vec::with_capacity(alloc, slots.len())?;
+    for slot in slots {
+        numbers.push(number_of(slot.slot()))?;
+    }
+    Ok(numbers)
+}
+
+/// Answered slots of these numbers.
+pub(crate) fn slots_of(alloc: Global, numbers: &[u32]) -> Result<Vec<Packed>, Memory>
+    ensures { IfOk result (λ slots. map number_of slots.items ≡ numbers.now) }
+{
+    let mut slots = Vec::with_capacity(alloc, numbers.len())?;
+    for number in numbers {
+        slots.push(Packed::of(Slot::Number(*number))?)?;
+    }
+    Ok(slots)
 }
 
 /// The number of an answered slot.

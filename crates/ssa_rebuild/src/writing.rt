@@ -17,11 +17,11 @@ use std::alloc::Global;
 
 /// What is still to be written: the counts of names, the numbers of the block's slots, and those of all entries of phis.
 #[derive(Drop)]
-pub(crate) struct Writing {
+pub(crate) struct Writing<'a> {
     pub(crate) counts: Counts,
     pub(crate) joined: u32,
-    pub(crate) body: Stream,
-    pub(crate) entries: Stream,
+    pub(crate) body: Stream<'a>,
+    pub(crate) entries: Stream<'a>,
 }
 
 /// Adds the phis that are inserted for these values.
@@ -29,7 +29,7 @@ pub(crate) fn push_phis(
     alloc: Global,
     preds: &[BlockId],
     values: &[ValueId],
-    writing: &mut Writing,
+    writing: &mut Writing<'_>,
     lines: &mut Vec<Inst>,
 ) -> Result<(), Memory>
     ensures lines { IfOk result (λ _. lines.new.items ≡ lines.old.items ++ phi_lines preds.now writing.old values.now) }
@@ -44,7 +44,7 @@ pub(crate) fn push_phis(
 fn push_phi(
     alloc: Global,
     preds: &[BlockId],
-    writing: &mut Writing,
+    writing: &mut Writing<'_>,
     lines: &mut Vec<Inst>,
 ) -> Result<(), Memory>
     ensures lines { IfOk result (λ _. lines.new.items ≡ lines.old.items ++ phi_line preds.now writing.old ∷ []) }
@@ -85,7 +85,7 @@ pub(crate) fn push_lines(
     alloc: Global,
     groups: &[Group],
     insts: Vec<Inst>,
-    writing: &mut Writing,
+    writing: &mut Writing<'_>,
     lines: &mut Vec<Inst>,
 ) -> Result<(), Memory>
     ensures lines { IfOk result (λ _. lines.new.items ≡ lines.old.items ++ written groups.now writing.old insts.items) }
@@ -101,7 +101,7 @@ fn push_line(
     alloc: Global,
     groups: &[Group],
     inst: Inst,
-    writing: &mut Writing,
+    writing: &mut Writing<'_>,
     lines: &mut Vec<Inst>,
 ) -> Result<(), Memory>
     ensures lines { IfOk result (λ _. lines.new.items ≡ lines.old.items ++ line_written groups.now writing.old inst) }
@@ -114,7 +114,12 @@ fn push_line(
     Ok(())
 }
 
-fn plain(alloc: Global, inst: Inst, body: &mut Stream, entries: &mut Stream) -> Result<Inst, Memory>
+fn plain(
+    alloc: Global,
+    inst: Inst,
+    body: &mut Stream<'_>,
+    entries: &mut Stream<'_>,
+) -> Result<Inst, Memory>
     ensures line { IfOk result (λ line. line ≡ plain_written body.old entries.old inst) }
     ensures body { IfOk result (λ _. body.new ≡ plain_left body.old inst) }
     ensures entries { IfOk result (λ _. entries.new ≡ entries_left entries.old inst) }
@@ -129,8 +134,8 @@ fn plain(alloc: Global, inst: Inst, body: &mut Stream, entries: &mut Stream) -> 
 fn operands_of(
     alloc: Global,
     inst: &Inst,
-    body: &mut Stream,
-    entries: &mut Stream,
+    body: &mut Stream<'_>,
+    entries: &mut Stream<'_>,
 ) -> Result<Operands, Memory>
     ensures operands { IfOk result (λ after. after.items ≡ operands_written body.old entries.old inst.now) }
     ensures body { IfOk result (λ _. body.new ≡ left body.old (own_uses inst.now)) }
@@ -163,7 +168,7 @@ fn push_call(
     alloc: Global,
     groups: &[Group],
     inst: Inst,
-    writing: &mut Writing,
+    writing: &mut Writing<'_>,
     lines: &mut Vec<Inst>,
 ) -> Result<(), Memory>
     requires { is_call inst.op ≡ true }
@@ -200,7 +205,7 @@ fn write_group(
     group: &Group,
     inst: Inst,
     counts: Counts,
-    body: &mut Stream,
+    body: &mut Stream<'_>,
     lines: &mut Vec<Inst>,
 ) -> Result<(), Memory>
     requires { counts.relocates + length group.now.relocates < 2 ^ 32 - 1 }

@@ -58,7 +58,7 @@ fn with_entries(operands: Operands, has_null: bool, live: &[u32]) -> Result<Oper
     ensures { IfOk result (λ after. after.items ≡ operands.items ++ live_entries has_null live.now) }
 {
     let mut after = operands;
-    after.reserve(live.len())?;
+    after.reserve_exact(live.len().saturating_add(first_rank(has_null) as usize))?;
     if has_null {
         after.push(Operand::Null)?;
     }

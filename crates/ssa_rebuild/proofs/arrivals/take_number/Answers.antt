@@ -1,5 +1,5 @@
 use Rattle.std.proofs.Common.{◌∙◌, ◌<◌, sym, arith, length}
-use Rattle.ssa_rebuild.proofs.ForestLemmas.{list_is}
+use Rattle.version_walk.proofs.ForestLemmas.{list_is}
 use Rattle.ssa_rebuild.proofs.TakeLemmas.{takes_pop}
 use Rattle.ssa_rebuild.proofs.arrivals.take_number.Goals as goal
 

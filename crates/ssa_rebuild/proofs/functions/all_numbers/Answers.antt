@@ -1,13 +1,26 @@
-use Rattle.std.proofs.Common.{◌∙◌, ◌≡◌, ℕ, List, ap, length, map, subst}
+use Rattle.std.proofs.Common.{◌∙◌, ◌≡◌, ℕ, List, [], ◌∷◌, refl, ap, length, map, subst}
 use Rattle.std.specs.Global.{Vec}
 use Rattle.sp_ids.specs.declared.ids.ValueId.{ValueId}
 use Rattle.ir_ast.specs.Funcs.{Function}
 use Rattle.rewriting_forms.specs.Numbered.{preds}
-use Rattle.ssa_rebuild.specs.declared.slots.Slot.{Slot}
+use Rattle.statepoint_insert.specs.Groups.{GroupContent, groups_of}
+use Rattle.version_walk.specs.declared.slots.Slot.{Slot}
 use Rattle.ssa_rebuild.specs.Rows.{body_rows, group_list, values_in, entries_all}
 use Rattle.ssa_rebuild.specs.Arrivals.{HoldsAll, arriving_numbers}
 use Rattle.ssa_rebuild.proofs.RebuiltLaws.{arrived}
 use Rattle.ssa_rebuild.proofs.functions.all_numbers.Goals as goal
+
+both : (rows : List (Vec Slot)) → map (λ row. length row.items) rows ≡ map (λ row. length row) (map (λ row. row.items) rows)
+both [] = refl
+both (row ∷ rows) = ap (λ (ns : List ℕ). length row.items ∷ ns) (both rows)
+
+pub solve-requires-clause-bodies : goal.solve-requires-clause-bodies
+solve-requires-clause-bodies c =
+    let func = c.func-func.result.now.content in
+    let lists : List (List ℕ) = map (λ (join : Vec ValueId). values_in join.items) c.args.joins.now in
+    c.in_ok-bodies.ensures
+    ∙ ap (λ (gs : List GroupContent). body_rows (map group_list gs) lists 0 (length func.args) func.blocks) (c.groups-groups.ensures.value ∙ c.groups-groups.ensures.whole)
+    ∙ ap (λ (f : Function). body_rows (map group_list (groups_of c.args.marked.now.before c.args.marked.now.table)) lists 0 (length f.args) f.blocks) c.func-func.ensures.value
 
 pub returns-clause-entries : goal.returns-clause-entries
 returns-clause-entries c =
@@ -18,12 +31,13 @@ returns-clause-entries c =
     let rows = c.in_ok-rows.rows.items in
     let places = c.in_ok-places.places.items in
     let entries = c.in_ok-entries.entries.items in
-    let groups = c.groups.result.now in
+    let groups = c.groups-groups.result.now in
     let same = c.func-func.ensures.value in
     let lengths : places ≡ map (λ row. length row) (body_rows (map group_list groups) lists 0 (length func.args) func.blocks) =
-    c.in_ok-places.ensures ∙ ap (λ (f : Function). map (λ (row : List Slot). length row) (body_rows (map group_list groups) lists 0 (length f.args) f.blocks)) same in
+    c.in_ok-places.ensures ∙ ap (map (λ (row : Vec Slot). length row.items)) c.as_slice-2.ensures.value ∙ both c.in_ok-bodies.bodies.items
+    ∙ ap (map (λ (row : List Slot). length row)) (c.in_ok-bodies.ensures ∙ ap (λ (f : Function). body_rows (map group_list groups) lists 0 (length f.args) f.blocks) same) in
     let held : HoldsAll rows places entries (entries_all (preds func) lists 0 func.blocks) (λ here. arriving_numbers here (preds func) lists 0 func.blocks) =
     subst (λ (f : Function). HoldsAll rows places entries (entries_all (preds f) lists 0 f.blocks) (λ here. arriving_numbers here (preds f) lists 0 f.blocks)) same
     (subst (λ (rs : List (Vec Slot)). HoldsAll rs places entries (entries_all (preds c.func-func.result.now.content) lists 0 c.func-func.result.now.content.blocks) (λ here. arriving_numbers here (preds c.func-func.result.now.content) lists 0 c.func-func.result.now.content.blocks))
-    c.as_slice.ensures.value c.in_ok-entries.ensures) in
-    arrived func table groups joins rows places entries (c.groups.ensures.value ∙ c.groups.ensures.whole) c.requires.joins c.in_ok-rows.ensures lengths held
+    c.as_slice-3.ensures.value c.in_ok-entries.ensures) in
+    arrived func table groups joins rows places entries (c.groups-groups.ensures.value ∙ c.groups-groups.ensures.whole) c.requires.joins c.in_ok-rows.ensures lengths held

@@ -1,7 +1,7 @@
 use Rattle.std.proofs.Common.{◌∙◌, ◌++◌, List, ap}
 use Rattle.ir_ast.specs.declared.ops.Operand.{Operand}
 use Rattle.ir_ast.specs.declared.types.Ty.{Ty}
-use Rattle.ssa_rebuild.specs.declared.slots.Slot.{Slot}
+use Rattle.version_walk.specs.declared.slots.Slot.{Slot}
 use Rattle.ssa_rebuild.specs.Rows.{uses_of, held_in}
 use Rattle.ssa_rebuild.proofs.RowLemmas.{joined_on}
 use Rattle.ssa_rebuild.proofs.lines.push_plain.Goals as goal

@@ -1,5 +1,5 @@
 use Rattle.std.proofs.Common.{◌≡◌, ◌≤◌, ◌+◌, ◌++◌, drop}
-use Rattle.ssa_rebuild.specs.Slots.{next_behind}
+use Rattle.version_walk.specs.Slots.{next_behind}
 use Rattle.ssa_rebuild.specs.Rows.{owns}
 use Rattle.ssa_rebuild.proofs.numbers.push_owns.Given as goal
 

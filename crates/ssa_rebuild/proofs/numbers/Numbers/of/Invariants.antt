@@ -1,7 +1,7 @@
 use Rattle.std.proofs.Common.{◌≡◌, ℕ, ◌<◌, ◌+◌, ◌++◌, ◌^◌, length, drop}
 use Rattle.std.specs.Prelude.{slice_index}
 use Rattle.std.specs.List.{range_with_len}
-use Rattle.ssa_rebuild.specs.Forest.{list_at}
+use Rattle.version_walk.specs.Forest.{list_at}
 use Rattle.ssa_rebuild.specs.Rows.{starts_of, all_owns, slots_in}
 use Rattle.ssa_rebuild.proofs.numbers.Numbers.of.Given as goal
 

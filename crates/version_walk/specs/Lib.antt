@@ -1,0 +1,5 @@
+pub mod Slots
+pub mod Packed
+pub mod Versions
+pub mod Forest
+pub mod Walks
