@@ -18,14 +18,14 @@ use Rattle.machine_meaning.specs.Happenings.{happening_by, happenings_at}
 use Rattle.machine_meaning.specs.Machines.{Machine, Machinery, lifted}
 use Rattle.machine_meaning.specs.MachineSteps.{machine_at, machine_step}
 use Rattle.machine_frames.specs.Computed.{with_answer, computed_at, computed_once, computed_often}
-use Rattle.machine_frames.specs.Decoding.{is_plain}
+use Rattle.machine_lines.specs.Decoding.{is_plain}
 use Rattle.run_texts.specs.RunTexts.{event_lines, trace_lines}
 use Rattle.run_traces.specs.declared.happenings.Happening.{Happening}
 use Rattle.ir_machine.specs.Executors.{HasComputed, told}
 use Rattle.ir_machine.specs.Answers.{Follows}
 use Rattle.ir_machine.specs.declared.executor.Did.TheVariants.{GoesOn}
 use Rattle.ir_machine.specs.declared.run.Shows.{Shows}
-use Rattle.ir_machine.proofs.StepLemmas.{plain_acts}
+use Rattle.machine_lines.proofs.GoingLemmas.{plain_acts}
 use Rattle.ir_machine.proofs.RunLemmas.{follows_more}
 
 abbrev with_running : Machine → Frame → Machine

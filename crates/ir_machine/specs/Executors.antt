@@ -14,7 +14,8 @@ use Rattle.machine_meaning.specs.MachineSteps.{machine_acts, calls}
 use Rattle.machine_meaning.specs.Code.{machinery_of}
 use Rattle.machine_frames.specs.declared.tasks.Task.{Task}
 use Rattle.machine_frames.specs.Computed.{Computes}
-use Rattle.machine_frames.specs.Frames.{line_of, lines_left, frame_of, below_of, frames_of}
+use Rattle.machine_frames.specs.Frames.{frame_of, below_of, frames_of}
+use Rattle.machine_lines.specs.Lines.{line_of, lines_left}
 use Rattle.ir_machine.specs.declared.executor.Executor.{Executor}
 use Rattle.ir_machine.specs.declared.executor.Program.{Program}
 use Rattle.ir_machine.specs.declared.executor.Did.{Did}

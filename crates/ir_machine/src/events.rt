@@ -9,7 +9,7 @@ ghost use Rattle.machine_meaning.specs.Moving.{eventful, moved_by};
 ghost use Rattle.ir_machine.specs.Executors.{machinery, seen, waiting, kept, told, DoesSo, calls_at};
 ghost use Rattle.ir_machine.specs.Events.{or_lost, TaskWalked, SlotWalked, AllWalked, gone_to};
 
-use crate::accesses::fields_of;
+use machine_lines::fields_of;
 use crate::calls::{set_task, take_task};
 use crate::executor::{Did, Executor, Program};
 use frame_walk::walk;

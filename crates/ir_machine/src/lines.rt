@@ -11,13 +11,14 @@ ghost use Rattle.object_meaning.specs.Registers.{operand};
 ghost use Rattle.machine_meaning.specs.Machines.{lifted};
 ghost use Rattle.machine_meaning.specs.MachineSteps.{machine_step, passes};
 ghost use Rattle.machine_meaning.specs.Words.{worded_operand};
-ghost use Rattle.machine_frames.specs.Decoding.{decoded_of, is_plain};
-ghost use Rattle.machine_frames.specs.Frames.{line_of, lines_left};
+ghost use Rattle.machine_lines.specs.Decoding.{decoded_of, is_plain};
+ghost use Rattle.machine_lines.specs.Lines.{line_of, lines_left};
 ghost use Rattle.ir_machine.specs.Executors.{machinery, seen, DoesSo, HasComputed, acts_at, calls_kept, skipped_at};
 
 use crate::executor::{Did, Executor, Program};
 use ir_ast::{Callee, Inst, Op, Operand};
-use machine_frames::{Decoded, Lines, computed, is_plain, keep, word_at, write_over};
+use machine_frames::{keep, write_over};
+use machine_lines::{Decoded, Lines, computed, go_over, is_plain, word_at};
 use sp_ids::{BlockId, End, Memory, Trap};
 
 impl<'m, 'i> Executor<'m, 'i> {

@@ -6,23 +6,21 @@ ghost use Rattle.std.specs.List.{position};
 ghost use Rattle.ir_ast.specs.Objects.{number};
 ghost use Rattle.object_meaning.specs.Lines.{following, after_all};
 ghost use Rattle.object_meaning.specs.Registers.{put, put_all, value};
-ghost use Rattle.object_meaning.specs.States.{Frame as IrFrame};
 ghost use Rattle.object_meaning.specs.Jumps.{arrived, incoming, phi_write};
 ghost use Rattle.map_bytes.specs.Maps.{StackMap};
 ghost use Rattle.move_plan.specs.declared.plan_lines.PlanLine.{PlanLine};
 ghost use Rattle.machine_meaning.specs.Code.{machinery_of};
 ghost use Rattle.machine_meaning.specs.Words.{worded_operand};
 ghost use Rattle.machine_meaning.specs.Machines.{behind, gone_from, gone_behind, regrouped_by, slot_put, return_address, address_behind};
-ghost use Rattle.machine_frames.specs.Computed.{Computes};
-ghost use Rattle.machine_frames.specs.Decoding.{decoded_of};
-ghost use Rattle.machine_frames.specs.Frames.{line_of, lines_left, lines_in, frame_of, entered_in, write_of, is_statepoint};
+ghost use Rattle.machine_frames.specs.Frames.{lines_in, frame_of, entered_in, write_of, is_statepoint};
+ghost use Rattle.machine_lines.specs.Lines.{line_of, lines_left};
 
 use crate::code::Code;
-use crate::computing::outcome;
-use crate::decoded::{Decoded, Lines};
+
+use machine_lines::{Lines, put, word, word_at};
 use crate::numbering::{following, member_count, phi_count, register_of};
 use crate::slots::{is_statepoint, member_word};
-use crate::words::{put, word, word_at};
+
 use frame_walk::Stack;
 use ir_ast::{Inst, Op, Operand};
 use sp_ids::{BlockId, Memory};
@@ -99,20 +97,6 @@ impl<'m> Frame<'m> {
         self.rest = rest;
         self.next = next;
         Ok(())
-    }
-
-    /// Goes on over lines that compute numbers, up to one that doesn't, or that traps.
-    pub fn compute_all(&mut self)
-        ensures { Computes (frame_of self.old) (frame_of self.new) }
-    {
-        let (count, next) = compute_lines(
-            self.registers.as_mut_slice(),
-            self.next,
-            self.rest.insts,
-            self.rest.decoded,
-        );
-        self.next = next;
-        self.rest = self.rest.behind(count);
     }
 
     /// Goes on behind a line that takes effect elsewhere.
@@ -210,32 +194,6 @@ impl<'m> Frame<'m> {
         let left = left_behind(inst.op(), rest);
         code.address(self.func, self.block, all.saturating_sub(left))
     }
-}
-
-// The lines that stand first take effect, up to one that doesn't compute a number for one of these registers, or that traps.
-// How many they are, and the register of the next result.
-fn compute_lines(
-    registers: &mut [u64],
-    first: usize,
-    insts: &[Inst],
-    decoded: &[Decoded],
-) -> (usize, usize)
-    requires { decoded.now ≡ map decoded_of insts.now }
-    ensures within { result.0 ≤ length insts.now }
-    ensures computes { (frame : IrFrame) → frame.rest ≡ lines_left first insts.now → frame.registers ≡ map number registers.old → Computes frame (record frame { rest = lines_left result.1 (drop result.0 insts.now); registers = map number registers.new }) }
-{
-    let mut next = first;
-    for (place, inst) in insts.iter().enumerate() {
-        if next >= registers.len() {
-            return (place, next);
-        }
-        match outcome(inst.op(), inst.ty(), &decoded[place], registers) {
-            None => return (place, next),
-            Some(word) => registers[next] = word,
-        }
-        next += 1;
-    }
-    (insts.len(), next)
 }
 
 // How many instructions are left behind a call, its group taken along.

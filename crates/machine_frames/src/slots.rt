@@ -8,10 +8,11 @@ ghost use Rattle.object_meaning.specs.Numbers.{width_of, sign_extended};
 ghost use Rattle.object_meaning.specs.Registers.{value, number_in};
 ghost use Rattle.machine_meaning.specs.Machines.{over, slot_value};
 ghost use Rattle.machine_meaning.specs.Words.{worded_operand};
-ghost use Rattle.machine_frames.specs.Frames.{is_statepoint, kept_in, line_of};
+ghost use Rattle.machine_frames.specs.Frames.{is_statepoint, kept_in};
+ghost use Rattle.machine_lines.specs.Lines.{line_of};
 
-use crate::computing::widened;
-use crate::words::word;
+use machine_lines::{widened, word};
+
 use frame_walk::Stack;
 use ir_ast::{Inst, Op, Operand, Ty};
 use sp_ids::Memory;

@@ -5,7 +5,8 @@ use Rattle.object_meaning.specs.Jumps.{phi_write}
 use Rattle.object_meaning.specs.Registers.{Write}
 use Rattle.flat_code.proofs.RegisterLemmas.{after_more}
 use Rattle.machine_frames.specs.declared.frames.Move.{Move}
-use Rattle.machine_frames.specs.Frames.{line_of, lines_left, write_of}
+use Rattle.machine_frames.specs.Frames.{write_of}
+use Rattle.machine_lines.specs.Lines.{line_of, lines_left}
 use Rattle.machine_frames.proofs.FrameLemmas.{writes_more}
 use Rattle.machine_frames.proofs.frames.gather.Goals as goal
 

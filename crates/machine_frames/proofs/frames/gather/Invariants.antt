@@ -2,7 +2,8 @@ use Rattle.std.proofs.Common.{◌≡◌, ◌++◌, map, drop}
 use Rattle.ir_ast.specs.Objects.{number}
 use Rattle.object_meaning.specs.Jumps.{phi_write}
 use Rattle.object_meaning.specs.Lines.{after_all}
-use Rattle.machine_frames.specs.Frames.{write_of, lines_left}
+use Rattle.machine_frames.specs.Frames.{write_of}
+use Rattle.machine_lines.specs.Lines.{lines_left}
 use Rattle.machine_frames.proofs.frames.gather.Given as goal
 
 abbrev pub invariant-loop-phi : goal.invariant-loop-phi

@@ -3,7 +3,7 @@ use Rattle.ir_ast.specs.Objects.{Datum, number}
 use Rattle.object_meaning.specs.Registers.{put}
 use Rattle.machine_meaning.specs.Machines.{slot_put}
 use Rattle.flat_code.proofs.RegisterLemmas.{after_more}
-use Rattle.machine_frames.specs.Frames.{line_of}
+use Rattle.machine_lines.specs.Lines.{line_of}
 use Rattle.machine_frames.proofs.FrameLemmas.{puts_more}
 use Rattle.machine_frames.proofs.frames.put_members.Goals as goal
 

@@ -3,7 +3,7 @@ use Rattle.ir_ast.specs.Objects.{number}
 use Rattle.object_meaning.specs.Lines.{after_all}
 use Rattle.object_meaning.specs.Registers.{put_all}
 use Rattle.machine_meaning.specs.Machines.{slot_put}
-use Rattle.machine_frames.specs.Frames.{lines_left}
+use Rattle.machine_lines.specs.Lines.{lines_left}
 use Rattle.machine_frames.proofs.frames.put_members.Given as goal
 
 abbrev pub invariant-loop-member : goal.invariant-loop-member

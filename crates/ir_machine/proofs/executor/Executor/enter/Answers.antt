@@ -3,7 +3,7 @@ use Rattle.ir_ast.specs.Objects.{number}
 use Rattle.object_meaning.specs.Lines.{following}
 use Rattle.object_meaning.specs.Registers.{value}
 use Rattle.machine_meaning.specs.Words.{worded_operand}
-use Rattle.machine_frames.specs.Frames.{line_of, lines_left}
+use Rattle.machine_lines.specs.Lines.{line_of, lines_left}
 use Rattle.ir_machine.specs.Executors.{machinery, seen, told}
 use Rattle.ir_machine.proofs.CallLemmas.{enter_goes, enter_out}
 use Rattle.std.proofs.Common.{reverse}

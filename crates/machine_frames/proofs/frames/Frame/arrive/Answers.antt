@@ -5,7 +5,8 @@ use Rattle.ir_ast.specs.Objects.{Datum, number}
 use Rattle.object_meaning.specs.Jumps.{phi_write}
 use Rattle.object_meaning.specs.Lines.{after_all, first_register, insts_of}
 use Rattle.object_meaning.specs.Registers.{put_all}
-use Rattle.machine_frames.specs.Frames.{lines_left, frame_of}
+use Rattle.machine_frames.specs.Frames.{frame_of}
+use Rattle.machine_lines.specs.Lines.{lines_left}
 use Rattle.machine_frames.proofs.FrameLemmas.{arrive_is}
 use Rattle.machine_frames.proofs.frames.Frame.arrive.Goals as goal
 

@@ -1,0 +1,5 @@
+pub mod WordLemmas
+pub mod DecodeLemmas
+pub mod AccessLemmas
+pub mod DeniedLemmas
+pub mod GoingLemmas
