@@ -22,6 +22,7 @@ use Rattle.object_meaning.specs.Steps.{settled}
 use Rattle.machine_meaning.specs.Machines.{Machine, Machinery, lifted}
 use Rattle.machine_meaning.specs.MachineSteps.{machine_acts}
 use Rattle.machine_lines.specs.Decoding.{is_plain}
+use Rattle.machine_lines.proofs.GoingLemmas.{plain_acts}
 use Rattle.ir_machine.specs.declared.executor.Executor.{Executor}
 use Rattle.ir_machine.specs.declared.executor.Did.{Did}
 use Rattle.ir_machine.specs.Executors.{DoesSo, told}

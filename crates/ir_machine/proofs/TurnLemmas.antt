@@ -1,4 +1,4 @@
--- How a run comes on: over lines that compute numbers, and by steps that show nothing.
+-- How a run comes on: over quiet lines, and by steps that show nothing.
 use Rattle.std.proofs.Common.{◌≡◌, Bool, false, refl, sym}
 use Rattle.tool_io.proofs.AppendLaws.{append_known-nil}
 use Rattle.ir_ast.specs.Modules.{ModuleContent}
@@ -6,18 +6,19 @@ use Rattle.machine_meaning.specs.Machines.{Machine, Machinery}
 use Rattle.machine_meaning.specs.MachineSteps.{machine_step}
 use Rattle.ir_machine.specs.declared.executor.Did.{Did}
 use Rattle.ir_machine.specs.declared.executor.Did.TheVariants.{GoesOn, Prints, Ends as Finishes}
-use Rattle.ir_machine.specs.Executors.{HasComputed, effect_of, told}
+use Rattle.machine_lines.specs.Going.{GoesOver}
+use Rattle.ir_machine.specs.Executors.{effect_of, told}
 use Rattle.ir_machine.specs.Answers.{LeadsOn, WentFar, is_shown}
-use Rattle.ir_machine.proofs.ComputeLemmas.{follows_computed}
+use Rattle.ir_machine.proofs.OverLemmas.{follows_over}
 use Rattle.ir_machine.proofs.RunLemmas.{follows_more}
 
 pub leads_same : (machinery : Machinery) (trace : Bool) (machine : Machine) → LeadsOn machinery trace machine machine
 leads_same machinery trace machine = λ start one count first now follows. follows
 
 module _ (content : ModuleContent) (machinery : Machinery) where
-  pub leads_computed : (trace : Bool) (old new later : Machine) → LeadsOn machinery trace old new → HasComputed new later → LeadsOn machinery trace old later
-  leads_computed trace old new later leads computed = λ start one count first now follows.
-      follows_computed content machinery (record { places = false; trace = trace }) start one count first now new later computed (leads start one count first now follows)
+  pub leads_over : (trace : Bool) (old new later : Machine) → LeadsOn machinery trace old new → GoesOver machinery new later → LeadsOn machinery trace old later
+  leads_over trace old new later leads over = λ start one count first now follows.
+      follows_over content machinery (record { places = false; trace = trace }) start one count first now new later over (leads start one count first now follows)
 
   leads_step : (old new later : Machine) → LeadsOn machinery false old new → told (effect_of GoesOn later) ≡ told (machine_step machinery new) → LeadsOn machinery false old later
   leads_step old new later leads does = λ start one count first now follows.

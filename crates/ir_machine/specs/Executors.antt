@@ -4,7 +4,6 @@ use Rattle.ir_ast.specs.declared.ops.Op.{Op}
 use Rattle.ir_ast.specs.declared.ops.Operand.{Operand}
 use Rattle.ir_ast.specs.declared.ops.Callee.{Callee}
 use Rattle.ir_ast.specs.Insts.{Instruction}
-use Rattle.moving_heap.specs.Heaps.{HeapView}
 use Rattle.object_meaning.specs.Lines.{following}
 use Rattle.object_meaning.specs.States.{Frame}
 use Rattle.object_meaning.specs.Effects.{Effect, goes_on, prints, ends}
@@ -13,9 +12,9 @@ use Rattle.machine_meaning.specs.Machines.{Machine, Machinery, spilled}
 use Rattle.machine_meaning.specs.MachineSteps.{machine_acts, calls}
 use Rattle.machine_meaning.specs.Code.{machinery_of}
 use Rattle.machine_frames.specs.declared.tasks.Task.{Task}
-use Rattle.machine_frames.specs.Computed.{Computes}
 use Rattle.machine_frames.specs.Frames.{frame_of, below_of, frames_of}
 use Rattle.machine_lines.specs.Lines.{line_of, lines_left}
+use Rattle.machine_lines.specs.Going.{still}
 use Rattle.ir_machine.specs.declared.executor.Executor.{Executor}
 use Rattle.ir_machine.specs.declared.executor.Program.{Program}
 use Rattle.ir_machine.specs.declared.executor.Did.{Did}
@@ -33,10 +32,6 @@ waiting (Some task) = frames_of task
 abbrev pub kept : Option Task → List ℕ
 kept None = []
 kept (Some task) = task.stack
-
--- no group is pending between two steps
-abbrev pub still : HeapView → HeapView
-still heap = record heap { moves = [] }
 
 abbrev pub seen : Executor → Machine
 seen executor = record {
@@ -97,9 +92,3 @@ calls_kept machinery executor inst rest callee arguments =
     calls machinery (spilled (seen executor) (line_of executor.run.frame.next inst).inst arguments)
     (line_of executor.run.frame.next inst) (lines_left (following executor.run.frame.next inst) rest) callee
     (take arguments (map worded_operand inst.operands))
-
--- the running frame has gone on over lines that compute numbers
-pub record HasComputed (old new : Machine) : Type 0 where
-  pub running : Frame
-  pub computes : Computes old.state.running running
-  pub is : new ≡ record old { state = record old.state { running = running } }

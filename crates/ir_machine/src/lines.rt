@@ -12,8 +12,9 @@ ghost use Rattle.machine_meaning.specs.Machines.{lifted};
 ghost use Rattle.machine_meaning.specs.MachineSteps.{machine_step, passes};
 ghost use Rattle.machine_meaning.specs.Words.{worded_operand};
 ghost use Rattle.machine_lines.specs.Decoding.{decoded_of, is_plain};
+ghost use Rattle.machine_lines.specs.Going.{GoesOver};
 ghost use Rattle.machine_lines.specs.Lines.{line_of, lines_left};
-ghost use Rattle.ir_machine.specs.Executors.{machinery, seen, DoesSo, HasComputed, acts_at, calls_kept, skipped_at};
+ghost use Rattle.ir_machine.specs.Executors.{machinery, seen, DoesSo, acts_at, calls_kept, skipped_at};
 
 use crate::executor::{Did, Executor, Program};
 use ir_ast::{Callee, Inst, Op, Operand};
@@ -33,23 +34,25 @@ impl<'m, 'i> Executor<'m, 'i> {
         }
     }
 
-    /// The running task goes on over lines that compute numbers, up to one that doesn't, or that traps.
+    /// The running task goes on over lines that stay in their frame, up to one that leaves it, is denied or traps.
     #[inline(always)]
-    pub fn compute_all(&mut self)
-        ensures computed { HasComputed (seen self.old) (seen self.new) }
-        ensures heap { self.new.heap ≡ self.old.heap }
+    pub fn go_over(&mut self, program: &'m Program<'_, '_>)
+        ensures over { GoesOver (machinery program.now) (seen self.old) (seen self.new) }
+        ensures stands { self.new.heap.stands ≡ self.old.heap.stands }
     {
-        if self.is_at_number() {
-            self.run.frame.compute_all();
-        }
-    }
-
-    // Whether a line that computes a number comes next.
-    fn is_at_number(&self) -> bool {
-        match self.run.frame.rest.front() {
-            None => false,
-            Some(parts) => parts.1.plain,
-        }
+        let lines = self.run.frame.rest;
+        let first = self.run.frame.next;
+        let layouts = program.code.module().layouts();
+        let (count, next) = go_over(
+            self.run.frame.registers.as_mut_slice(),
+            &mut self.heap,
+            &mut self.hints,
+            layouts,
+            first,
+            lines,
+        );
+        self.run.frame.next = next;
+        self.run.frame.rest = lines.behind(count);
     }
 
     #[inline(always)]

@@ -1,4 +1,4 @@
-use Rattle.std.proofs.Common.{ℕ, ◌+◌, ◌<◌, List, length, map, refl, ap, arith}
+use Rattle.std.proofs.Common.{◌+◌, ◌<◌, length, map, refl, ap, arith}
 use Rattle.ir_ast.specs.Objects.{number}
 use Rattle.object_meaning.specs.Lines.{following}
 use Rattle.object_meaning.specs.Registers.{value}
