@@ -1,5 +1,5 @@
 -- What the executor does at a line is what the machine does there.
-use Rattle.std.proofs.Common.{◌≡◌, ℕ, ◌+◌, ◌<◌, ◌≤◌, true, List, [], refl, sym, ap, subst, ◌∙◌, lt-ltb}
+use Rattle.std.proofs.Common.{◌≡◌, ℕ, ◌+◌, ◌<◌, ◌≤◌, Bool, true, List, [], refl, sym, ap, subst, ◌∙◌, lt-ltb}
 use Rattle.std.proofs.lemmas.Bool.{le-ltb}
 use Rattle.std.specs.Prelude.{Result, Ok, Err}
 use Rattle.std.specs.Result.{IfOk}
@@ -25,11 +25,15 @@ use Rattle.machine_lines.specs.Decoding.{is_plain}
 use Rattle.machine_lines.proofs.GoingLemmas.{plain_acts}
 use Rattle.ir_machine.specs.declared.executor.Executor.{Executor}
 use Rattle.ir_machine.specs.declared.executor.Did.{Did}
-use Rattle.ir_machine.specs.Executors.{DoesSo, told}
+use Rattle.ir_machine.specs.Executors.{DoesSo, GoesOnTo, told}
 
 -- the same effect, said otherwise
 pub does_as : (now : Executor) (result : Result Did Memory) (one other : Effect Machine) → one ≡ other → IfOk result (DoesSo one now) → IfOk result (DoesSo other now)
 does_as now result one other same does = subst (λ (effect : Effect Machine). IfOk result (DoesSo effect now)) same does
+
+pub goes_as : (old new : Machine) (result : Result Bool Memory) (one other : Effect Machine) → one ≡ other → IfOk result (λ went. GoesOnTo one old went new)
+    → IfOk result (λ went. GoesOnTo other old went new)
+goes_as old new result one other same goes = subst (λ (effect : Effect Machine). IfOk result (λ went. GoesOnTo effect old went new)) same goes
 
 -- an effect of which the same is told
 pub does_told : (now : Executor) (result : Result Did Memory) (one other : Effect Machine) → told one ≡ told other → IfOk result (DoesSo one now) → IfOk result (DoesSo other now)

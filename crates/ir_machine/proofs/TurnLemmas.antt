@@ -1,5 +1,6 @@
 -- How a run comes on: over quiet lines, and by steps that show nothing.
-use Rattle.std.proofs.Common.{◌≡◌, Bool, false, refl, sym}
+use Rattle.std.proofs.Common.{◌≡◌, Bool, false, refl, sym, ap, subst}
+use Rattle.object_meaning.specs.Effects.{goes_on}
 use Rattle.tool_io.proofs.AppendLaws.{append_known-nil}
 use Rattle.ir_ast.specs.Modules.{ModuleContent}
 use Rattle.machine_meaning.specs.Machines.{Machine, Machinery}
@@ -24,6 +25,15 @@ module _ (content : ModuleContent) (machinery : Machinery) where
   leads_step old new later leads does = λ start one count first now follows.
       follows_more content machinery (record { places = false; trace = false }) start new new later count first now (leads start one count first now follows)
       false one GoesOn refl refl does refl now (sym (append_known-nil now))
+
+  pub leads_hurried : (old new later : Machine) → LeadsOn machinery false old new → machine_step machinery new ≡ goes_on later → LeadsOn machinery false old later
+  leads_hurried old new later leads goes = leads_step old new later leads (ap told (sym goes))
+
+  pub leads_kept : (old new later : Machine) → LeadsOn machinery false old new → later ≡ new → LeadsOn machinery false old later
+  leads_kept old new later leads same = subst (λ (machine : Machine). LeadsOn machinery false old machine) (sym same) leads
+
+  pub leads_then : (old new later : Machine) → LeadsOn machinery false old new → LeadsOn machinery false new later → LeadsOn machinery false old later
+  leads_then old new later leads on = λ start one count first now follows. on start one count first now (leads start one count first now follows)
 
   pub leads_quiet : (did : Did) (old new later : Machine) → is_shown did ≡ false → LeadsOn machinery false old new → told (effect_of did later) ≡ told (machine_step machinery new)
       → LeadsOn machinery false old later

@@ -1,5 +1,5 @@
 -- What the executor's state stands for, and what a step did.
-use Rattle.std.specs.Prelude.{◌≡◌, ℕ, List, [], map, take, Option, Some, None}
+use Rattle.std.specs.Prelude.{◌≡◌, ℕ, Bool, true, false, List, [], map, take, Option, Some, None}
 use Rattle.ir_ast.specs.declared.ops.Op.{Op}
 use Rattle.ir_ast.specs.declared.ops.Operand.{Operand}
 use Rattle.ir_ast.specs.declared.ops.Callee.{Callee}
@@ -92,3 +92,8 @@ calls_kept machinery executor inst rest callee arguments =
     calls machinery (spilled (seen executor) (line_of executor.run.frame.next inst).inst arguments)
     (line_of executor.run.frame.next inst) (lines_left (following executor.run.frame.next inst) rest) callee
     (take arguments (map worded_operand inst.operands))
+
+-- an effect that goes on to this machine, or nothing was done
+abbrev pub GoesOnTo : Effect Machine → Machine → Bool → Machine → Type 0
+GoesOnTo effect old true new = effect ≡ goes_on new
+GoesOnTo effect old false new = new ≡ old

@@ -1,6 +1,6 @@
 //! A step: the line at which the running frame stands.
 
-ghost use Rattle.std.specs.Prelude.{◌≡◌, ◌∷◌, ◌<◌, map, take, drop, length, true, IfOk, IfSome};
+ghost use Rattle.std.specs.Prelude.{◌≡◌, ◌∷◌, ◌<◌, [], List, map, take, drop, length, true, IfOk, IfSome, OnOk};
 ghost use Rattle.std.specs.List.{position};
 ghost use Rattle.ir_ast.specs.Objects.{number};
 ghost use Rattle.object_meaning.specs.Calls.{stepped};
@@ -14,7 +14,8 @@ ghost use Rattle.machine_meaning.specs.Words.{worded_operand};
 ghost use Rattle.machine_lines.specs.Decoding.{decoded_of, is_plain};
 ghost use Rattle.machine_lines.specs.Going.{GoesOver};
 ghost use Rattle.machine_lines.specs.Lines.{line_of, lines_left};
-ghost use Rattle.ir_machine.specs.Executors.{machinery, seen, DoesSo, acts_at, calls_kept, skipped_at};
+ghost use Rattle.ir_ast.specs.declared.ops.Operand.{Operand};
+ghost use Rattle.ir_machine.specs.Executors.{machinery, seen, DoesSo, GoesOnTo, acts_at, calls_at, calls_kept, skipped_at};
 
 use crate::executor::{Did, Executor, Program};
 use ir_ast::{Callee, Inst, Op, Operand};
@@ -40,6 +41,24 @@ impl<'m, 'i> Executor<'m, 'i> {
         ensures over { GoesOver (machinery program.now) (seen self.old) (seen self.new) }
         ensures stands { self.new.heap.stands ≡ self.old.heap.stands }
     {
+        if self.may_stay() {
+            self.go_over_lines(program);
+        }
+    }
+
+    // Whether the line that comes next may stay in its frame.
+    #[inline(always)]
+    fn may_stay(&self) -> bool {
+        match self.run.frame.rest.front() {
+            None => false,
+            Some(parts) => parts.1.stays,
+        }
+    }
+
+    fn go_over_lines(&mut self, program: &'m Program<'_, '_>)
+        ensures over { GoesOver (machinery program.now) (seen self.old) (seen self.new) }
+        ensures stands { self.new.heap.stands ≡ self.old.heap.stands }
+    {
         let lines = self.run.frame.rest;
         let first = self.run.frame.next;
         let layouts = program.code.module().layouts();
@@ -53,6 +72,98 @@ impl<'m, 'i> Executor<'m, 'i> {
         );
         self.run.frame.next = next;
         self.run.frame.rest = lines.behind(count);
+    }
+
+    /// The running task takes a jump, or a poll at which nothing happens, if it stands at one and has steps left. Whether it does.
+    #[inline(always)]
+    pub fn hurry(&mut self, program: &'m Program<'_, '_>) -> Result<bool, Memory>
+        ensures { IfOk result (λ went. GoesOnTo (machine_step (machinery program.now) (seen self.old)) (seen self.old) went (seen self.new)) }
+    {
+        match self.run.frame.rest.front() {
+            None => Ok(false),
+            Some(parts) => self.hurry_at(program, parts.0, parts.2),
+        }
+    }
+
+    #[inline(always)]
+    fn hurry_at(
+        &mut self,
+        program: &'m Program<'_, '_>,
+        inst: &Inst,
+        rest: Lines<'m>,
+    ) -> Result<bool, Memory>
+        requires stands { self.old.run.frame.rest.insts.now ≡ inst.now ∷ rest.insts.now }
+        ensures { IfOk result (λ went. GoesOnTo (acts_at (machinery program.now) self.old inst.now rest.entry.insts.now inst.now.op) (seen self.old) went (seen self.new)) }
+    {
+        match inst.op() {
+            Op::Br => self.hurry_to(program, label_at(inst.labels(), 0)),
+            Op::CondBr => {
+                let taken = branch_taken(self.word(inst, 0));
+                self.hurry_to(program, label_at(inst.labels(), taken))
+            }
+            Op::Statepoint { callee, types, .. } => match callee {
+                Callee::Poll => self.hurry_past(program, inst, rest, types.list().len()),
+                _ => Ok(false),
+            },
+            _ => Ok(false),
+        }
+    }
+
+    // A jump, if there is a step left.
+    #[inline(always)]
+    fn hurry_to(&mut self, program: &'m Program<'_, '_>, block: u32) -> Result<bool, Memory>
+        ensures { IfOk result (λ went. GoesOnTo (lifted (seen self.old) (stepped (machinery program.now).setting (seen self.old).state (jumped (machinery program.now).setting block))) (seen self.old) went (seen self.new)) }
+    {
+        if self.steps >= program.bound {
+            return Ok(false);
+        }
+        self.steps += 1;
+        self.run
+            .frame
+            .arrive(&program.code, &mut self.moves, block)?;
+        Ok(true)
+    }
+
+    // A poll of a statepoint under a plan without lines.
+    #[inline(always)]
+    fn hurry_past(
+        &mut self,
+        program: &'m Program<'_, '_>,
+        inst: &Inst,
+        rest: Lines<'m>,
+        arguments: usize,
+    ) -> Result<bool, Memory>
+        requires stands { self.old.run.frame.rest.insts.now ≡ inst.now ∷ rest.insts.now }
+        ensures { IfOk result (λ went. GoesOnTo (calls_kept (machinery program.now) self.old inst.now rest.entry.insts.now Callee.Poll arguments) (seen self.old) went (seen self.new)) }
+    {
+        if !program.plan.is_empty() {
+            return Ok(false);
+        }
+        keep(
+            &mut self.words,
+            self.run.frame.registers.as_slice(),
+            inst,
+            arguments,
+        )?;
+        write_over(&mut self.run.stack, self.words.as_slice())?;
+        self.pass_poll(program, inst, rest)?;
+        Ok(true)
+    }
+
+    // A poll at which nothing happens is counted.
+    #[inline(always)]
+    fn pass_poll(
+        &mut self,
+        program: &'m Program<'_, '_>,
+        inst: &Inst,
+        rest: Lines<'m>,
+    ) -> Result<(), Memory>
+        requires stands { self.old.run.frame.rest.insts.now ≡ inst.now ∷ rest.insts.now }
+        requires nothing { program.now.plan.now ≡ [] }
+        ensures { OnOk result ((operands : List Operand) → calls_at (machinery program.now) self.old inst.now rest.entry.insts.now Callee.Poll operands ≡ goes_on (seen self.new)) }
+    {
+        self.events = self.events.saturating_add(1);
+        self.run.go_behind(inst, rest, 0)
     }
 
     #[inline(always)]

@@ -1,9 +1,9 @@
 //! A turn of a run: its steps up to one that writes something.
 
-ghost use Rattle.std.specs.Prelude.{◌≡◌, IfOk};
+ghost use Rattle.std.specs.Prelude.{◌≡◌, false, IfOk, OnOk};
 ghost use Rattle.moving_heap.specs.Settled.{IsNumbered};
 ghost use Rattle.ir_machine.specs.Executors.{machinery, seen};
-ghost use Rattle.ir_machine.specs.Answers.{Turned, WentFar, is_shown};
+ghost use Rattle.ir_machine.specs.Answers.{LeadsOn, Turned, WentFar, is_shown};
 
 use crate::executor::{Did, Executor, Program};
 use run_traces::Happening;
@@ -56,10 +56,25 @@ impl<'m, 'i> Executor<'m, 'i> {
         ensures { IfOk result (λ turn. WentFar (machinery program.now) (seen self.old) turn (seen self.new)) }
     {
         for _ in 0..u64::MAX {
-            self.go_over(program);
+            self.rush(program)?;
             let did = self.step(program)?;
             if is_shown(did) {
                 return Ok(Turn { event: false, did });
+            }
+        }
+        Err(Memory)
+    }
+
+    // All lines that stay in their frame, all jumps, and all polls at which nothing happens, up to another line.
+    #[inline(always)]
+    fn rush(&mut self, program: &'m Program<'_, '_>) -> Result<(), Memory>
+        ensures { OnOk result (LeadsOn (machinery program.now) false (seen self.old) (seen self.new)) }
+    {
+        for _ in 0..u64::MAX {
+            self.go_over(program);
+            let went = self.hurry(program)?;
+            if !went {
+                return Ok(());
             }
         }
         Err(Memory)

@@ -13,11 +13,12 @@ ghost use Rattle.machine_meaning.specs.Code.{machinery_of};
 ghost use Rattle.machine_meaning.specs.Words.{worded_operand};
 ghost use Rattle.machine_meaning.specs.Machines.{behind, gone_from, gone_behind, regrouped_by, slot_put, return_address, address_behind};
 ghost use Rattle.machine_frames.specs.Frames.{lines_in, frame_of, entered_in, write_of, is_statepoint};
+ghost use Rattle.machine_lines.specs.Decoding.{decoded_of};
 ghost use Rattle.machine_lines.specs.Lines.{line_of, lines_left};
 
 use crate::code::Code;
 
-use machine_lines::{Lines, put, word, word_at};
+use machine_lines::{Decoded, Lines, put, word, word_at};
 use crate::numbering::{following, member_count, phi_count, register_of};
 use crate::slots::{is_statepoint, member_word};
 
@@ -119,7 +120,8 @@ impl<'m> Frame<'m> {
         }
     }
 
-    fn go_behind(
+    /// The same of a frame that stands at this call.
+    pub(crate) fn go_behind(
         &mut self,
         stack: &Stack,
         inst: &Inst,
@@ -147,7 +149,7 @@ impl<'m> Frame<'m> {
         ensures { OnOk result (frame_of self.new ≡ regrouped_by stack.now (frame_of self.old) (lines_left first rest.entry.insts.now) (number answer)) }
     {
         let count = member_count(rest.insts);
-        let (members, _behind) = rest.insts.split_at(count);
+        let members = rest.front_of(count);
         let next = put_members(self.registers.as_mut_slice(), stack, first, members, answer)?;
         self.rest = rest.behind(count);
         self.next = next;
@@ -166,7 +168,7 @@ impl<'m> Frame<'m> {
         let lines = code.lines(self.func, block);
         let first = code.first(self.func, block);
         let count = phi_count(lines.insts);
-        let (phis, _behind) = lines.insts.split_at(count);
+        let phis = lines.front_of(count);
         let next = gather(moves, self.registers.as_slice(), self.block, first, phis)?;
         do_moves(self.registers.as_mut_slice(), moves.as_slice());
         self.block = block;
@@ -247,15 +249,30 @@ fn put_members(
     registers: &mut [u64],
     stack: &Stack,
     first: usize,
-    members: &[Inst],
+    members: Lines<'_>,
     answer: u64,
 ) -> Result<usize, Memory>
+    ensures put { OnOk result (map number registers.new ≡ put_all (map (slot_put stack.now (number answer)) (lines_left first members.entry.insts.now)) (map number registers.old)) }
+    ensures next { IfOk result (λ next. next ≡ after_all first members.entry.insts.now) }
+{
+    put_each(registers, stack, first, members.insts, members.decoded(), answer)
+}
+
+fn put_each(
+    registers: &mut [u64],
+    stack: &Stack,
+    first: usize,
+    members: &[Inst],
+    decoded: &[Decoded],
+    answer: u64,
+) -> Result<usize, Memory>
+    requires { decoded.now ≡ map decoded_of members.now }
     ensures put { OnOk result (map number registers.new ≡ put_all (map (slot_put stack.now (number answer)) (lines_left first members.now)) (map number registers.old)) }
     ensures next { IfOk result (λ next. next ≡ after_all first members.now) }
 {
     let mut next = first;
-    for member in members {
-        let word = member_word(stack, member, answer)?;
+    for (place, member) in members.iter().enumerate() {
+        let word = member_word(stack, member, &decoded[place], answer)?;
         put(registers, register_of(next, member), word);
         let after = following(next, member)?;
         next = after;
@@ -269,15 +286,30 @@ fn gather(
     registers: &[u64],
     from: u32,
     first: usize,
-    phis: &[Inst],
+    phis: Lines<'_>,
 ) -> Result<usize, Memory>
+    ensures moves { OnOk result (map write_of moves.new.items ≡ map (phi_write from (map number registers.now)) (lines_left first phis.entry.insts.now)) }
+    ensures next { IfOk result (λ next. next ≡ after_all first phis.entry.insts.now) }
+{
+    gather_all(moves, registers, from, first, phis.insts, phis.decoded())
+}
+
+fn gather_all(
+    moves: &mut Vec<Move>,
+    registers: &[u64],
+    from: u32,
+    first: usize,
+    phis: &[Inst],
+    decoded: &[Decoded],
+) -> Result<usize, Memory>
+    requires { decoded.now ≡ map decoded_of phis.now }
     ensures moves { OnOk result (map write_of moves.new.items ≡ map (phi_write from (map number registers.now)) (lines_left first phis.now)) }
     ensures next { IfOk result (λ next. next ≡ after_all first phis.now) }
 {
     moves.clear();
     let mut next = first;
-    for phi in phis {
-        let word = incoming(registers, from, phi);
+    for (place, phi) in phis.iter().enumerate() {
+        let word = incoming(registers, from, phi, &decoded[place]);
         moves.push(Move {
             to: register_of(next, phi),
             word,
@@ -289,7 +321,18 @@ fn gather(
 }
 
 // The word of a phi on the edge from a block.
-fn incoming(registers: &[u64], from: u32, phi: &Inst) -> u64
+#[inline(always)]
+fn incoming(registers: &[u64], from: u32, phi: &Inst, one: &Decoded) -> u64
+    requires { one.now ≡ decoded_of phi.now }
+    ensures { incoming from (map number registers.now) (line_of 0 phi.now).inst ≡ number result }
+{
+    match one.incoming(registers, from) {
+        None => sought(registers, from, phi),
+        Some(word) => word,
+    }
+}
+
+fn sought(registers: &[u64], from: u32, phi: &Inst) -> u64
     ensures { incoming from (map number registers.now) (line_of 0 phi.now).inst ≡ number result }
 {
     match place_of(from, phi.labels()) {

@@ -3,3 +3,4 @@ pub mod DecodeLemmas
 pub mod AccessLemmas
 pub mod DeniedLemmas
 pub mod GoingLemmas
+pub mod PhiLemmas

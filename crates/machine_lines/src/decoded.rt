@@ -1,16 +1,19 @@
 //! The lines of a block, each beside what a line that computes numbers needs of its type and its operands.
 
-ghost use Rattle.std.specs.Prelude.{◌≡◌, ◌∷◌, ◌≤◌, [], drop, length, map, MatchOption, IfOk, slice_index_or};
+ghost use Rattle.std.specs.Prelude.{◌≡◌, ◌∷◌, ◌≤◌, [], take, drop, length, map, MatchOption, IfOk, IfSome, slice_get, slice_index_or};
 ghost use Rattle.ir_ast.specs.Insts.{Instruction};
 ghost use Rattle.ir_ast.specs.Objects.{number};
+ghost use Rattle.object_meaning.specs.Frames.{index_in};
+ghost use Rattle.object_meaning.specs.Jumps.{incoming};
 ghost use Rattle.object_meaning.specs.Registers.{operand};
 ghost use Rattle.machine_meaning.specs.Words.{worded_operand};
-ghost use Rattle.machine_lines.specs.Decoding.{decoded_of, source_at, source_of, found_word};
+ghost use Rattle.machine_lines.specs.Decoding.{decoded_of, label_in, source_at, source_of, found_word, stays};
+ghost use Rattle.machine_lines.specs.Lines.{line_of};
 
 use crate::computing::is_plain;
 use flat_code::width_of;
-use ir_ast::{Block, Inst, Operand};
-use sp_ids::Memory;
+use ir_ast::{Block, Inst, Op, Operand};
+use sp_ids::{BlockId, Memory};
 use std::alloc::Global;
 
 /// Where an operand is found: in a register, or where the frame has no such register, as a literal.
@@ -20,15 +23,19 @@ pub struct Source {
     pub literal: u64,
 }
 
-/// Whether a line has a result, and computes it as a number of numbers; the bits of its type, and its first three operands.
+/// Whether a line may stay in its frame, has a result, and computes it as a number of numbers; the bits of its type, its first
+/// three operands, and the blocks of its first two labels, where it has them.
 #[derive(Clone, Copy, Debug)]
 pub struct Decoded {
+    pub stays: bool,
     pub gives: bool,
     pub plain: bool,
     pub width: u32,
     pub first: Source,
     pub second: Source,
     pub third: Source,
+    pub label: usize,
+    pub other: usize,
 }
 
 /// Instructions that follow one another, and each decoded.
@@ -72,6 +79,23 @@ impl<'m> Lines<'m> {
         }
     }
 
+    /// What is decoded of each instruction.
+    pub fn decoded(self) -> &'m [Decoded]
+        ensures { result.now ≡ map decoded_of self.entry.insts.now }
+    {
+        self.decoded
+    }
+
+    /// So many instructions that stand first.
+    pub fn front_of(self, count: usize) -> Lines<'m>
+        requires { count ≤ length self.insts.now }
+        ensures { result.insts.now ≡ take count self.entry.insts.now }
+    {
+        let (insts, _behind) = self.insts.split_at(count);
+        let (decoded, _behind) = self.decoded.split_at(count);
+        Lines { insts, decoded }
+    }
+
     /// The instructions behind so many.
     pub fn behind(self, count: usize) -> Lines<'m>
         requires { count ≤ length self.insts.now }
@@ -103,6 +127,28 @@ impl Decoded {
         ensures { (inst : Instruction) → self.now ≡ decoded_of inst → operand (map number registers.now) (map worded_operand inst.operands) 2 ≡ number result }
     {
         self.third.word(registers)
+    }
+
+    /// The word of a phi that is decoded so on the edge from a block, where that is among the blocks of its first two entries.
+    #[inline(always)]
+    pub fn incoming(&self, registers: &[u64], from: u32) -> Option<u64>
+        ensures { IfSome result (λ word. (phi : Instruction) → self.now ≡ decoded_of phi → incoming from (map number registers.now) (line_of 0 phi).inst ≡ number word) }
+    {
+        if self.label == from as usize {
+            Some(self.first.word(registers))
+        } else if self.other == from as usize {
+            Some(self.second.word(registers))
+        } else {
+            None
+        }
+    }
+
+    /// The index that a relocate names which is decoded so.
+    #[inline(always)]
+    pub fn index(&self) -> u64
+        ensures { (member : Instruction) → self.now ≡ decoded_of member → index_in (slice_get (map worded_operand member.operands) 2) ≡ result }
+    {
+        self.third.literal
     }
 }
 
@@ -145,12 +191,38 @@ fn decoded_of(inst: &Inst) -> Decoded
     ensures { result ≡ decoded_of inst.now }
 {
     Decoded {
+        stays: stays(inst.op()),
         gives: inst.result().is_some(),
         plain: is_plain(inst.op()) && inst.result().is_some(),
         width: width_of(inst.ty()),
         first: source_at(inst.operands(), 0),
         second: source_at(inst.operands(), 1),
         third: source_at(inst.operands(), 2),
+        label: label_in(inst.labels(), 0),
+        other: label_in(inst.labels(), 1),
+    }
+}
+
+// Whether a line with this operator may stay in its frame.
+fn stays(op: &Op) -> bool
+    ensures { result ≡ stays op.now }
+{
+    match op {
+        Op::Gep { .. } => true,
+        Op::Load => true,
+        Op::Store => true,
+        Op::Call { .. } => true,
+        _ => is_plain(op),
+    }
+}
+
+// The block of a label, or what is none.
+fn label_in(labels: &[BlockId], place: usize) -> usize
+    ensures { result ≡ label_in labels.now place }
+{
+    match labels.get(place) {
+        None => usize::MAX,
+        Some(label) => label.0 as usize,
     }
 }
 

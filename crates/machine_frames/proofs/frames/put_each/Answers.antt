@@ -5,18 +5,18 @@ use Rattle.machine_meaning.specs.Machines.{slot_put}
 use Rattle.flat_code.proofs.RegisterLemmas.{after_more}
 use Rattle.machine_lines.specs.Lines.{line_of}
 use Rattle.machine_frames.proofs.FrameLemmas.{puts_more}
-use Rattle.machine_frames.proofs.frames.put_members.Goals as goal
+use Rattle.machine_frames.proofs.frames.put_each.Goals as goal
 
-pub loop-member-preserved : goal.loop-member-preserved
-loop-member-preserved c =
-    let below : c.loop-member.member-index < length c.args.members.now = omega arith in
-    let next = c.loop-member.next in let members = c.args.members.now in let i = c.loop-member.member-index in let member = c.member-item.result in
+pub loop-place-preserved : goal.loop-place-preserved
+loop-place-preserved c =
+    let below : c.loop-place.place < length c.args.members.now = omega arith in
+    let next = c.loop-place.next in let members = c.args.members.now in let i = c.loop-place.place in let member = c.index-members-place.result in
     let write = slot_put c.args.stack.now (number c.args.answer) in
-    let registers : List Datum = map number c.loop-member.registers in let more : List Datum = map number c.put.new.registers in
+    let registers : List Datum = map number c.loop-place.registers in let more : List Datum = map number c.put.new.registers in
     let put_so : more ≡ put (write (line_of next member)).to (write (line_of next member)).value registers =
     c.put.ensures ∙ ap (λ (to : Option ℕ). put to (number c.in_ok-word.word) registers) c.register_of.ensures
     ∙ ap (λ (d : Datum). put (line_of next member).to d registers) (sym c.in_ok-word.ensures) in
     record {
-      put = puts_more write next c.in_ok-after.after members i member registers more _ below c.member-item.is c.in_ok-after.ensures put_so c.loop-member.invariant.put;
-      next = after_more c.args.first next _ members i member below c.member-item.is c.in_ok-after.ensures c.loop-member.invariant.next;
+      put = puts_more write next c.in_ok-after.after members i member registers more _ below c.index-members-place.is c.in_ok-after.ensures put_so c.loop-place.invariant.put;
+      next = after_more c.args.first next _ members i member below c.index-members-place.is c.in_ok-after.ensures c.loop-place.invariant.next;
     }
