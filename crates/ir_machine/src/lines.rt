@@ -21,6 +21,7 @@ use crate::executor::{Did, Executor, Program};
 use ir_ast::{Callee, Inst, Op, Operand};
 use machine_frames::{keep, write_over};
 use machine_lines::{Decoded, Lines, computed, go_over, is_plain, word_at};
+use sp_ids::limits::FRAMES;
 use sp_ids::{BlockId, End, Memory, Trap};
 
 impl<'m, 'i> Executor<'m, 'i> {
@@ -103,8 +104,12 @@ impl<'m, 'i> Executor<'m, 'i> {
             }
             Op::Statepoint { callee, types, .. } => match callee {
                 Callee::Poll => self.hurry_past(program, inst, rest, types.list().len()),
+                Callee::Fun(func) => {
+                    self.hurry_in(program, inst, rest, func.0, types.list().len())
+                }
                 _ => Ok(false),
             },
+            Op::Ret => self.hurry_out(program, inst, rest),
             _ => Ok(false),
         }
     }
@@ -147,6 +152,85 @@ impl<'m, 'i> Executor<'m, 'i> {
         )?;
         write_over(&mut self.run.stack, self.words.as_slice())?;
         self.pass_poll(program, inst, rest)?;
+        Ok(true)
+    }
+
+    // A call of a statepoint, if there is a step left and the task has frames left.
+    #[inline(always)]
+    fn hurry_in(
+        &mut self,
+        program: &'m Program<'_, '_>,
+        inst: &Inst,
+        rest: Lines<'m>,
+        func: u32,
+        arguments: usize,
+    ) -> Result<bool, Memory>
+        ensures { IfOk result (λ went. GoesOnTo (calls_kept (machinery program.now) self.old inst.now rest.entry.insts.now (Callee.Fun (record { 0 = func })) arguments) (seen self.old) went (seen self.new)) }
+    {
+        if self.steps >= program.bound {
+            return Ok(false);
+        }
+        if self.run.below.len() >= FRAMES as usize - 1 {
+            return Ok(false);
+        }
+        keep(
+            &mut self.words,
+            self.run.frame.registers.as_slice(),
+            inst,
+            arguments,
+        )?;
+        write_over(&mut self.run.stack, self.words.as_slice())?;
+        self.go_in(program, inst, rest, func, front(inst.operands(), arguments))?;
+        Ok(true)
+    }
+
+    // The frame of a call runs.
+    #[inline(always)]
+    fn go_in(
+        &mut self,
+        program: &'m Program<'_, '_>,
+        inst: &Inst,
+        rest: Lines<'m>,
+        func: u32,
+        operands: &[Operand],
+    ) -> Result<(), Memory>
+        requires left { self.old.steps < program.now.bound }
+        requires few { length self.old.run.below.items < 4095 }
+        ensures { OnOk result (calls_at (machinery program.now) self.old inst.now rest.entry.insts.now (Callee.Fun (record { 0 = func })) operands.now ≡ goes_on (seen self.new)) }
+    {
+        self.steps += 1;
+        let address = self
+            .run
+            .frame
+            .address_behind(&program.code, inst, rest.insts)?;
+        self.run
+            .call(self.alloc, &program.code, func, operands, address)
+    }
+
+    // A return to a frame that waits, if there is a step left.
+    #[inline(always)]
+    fn hurry_out(
+        &mut self,
+        program: &'m Program<'_, '_>,
+        inst: &Inst,
+        rest: Lines<'m>,
+    ) -> Result<bool, Memory>
+        requires is { inst.now.op ≡ Op.Ret }
+        ensures { IfOk result (λ went. GoesOnTo (acts_at (machinery program.now) self.old inst.now rest.entry.insts.now inst.now.op) (seen self.old) went (seen self.new)) }
+    {
+        if self.steps >= program.bound {
+            return Ok(false);
+        }
+        if self.run.below.is_empty() {
+            return Ok(false);
+        }
+        self.steps += 1;
+        let answer = self.word(inst, 0);
+        let left = self.run.leave(&program.code)?;
+        if !left {
+            return Err(Memory);
+        }
+        self.run.go_on(answer)?;
         Ok(true)
     }
 

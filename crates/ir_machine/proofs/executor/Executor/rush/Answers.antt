@@ -13,11 +13,11 @@ loop-preserved c =
     let program = c.args.program.now in let first = seen c.args.self.now in
     leads_hurried program.code (machinery program) first (seen c.go_over.new.self) (seen c.hurry.new.self)
     (leads_over program.code (machinery program) false first (seen c.loop.self) (seen c.go_over.new.self) c.loop.invariant c.go_over.ensures.over)
-    (subst (λ (went : Bool). GoesOnTo (machine_step (machinery program) (seen c.go_over.new.self)) (seen c.go_over.new.self) went (seen c.hurry.new.self)) c.if-went.true c.in_ok-went.ensures)
+    (subst (λ (went : Bool). GoesOnTo (machine_step (machinery program) (seen c.go_over.new.self)) (seen c.go_over.new.self) went (seen c.hurry.new.self)) c.if-not-went.false c.in_ok-went.ensures)
 
-pub returns-else-went : goal.returns-else-went
-returns-else-went c =
+pub returns-then-not-went : goal.returns-then-not-went
+returns-then-not-went c =
     let program = c.args.program.now in let first = seen c.args.self.now in
     leads_kept program.code (machinery program) first (seen c.go_over.new.self) (seen c.hurry.new.self)
     (leads_over program.code (machinery program) false first (seen c.loop.self) (seen c.go_over.new.self) c.loop.invariant c.go_over.ensures.over)
-    (subst (λ (went : Bool). GoesOnTo (machine_step (machinery program) (seen c.go_over.new.self)) (seen c.go_over.new.self) went (seen c.hurry.new.self)) c.if-went.false c.in_ok-went.ensures)
+    (subst (λ (went : Bool). GoesOnTo (machine_step (machinery program) (seen c.go_over.new.self)) (seen c.go_over.new.self) went (seen c.hurry.new.self)) c.if-not-went.true c.in_ok-went.ensures)
