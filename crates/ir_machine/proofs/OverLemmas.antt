@@ -4,7 +4,7 @@ use Rattle.std.specs.Prelude.{Option, if◌then◌else◌}
 use Rattle.std.specs.List.{flat_map}
 use Rattle.tool_io.proofs.AppendLaws.{append_known-nil}
 use Rattle.ir_ast.specs.declared.ops.Callee.{Callee}
-use Rattle.ir_ast.specs.declared.ops.Callee.TheVariants.{New, Poll, Check}
+use Rattle.ir_ast.specs.declared.ops.Callee.TheVariants.{Check}
 use Rattle.ir_ast.specs.declared.ops.Op.{Op}
 use Rattle.ir_ast.specs.declared.ops.Op.TheVariants.{Call, Statepoint}
 use Rattle.ir_ast.specs.Modules.{ModuleContent}

@@ -1,17 +1,14 @@
 -- What the executor does at a line is what the machine does there.
 use Rattle.std.proofs.Common.{◌≡◌, ℕ, ◌+◌, ◌<◌, ◌≤◌, Bool, true, List, [], refl, sym, ap, subst, ◌∙◌, lt-ltb}
 use Rattle.std.proofs.lemmas.Bool.{le-ltb}
-use Rattle.std.specs.Prelude.{Result, Ok, Err}
+use Rattle.std.specs.Prelude.{Result}
 use Rattle.std.specs.Result.{IfOk}
 use Rattle.std.proofs.lemmas.Result.{IfOk-weaker}
 use Rattle.sp_ids.specs.declared.memory.Memory.{Memory}
 use Rattle.sp_ids.specs.declared.ends.End.TheVariants.{OutOfSteps}
 use Rattle.sp_ids.specs.declared.ends.Trap.{Trap}
 use Rattle.ir_ast.specs.declared.ops.Op.{Op}
-use Rattle.ir_ast.specs.declared.ops.Op.TheVariants.{Add, Sub, Mul, Udiv, Sdiv, Urem, Srem, And, Or, Xor, Shl, Lshr, Ashr, Icmp, Trunc, Zext, Sext, Select}
 use Rattle.ir_ast.specs.Objects.{Datum, number}
-use Rattle.moving_heap.specs.declared.heap.Deny.{Deny}
-use Rattle.moving_heap.specs.Heaps.{done}
 use Rattle.object_meaning.specs.Calls.{stepped}
 use Rattle.object_meaning.specs.Computing.{computed, with_number}
 use Rattle.object_meaning.specs.Effects.{Effect, ends}

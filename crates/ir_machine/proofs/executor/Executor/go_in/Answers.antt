@@ -1,4 +1,4 @@
-use Rattle.std.proofs.Common.{◌≡◌, ◌+◌, ◌<◌, length, map, refl, reverse, sym, arith}
+use Rattle.std.proofs.Common.{◌+◌, ◌<◌, length, map, refl, reverse, sym, arith}
 use Rattle.std.proofs.lemmas.List.{length-map, length-reverse}
 use Rattle.std.proofs.lemmas.Result.{on_ok_weaker}
 use Rattle.ir_ast.specs.Objects.{number}

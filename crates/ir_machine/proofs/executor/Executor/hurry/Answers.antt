@@ -1,11 +1,8 @@
 use Rattle.std.proofs.Common.{List, ap, sym}
-use Rattle.std.proofs.lemmas.Result.{IfOk-weaker}
 use Rattle.ir_ast.specs.Insts.{Instruction}
-use Rattle.object_meaning.specs.Effects.{Effect}
-use Rattle.machine_meaning.specs.Machines.{Machine}
 use Rattle.machine_meaning.specs.MachineSteps.{machine_at, machine_step}
 use Rattle.machine_lines.specs.Lines.{lines_left}
-use Rattle.ir_machine.specs.Executors.{GoesOnTo, machinery, seen}
+use Rattle.ir_machine.specs.Executors.{machinery, seen}
 use Rattle.ir_machine.proofs.StepLemmas.{goes_as}
 use Rattle.ir_machine.proofs.executor.Executor.hurry.Goals as goal
 

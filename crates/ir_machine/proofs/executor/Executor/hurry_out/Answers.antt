@@ -1,4 +1,4 @@
-use Rattle.std.proofs.Common.{◌≡◌, ℕ, ◌+◌, ◌<◌, ◌∷◌, List, sym, ap, subst, ◌∙◌}
+use Rattle.std.proofs.Common.{ℕ, ◌+◌, ◌∷◌, List, sym, ap, subst, ◌∙◌}
 use Rattle.std.specs.Prelude.{Bool}
 use Rattle.ir_ast.specs.Objects.{number}
 use Rattle.object_meaning.specs.Effects.{Effect, goes_on}

@@ -2,7 +2,6 @@ use Rattle.std.proofs.Common.{◌≡◌, ℕ, List, map, take, sym, ap, ◌∙�
 use Rattle.ir_ast.specs.declared.ops.Callee.TheVariants.{Poll}
 use Rattle.ir_ast.specs.declared.ops.Operand.{Operand}
 use Rattle.ir_ast.specs.Objects.{number}
-use Rattle.object_meaning.specs.Effects.{goes_on}
 use Rattle.object_meaning.specs.Lines.{following}
 use Rattle.machine_meaning.specs.Words.{worded_operand}
 use Rattle.machine_meaning.specs.Machines.{over, spilled}

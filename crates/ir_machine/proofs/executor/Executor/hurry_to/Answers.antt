@@ -1,4 +1,4 @@
-use Rattle.std.proofs.Common.{◌≡◌, ℕ, ◌+◌, ◌<◌, sym, ap, ◌∙◌}
+use Rattle.std.proofs.Common.{◌+◌, sym, ap, ◌∙◌}
 use Rattle.object_meaning.specs.Effects.{Effect, goes_on}
 use Rattle.object_meaning.specs.Jumps.{jumped}
 use Rattle.object_meaning.specs.States.{Frame}

@@ -4,7 +4,6 @@ use Rattle.std.specs.Option.{option_map_or}
 use Rattle.std.proofs.lemmas.Result.{on_ok_weaker}
 use Rattle.ir_ast.specs.declared.ops.Operand.{Operand}
 use Rattle.ir_ast.specs.Insts.{Instruction}
-use Rattle.ir_ast.specs.Objects.{number}
 use Rattle.object_meaning.specs.Effects.{Effect, goes_on}
 use Rattle.object_meaning.specs.Lines.{following}
 use Rattle.object_meaning.specs.Registers.{nothing}

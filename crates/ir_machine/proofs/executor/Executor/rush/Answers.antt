@@ -1,4 +1,4 @@
-use Rattle.std.proofs.Common.{◌≡◌, Bool, subst}
+use Rattle.std.proofs.Common.{Bool, subst}
 use Rattle.std.specs.Prelude.{false}
 use Rattle.machine_meaning.specs.MachineSteps.{machine_step}
 use Rattle.ir_machine.specs.Executors.{GoesOnTo, machinery, seen}
