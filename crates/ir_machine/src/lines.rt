@@ -1,11 +1,10 @@
 //! A step: the line at which the running frame stands.
 
-ghost use Rattle.std.specs.Prelude.{◌≡◌, ◌∷◌, ◌<◌, [], List, map, take, drop, length, true, IfOk, IfSome, OnOk};
-ghost use Rattle.std.specs.List.{position};
+ghost use Rattle.std.specs.Prelude.{◌≡◌, ◌∷◌, ◌<◌, [], List, map, take, drop, length, true, IfOk, OnOk};
 ghost use Rattle.ir_ast.specs.Objects.{number};
 ghost use Rattle.object_meaning.specs.Calls.{stepped};
 ghost use Rattle.object_meaning.specs.Effects.{goes_on, ends};
-ghost use Rattle.object_meaning.specs.Jumps.{jumped, label_at, branch_taken, case_taken, is_case};
+ghost use Rattle.object_meaning.specs.Jumps.{jumped, label_at, branch_taken, case_taken};
 ghost use Rattle.object_meaning.specs.Lines.{following};
 ghost use Rattle.object_meaning.specs.Registers.{operand};
 ghost use Rattle.machine_meaning.specs.Machines.{lifted};
@@ -20,9 +19,11 @@ ghost use Rattle.ir_machine.specs.Executors.{machinery, seen, DoesSo, GoesOnTo, 
 use crate::executor::{Did, Executor, Program};
 use ir_ast::{Callee, Inst, Op, Operand};
 use machine_frames::{keep, write_over};
-use machine_lines::{Decoded, Lines, computed, go_over, is_plain, word_at};
+use machine_lines::{
+    Decoded, Lines, branch_taken, case_taken, computed, go_over, is_plain, label_at, word_at,
+};
 use sp_ids::limits::FRAMES;
-use sp_ids::{BlockId, End, Memory, Trap};
+use sp_ids::{End, Memory, Trap};
 
 impl<'m, 'i> Executor<'m, 'i> {
     /// One step of the running task.
@@ -426,58 +427,6 @@ impl<'m, 'i> Executor<'m, 'i> {
             self.steps += 1;
             Did::Ends(End::Trap(Trap::Unreachable))
         }
-    }
-}
-
-// Which label of a `br` with a condition is taken.
-fn branch_taken(word: u64) -> usize
-    ensures { result ≡ branch_taken (number word) }
-{
-    if word > 0 { 0 } else { 1 }
-}
-
-fn label_at(labels: &[BlockId], place: usize) -> u32
-    ensures { result ≡ label_at labels.now place }
-{
-    match labels.get(place) {
-        None => 0,
-        Some(label) => label.0,
-    }
-}
-
-// Which label of a `switch` is taken: the first equal case's, or the default's, which stands first.
-fn case_taken(word: u64, operands: &[Operand]) -> usize
-    ensures { result ≡ case_taken (number word) (drop 1 (map worded_operand operands.now)) }
-{
-    match place_of(word, cases_of(operands)) {
-        None => 0,
-        Some(place) => place + 1,
-    }
-}
-
-fn cases_of(operands: &[Operand]) -> &[Operand]
-    ensures { result.now ≡ drop 1 operands.now }
-{
-    match operands {
-        [] => &[],
-        [_value, cases @ ..] => cases,
-    }
-}
-
-fn place_of(number: u64, cases: &[Operand]) -> Option<usize>
-    ensures value { result ≡ position (λ one. is_case number (worded_operand one)) cases.now }
-    ensures within { IfSome result (λ place. place < length cases.now) }
-{
-    cases.iter().position(|one| is_case(number, one))
-}
-
-fn is_case(number: u64, operand: &Operand) -> bool
-    ensures { result ≡ is_case number (worded_operand operand.now) }
-{
-    match operand {
-        Operand::Int(literal) => *literal == number,
-        Operand::Null => number == 0,
-        _ => false,
     }
 }
 

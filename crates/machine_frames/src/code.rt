@@ -8,10 +8,10 @@ ghost use Rattle.machine_meaning.specs.Code.{code_address, place_before, words_i
 ghost use Rattle.machine_lines.specs.Decoding.{decoded_of};
 ghost use Rattle.machine_frames.specs.Tables.{table_of};
 
-use machine_lines::{Decoded, Lines, decoded_blocks};
 use crate::numbering::{befores_of, registers_of};
 use frame_slots::Layouts;
 use ir_ast::{Func, Inst, Module};
+use machine_lines::{Decoded, Lines, decoded_blocks};
 use sp_ids::limits::FUNCTIONS;
 use sp_ids::{FuncId, Memory};
 use std::alloc::Global;

@@ -17,13 +17,11 @@ ghost use Rattle.machine_lines.specs.Decoding.{decoded_of};
 ghost use Rattle.machine_lines.specs.Lines.{line_of, lines_left};
 
 use crate::code::Code;
-
-use machine_lines::{Decoded, Lines, put, word, word_at};
 use crate::numbering::{following, member_count, phi_count, register_of};
 use crate::slots::{is_statepoint, member_word};
-
 use frame_walk::Stack;
 use ir_ast::{Inst, Op, Operand};
+use machine_lines::{Decoded, Lines, put, word, word_at};
 use sp_ids::{BlockId, Memory};
 
 /// A word that a phi assigns, and the register that it goes to.
@@ -255,7 +253,14 @@ fn put_members(
     ensures put { OnOk result (map number registers.new ≡ put_all (map (slot_put stack.now (number answer)) (lines_left first members.entry.insts.now)) (map number registers.old)) }
     ensures next { IfOk result (λ next. next ≡ after_all first members.entry.insts.now) }
 {
-    put_each(registers, stack, first, members.insts, members.decoded(), answer)
+    put_each(
+        registers,
+        stack,
+        first,
+        members.insts,
+        members.decoded(),
+        answer,
+    )
 }
 
 fn put_each(

@@ -11,10 +11,9 @@ ghost use Rattle.machine_frames.specs.Frames.{is_statepoint, kept_in};
 ghost use Rattle.machine_lines.specs.Decoding.{decoded_of};
 ghost use Rattle.machine_lines.specs.Lines.{line_of};
 
-use machine_lines::{Decoded, widened, word};
-
 use frame_walk::Stack;
 use ir_ast::{Inst, Op, Operand, Ty};
+use machine_lines::{Decoded, widened, word};
 use sp_ids::Memory;
 
 /// Whether it is a statepoint.

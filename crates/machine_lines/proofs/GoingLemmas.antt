@@ -58,6 +58,7 @@ plain_acts machinery machine line rest (Zext to) e = refl
 plain_acts machinery machine line rest (Sext to) e = refl
 plain_acts machinery machine line rest Select e = refl
 plain_acts machinery machine line rest _ e = cc
+
 plain_quiet : (op : Op) → is_plain op ≡ true → is_quiet op ≡ true
 plain_quiet (Gep elem index_width place) e = refl
 plain_quiet Load e = refl

@@ -4,3 +4,4 @@ pub mod AccessLemmas
 pub mod DeniedLemmas
 pub mod GoingLemmas
 pub mod PhiLemmas
+pub mod TargetLemmas

@@ -29,7 +29,15 @@ pub fn go_over(
     ensures stands { heap.new.stands ≡ heap.old.stands }
     ensures goes { (machinery : Machinery) → (machine : Machine) → layouts.now ≡ machinery.setting.layouts → GoesOver machinery (stood machine (lines_left first lines.entry.insts.now) (map number registers.old) heap.old) (stood machine (lines_left result.1 (drop result.0 lines.entry.insts.now)) (map number registers.new) heap.new) }
 {
-    go_over_all(registers, heap, hints, layouts, first, lines.insts, lines.decoded)
+    go_over_all(
+        registers,
+        heap,
+        hints,
+        layouts,
+        first,
+        lines.insts,
+        lines.decoded,
+    )
 }
 
 fn go_over_all(

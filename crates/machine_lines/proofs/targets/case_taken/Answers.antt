@@ -5,8 +5,8 @@ use Rattle.std.specs.Option.{option_map_or}
 use Rattle.ir_ast.specs.declared.ops.Operand.{Operand}
 use Rattle.object_meaning.specs.Jumps.{is_case}
 use Rattle.machine_meaning.specs.Words.{worded_operand}
-use Rattle.ir_machine.proofs.OpeningLemmas.{cases_are}
-use Rattle.ir_machine.proofs.lines.case_taken.Goals as goal
+use Rattle.machine_lines.proofs.TargetLemmas.{cases_are}
+use Rattle.machine_lines.proofs.targets.case_taken.Goals as goal
 
 pub returns-in-None : goal.returns-in-None
 returns-in-None c =
