@@ -1,7 +1,5 @@
 -- Loads, stores and checks of the executor are those of the machine.
-use Rattle.std.proofs.Common.{◌≡◌, ℕ, ◌+◌, ◌*◌, ◌%◌, false, List, ◌∷◌, map, sym, ap, ◌∙◌}
-use Rattle.std.proofs.Math.Nat.{add-mod-mod, mod-add-mod}
-use Rattle.std.proofs.lemmas.Nat.{mul-mod_second}
+use Rattle.std.proofs.Common.{◌≡◌, ℕ, false, List, ◌∷◌, map, sym, ap, ◌∙◌}
 use Rattle.std.specs.Prelude.{◌==◌, ◌&&◌, Option, Result, Ok}
 use Rattle.ir_ast.specs.declared.types.Ty.TheVariants.{Int}
 use Rattle.ir_ast.specs.declared.ops.Elem.{Elem}
@@ -24,23 +22,12 @@ use Rattle.object_meaning.specs.States.{Frame}
 use Rattle.machine_meaning.specs.Machines.{Machine, Machinery, gone_from, gone_on}
 use Rattle.machine_meaning.specs.MachineSteps.{loading_word, storing_word, checking, stepped_word, passes}
 use Rattle.machine_meaning.specs.Words.{worded_operand}
-use Rattle.machine_frames.specs.Frames.{frame_of, is_statepoint, line_of, lines_left}
+use Rattle.machine_frames.specs.Frames.{frame_of, is_statepoint}
+use Rattle.machine_lines.specs.Lines.{line_of, lines_left}
 use Rattle.machine_frames.proofs.LineLemmas.{gone_call}
 use Rattle.ir_machine.specs.declared.executor.Executor.{Executor}
-use Rattle.ir_machine.specs.Executors.{seen, still, acts_at, calls_at}
-
-reduced : (from times bytes rest m : ℕ) → (from + (times * (bytes % m) + rest)) % m ≡ (from + (times * bytes + rest)) % m
-reduced from times bytes rest m =
-    sym (add-mod-mod from (times * (bytes % m) + rest) m)
-    ∙ ap (λ (n : ℕ). (from + n) % m) (sym (mod-add-mod (times * (bytes % m)) m rest)
-    ∙ ap (λ (n : ℕ). (n + rest) % m) (mul-mod_second times bytes m) ∙ mod-add-mod (times * bytes) m rest)
-    ∙ add-mod-mod from (times * bytes + rest) m
-
--- a sum of products, each taken modulo m
-pub scaled : (from times bytes rest m : ℕ) → (from + ((times * (bytes % m)) % m + rest) % m) % m ≡ (from + (times * bytes + rest)) % m
-scaled from times bytes rest m =
-    ap (λ (n : ℕ). (from + n) % m) (mod-add-mod (times * (bytes % m)) m rest) ∙ add-mod-mod from (times * (bytes % m) + rest) m
-    ∙ reduced from times bytes rest m
+use Rattle.ir_machine.specs.Executors.{seen, acts_at, calls_at}
+use Rattle.machine_lines.specs.Going.{still}
 
 abbrev pub held : Executor → Instruction → ℕ → Datum
 held executor inst place = operand (map number executor.run.frame.registers.items) (map worded_operand inst.operands) place

@@ -1,6 +1,6 @@
 -- Events: what the executor moves is what the machine moves.
 use Rattle.std.proofs.Common.{◌≡◌, ◌≢◌, ℕ, ℤ, true, List, [], ◌∷◌, length, map, set, refl, sym, ap, ◌∙◌, arith, ◌<◌}
-use Rattle.std.specs.Prelude.{Option, Some, None, slice_get, unsigned_abs, Result, Ok, Err}
+use Rattle.std.specs.Prelude.{Option, Some, None, if◌then◌else◌, slice_get, unsigned_abs, Result, Ok, Err}
 use Rattle.std.proofs.lemmas.List.{length-map, get_or-set_same}
 use Rattle.std.proofs.lemmas.Option.{slice_get_within}
 use Rattle.sp_ids.specs.declared.ends.End.TheVariants.{LostFrame, Trap}
@@ -16,7 +16,12 @@ use Rattle.machine_meaning.specs.Machines.{Machine, Machinery, gone_on}
 use Rattle.machine_meaning.specs.MachineTasks.{allocated_machine, allocating_machine}
 use Rattle.machine_meaning.specs.Moving.{eventful, moves_due, after_walk, moved_by, moved_heap, walked_all, walked_task, walked_tasks}
 use Rattle.machine_frames.specs.declared.tasks.Task.{Task}
-use Rattle.ir_machine.specs.Executors.{waiting, kept, told, without_words}
+use Rattle.ir_machine.specs.Executors.{machinery, waiting, kept, told, without_words}
+use Rattle.moving_heap.proofs.VerdictLemmas.{quiet_moves}
+use Rattle.moving_heap.specs.Places.{group_moves}
+use Rattle.move_plan.specs.declared.plan_lines.PlanLine.{PlanLine}
+use Rattle.move_plan.specs.Plans.{flips, go, group}
+use Rattle.ir_machine.specs.declared.executor.Program.{Program}
 use Rattle.ir_machine.specs.Events.{or_lost, IsLost}
 use Rattle.ir_machine.proofs.TaskLemmas.{hole_walks, hole_again, lost_here, lost_there, set_twice}
 
@@ -26,6 +31,15 @@ pub happen_is : (machinery : Machinery) (machine : Machine) (next : Machine → 
 happen_is machinery machine next events moves events_is moves_is =
     ap (λ (ms : List Moved). moved_by machinery ms (record machine { state = record machine.state { events = events } }) next) moves_is
     ∙ ap (λ (n : ℕ). moved_by machinery (moves_due machinery machine.heap n) (record machine { state = record machine.state { events = n } }) next) events_is
+
+-- no line of a plan without lines is due
+pub nothing_due : (program : Program) (heap : HeapView) (event : ℕ) → program.plan.now ≡ [] → [] ≡ moves_due (machinery program) heap event
+nothing_due program heap event none =
+    quiet_moves heap.stands [] None refl refl
+    ∙ ap (λ (plan : List PlanLine). group_moves heap.stands (group plan event) (if flips plan event then Some event else None)) (sym none)
+
+pub nobody_due : (program : Program) (event : ℕ) → program.plan.now ≡ [] → None ≡ (machinery program).setting.go event
+nobody_due program event none = ap (λ (plan : List PlanLine). go plan event) (sym none)
 
 -- a group that isn't empty
 some_moves : (machinery : Machinery) (moves : List Moved) (machine : Machine) (next : Machine → Effect Machine) → moves ≢ []

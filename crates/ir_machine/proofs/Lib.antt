@@ -1,6 +1,5 @@
 pub mod StepLemmas
 pub mod AccessLemmas
-pub mod DeniedLemmas
 pub mod TaskLemmas
 pub mod CallLemmas
 pub mod EventLemmas
@@ -9,5 +8,5 @@ pub mod QuietLemmas
 pub mod TraceLemmas
 pub mod WriteLemmas
 pub mod RunLemmas
-pub mod ComputeLemmas
+pub mod OverLemmas
 pub mod TurnLemmas

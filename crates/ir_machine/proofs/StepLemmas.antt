@@ -1,17 +1,14 @@
 -- What the executor does at a line is what the machine does there.
-use Rattle.std.proofs.Common.{◌≡◌, ℕ, ◌+◌, ◌<◌, ◌≤◌, true, List, [], refl, sym, ap, subst, ◌∙◌, lt-ltb}
+use Rattle.std.proofs.Common.{◌≡◌, ℕ, ◌+◌, ◌<◌, ◌≤◌, Bool, true, List, [], refl, sym, ap, subst, ◌∙◌, lt-ltb}
 use Rattle.std.proofs.lemmas.Bool.{le-ltb}
-use Rattle.std.specs.Prelude.{Result, Ok, Err}
+use Rattle.std.specs.Prelude.{Result}
 use Rattle.std.specs.Result.{IfOk}
 use Rattle.std.proofs.lemmas.Result.{IfOk-weaker}
 use Rattle.sp_ids.specs.declared.memory.Memory.{Memory}
 use Rattle.sp_ids.specs.declared.ends.End.TheVariants.{OutOfSteps}
 use Rattle.sp_ids.specs.declared.ends.Trap.{Trap}
 use Rattle.ir_ast.specs.declared.ops.Op.{Op}
-use Rattle.ir_ast.specs.declared.ops.Op.TheVariants.{Add, Sub, Mul, Udiv, Sdiv, Urem, Srem, And, Or, Xor, Shl, Lshr, Ashr, Icmp, Trunc, Zext, Sext, Select}
 use Rattle.ir_ast.specs.Objects.{Datum, number}
-use Rattle.moving_heap.specs.declared.heap.Deny.{Deny}
-use Rattle.moving_heap.specs.Heaps.{done}
 use Rattle.object_meaning.specs.Calls.{stepped}
 use Rattle.object_meaning.specs.Computing.{computed, with_number}
 use Rattle.object_meaning.specs.Effects.{Effect, ends}
@@ -21,42 +18,23 @@ use Rattle.object_meaning.specs.States.{State, Setting}
 use Rattle.object_meaning.specs.Steps.{settled}
 use Rattle.machine_meaning.specs.Machines.{Machine, Machinery, lifted}
 use Rattle.machine_meaning.specs.MachineSteps.{machine_acts}
-use Rattle.machine_frames.specs.Decoding.{is_plain}
+use Rattle.machine_lines.specs.Decoding.{is_plain}
+use Rattle.machine_lines.proofs.GoingLemmas.{plain_acts}
 use Rattle.ir_machine.specs.declared.executor.Executor.{Executor}
 use Rattle.ir_machine.specs.declared.executor.Did.{Did}
-use Rattle.ir_machine.specs.Executors.{DoesSo, told}
+use Rattle.ir_machine.specs.Executors.{DoesSo, GoesOnTo, told}
 
 -- the same effect, said otherwise
 pub does_as : (now : Executor) (result : Result Did Memory) (one other : Effect Machine) → one ≡ other → IfOk result (DoesSo one now) → IfOk result (DoesSo other now)
 does_as now result one other same does = subst (λ (effect : Effect Machine). IfOk result (DoesSo effect now)) same does
 
+pub goes_as : (old new : Machine) (result : Result Bool Memory) (one other : Effect Machine) → one ≡ other → IfOk result (λ went. GoesOnTo one old went new)
+    → IfOk result (λ went. GoesOnTo other old went new)
+goes_as old new result one other same goes = subst (λ (effect : Effect Machine). IfOk result (λ went. GoesOnTo effect old went new)) same goes
+
 -- an effect of which the same is told
 pub does_told : (now : Executor) (result : Result Did Memory) (one other : Effect Machine) → told one ≡ told other → IfOk result (DoesSo one now) → IfOk result (DoesSo other now)
 does_told now result one other same does = IfOk-weaker result (DoesSo one now) (DoesSo other now) (λ did d. d ∙ same) does
-
-pub plain_acts : (machinery : Machinery) (machine : Machine) (line : Line) (rest : List Line) (op : Op) → is_plain op ≡ true
-    → machine_acts machinery machine line rest op
-    ≡ lifted machine (settled machine.state line rest (computed [] op line.inst.ty
-    (operand machine.state.running.registers line.inst.operands 0) (operand machine.state.running.registers line.inst.operands 1) (operand machine.state.running.registers line.inst.operands 2)))
-plain_acts machinery machine line rest Add e = refl
-plain_acts machinery machine line rest Sub e = refl
-plain_acts machinery machine line rest Mul e = refl
-plain_acts machinery machine line rest Udiv e = refl
-plain_acts machinery machine line rest Sdiv e = refl
-plain_acts machinery machine line rest Urem e = refl
-plain_acts machinery machine line rest Srem e = refl
-plain_acts machinery machine line rest And e = refl
-plain_acts machinery machine line rest Or e = refl
-plain_acts machinery machine line rest Xor e = refl
-plain_acts machinery machine line rest Shl e = refl
-plain_acts machinery machine line rest Lshr e = refl
-plain_acts machinery machine line rest Ashr e = refl
-plain_acts machinery machine line rest (Icmp pred) e = refl
-plain_acts machinery machine line rest (Trunc to) e = refl
-plain_acts machinery machine line rest (Zext to) e = refl
-plain_acts machinery machine line rest (Sext to) e = refl
-plain_acts machinery machine line rest Select e = refl
-plain_acts machinery machine line rest _ e = cc
 
 pub compute_acts : (machinery : Machinery) (machine : Machine) (line : Line) (rest : List Line) (op : Op) (first second third : ℕ) (answer : Result ℕ Trap) → is_plain op ≡ true
     → operand machine.state.running.registers line.inst.operands 0 ≡ number first → operand machine.state.running.registers line.inst.operands 1 ≡ number second
@@ -79,17 +57,3 @@ out_of_steps setting state next le = let none = le-ltb state.steps setting.bound
 pub step_left : (setting : Setting) (state : State) (next : State → Effect State) → state.steps < setting.bound
     → next (record state { steps = state.steps + 1 }) ≡ stepped setting state next
 step_left setting state next lt = let some = lt-ltb state.steps setting.bound lt in rw some refl
-
--- ---- accesses
-
-pub record IsOkay (found : Result ℕ Deny) : Type 0 where
-  pub word : ℕ
-  pub is : found ≡ Ok word
-
-pub done_ok : (found : Result ℕ Deny) → Ok tt ≡ done found → IsOkay found
-done_ok (Ok word) e = record { word = word; is = refl }
-done_ok (Err deny) e = cc
-
-pub done_err : (found : Result ℕ Deny) (deny : Deny) → Err deny ≡ done found → found ≡ Err deny
-done_err (Ok word) deny e = cc
-done_err (Err other) deny e = let same : deny ≡ other = cc in ap Err (sym same)

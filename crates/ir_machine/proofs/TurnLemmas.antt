@@ -1,28 +1,39 @@
--- How a run comes on: over lines that compute numbers, and by steps that show nothing.
-use Rattle.std.proofs.Common.{◌≡◌, Bool, false, refl, sym}
+-- How a run comes on: over quiet lines, and by steps that show nothing.
+use Rattle.std.proofs.Common.{◌≡◌, Bool, false, refl, sym, ap, subst}
+use Rattle.object_meaning.specs.Effects.{goes_on}
 use Rattle.tool_io.proofs.AppendLaws.{append_known-nil}
 use Rattle.ir_ast.specs.Modules.{ModuleContent}
 use Rattle.machine_meaning.specs.Machines.{Machine, Machinery}
 use Rattle.machine_meaning.specs.MachineSteps.{machine_step}
 use Rattle.ir_machine.specs.declared.executor.Did.{Did}
 use Rattle.ir_machine.specs.declared.executor.Did.TheVariants.{GoesOn, Prints, Ends as Finishes}
-use Rattle.ir_machine.specs.Executors.{HasComputed, effect_of, told}
+use Rattle.machine_lines.specs.Going.{GoesOver}
+use Rattle.ir_machine.specs.Executors.{effect_of, told}
 use Rattle.ir_machine.specs.Answers.{LeadsOn, WentFar, is_shown}
-use Rattle.ir_machine.proofs.ComputeLemmas.{follows_computed}
+use Rattle.ir_machine.proofs.OverLemmas.{follows_over}
 use Rattle.ir_machine.proofs.RunLemmas.{follows_more}
 
 pub leads_same : (machinery : Machinery) (trace : Bool) (machine : Machine) → LeadsOn machinery trace machine machine
 leads_same machinery trace machine = λ start one count first now follows. follows
 
 module _ (content : ModuleContent) (machinery : Machinery) where
-  pub leads_computed : (trace : Bool) (old new later : Machine) → LeadsOn machinery trace old new → HasComputed new later → LeadsOn machinery trace old later
-  leads_computed trace old new later leads computed = λ start one count first now follows.
-      follows_computed content machinery (record { places = false; trace = trace }) start one count first now new later computed (leads start one count first now follows)
+  pub leads_over : (trace : Bool) (old new later : Machine) → LeadsOn machinery trace old new → GoesOver machinery new later → LeadsOn machinery trace old later
+  leads_over trace old new later leads over = λ start one count first now follows.
+      follows_over content machinery (record { places = false; trace = trace }) start one count first now new later over (leads start one count first now follows)
 
   leads_step : (old new later : Machine) → LeadsOn machinery false old new → told (effect_of GoesOn later) ≡ told (machine_step machinery new) → LeadsOn machinery false old later
   leads_step old new later leads does = λ start one count first now follows.
       follows_more content machinery (record { places = false; trace = false }) start new new later count first now (leads start one count first now follows)
       false one GoesOn refl refl does refl now (sym (append_known-nil now))
+
+  pub leads_hurried : (old new later : Machine) → LeadsOn machinery false old new → machine_step machinery new ≡ goes_on later → LeadsOn machinery false old later
+  leads_hurried old new later leads goes = leads_step old new later leads (ap told (sym goes))
+
+  pub leads_kept : (old new later : Machine) → LeadsOn machinery false old new → later ≡ new → LeadsOn machinery false old later
+  leads_kept old new later leads same = subst (λ (machine : Machine). LeadsOn machinery false old machine) (sym same) leads
+
+  pub leads_then : (old new later : Machine) → LeadsOn machinery false old new → LeadsOn machinery false new later → LeadsOn machinery false old later
+  leads_then old new later leads on = λ start one count first now follows. on start one count first now (leads start one count first now follows)
 
   pub leads_quiet : (did : Did) (old new later : Machine) → is_shown did ≡ false → LeadsOn machinery false old new → told (effect_of did later) ≡ told (machine_step machinery new)
       → LeadsOn machinery false old later

@@ -1,10 +1,9 @@
 -- What the executor's state stands for, and what a step did.
-use Rattle.std.specs.Prelude.{◌≡◌, ℕ, List, [], map, take, Option, Some, None}
+use Rattle.std.specs.Prelude.{◌≡◌, ℕ, Bool, true, false, List, [], map, take, Option, Some, None}
 use Rattle.ir_ast.specs.declared.ops.Op.{Op}
 use Rattle.ir_ast.specs.declared.ops.Operand.{Operand}
 use Rattle.ir_ast.specs.declared.ops.Callee.{Callee}
 use Rattle.ir_ast.specs.Insts.{Instruction}
-use Rattle.moving_heap.specs.Heaps.{HeapView}
 use Rattle.object_meaning.specs.Lines.{following}
 use Rattle.object_meaning.specs.States.{Frame}
 use Rattle.object_meaning.specs.Effects.{Effect, goes_on, prints, ends}
@@ -13,8 +12,9 @@ use Rattle.machine_meaning.specs.Machines.{Machine, Machinery, spilled}
 use Rattle.machine_meaning.specs.MachineSteps.{machine_acts, calls}
 use Rattle.machine_meaning.specs.Code.{machinery_of}
 use Rattle.machine_frames.specs.declared.tasks.Task.{Task}
-use Rattle.machine_frames.specs.Computed.{Computes}
-use Rattle.machine_frames.specs.Frames.{line_of, lines_left, frame_of, below_of, frames_of}
+use Rattle.machine_frames.specs.Frames.{frame_of, below_of, frames_of}
+use Rattle.machine_lines.specs.Lines.{line_of, lines_left}
+use Rattle.machine_lines.specs.Going.{still}
 use Rattle.ir_machine.specs.declared.executor.Executor.{Executor}
 use Rattle.ir_machine.specs.declared.executor.Program.{Program}
 use Rattle.ir_machine.specs.declared.executor.Did.{Did}
@@ -32,10 +32,6 @@ waiting (Some task) = frames_of task
 abbrev pub kept : Option Task → List ℕ
 kept None = []
 kept (Some task) = task.stack
-
--- no group is pending between two steps
-abbrev pub still : HeapView → HeapView
-still heap = record heap { moves = [] }
 
 abbrev pub seen : Executor → Machine
 seen executor = record {
@@ -97,8 +93,7 @@ calls_kept machinery executor inst rest callee arguments =
     (line_of executor.run.frame.next inst) (lines_left (following executor.run.frame.next inst) rest) callee
     (take arguments (map worded_operand inst.operands))
 
--- the running frame has gone on over lines that compute numbers
-pub record HasComputed (old new : Machine) : Type 0 where
-  pub running : Frame
-  pub computes : Computes old.state.running running
-  pub is : new ≡ record old { state = record old.state { running = running } }
+-- an effect that goes on to this machine, or nothing was done
+abbrev pub GoesOnTo : Effect Machine → Machine → Bool → Machine → Type 0
+GoesOnTo effect old true new = effect ≡ goes_on new
+GoesOnTo effect old false new = new ≡ old

@@ -8,14 +8,14 @@ ghost use Rattle.object_meaning.specs.Computing.{element_bytes, field_bytes};
 ghost use Rattle.object_meaning.specs.Numbers.{width_of};
 ghost use Rattle.machine_meaning.specs.Machines.{Machine};
 ghost use Rattle.machine_meaning.specs.MachineSteps.{denied, stepped_word};
-ghost use Rattle.machine_frames.specs.Decoding.{decoded_of};
+ghost use Rattle.machine_lines.specs.Decoding.{decoded_of};
 ghost use Rattle.machine_frames.specs.Frames.{is_statepoint};
 ghost use Rattle.ir_machine.specs.Executors.{machinery, effect_of, DoesSo, acts_at, calls_at};
 
 use crate::executor::{Did, Executor, Program};
 use flat_code::width_of;
 use ir_ast::{Callee, Cell, Elem, Inst, Layout, Op, Operand, Ty};
-use machine_frames::{Decoded, Lines};
+use machine_lines::{Decoded, Lines, cell_named, stepped_word};
 use moving_heap::Deny;
 use sp_ids::{End, Memory, Trap, sign};
 
@@ -159,68 +159,4 @@ fn same_bit(base: u64, place: u64, other_base: u64, other_place: u64) -> u64
     ensures { result ≡ bit ((base == other_base) && (place == other_place)) }
 {
     u64::from(base == other_base && place == other_place)
-}
-
-fn cell_named(kind: u64) -> Cell
-    ensures { result ≡ cell_named kind }
-{
-    if kind == 1 { Cell::Ptr } else { Cell::I64 }
-}
-
-fn stepped_word(
-    layouts: &[Layout],
-    elem: Elem,
-    index_width: u32,
-    place: Option<u32>,
-    from: u64,
-    index: u64,
-) -> u64
-    ensures { result ≡ stepped_word layouts.now elem (width_of (Ty.Int index_width)) place from index }
-{
-    let times = sign(width_of(&Ty::Int(index_width)), index).cast_unsigned();
-    let step = times.wrapping_mul(element_bytes(layouts, elem));
-    let by = step.wrapping_add(field_bytes(layouts, elem, place));
-    from.wrapping_add(by)
-}
-
-fn element_bytes(layouts: &[Layout], elem: Elem) -> u64
-    ensures { result ≡ element_bytes layouts.now elem % 2 ^ 64 }
-{
-    match elem {
-        Elem::Int(width) => u64::from(width / 8),
-        Elem::Ptr => 8,
-        Elem::Layout(layout) => (fields_of(layouts, layout).len() as u64).wrapping_mul(8),
-    }
-}
-
-fn field_bytes(layouts: &[Layout], elem: Elem, place: Option<u32>) -> u64
-    ensures { result ≡ field_bytes layouts.now elem place }
-{
-    match elem {
-        Elem::Layout(layout) => match place {
-            None => 0,
-            Some(place) => begins_at(fields_of(layouts, layout), place),
-        },
-        _ => 0,
-    }
-}
-
-fn begins_at(fields: &[Cell], place: u32) -> u64
-    ensures { result ≡ begins_at fields.now place }
-{
-    if (place as usize) < fields.len() {
-        8 * u64::from(place)
-    } else {
-        0
-    }
-}
-
-/// The fields of a layout, by its place.
-pub(crate) fn fields_of(layouts: &[Layout], layout: u32) -> &[Cell]
-    ensures { result.now ≡ fields_in layouts.now layout }
-{
-    match layouts.get(layout as usize) {
-        None => &[],
-        Some(layout) => layout.fields(),
-    }
 }

@@ -8,14 +8,15 @@ ghost use Rattle.object_meaning.specs.Registers.{operand};
 ghost use Rattle.machine_meaning.specs.Machines.{gone_on};
 ghost use Rattle.machine_meaning.specs.MachineTasks.{ended_machine, handed_machine};
 ghost use Rattle.machine_meaning.specs.Words.{worded_operand};
-ghost use Rattle.machine_frames.specs.Decoding.{decoded_of};
+ghost use Rattle.machine_lines.specs.Decoding.{decoded_of};
 ghost use Rattle.machine_frames.specs.Frames.{is_statepoint};
 ghost use Rattle.ir_machine.specs.Executors.{machinery, seen, DoesSo, acts_at, calls_at};
 
 use crate::executor::{Did, Executor, Program};
 use flat_code::width_of;
 use ir_ast::{Callee, Inst, Op, Operand};
-use machine_frames::{Decoded, Lines, Task, word_at};
+use machine_frames::Task;
+use machine_lines::{Decoded, Lines, word_at};
 use sp_ids::limits::{FRAMES, TASKS};
 use sp_ids::{End, Memory, Trap, sign};
 use std::mem;

@@ -9,12 +9,12 @@ ghost use Rattle.machine_meaning.specs.Moving.{eventful, moved_by};
 ghost use Rattle.ir_machine.specs.Executors.{machinery, seen, waiting, kept, told, DoesSo, calls_at};
 ghost use Rattle.ir_machine.specs.Events.{or_lost, TaskWalked, SlotWalked, AllWalked, gone_to};
 
-use crate::accesses::fields_of;
 use crate::calls::{set_task, take_task};
 use crate::executor::{Did, Executor, Program};
 use frame_walk::walk;
 use ir_ast::{Callee, Inst, Operand};
 use machine_frames::Task;
+use machine_lines::fields_of;
 use move_plan::{Move, Plan};
 use moving_heap::{AllocFault, Moves};
 use sp_ids::{End, Memory, Trap, sign};

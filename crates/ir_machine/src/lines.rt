@@ -1,24 +1,29 @@
 //! A step: the line at which the running frame stands.
 
-ghost use Rattle.std.specs.Prelude.{◌≡◌, ◌∷◌, ◌<◌, map, take, drop, length, true, IfOk, IfSome};
-ghost use Rattle.std.specs.List.{position};
+ghost use Rattle.std.specs.Prelude.{◌≡◌, ◌∷◌, ◌<◌, [], List, map, take, drop, length, true, IfOk, OnOk};
 ghost use Rattle.ir_ast.specs.Objects.{number};
 ghost use Rattle.object_meaning.specs.Calls.{stepped};
 ghost use Rattle.object_meaning.specs.Effects.{goes_on, ends};
-ghost use Rattle.object_meaning.specs.Jumps.{jumped, label_at, branch_taken, case_taken, is_case};
+ghost use Rattle.object_meaning.specs.Jumps.{jumped, label_at, branch_taken, case_taken};
 ghost use Rattle.object_meaning.specs.Lines.{following};
 ghost use Rattle.object_meaning.specs.Registers.{operand};
 ghost use Rattle.machine_meaning.specs.Machines.{lifted};
 ghost use Rattle.machine_meaning.specs.MachineSteps.{machine_step, passes};
 ghost use Rattle.machine_meaning.specs.Words.{worded_operand};
-ghost use Rattle.machine_frames.specs.Decoding.{decoded_of, is_plain};
-ghost use Rattle.machine_frames.specs.Frames.{line_of, lines_left};
-ghost use Rattle.ir_machine.specs.Executors.{machinery, seen, DoesSo, HasComputed, acts_at, calls_kept, skipped_at};
+ghost use Rattle.machine_lines.specs.Decoding.{decoded_of, is_plain};
+ghost use Rattle.machine_lines.specs.Going.{GoesOver};
+ghost use Rattle.machine_lines.specs.Lines.{line_of, lines_left};
+ghost use Rattle.ir_ast.specs.declared.ops.Operand.{Operand};
+ghost use Rattle.ir_machine.specs.Executors.{machinery, seen, DoesSo, GoesOnTo, acts_at, calls_at, calls_kept, skipped_at};
 
 use crate::executor::{Did, Executor, Program};
 use ir_ast::{Callee, Inst, Op, Operand};
-use machine_frames::{Decoded, Lines, computed, is_plain, keep, word_at, write_over};
-use sp_ids::{BlockId, End, Memory, Trap};
+use machine_frames::{keep, write_over};
+use machine_lines::{
+    Decoded, Lines, branch_taken, case_taken, computed, go_over, is_plain, label_at, word_at,
+};
+use sp_ids::limits::FRAMES;
+use sp_ids::{End, Memory, Trap};
 
 impl<'m, 'i> Executor<'m, 'i> {
     /// One step of the running task.
@@ -32,23 +37,218 @@ impl<'m, 'i> Executor<'m, 'i> {
         }
     }
 
-    /// The running task goes on over lines that compute numbers, up to one that doesn't, or that traps.
+    /// The running task goes on over lines that stay in their frame, up to one that leaves it, is denied or traps.
     #[inline(always)]
-    pub fn compute_all(&mut self)
-        ensures computed { HasComputed (seen self.old) (seen self.new) }
-        ensures heap { self.new.heap ≡ self.old.heap }
+    pub fn go_over(&mut self, program: &'m Program<'_, '_>)
+        ensures over { GoesOver (machinery program.now) (seen self.old) (seen self.new) }
+        ensures stands { self.new.heap.stands ≡ self.old.heap.stands }
     {
-        if self.is_at_number() {
-            self.run.frame.compute_all();
+        if self.may_stay() {
+            self.go_over_lines(program);
         }
     }
 
-    // Whether a line that computes a number comes next.
-    fn is_at_number(&self) -> bool {
+    // Whether the line that comes next may stay in its frame.
+    #[inline(always)]
+    fn may_stay(&self) -> bool {
         match self.run.frame.rest.front() {
             None => false,
-            Some(parts) => parts.1.plain,
+            Some(parts) => parts.1.stays,
         }
+    }
+
+    fn go_over_lines(&mut self, program: &'m Program<'_, '_>)
+        ensures over { GoesOver (machinery program.now) (seen self.old) (seen self.new) }
+        ensures stands { self.new.heap.stands ≡ self.old.heap.stands }
+    {
+        let lines = self.run.frame.rest;
+        let first = self.run.frame.next;
+        let layouts = program.code.module().layouts();
+        let (count, next) = go_over(
+            self.run.frame.registers.as_mut_slice(),
+            &mut self.heap,
+            &mut self.hints,
+            layouts,
+            first,
+            lines,
+        );
+        self.run.frame.next = next;
+        self.run.frame.rest = lines.behind(count);
+    }
+
+    /// The running task takes a jump, or a poll at which nothing happens, if it stands at one and has steps left. Whether it does.
+    #[inline(always)]
+    pub fn hurry(&mut self, program: &'m Program<'_, '_>) -> Result<bool, Memory>
+        ensures { IfOk result (λ went. GoesOnTo (machine_step (machinery program.now) (seen self.old)) (seen self.old) went (seen self.new)) }
+    {
+        match self.run.frame.rest.front() {
+            None => Ok(false),
+            Some(parts) => self.hurry_at(program, parts.0, parts.2),
+        }
+    }
+
+    #[inline(always)]
+    fn hurry_at(
+        &mut self,
+        program: &'m Program<'_, '_>,
+        inst: &Inst,
+        rest: Lines<'m>,
+    ) -> Result<bool, Memory>
+        requires stands { self.old.run.frame.rest.insts.now ≡ inst.now ∷ rest.insts.now }
+        ensures { IfOk result (λ went. GoesOnTo (acts_at (machinery program.now) self.old inst.now rest.entry.insts.now inst.now.op) (seen self.old) went (seen self.new)) }
+    {
+        match inst.op() {
+            Op::Br => self.hurry_to(program, label_at(inst.labels(), 0)),
+            Op::CondBr => {
+                let taken = branch_taken(self.word(inst, 0));
+                self.hurry_to(program, label_at(inst.labels(), taken))
+            }
+            Op::Statepoint { callee, types, .. } => match callee {
+                Callee::Poll => self.hurry_past(program, inst, rest, types.list().len()),
+                Callee::Fun(func) => {
+                    self.hurry_in(program, inst, rest, func.0, types.list().len())
+                }
+                _ => Ok(false),
+            },
+            Op::Ret => self.hurry_out(program, inst, rest),
+            _ => Ok(false),
+        }
+    }
+
+    // A jump, if there is a step left.
+    #[inline(always)]
+    fn hurry_to(&mut self, program: &'m Program<'_, '_>, block: u32) -> Result<bool, Memory>
+        ensures { IfOk result (λ went. GoesOnTo (lifted (seen self.old) (stepped (machinery program.now).setting (seen self.old).state (jumped (machinery program.now).setting block))) (seen self.old) went (seen self.new)) }
+    {
+        if self.steps >= program.bound {
+            return Ok(false);
+        }
+        self.steps += 1;
+        self.run
+            .frame
+            .arrive(&program.code, &mut self.moves, block)?;
+        Ok(true)
+    }
+
+    // A poll of a statepoint under a plan without lines.
+    #[inline(always)]
+    fn hurry_past(
+        &mut self,
+        program: &'m Program<'_, '_>,
+        inst: &Inst,
+        rest: Lines<'m>,
+        arguments: usize,
+    ) -> Result<bool, Memory>
+        requires stands { self.old.run.frame.rest.insts.now ≡ inst.now ∷ rest.insts.now }
+        ensures { IfOk result (λ went. GoesOnTo (calls_kept (machinery program.now) self.old inst.now rest.entry.insts.now Callee.Poll arguments) (seen self.old) went (seen self.new)) }
+    {
+        if !program.plan.is_empty() {
+            return Ok(false);
+        }
+        keep(
+            &mut self.words,
+            self.run.frame.registers.as_slice(),
+            inst,
+            arguments,
+        )?;
+        write_over(&mut self.run.stack, self.words.as_slice())?;
+        self.pass_poll(program, inst, rest)?;
+        Ok(true)
+    }
+
+    // A call of a statepoint, if there is a step left and the task has frames left.
+    #[inline(always)]
+    fn hurry_in(
+        &mut self,
+        program: &'m Program<'_, '_>,
+        inst: &Inst,
+        rest: Lines<'m>,
+        func: u32,
+        arguments: usize,
+    ) -> Result<bool, Memory>
+        ensures { IfOk result (λ went. GoesOnTo (calls_kept (machinery program.now) self.old inst.now rest.entry.insts.now (Callee.Fun (record { 0 = func })) arguments) (seen self.old) went (seen self.new)) }
+    {
+        if self.steps >= program.bound {
+            return Ok(false);
+        }
+        if self.run.below.len() >= FRAMES as usize - 1 {
+            return Ok(false);
+        }
+        keep(
+            &mut self.words,
+            self.run.frame.registers.as_slice(),
+            inst,
+            arguments,
+        )?;
+        write_over(&mut self.run.stack, self.words.as_slice())?;
+        self.go_in(program, inst, rest, func, front(inst.operands(), arguments))?;
+        Ok(true)
+    }
+
+    // The frame of a call runs.
+    #[inline(always)]
+    fn go_in(
+        &mut self,
+        program: &'m Program<'_, '_>,
+        inst: &Inst,
+        rest: Lines<'m>,
+        func: u32,
+        operands: &[Operand],
+    ) -> Result<(), Memory>
+        requires left { self.old.steps < program.now.bound }
+        requires few { length self.old.run.below.items < 4095 }
+        ensures { OnOk result (calls_at (machinery program.now) self.old inst.now rest.entry.insts.now (Callee.Fun (record { 0 = func })) operands.now ≡ goes_on (seen self.new)) }
+    {
+        self.steps += 1;
+        let address = self
+            .run
+            .frame
+            .address_behind(&program.code, inst, rest.insts)?;
+        self.run
+            .call(self.alloc, &program.code, func, operands, address)
+    }
+
+    // A return to a frame that waits, if there is a step left.
+    #[inline(always)]
+    fn hurry_out(
+        &mut self,
+        program: &'m Program<'_, '_>,
+        inst: &Inst,
+        rest: Lines<'m>,
+    ) -> Result<bool, Memory>
+        requires is { inst.now.op ≡ Op.Ret }
+        ensures { IfOk result (λ went. GoesOnTo (acts_at (machinery program.now) self.old inst.now rest.entry.insts.now inst.now.op) (seen self.old) went (seen self.new)) }
+    {
+        if self.steps >= program.bound {
+            return Ok(false);
+        }
+        if self.run.below.is_empty() {
+            return Ok(false);
+        }
+        self.steps += 1;
+        let answer = self.word(inst, 0);
+        let left = self.run.leave(&program.code)?;
+        if !left {
+            return Err(Memory);
+        }
+        self.run.go_on(answer)?;
+        Ok(true)
+    }
+
+    // A poll at which nothing happens is counted.
+    #[inline(always)]
+    fn pass_poll(
+        &mut self,
+        program: &'m Program<'_, '_>,
+        inst: &Inst,
+        rest: Lines<'m>,
+    ) -> Result<(), Memory>
+        requires stands { self.old.run.frame.rest.insts.now ≡ inst.now ∷ rest.insts.now }
+        requires nothing { program.now.plan.now ≡ [] }
+        ensures { OnOk result ((operands : List Operand) → calls_at (machinery program.now) self.old inst.now rest.entry.insts.now Callee.Poll operands ≡ goes_on (seen self.new)) }
+    {
+        self.events = self.events.saturating_add(1);
+        self.run.go_behind(inst, rest, 0)
     }
 
     #[inline(always)]
@@ -227,58 +427,6 @@ impl<'m, 'i> Executor<'m, 'i> {
             self.steps += 1;
             Did::Ends(End::Trap(Trap::Unreachable))
         }
-    }
-}
-
-// Which label of a `br` with a condition is taken.
-fn branch_taken(word: u64) -> usize
-    ensures { result ≡ branch_taken (number word) }
-{
-    if word > 0 { 0 } else { 1 }
-}
-
-fn label_at(labels: &[BlockId], place: usize) -> u32
-    ensures { result ≡ label_at labels.now place }
-{
-    match labels.get(place) {
-        None => 0,
-        Some(label) => label.0,
-    }
-}
-
-// Which label of a `switch` is taken: the first equal case's, or the default's, which stands first.
-fn case_taken(word: u64, operands: &[Operand]) -> usize
-    ensures { result ≡ case_taken (number word) (drop 1 (map worded_operand operands.now)) }
-{
-    match place_of(word, cases_of(operands)) {
-        None => 0,
-        Some(place) => place + 1,
-    }
-}
-
-fn cases_of(operands: &[Operand]) -> &[Operand]
-    ensures { result.now ≡ drop 1 operands.now }
-{
-    match operands {
-        [] => &[],
-        [_value, cases @ ..] => cases,
-    }
-}
-
-fn place_of(number: u64, cases: &[Operand]) -> Option<usize>
-    ensures value { result ≡ position (λ one. is_case number (worded_operand one)) cases.now }
-    ensures within { IfSome result (λ place. place < length cases.now) }
-{
-    cases.iter().position(|one| is_case(number, one))
-}
-
-fn is_case(number: u64, operand: &Operand) -> bool
-    ensures { result ≡ is_case number (worded_operand operand.now) }
-{
-    match operand {
-        Operand::Int(literal) => *literal == number,
-        Operand::Null => number == 0,
-        _ => false,
     }
 }
 

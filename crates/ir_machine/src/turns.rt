@@ -1,9 +1,9 @@
 //! A turn of a run: its steps up to one that writes something.
 
-ghost use Rattle.std.specs.Prelude.{◌≡◌, IfOk};
+ghost use Rattle.std.specs.Prelude.{◌≡◌, false, IfOk, OnOk};
 ghost use Rattle.moving_heap.specs.Settled.{IsNumbered};
 ghost use Rattle.ir_machine.specs.Executors.{machinery, seen};
-ghost use Rattle.ir_machine.specs.Answers.{Turned, WentFar, is_shown};
+ghost use Rattle.ir_machine.specs.Answers.{LeadsOn, Turned, WentFar, is_shown};
 
 use crate::executor::{Did, Executor, Program};
 use run_traces::Happening;
@@ -18,7 +18,7 @@ pub(crate) struct Turn {
 
 impl<'m, 'i> Executor<'m, 'i> {
     /// With a trace one step, with what it shows; without one all steps up to the next that prints or ends. The lines that
-    /// compute numbers before a step go along with it.
+    /// stay in their frame before a step go along with it.
     pub(crate) fn turn(
         &mut self,
         program: &'m Program<'_, '_>,
@@ -45,7 +45,7 @@ impl<'m, 'i> Executor<'m, 'i> {
         requires numbered { IsNumbered self.old.heap.stands }
         ensures { IfOk result (λ turn. Turned (machinery program.now) trace (seen self.old) turn.event happening.new turn.did (seen self.new)) }
     {
-        self.compute_all();
+        self.go_over(program);
         let event = self.foresee(program, trace, happening)?;
         let did = self.step(program)?;
         Ok(Turn { event, did })
@@ -56,10 +56,25 @@ impl<'m, 'i> Executor<'m, 'i> {
         ensures { IfOk result (λ turn. WentFar (machinery program.now) (seen self.old) turn (seen self.new)) }
     {
         for _ in 0..u64::MAX {
-            self.compute_all();
+            self.rush(program)?;
             let did = self.step(program)?;
             if is_shown(did) {
                 return Ok(Turn { event: false, did });
+            }
+        }
+        Err(Memory)
+    }
+
+    // All lines that stay in their frame, all jumps, and all polls at which nothing happens, up to another line.
+    #[inline(always)]
+    fn rush(&mut self, program: &'m Program<'_, '_>) -> Result<(), Memory>
+        ensures { OnOk result (LeadsOn (machinery program.now) false (seen self.old) (seen self.new)) }
+    {
+        for _ in 0..u64::MAX {
+            self.go_over(program);
+            let went = self.hurry(program)?;
+            if !went {
+                return Ok(());
             }
         }
         Err(Memory)

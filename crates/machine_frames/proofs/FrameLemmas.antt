@@ -12,8 +12,8 @@ use Rattle.object_meaning.specs.Registers.{nothing, Write, put, put_all}
 use Rattle.object_meaning.specs.States.{Frame}
 use Rattle.machine_meaning.specs.Machines.{slot_put, regrouped_by}
 use Rattle.flat_code.proofs.RegisterLemmas.{rest_at}
-use Rattle.machine_frames.specs.Frames.{line_of, lines_left}
-use Rattle.machine_frames.proofs.WordLemmas.{zeros_are}
+use Rattle.machine_lines.specs.Lines.{line_of, lines_left}
+use Rattle.machine_lines.proofs.WordLemmas.{zeros_are}
 use Rattle.machine_frames.proofs.LineLemmas.{prefix_lines, take_lines, drop_lines}
 
 pub entered_are : (arguments : List ℕ) (count : ℕ)

@@ -1,6 +1,4 @@
-pub mod WordLemmas
 pub mod LineLemmas
 pub mod CodeLemmas
 pub mod FrameLemmas
 pub mod DecodeLemmas
-pub mod ComputedLemmas

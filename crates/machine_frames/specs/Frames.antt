@@ -5,13 +5,12 @@ use Rattle.ir_ast.specs.declared.ops.Op.TheVariants.{Statepoint}
 use Rattle.ir_ast.specs.Insts.{Instruction}
 use Rattle.ir_ast.specs.Modules.{ModuleContent}
 use Rattle.ir_ast.specs.Objects.{Datum, number}
-use Rattle.object_meaning.specs.Lines.{Line, numbered, first_register, insts_of, register_count}
+use Rattle.object_meaning.specs.Lines.{Line, first_register, insts_of, register_count}
 use Rattle.object_meaning.specs.Numbers.{width_of, sign_extended}
 use Rattle.object_meaning.specs.Registers.{nothing, value, number_in, Write}
 use Rattle.object_meaning.specs.States.{Frame}
-use Rattle.object_meaning.specs.TargetRuns.{plain_lines}
 use Rattle.frame_forms.specs.FrameSizes.{is_named_integer}
-use Rattle.machine_meaning.specs.Words.{worded}
+use Rattle.machine_lines.specs.Lines.{line_of, lines_left}
 use Rattle.machine_frames.specs.declared.frames.Frame.{Frame as Standing}
 use Rattle.machine_frames.specs.declared.frames.Move.{Move}
 use Rattle.machine_frames.specs.declared.tasks.Task.{Task}
@@ -19,13 +18,6 @@ use Rattle.machine_frames.specs.declared.tasks.Task.{Task}
 abbrev pub is_statepoint : Op → Bool
 is_statepoint (Statepoint id callee types) = true
 is_statepoint _ = false
-
--- the line of an instruction whose result would go to the register `next`, on words
-abbrev pub line_of : ℕ → Instruction → Line
-line_of next inst = worded (numbered next inst)
-
-abbrev pub lines_left : ℕ → List Instruction → List Line
-lines_left next insts = map worded (plain_lines next insts)
 
 abbrev pub lines_in : ModuleContent → ℕ → ℕ → List Line
 lines_in content func block = lines_left (first_register content func block) (insts_of content func block)

@@ -1,5 +1,3 @@
-pub mod Decoding
 pub mod Tables
 pub mod Frames
-pub mod Computed
 pub mod Tasks

@@ -6,8 +6,8 @@ use Rattle.ir_ast.specs.Funcs.{Function}
 use Rattle.ir_ast.specs.Modules.{ModuleContent}
 use Rattle.object_meaning.specs.Lines.{registers_of}
 use Rattle.frame_forms.specs.ModuleLayouts.{FunctionLayout, layout_of}
-use Rattle.machine_frames.specs.declared.decoded.Decoded.{Decoded}
-use Rattle.machine_frames.specs.Decoding.{decoded_of}
+use Rattle.machine_lines.specs.declared.decoded.Decoded.{Decoded}
+use Rattle.machine_lines.specs.Decoding.{decoded_of}
 
 pub record Tabled : Type 0 where
   pub befores : List ℕ

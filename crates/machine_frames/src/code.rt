@@ -5,13 +5,13 @@ ghost use Rattle.std.specs.Option.{option_map, option_map_or};
 ghost use Rattle.ir_ast.specs.Funcs.{content_of};
 ghost use Rattle.object_meaning.specs.Lines.{insts_in, insts_of, first_register, register_count};
 ghost use Rattle.machine_meaning.specs.Code.{code_address, place_before, words_in};
-ghost use Rattle.machine_frames.specs.Decoding.{decoded_of};
+ghost use Rattle.machine_lines.specs.Decoding.{decoded_of};
 ghost use Rattle.machine_frames.specs.Tables.{table_of};
 
-use crate::decoded::{Decoded, Lines, decoded_blocks};
 use crate::numbering::{befores_of, registers_of};
 use frame_slots::Layouts;
 use ir_ast::{Func, Inst, Module};
+use machine_lines::{Decoded, Lines, decoded_blocks};
 use sp_ids::limits::FUNCTIONS;
 use sp_ids::{FuncId, Memory};
 use std::alloc::Global;

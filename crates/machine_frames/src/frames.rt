@@ -6,25 +6,22 @@ ghost use Rattle.std.specs.List.{position};
 ghost use Rattle.ir_ast.specs.Objects.{number};
 ghost use Rattle.object_meaning.specs.Lines.{following, after_all};
 ghost use Rattle.object_meaning.specs.Registers.{put, put_all, value};
-ghost use Rattle.object_meaning.specs.States.{Frame as IrFrame};
 ghost use Rattle.object_meaning.specs.Jumps.{arrived, incoming, phi_write};
 ghost use Rattle.map_bytes.specs.Maps.{StackMap};
 ghost use Rattle.move_plan.specs.declared.plan_lines.PlanLine.{PlanLine};
 ghost use Rattle.machine_meaning.specs.Code.{machinery_of};
 ghost use Rattle.machine_meaning.specs.Words.{worded_operand};
 ghost use Rattle.machine_meaning.specs.Machines.{behind, gone_from, gone_behind, regrouped_by, slot_put, return_address, address_behind};
-ghost use Rattle.machine_frames.specs.Computed.{Computes};
-ghost use Rattle.machine_frames.specs.Decoding.{decoded_of};
-ghost use Rattle.machine_frames.specs.Frames.{line_of, lines_left, lines_in, frame_of, entered_in, write_of, is_statepoint};
+ghost use Rattle.machine_frames.specs.Frames.{lines_in, frame_of, entered_in, write_of, is_statepoint};
+ghost use Rattle.machine_lines.specs.Decoding.{decoded_of};
+ghost use Rattle.machine_lines.specs.Lines.{line_of, lines_left};
 
 use crate::code::Code;
-use crate::computing::outcome;
-use crate::decoded::{Decoded, Lines};
 use crate::numbering::{following, member_count, phi_count, register_of};
 use crate::slots::{is_statepoint, member_word};
-use crate::words::{put, word, word_at};
 use frame_walk::Stack;
 use ir_ast::{Inst, Op, Operand};
+use machine_lines::{Decoded, Lines, put, word, word_at};
 use sp_ids::{BlockId, Memory};
 
 /// A word that a phi assigns, and the register that it goes to.
@@ -101,20 +98,6 @@ impl<'m> Frame<'m> {
         Ok(())
     }
 
-    /// Goes on over lines that compute numbers, up to one that doesn't, or that traps.
-    pub fn compute_all(&mut self)
-        ensures { Computes (frame_of self.old) (frame_of self.new) }
-    {
-        let (count, next) = compute_lines(
-            self.registers.as_mut_slice(),
-            self.next,
-            self.rest.insts,
-            self.rest.decoded,
-        );
-        self.next = next;
-        self.rest = self.rest.behind(count);
-    }
-
     /// Goes on behind a line that takes effect elsewhere.
     pub fn skip(&mut self, inst: &Inst, rest: Lines<'m>) -> Result<(), Memory>
         ensures { OnOk result (frame_of self.new ≡ record (frame_of self.old) { rest = lines_left (following self.old.next inst.now) rest.entry.insts.now }) }
@@ -135,7 +118,8 @@ impl<'m> Frame<'m> {
         }
     }
 
-    fn go_behind(
+    /// The same of a frame that stands at this call.
+    pub(crate) fn go_behind(
         &mut self,
         stack: &Stack,
         inst: &Inst,
@@ -163,7 +147,7 @@ impl<'m> Frame<'m> {
         ensures { OnOk result (frame_of self.new ≡ regrouped_by stack.now (frame_of self.old) (lines_left first rest.entry.insts.now) (number answer)) }
     {
         let count = member_count(rest.insts);
-        let (members, _behind) = rest.insts.split_at(count);
+        let members = rest.front_of(count);
         let next = put_members(self.registers.as_mut_slice(), stack, first, members, answer)?;
         self.rest = rest.behind(count);
         self.next = next;
@@ -182,7 +166,7 @@ impl<'m> Frame<'m> {
         let lines = code.lines(self.func, block);
         let first = code.first(self.func, block);
         let count = phi_count(lines.insts);
-        let (phis, _behind) = lines.insts.split_at(count);
+        let phis = lines.front_of(count);
         let next = gather(moves, self.registers.as_slice(), self.block, first, phis)?;
         do_moves(self.registers.as_mut_slice(), moves.as_slice());
         self.block = block;
@@ -210,32 +194,6 @@ impl<'m> Frame<'m> {
         let left = left_behind(inst.op(), rest);
         code.address(self.func, self.block, all.saturating_sub(left))
     }
-}
-
-// The lines that stand first take effect, up to one that doesn't compute a number for one of these registers, or that traps.
-// How many they are, and the register of the next result.
-fn compute_lines(
-    registers: &mut [u64],
-    first: usize,
-    insts: &[Inst],
-    decoded: &[Decoded],
-) -> (usize, usize)
-    requires { decoded.now ≡ map decoded_of insts.now }
-    ensures within { result.0 ≤ length insts.now }
-    ensures computes { (frame : IrFrame) → frame.rest ≡ lines_left first insts.now → frame.registers ≡ map number registers.old → Computes frame (record frame { rest = lines_left result.1 (drop result.0 insts.now); registers = map number registers.new }) }
-{
-    let mut next = first;
-    for (place, inst) in insts.iter().enumerate() {
-        if next >= registers.len() {
-            return (place, next);
-        }
-        match outcome(inst.op(), inst.ty(), &decoded[place], registers) {
-            None => return (place, next),
-            Some(word) => registers[next] = word,
-        }
-        next += 1;
-    }
-    (insts.len(), next)
 }
 
 // How many instructions are left behind a call, its group taken along.
@@ -289,15 +247,37 @@ fn put_members(
     registers: &mut [u64],
     stack: &Stack,
     first: usize,
-    members: &[Inst],
+    members: Lines<'_>,
     answer: u64,
 ) -> Result<usize, Memory>
+    ensures put { OnOk result (map number registers.new ≡ put_all (map (slot_put stack.now (number answer)) (lines_left first members.entry.insts.now)) (map number registers.old)) }
+    ensures next { IfOk result (λ next. next ≡ after_all first members.entry.insts.now) }
+{
+    put_each(
+        registers,
+        stack,
+        first,
+        members.insts,
+        members.decoded(),
+        answer,
+    )
+}
+
+fn put_each(
+    registers: &mut [u64],
+    stack: &Stack,
+    first: usize,
+    members: &[Inst],
+    decoded: &[Decoded],
+    answer: u64,
+) -> Result<usize, Memory>
+    requires { decoded.now ≡ map decoded_of members.now }
     ensures put { OnOk result (map number registers.new ≡ put_all (map (slot_put stack.now (number answer)) (lines_left first members.now)) (map number registers.old)) }
     ensures next { IfOk result (λ next. next ≡ after_all first members.now) }
 {
     let mut next = first;
-    for member in members {
-        let word = member_word(stack, member, answer)?;
+    for (place, member) in members.iter().enumerate() {
+        let word = member_word(stack, member, &decoded[place], answer)?;
         put(registers, register_of(next, member), word);
         let after = following(next, member)?;
         next = after;
@@ -311,15 +291,30 @@ fn gather(
     registers: &[u64],
     from: u32,
     first: usize,
-    phis: &[Inst],
+    phis: Lines<'_>,
 ) -> Result<usize, Memory>
+    ensures moves { OnOk result (map write_of moves.new.items ≡ map (phi_write from (map number registers.now)) (lines_left first phis.entry.insts.now)) }
+    ensures next { IfOk result (λ next. next ≡ after_all first phis.entry.insts.now) }
+{
+    gather_all(moves, registers, from, first, phis.insts, phis.decoded())
+}
+
+fn gather_all(
+    moves: &mut Vec<Move>,
+    registers: &[u64],
+    from: u32,
+    first: usize,
+    phis: &[Inst],
+    decoded: &[Decoded],
+) -> Result<usize, Memory>
+    requires { decoded.now ≡ map decoded_of phis.now }
     ensures moves { OnOk result (map write_of moves.new.items ≡ map (phi_write from (map number registers.now)) (lines_left first phis.now)) }
     ensures next { IfOk result (λ next. next ≡ after_all first phis.now) }
 {
     moves.clear();
     let mut next = first;
-    for phi in phis {
-        let word = incoming(registers, from, phi);
+    for (place, phi) in phis.iter().enumerate() {
+        let word = incoming(registers, from, phi, &decoded[place]);
         moves.push(Move {
             to: register_of(next, phi),
             word,
@@ -331,7 +326,18 @@ fn gather(
 }
 
 // The word of a phi on the edge from a block.
-fn incoming(registers: &[u64], from: u32, phi: &Inst) -> u64
+#[inline(always)]
+fn incoming(registers: &[u64], from: u32, phi: &Inst, one: &Decoded) -> u64
+    requires { one.now ≡ decoded_of phi.now }
+    ensures { incoming from (map number registers.now) (line_of 0 phi.now).inst ≡ number result }
+{
+    match one.incoming(registers, from) {
+        None => sought(registers, from, phi),
+        Some(word) => word,
+    }
+}
+
+fn sought(registers: &[u64], from: u32, phi: &Inst) -> u64
     ensures { incoming from (map number registers.now) (line_of 0 phi.now).inst ≡ number result }
 {
     match place_of(from, phi.labels()) {

@@ -1,19 +1,19 @@
 //! Slots: what a statepoint keeps in its frame's words, and what the members of its group read there.
 
-ghost use Rattle.std.specs.Prelude.{◌≡◌, map, drop, filter, ◌++◌, slice_index, slice_get, OnOk, IfOk};
+ghost use Rattle.std.specs.Prelude.{◌≡◌, map, drop, filter, ◌++◌, slice_index, OnOk, IfOk};
 ghost use Rattle.ir_ast.specs.Objects.{number};
 ghost use Rattle.frame_forms.specs.FrameSizes.{is_named_integer};
-ghost use Rattle.object_meaning.specs.Frames.{index_in};
 ghost use Rattle.object_meaning.specs.Numbers.{width_of, sign_extended};
 ghost use Rattle.object_meaning.specs.Registers.{value, number_in};
 ghost use Rattle.machine_meaning.specs.Machines.{over, slot_value};
 ghost use Rattle.machine_meaning.specs.Words.{worded_operand};
-ghost use Rattle.machine_frames.specs.Frames.{is_statepoint, kept_in, line_of};
+ghost use Rattle.machine_frames.specs.Frames.{is_statepoint, kept_in};
+ghost use Rattle.machine_lines.specs.Decoding.{decoded_of};
+ghost use Rattle.machine_lines.specs.Lines.{line_of};
 
-use crate::computing::widened;
-use crate::words::word;
 use frame_walk::Stack;
 use ir_ast::{Inst, Op, Operand, Ty};
+use machine_lines::{Decoded, widened, word};
 use sp_ids::Memory;
 
 /// Whether it is a statepoint.
@@ -91,25 +91,23 @@ pub fn write_over(stack: &mut Stack, words: &[u64]) -> Result<(), Memory>
 }
 
 /// What a member of a group gets: a relocate the present word of its derived slot, a result the callee's answer.
-pub(crate) fn member_word(stack: &Stack, member: &Inst, answer: u64) -> Result<u64, Memory>
+#[inline(always)]
+pub(crate) fn member_word(
+    stack: &Stack,
+    member: &Inst,
+    one: &Decoded,
+    answer: u64,
+) -> Result<u64, Memory>
+    requires { one.now ≡ decoded_of member.now }
     ensures { IfOk result (λ word. slot_value stack.now (number answer) (line_of 0 member.now) member.now.op ≡ number word) }
 {
     match member.op() {
-        Op::GcRelocate => slot(stack, index_at(member.operands())),
+        Op::GcRelocate => slot(stack, one.index()),
         _ => Ok(answer),
     }
 }
 
-// The index of the derived entry that a relocate names.
-fn index_at(operands: &[Operand]) -> u64
-    ensures { result ≡ index_in (slice_get (map worded_operand operands.now) 2) }
-{
-    match operands.get(2) {
-        Some(Operand::Int(index)) => *index,
-        _ => 0,
-    }
-}
-
+#[inline(always)]
 fn slot(stack: &Stack, index: u64) -> Result<u64, Memory>
     ensures { IfOk result (λ word. word ≡ slice_index stack.now index) }
 {

@@ -5,14 +5,17 @@ ghost use Rattle.ir_ast.specs.Objects.{number};
 ghost use Rattle.object_meaning.specs.Registers.{value};
 ghost use Rattle.machine_meaning.specs.Code.{words_in};
 ghost use Rattle.machine_meaning.specs.Words.{worded_operand};
-ghost use Rattle.machine_meaning.specs.Machines.{gone_from};
+ghost use Rattle.machine_meaning.specs.Machines.{gone_behind, gone_from};
+ghost use Rattle.machine_lines.specs.Lines.{line_of, lines_left};
+ghost use Rattle.object_meaning.specs.Lines.{following};
 ghost use Rattle.machine_frames.specs.Frames.{frame_of, entered_in, below_of};
 ghost use Rattle.machine_frames.specs.Tasks.{Begins, Enters, Leaves};
 
 use crate::code::Code;
 use crate::frames::Frame;
 use frame_walk::Stack;
-use ir_ast::Operand;
+use ir_ast::{Inst, Operand};
+use machine_lines::Lines;
 use sp_ids::Memory;
 use std::alloc::Global;
 use std::mem;
@@ -95,6 +98,14 @@ impl<'m> Task<'m> {
         ensures others { self.new ≡ record self.old { frame = self.new.frame } }
     {
         self.frame.go_on(&self.stack, answer)
+    }
+
+    /// The same of a frame that stands at this call.
+    pub fn go_behind(&mut self, inst: &Inst, rest: Lines<'m>, answer: u64) -> Result<(), Memory>
+        ensures frame { OnOk result (frame_of self.new.frame ≡ gone_behind self.old.stack (frame_of self.old.frame) (line_of self.old.frame.next inst.now) (lines_left (following self.old.frame.next inst.now) rest.entry.insts.now) (number answer) inst.now.op) }
+        ensures others { self.new ≡ record self.old { frame = self.new.frame } }
+    {
+        self.frame.go_behind(&self.stack, inst, rest, answer)
     }
 
     /// The newest of the frames that wait runs again, and the running one is gone. Whether there was one.

@@ -1,9 +1,9 @@
-use Rattle.std.proofs.Common.{ℕ, ◌+◌, ◌<◌, List, length, map, refl, ap, arith}
+use Rattle.std.proofs.Common.{◌+◌, ◌<◌, length, map, refl, ap, arith}
 use Rattle.ir_ast.specs.Objects.{number}
 use Rattle.object_meaning.specs.Lines.{following}
 use Rattle.object_meaning.specs.Registers.{value}
 use Rattle.machine_meaning.specs.Words.{worded_operand}
-use Rattle.machine_frames.specs.Frames.{line_of, lines_left}
+use Rattle.machine_lines.specs.Lines.{line_of, lines_left}
 use Rattle.ir_machine.specs.Executors.{machinery, seen, told}
 use Rattle.ir_machine.proofs.CallLemmas.{enter_goes, enter_out}
 use Rattle.std.proofs.Common.{reverse}

@@ -3,7 +3,7 @@ use Rattle.std.proofs.lemmas.Result.{IfOk-weaker}
 use Rattle.object_meaning.specs.Lines.{following}
 use Rattle.machine_meaning.specs.Machines.{Machine, spilled}
 use Rattle.machine_meaning.specs.MachineSteps.{machine_step}
-use Rattle.machine_frames.specs.Frames.{line_of, lines_left}
+use Rattle.machine_lines.specs.Lines.{line_of, lines_left}
 use Rattle.ir_ast.specs.declared.types.Ty.{Ty}
 use Rattle.ir_machine.specs.Executors.{machinery, seen}
 use Rattle.ir_machine.specs.Traces.{CallForeseen, StepForeseen}

@@ -2,7 +2,8 @@ use Rattle.std.proofs.Common.{◌≡◌, [], sym, ap, ◌∙◌}
 use Rattle.moving_heap.specs.Heaps.{HeapView}
 use Rattle.object_meaning.specs.Effects.{Effect}
 use Rattle.machine_meaning.specs.Machines.{Machine}
-use Rattle.ir_machine.specs.Executors.{machinery, seen, still, told}
+use Rattle.ir_machine.specs.Executors.{machinery, seen, told}
+use Rattle.machine_lines.specs.Going.{still}
 use Rattle.ir_machine.specs.Events.{or_lost}
 use Rattle.ir_machine.proofs.EventLemmas.{happen_is}
 use Rattle.machine_meaning.specs.Moving.{eventful, moved_by, moves_due}

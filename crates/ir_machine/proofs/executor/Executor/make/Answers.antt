@@ -5,7 +5,8 @@ use Rattle.object_meaning.specs.Effects.{Effect, ends, goes_on}
 use Rattle.object_meaning.specs.Registers.{operand, number_in}
 use Rattle.machine_meaning.specs.Machines.{Machine, gone_on}
 use Rattle.machine_meaning.specs.Words.{worded_operand}
-use Rattle.ir_machine.specs.Executors.{machinery, seen, still, told, without_words}
+use Rattle.ir_machine.specs.Executors.{machinery, seen, told, without_words}
+use Rattle.machine_lines.specs.Going.{still}
 use Rattle.ir_machine.proofs.StepLemmas.{does_told}
 use Rattle.ir_machine.specs.Events.{or_lost}
 use Rattle.ir_machine.proofs.EventLemmas.{make_goes, make_none, make_full}

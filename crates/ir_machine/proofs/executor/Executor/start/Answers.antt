@@ -7,7 +7,7 @@ use Rattle.object_meaning.specs.Registers.{operand}
 use Rattle.object_meaning.specs.States.{Frame}
 use Rattle.machine_meaning.specs.Machines.{Machine}
 use Rattle.machine_meaning.specs.Words.{worded_operand}
-use Rattle.machine_frames.specs.Frames.{line_of, lines_left}
+use Rattle.machine_lines.specs.Lines.{line_of, lines_left}
 use Rattle.ir_machine.specs.Executors.{machinery, seen, told}
 use Rattle.ir_machine.proofs.CallLemmas.{start_full, start_goes}
 use Rattle.ir_machine.specs.Executors.{waiting, kept}

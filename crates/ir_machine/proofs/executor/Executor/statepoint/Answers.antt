@@ -2,7 +2,7 @@ use Rattle.std.proofs.Common.{◌≡◌, ℕ, List, map, take, sym, ap, ◌∙�
 use Rattle.ir_ast.specs.Objects.{number}
 use Rattle.object_meaning.specs.Lines.{following}
 use Rattle.machine_meaning.specs.Words.{worded_operand}
-use Rattle.machine_frames.specs.Frames.{line_of, lines_left}
+use Rattle.machine_lines.specs.Lines.{line_of, lines_left}
 use Rattle.ir_machine.specs.Executors.{machinery, seen}
 use Rattle.ir_machine.proofs.StepLemmas.{does_as}
 use Rattle.std.proofs.lemmas.List.{take-map}

@@ -1,5 +1,5 @@
 use Rattle.std.proofs.Common.{List, sym, ap}
-use Rattle.machine_frames.specs.Frames.{lines_left}
+use Rattle.machine_lines.specs.Lines.{lines_left}
 use Rattle.ir_machine.specs.Executors.{machinery, seen, told}
 use Rattle.ir_machine.proofs.StepLemmas.{does_as}
 use Rattle.ir_ast.specs.Insts.{Instruction}

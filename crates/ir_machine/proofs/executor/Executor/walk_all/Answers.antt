@@ -1,7 +1,8 @@
 use Rattle.std.proofs.Common.{◌≡◌, true, List, length, refl, sym, ap, ◌∙◌, arith}
 use Rattle.std.specs.Prelude.{Option}
 use Rattle.moving_heap.specs.Heaps.{HeapView}
-use Rattle.ir_machine.specs.Executors.{machinery, seen, still, told}
+use Rattle.ir_machine.specs.Executors.{machinery, seen, told}
+use Rattle.machine_lines.specs.Going.{still}
 use Rattle.ir_machine.specs.Events.{or_lost}
 use Rattle.ir_machine.proofs.EventLemmas.{lost_running, lost_other, moved_goes}
 use Rattle.machine_meaning.specs.Moving.{moved_heap}

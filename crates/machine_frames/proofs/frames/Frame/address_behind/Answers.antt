@@ -5,7 +5,8 @@ use Rattle.move_plan.specs.declared.plan_lines.PlanLine.{PlanLine}
 use Rattle.object_meaning.specs.Lines.{following, first_register, insts_of}
 use Rattle.machine_meaning.specs.Code.{machinery_of, code_address}
 use Rattle.machine_meaning.specs.Machines.{behind, address_behind}
-use Rattle.machine_frames.specs.Frames.{line_of, lines_left, lines_in, frame_of}
+use Rattle.machine_frames.specs.Frames.{lines_in, frame_of}
+use Rattle.machine_lines.specs.Lines.{line_of, lines_left}
 use Rattle.machine_frames.proofs.LineLemmas.{count_lines}
 use Rattle.machine_frames.proofs.frames.Frame.address_behind.Goals as goal
 

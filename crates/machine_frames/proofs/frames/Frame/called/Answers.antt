@@ -4,7 +4,8 @@ use Rattle.object_meaning.specs.Lines.{Line, first_register, register_count}
 use Rattle.object_meaning.specs.Registers.{nothing, value}
 use Rattle.object_meaning.specs.States.{Frame}
 use Rattle.machine_meaning.specs.Words.{worded_operand}
-use Rattle.machine_frames.specs.Frames.{lines_left, lines_in}
+use Rattle.machine_frames.specs.Frames.{lines_in}
+use Rattle.machine_lines.specs.Lines.{lines_left}
 use Rattle.machine_frames.proofs.FrameLemmas.{entered_are}
 use Rattle.machine_frames.proofs.frames.Frame.called.Goals as goal
 

@@ -4,7 +4,8 @@ use Rattle.ir_ast.specs.Insts.{Instruction}
 use Rattle.ir_ast.specs.Objects.{number}
 use Rattle.object_meaning.specs.Lines.{following}
 use Rattle.machine_meaning.specs.Machines.{gone_from, gone_behind}
-use Rattle.machine_frames.specs.Frames.{line_of, lines_left, frame_of}
+use Rattle.machine_frames.specs.Frames.{frame_of}
+use Rattle.machine_lines.specs.Lines.{line_of, lines_left}
 use Rattle.machine_frames.proofs.frames.Frame.go_on.Goals as goal
 
 pub returns-in-None : goal.returns-in-None

@@ -6,7 +6,8 @@ use Rattle.move_plan.specs.declared.plan_lines.PlanLine.{PlanLine}
 use Rattle.object_meaning.specs.Lines.{following}
 use Rattle.machine_meaning.specs.Code.{machinery_of}
 use Rattle.machine_meaning.specs.Machines.{return_to, return_address, address_behind}
-use Rattle.machine_frames.specs.Frames.{line_of, lines_left, frame_of}
+use Rattle.machine_frames.specs.Frames.{frame_of}
+use Rattle.machine_lines.specs.Lines.{line_of, lines_left}
 use Rattle.machine_frames.proofs.frames.Frame.return_address.Goals as goal
 
 pub returns-in-None : goal.returns-in-None

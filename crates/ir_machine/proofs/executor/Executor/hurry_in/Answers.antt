@@ -1,0 +1,27 @@
+use Rattle.std.proofs.Common.{◌≡◌, ℕ, List, map, take, sym, ap, ◌∙◌}
+use Rattle.ir_ast.specs.declared.ops.Callee.{Callee}
+use Rattle.ir_ast.specs.declared.ops.Callee.TheVariants.{Fun}
+use Rattle.ir_ast.specs.Objects.{number}
+use Rattle.object_meaning.specs.Lines.{following}
+use Rattle.machine_meaning.specs.Words.{worded_operand}
+use Rattle.machine_meaning.specs.Machines.{over, spilled}
+use Rattle.machine_meaning.specs.MachineSteps.{calls}
+use Rattle.machine_lines.specs.Lines.{line_of, lines_left}
+use Rattle.machine_frames.specs.Frames.{kept_in}
+use Rattle.std.proofs.lemmas.List.{take-map}
+use Rattle.ir_machine.specs.Executors.{machinery, seen}
+use Rattle.ir_machine.proofs.executor.Executor.hurry_in.Goals as goal
+
+pub returns : goal.returns
+returns c =
+    let now = c.args.self.now in let inst = c.args.inst.now in let next = now.run.frame.next in let all = machinery c.args.program.now in
+    let line = line_of next inst in let lines = lines_left (following next inst) c.args.rest.insts.now in
+    let callee : Callee = Fun (record { 0 = c.args.func }) in
+    let operands : map worded_operand c.front.result.now ≡ take c.args.arguments (map worded_operand inst.operands) =
+    ap (map worded_operand) (c.front.ensures ∙ ap (take c.args.arguments) c.operands.ensures) ∙ sym (take-map worded_operand c.args.arguments inst.operands) in
+    let kept_so : c.keep.new.words.items ≡ kept_in (map number now.run.frame.registers.items) inst c.args.arguments = rw c.as_slice.ensures.value at c.in_ok-keep.ensures in
+    let stack : c.write_over.new.stack ≡ over (kept_in (map number now.run.frame.registers.items) inst c.args.arguments) now.run.stack =
+    c.in_ok-write_over.ensures ∙ ap (λ (ws : List ℕ). over ws now.run.stack) (c.as_slice-2.ensures.value ∙ kept_so) in
+    sym (ap (calls all (spilled (seen now) line.inst c.args.arguments) line lines callee) operands)
+    ∙ sym (ap (λ (words : List ℕ). calls all (record (seen now) { stack = words }) line lines callee (map worded_operand c.front.result.now)) stack)
+    ∙ c.in_ok-go_in.ensures

@@ -1,0 +1,9 @@
+use Rattle.std.proofs.Common.{map, take, sym, ap, ◌∙◌}
+use Rattle.std.proofs.lemmas.List.{take-map}
+use Rattle.machine_lines.specs.Decoding.{decoded_of}
+use Rattle.machine_lines.proofs.decoded.Lines.front_of.Goals as goal
+
+pub invariant_of-result : goal.invariant_of-result
+invariant_of-result c = record {
+  tied = c.split_at-2.ensures.front ∙ ap (take c.args.count) c.args.self.tied ∙ take-map decoded_of c.args.count c.args.self.insts.now ∙ ap (map decoded_of) (sym c.split_at.ensures.front);
+}
