@@ -43,19 +43,19 @@ computes_once frame line rest word stands plain is = record {
     goes = rw plain (ap (with_answer frame line rest) is)
 
 -- the same by the decoded line
-pub computes_line : (frame : Frame) (next : ℕ) (inst : Instruction) (rest : List Instruction) (registers : List ℕ) (word : ℕ)
+pub computes_line : (frame : Frame) (next : ℕ) (inst : Instruction) (rest : List Instruction) (registers : List ℕ) (word : ℕ) → length registers ≤ 18446744073709551615
     → frame.rest ≡ lines_left next (inst ∷ rest) → frame.registers ≡ map number registers → is_plain inst.op ≡ true
     → computed [] inst.op (worded_type inst.op inst.ty) (number (found_word registers (decoded_of inst).first)) (number (found_word registers (decoded_of inst).second))
     (number (found_word registers (decoded_of inst).third)) ≡ Ok (number word)
     → Computes frame (record frame { rest = lines_left (following next inst) rest; registers = put (line_of next inst).to (number word) frame.registers })
-computes_line frame next inst rest registers word stands words plain is =
+computes_line frame next inst rest registers word few stands words plain is =
     let ty = worded_type inst.op inst.ty in let operands : List Operand = map worded_operand inst.operands in let all : List Datum = map number registers in
     let first : Datum = number (found_word registers (decoded_of inst).first) in let second : Datum = number (found_word registers (decoded_of inst).second) in
     computes_once frame (line_of next inst) (lines_left (following next inst) rest) word stands plain
     (ap (λ (rs : List Datum). value_of_line [] rs inst.op ty operands) words
-    ∙ ap (λ (a : Datum). computed [] inst.op ty a (operand all operands 1) (operand all operands 2)) (source_at_is registers inst.operands 0)
-    ∙ ap (λ (b : Datum). computed [] inst.op ty first b (operand all operands 2)) (source_at_is registers inst.operands 1)
-    ∙ ap (λ (d : Datum). computed [] inst.op ty first second d) (source_at_is registers inst.operands 2)
+    ∙ ap (λ (a : Datum). computed [] inst.op ty a (operand all operands 1) (operand all operands 2)) (source_at_is registers inst.operands 0 few)
+    ∙ ap (λ (b : Datum). computed [] inst.op ty first b (operand all operands 2)) (source_at_is registers inst.operands 1 few)
+    ∙ ap (λ (d : Datum). computed [] inst.op ty first second d) (source_at_is registers inst.operands 2 few)
     ∙ is)
 
 plain_is : (one other : Bool) → (one && other) ≡ true → one ≡ true
@@ -68,15 +68,15 @@ gives_is false other e = cc
 
 -- one line more of a list
 pub lines_more : (frame : Frame) (next i : ℕ) (insts : List Instruction) (inst : Instruction) (registers : List ℕ) (word : ℕ) → i < length insts → inst ≡ get_or insts i inst
-    → (decoded_of inst).plain ≡ true
+    → length registers ≤ 18446744073709551615 → (decoded_of inst).plain ≡ true
     → computed [] inst.op (worded_type inst.op inst.ty) (number (found_word registers (decoded_of inst).first)) (number (found_word registers (decoded_of inst).second))
     (number (found_word registers (decoded_of inst).third)) ≡ Ok (number word)
     → Computes frame (record frame { rest = lines_left next (drop i insts); registers = map number registers })
     → Computes frame (record frame { rest = lines_left (next + 1) (drop (i + 1) insts); registers = map number (slice_set registers next word) })
-lines_more frame next i insts inst registers word below read plain is so_far =
+lines_more frame next i insts inst registers word below read few plain is so_far =
     let old : Frame = record frame { rest = lines_left next (drop i insts); registers = map number registers } in
     let gives = gives_is (is_plain inst.op) (is_some inst.result) plain in
-    let line = computes_line old next inst (drop (i + 1) insts) registers word (ap (lines_left next) (rest_at insts i inst below read)) refl
+    let line = computes_line old next inst (drop (i + 1) insts) registers word few (ap (lines_left next) (rest_at insts i inst below read)) refl
     (plain_is (is_plain inst.op) (is_some inst.result) plain) is in
     let whole : ℕ → List Datum → Frame = λ n rs. record frame { rest = lines_left n (drop (i + 1) insts); registers = rs } in
     let after : following next inst ≡ next + 1 = rw gives refl in

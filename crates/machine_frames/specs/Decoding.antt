@@ -1,14 +1,13 @@
 -- Lines decoded: where their operands are found, and the bits of their types.
-use Rattle.std.specs.Prelude.{ℕ, Bool, true, false, ◌&&◌, is_some, List, slice_get, slice_index}
+use Rattle.std.specs.Prelude.{ℕ, Bool, true, false, ◌&&◌, is_some, List, slice_get, slice_index_or}
 use Rattle.std.specs.Option.{option_map_or}
 use Rattle.ir_ast.specs.declared.ops.Op.{Op}
 use Rattle.ir_ast.specs.declared.ops.Op.TheVariants.{Add, Sub, Mul, Udiv, Sdiv, Urem, Srem, And, Or, Xor, Shl, Lshr, Ashr, Icmp, Trunc, Zext, Sext, Select}
 use Rattle.ir_ast.specs.declared.ops.Operand.{Operand}
-use Rattle.ir_ast.specs.declared.ops.Operand.TheVariants.{Value, Int, Null, Fun}
+use Rattle.ir_ast.specs.declared.ops.Operand.TheVariants.{Value, Int}
 use Rattle.ir_ast.specs.Insts.{Instruction}
 use Rattle.object_meaning.specs.Numbers.{width_of}
 use Rattle.machine_frames.specs.declared.decoded.Source.{Source}
-use Rattle.machine_frames.specs.declared.decoded.Source.TheVariants.{Register, Literal}
 use Rattle.machine_frames.specs.declared.decoded.Decoded.{Decoded}
 
 -- a line that computes a number of numbers
@@ -33,14 +32,17 @@ is_plain (Sext to) = true
 is_plain Select = true
 is_plain _ = false
 
+-- no frame has so many registers
+abbrev pub literal : ℕ → Source
+literal number = record { register = 18446744073709551615; literal = number }
+
 abbrev pub source_of : Operand → Source
-source_of (Value id) = Register id.0
-source_of (Int number) = Literal number
-source_of Null = Literal 0
-source_of (Fun func) = Literal 0
+source_of (Value id) = record { register = id.0; literal = 0 }
+source_of (Int number) = literal number
+source_of operand = literal 0
 
 abbrev pub source_at : List Operand → ℕ → Source
-source_at operands place = option_map_or source_of (slice_get operands place) (Literal 0)
+source_at operands place = option_map_or source_of (slice_get operands place) (literal 0)
 
 abbrev pub decoded_of : Instruction → Decoded
 decoded_of inst = record {
@@ -53,5 +55,4 @@ decoded_of inst = record {
 
 -- the word at a source
 abbrev pub found_word : List ℕ → Source → ℕ
-found_word registers (Register place) = slice_index registers place
-found_word registers (Literal number) = number
+found_word registers source = slice_index_or registers source.register source.literal

@@ -1,6 +1,6 @@
 //! The lines of a block, each beside what a line that computes numbers needs of its type and its operands.
 
-ghost use Rattle.std.specs.Prelude.{◌≡◌, ◌∷◌, ◌≤◌, [], drop, length, map, MatchOption, IfOk};
+ghost use Rattle.std.specs.Prelude.{◌≡◌, ◌∷◌, ◌≤◌, [], drop, length, map, MatchOption, IfOk, slice_index_or};
 ghost use Rattle.ir_ast.specs.Insts.{Instruction};
 ghost use Rattle.ir_ast.specs.Objects.{number};
 ghost use Rattle.object_meaning.specs.Registers.{operand};
@@ -13,11 +13,11 @@ use ir_ast::{Block, Inst, Operand};
 use sp_ids::Memory;
 use std::alloc::Global;
 
-/// Where an operand is found: in a register, or in the line itself.
+/// Where an operand is found: in a register, or where the frame has no such register, as a literal.
 #[derive(Clone, Copy, Debug)]
-pub enum Source {
-    Register(usize),
-    Literal(u64),
+pub struct Source {
+    pub register: usize,
+    pub literal: u64,
 }
 
 /// Whether a line computes a number of numbers for a register, the bits of its type, and its first three operands.
@@ -87,21 +87,33 @@ impl Decoded {
     pub fn first_word(&self, registers: &[u64]) -> u64
         ensures { (inst : Instruction) → self.now ≡ decoded_of inst → operand (map number registers.now) (map worded_operand inst.operands) 0 ≡ number result }
     {
-        self.first.word(registers)
+        found(registers, self.first)
     }
 
     /// The word of the second operand.
     pub fn second_word(&self, registers: &[u64]) -> u64
         ensures { (inst : Instruction) → self.now ≡ decoded_of inst → operand (map number registers.now) (map worded_operand inst.operands) 1 ≡ number result }
     {
-        self.second.word(registers)
+        found(registers, self.second)
     }
 
     /// The word of the third operand.
     pub fn third_word(&self, registers: &[u64]) -> u64
         ensures { (inst : Instruction) → self.now ≡ decoded_of inst → operand (map number registers.now) (map worded_operand inst.operands) 2 ≡ number result }
     {
-        self.third.word(registers)
+        found(registers, self.third)
+    }
+}
+
+// The word at a source, among registers that are never as many as a word can count.
+fn found(registers: &[u64], source: Source) -> u64
+    ensures value { result ≡ found_word registers.now source }
+    ensures few { length registers.now ≤ 18446744073709551615 }
+{
+    if source.register < registers.len() {
+        registers[source.register]
+    } else {
+        source.literal
     }
 }
 
@@ -110,10 +122,10 @@ impl Source {
     pub(crate) fn word(self, registers: &[u64]) -> u64
         ensures { result ≡ found_word registers.now self }
     {
-        match self {
-            Source::Register(register) => registers.get(register).copied().unwrap_or(0),
-            Source::Literal(number) => number,
-        }
+        registers
+            .get(self.register)
+            .copied()
+            .unwrap_or(self.literal)
     }
 }
 
@@ -154,7 +166,7 @@ fn source_at(operands: &[Operand], place: usize) -> Source
     ensures { result ≡ source_at operands.now place }
 {
     match operands.get(place) {
-        None => Source::Literal(0),
+        None => literal(0),
         Some(operand) => source_of(*operand),
     }
 }
@@ -163,9 +175,22 @@ fn source_of(operand: Operand) -> Source
     ensures { result ≡ source_of operand }
 {
     match operand {
-        Operand::Value(id) => Source::Register(id.0 as usize),
-        Operand::Int(number) => Source::Literal(number),
-        Operand::Null => Source::Literal(0),
-        Operand::Fun(_) => Source::Literal(0),
+        Operand::Value(id) => Source {
+            register: id.0 as usize,
+            literal: 0,
+        },
+        Operand::Int(number) => literal(number),
+        Operand::Null => literal(0),
+        Operand::Fun(_) => literal(0),
+    }
+}
+
+// No frame has so many registers.
+fn literal(number: u64) -> Source
+    ensures { result ≡ record { register = 18446744073709551615; literal = number } }
+{
+    Source {
+        register: usize::MAX,
+        literal: number,
     }
 }

@@ -2,7 +2,6 @@ use Rattle.std.proofs.Common.{◌≡◌, ℕ, ◌+◌, ◌<◌, ◌≤◌, false
 use Rattle.ir_ast.specs.Objects.{number}
 use Rattle.object_meaning.specs.States.{Frame}
 use Rattle.machine_frames.specs.declared.decoded.Source.{Source}
-use Rattle.machine_frames.specs.declared.decoded.Source.TheVariants.{Literal}
 use Rattle.machine_frames.specs.Computed.{Computes}
 use Rattle.machine_frames.specs.Frames.{lines_left}
 use Rattle.machine_frames.proofs.ComputedLemmas.{lines_more}
@@ -13,11 +12,12 @@ pub loop-place-preserved : goal.loop-place-preserved
 loop-place-preserved c = λ frame stands words.
     let insts = c.args.insts.now in let place = c.loop-place.place in let inst = c.index-insts-place.result in let registers = c.loop-place.registers in
     let below : place < length insts = omega arith in
-    let none : Source = Literal 0 in
+    let few : length registers ≤ 18446744073709551615 = omega arith in
+    let none : Source = record { register = 0; literal = 0 } in
     let at = decoded_at insts c.args.decoded.now place inst (record { plain = false; width = 0; first = none; second = none; third = none }) c.requires below c.index-insts-place.is in
     let plain = rw at at c.in-Some.ensures.plain in
     let is = rw (at, c.op.ensures, c.ty.ensures) at c.in-Some.ensures.value in
-    lines_more frame c.loop-place.next place insts inst registers c.in-Some.word below c.index-insts-place.is plain is (c.loop-place.invariant frame stands words)
+    lines_more frame c.loop-place.next place insts inst registers c.in-Some.word below c.index-insts-place.is few plain is (c.loop-place.invariant frame stands words)
 
 pub returns-clause-computes : goal.returns-clause-computes
 returns-clause-computes c = λ frame stands words.

@@ -7,5 +7,5 @@ use Rattle.machine_frames.proofs.decoded.Decoded.third_word.Goals as goal
 
 pub returns : goal.returns
 returns c = λ inst is.
-    source_at_is c.args.registers.now inst.operands 2
-    ∙ ap number (ap (λ (d : Decoded). found_word c.args.registers.now d.third) (sym is) ∙ sym c.word.ensures)
+    source_at_is c.args.registers.now inst.operands 2 c.found.ensures.few
+    ∙ ap number (ap (λ (d : Decoded). found_word c.args.registers.now d.third) (sym is) ∙ sym c.found.ensures.value)
