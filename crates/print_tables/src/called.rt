@@ -140,7 +140,7 @@ fn place_of_result(ty: Ty) -> Option<usize>
     match ty {
         Ty::Int(width) => place_of_width(width),
         Ty::Ptr => Some(RESULT_POINTER),
-        _ => None,
+        Ty::Void | Ty::Token => None,
     }
 }
 

@@ -49,7 +49,7 @@ fn is_result_of(external: External, ty: Ty) -> bool
     match external {
         External::ResultOf(width) => match ty {
             Ty::Int(other) => width == other,
-            _ => false,
+            Ty::Void | Ty::Ptr | Ty::Token => false,
         },
         External::ResultPointer => matches!(ty, Ty::Ptr),
         _ => false,
