@@ -46,6 +46,15 @@ fn instruction(
     }
 }
 
+// The room for the instructions of the lines of a block; behind a `switch` stand its cases, which are none.
+fn room_for(lines: &[NumberedReading]) -> usize {
+    lines.iter().take_while(|line| !is_case(line)).count()
+}
+
+fn is_case(line: &NumberedReading) -> bool {
+    matches!(line.reading, Reading::Case { .. })
+}
+
 fn insts(
     scope: &Scope,
     alloc: Global,
@@ -56,7 +65,7 @@ fn insts(
     ensures numbers { OnOk result (numbers.new.items
         ≡ numbers.old.items ++ numbers_of (known_in scope.now) (uncast_lines (seen_lines lines.now))) }
 {
-    let mut insts = Vec::new(alloc);
+    let mut insts = Vec::with_capacity(alloc, room_for(lines))?;
     for (i, line) in lines.iter().enumerate() {
         let made = instruction(scope, alloc, &line.reading, behind(lines, i))?;
         keep(&mut insts, numbers, line.line, made)?;
@@ -96,7 +105,7 @@ fn built_blocks(
     ensures numbers { OnOk result (numbers.new.items ≡ numbers.old.items
         ++ flat_map (λ block. numbers_of (known_in scope.now) block.lines) (map uncast_block (map seen_block blocks.now))) }
 {
-    let mut built = Vec::new(alloc);
+    let mut built = Vec::with_capacity(alloc, blocks.len())?;
     for one in blocks {
         let made = block(scope, alloc, one, numbers)?;
         built.push(made)?;
