@@ -2,5 +2,4 @@ pub mod Resolved
 pub mod TextFaults
 pub mod ModuleFaults
 pub mod FaultSet
-pub mod Agreement
-pub mod Statements
+pub mod Least

@@ -18,7 +18,7 @@ use Rattle.ir_lines.specs.PlainFaults.{ComesFirst}
 use Rattle.ir_lines.specs.Views.{seen_lines}
 use Rattle.ir_lines.proofs.NoteLemmas.{Either, notes-then, notes-same}
 use Rattle.ir_resolve.specs.Resolved.{Resolved, resolved}
-use Rattle.ir_resolve.specs.Agreement.{IsLeast}
+use Rattle.ir_resolve.specs.Least.{IsLeast}
 use Rattle.ir_resolve.specs.TextFaults.{HasTextFault, pointer_cast}
 use Rattle.ir_resolve.specs.ModuleFaults.{HasModuleFault}
 use Rattle.ir_resolve.specs.FaultSet.{HasResolvedFault, HasNoResolvedFault, of_text, of_module}
