@@ -1,10 +1,8 @@
 -- One pass after another keeps the first of the faults of both; at the end it is the least fault.
-use Rattle.std.proofs.Common.{◌≡◌, ◌∙◌, ℕ, ◌⊎◌, inl, inr, Bool, true, false, List, refl, ap, sym, subst, arith}
+use Rattle.std.proofs.Common.{◌≡◌, ◌∙◌, ℕ, ◌⊎◌, inl, inr, Bool, true, false, refl, ap, sym, subst, arith}
 use Rattle.std.specs.Prelude.{Option, Some, None, not, IsTrue, ◌↔◌}
-use Rattle.ir_ast.specs.declared.modules.Form.{Form}
 use Rattle.ir_lines.specs.declared.faults.Fault.{Fault}
-use Rattle.ir_lines.specs.Statements.{Line}
-use Rattle.ir_lines.specs.PlainFaults.{ComesFirst, HasPlainFault, IsLeastPlainFault, HasNoPlainFault}
+use Rattle.ir_lines.specs.FaultOrder.{ComesFirst, IsLeast}
 use Rattle.ir_lines.specs.Notes.{Notes, IsUpTo, HasSource, Is}
 
 abbrev pub Either : (ℕ → ℕ → Type 0) → (ℕ → ℕ → Type 0) → ℕ → ℕ → Type 0
@@ -58,17 +56,16 @@ first-of : (fault kept : Fault) (line code : ℕ) → Some fault ≡ Some kept �
     → ComesFirst fault.line fault.code line code
 first-of fault kept line code e f = let same : kept ≡ fault = cc in subst (λ (one : Fault). ComesFirst one.line one.code line code) same f
 
--- nothing was kept before: what is kept is the least fault
-pub notes-least : (form : Form) (lines : List Line) (fault : Fault) → Notes None (Some fault) (λ line code. HasPlainFault form lines line code)
-    → IsLeastPlainFault form lines fault.line fault.code
-notes-least form lines fault n = record {
-  is = found-in fault (λ line code. HasPlainFault form lines line code) n.source;
+-- nothing was kept before: what is kept is the least
+pub notes-least : (F : ℕ → ℕ → Type 0) (fault : Fault) → Notes None (Some fault) F → IsLeast F fault.line fault.code
+notes-least F fault n = record {
+  is = found-in fault F n.source;
   least = λ line code f. let u = n.least line code f in first-of fault u.fault line code u.is u.first;
 }
 
--- nothing is kept: there is no fault
-pub notes-none : (form : Form) (lines : List Line) → Notes None None (λ line code. HasPlainFault form lines line code) → HasNoPlainFault form lines
-notes-none form lines n = λ line code f. let u = n.least line code f in let bad : None ≡ Some u.fault = u.is in cc
+-- nothing is kept: there is none
+pub notes-none : (F : ℕ → ℕ → Type 0) → Notes None None F → (line code : ℕ) → ¬ F line code
+notes-none F n line code f = let u = n.least line code f in let bad : None ≡ Some u.fault = u.is in cc
 
 -- ---- sets of faults that are the same
 
@@ -120,12 +117,6 @@ not-is r b e = ((λ t. sym e ∙ untrue r t), (λ f. ap not (e ∙ f)))
 
 abbrev pub Tested : Bool → ℕ → ℕ → ℕ → ℕ → Type 0
 Tested test line code l c = IsTrue test × Is line code l c
-
-pub one-noted : (line k : ℕ) (a : Bool) (P : Type 0) (f g : Option Fault) → (IsTrue a ↔ P) → Notes f g (Tested a line k)
-    → Notes f g (λ l c. (l ≡ line) × ((c ≡ k) × P))
-one-noted line k a P f g is n =
-    notes-same f g (Tested a line k) (λ l c. (l ≡ line) × ((c ≡ k) × P)) (λ l c t. (t.1.0, (t.1.1, is.0 t.0)))
-    (λ l c t. (is.1 t.1.1, (t.0, t.1.0))) n
 
 pub two-noted : (line k m : ℕ) (a b : Bool) (P Q : Type 0) (f g h : Option Fault) → (IsTrue a ↔ P) → (IsTrue b ↔ Q)
     → Notes f g (Tested a line k) → Notes g h (Tested b line m)

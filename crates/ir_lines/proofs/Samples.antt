@@ -17,8 +17,6 @@ use Rattle.ir_lines.specs.Sections.{definitions_of}
 use Rattle.ir_lines.specs.Scope.{Scope, scope_of}
 use Rattle.ir_lines.specs.Modules.{instruction, module_of}
 use Rattle.ir_lines.specs.Faults.UnknownName.{names_unknown}
-use Rattle.ir_lines.specs.Faults.TypeClash.{clashes}
-use Rattle.ir_lines.specs.Faults.EntryHasPred.{names_entry}
 use Rattle.std.specs.Prelude.{Bool, map, flat_map}
 
 abbrev pub at : ℕ → Statement → Line
@@ -110,11 +108,3 @@ whats =
 pub finds_unknown_names : found_by names_unknown whats
     ≡ false ∷ false ∷ false ∷ false ∷ true ∷ false ∷ true ∷ false ∷ false ∷ true ∷ []
 finds_unknown_names = refl
-
-pub finds_clashes : found_by (clashes Source) whats
-    ≡ false ∷ true ∷ false ∷ true ∷ false ∷ false ∷ false ∷ true ∷ true ∷ false ∷ []
-finds_clashes = refl
-
-pub finds_the_entry : found_by names_entry whats
-    ≡ false ∷ false ∷ false ∷ false ∷ false ∷ true ∷ false ∷ false ∷ false ∷ false ∷ []
-finds_the_entry = refl

@@ -2,14 +2,10 @@
 pub mod NameTwice
 pub mod UnknownName
 pub mod TypeClash
-pub mod EntryHasPred
-pub mod PhiEdges
-pub mod DerivedEscapes
 pub mod NoStrategy
 pub mod NoMain
 pub mod UnknownExtern
 pub mod BadLayout
 pub mod Reserved
-pub mod PointerOrder
 pub mod PointerCast
 pub mod GroupShape

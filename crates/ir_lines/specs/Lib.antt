@@ -9,7 +9,7 @@ pub mod Modules
 pub mod Types
 pub mod InBody
 pub mod Faults
-pub mod PlainFaults
+pub mod FaultOrder
 pub mod Notes
 pub mod Views
 pub mod Tables

@@ -1,7 +1,7 @@
 -- Keeping the first fault of those that were found.
 use Rattle.std.specs.Prelude.{◌≡◌, ℕ, ◌⊎◌, Option, Some, None}
 use Rattle.ir_lines.specs.declared.faults.Fault.{Fault}
-use Rattle.ir_lines.specs.PlainFaults.{ComesFirst}
+use Rattle.ir_lines.specs.FaultOrder.{ComesFirst}
 
 -- a fault is kept, and it is this one or comes before it
 pub record IsUpTo (kept : Option Fault) (line code : ℕ) : Type 0 where

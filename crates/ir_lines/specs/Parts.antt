@@ -106,10 +106,6 @@ local_name _ = None
 abbrev pub values_named : Statement → List (List ℕ)
 values_named what = filter_map (λ used. local_name used.0) (uses what)
 
-abbrev pub is_phi : Statement → Bool
-is_phi (phi result ty entries) = true
-is_phi _ = false
-
 -- a line that gives a pointer some bytes further
 abbrev pub is_step : Statement → Bool
 is_step (scalar_step result element address width index) = true
@@ -128,10 +124,3 @@ is_of_group (statepoint result made live) = true
 is_of_group (gc_result result ty token) = true
 is_of_group (gc_relocate result token base derived) = true
 is_of_group _ = false
-
--- what a line of the source form stores, passes or returns
-abbrev pub leaving : Statement → List Val
-leaving (store ty value address) = value ∷ []
-leaving (call result answer callee passed) = map (λ used. used.0) (filter_map passed_value passed)
-leaving (ret ty value) = value ∷ []
-leaving _ = []

@@ -1,8 +1,7 @@
 -- What a name stands for: what its first line gives.
-use Rattle.std.specs.Prelude.{ℕ, List, map, find, Option}
+use Rattle.std.specs.Prelude.{ℕ, List, find, Option}
 use Rattle.std.specs.Str.{bytes_eq}
 use Rattle.line_parts.specs.declared.readings.TypeWord.{TypeWord}
-use Rattle.ir_lines.specs.Places.{number_in}
 use Rattle.ir_lines.specs.Statements.{Line}
 use Rattle.ir_lines.specs.Sections.{LayoutLine, Head, Definition, Naming, BlockLines, layouts_of, heads_of, values_of, blocks_of}
 
@@ -35,11 +34,3 @@ value_named scope name = find (λ one. bytes_eq name one.name) scope.values
 
 abbrev pub block_named : Scope → List ℕ → Option BlockLines
 block_named scope name = find (λ one. bytes_eq name one.name) scope.blocks
-
--- ---- numbers
-
-abbrev pub value_names : Scope → List (List ℕ)
-value_names scope = map (λ one. one.name) scope.values
-
-abbrev pub block_number : Scope → List ℕ → ℕ
-block_number scope name = number_in (map (λ one. one.name) scope.blocks) name

@@ -13,7 +13,7 @@ use Rattle.line_parts.specs.declared.readings.TypeWord.TheVariants as types
 use Rattle.line_parts.specs.Parts.{Val}
 use Rattle.ir_lines.specs.Statements.{Line, Statement, label, switch}
 use Rattle.ir_lines.specs.Sections.{Definition, BlockLines, is_label, label_said, until_label, block_at, labelled_blocks, first_block, blocks_of, count_numbered, is_case, cases_of}
-use Rattle.ir_lines.specs.Modules.{Known, with_line, instruction, instruction_said, instructions_of, block_of, function_of, instruction_lines, operand_of, label_of, case_value, case_label}
+use Rattle.ir_lines.specs.Modules.{Known, with_line, instruction, instruction_said, instructions_of, block_of, function_of, operand_of, label_of, case_value, case_label}
 use Rattle.ir_resolve.specs.Resolved.{Spot, case_lines, spot_said, spots_of}
 
 -- ---- up to a label
@@ -120,9 +120,3 @@ function_insts known func =
     ∙ mapped_flat (λ (one : ℕ × Instruction). one.1) (λ (b : BlockLines). instructions_of known b.lines) (blocks_of func)
     ∙ ap (map (λ (one : ℕ × Instruction). one.1)) (body_lined known func func.body ∙ spots-lined known func.body)
     ∙ map-map (λ (one : ℕ × Instruction). one.1) (λ (spot : Spot). (spot.line, spot.inst)) (spots_of known func.body)
-
-pub function_lines : (known : Known) (func : Definition) → instruction_lines known func ≡ map (λ (spot : Spot). spot.line) (spots_of known func.body)
-function_lines known func =
-    mapped_flat (λ (one : ℕ × Instruction). one.0) (λ (b : BlockLines). instructions_of known b.lines) (blocks_of func)
-    ∙ ap (map (λ (one : ℕ × Instruction). one.0)) (body_lined known func func.body ∙ spots-lined known func.body)
-    ∙ map-map (λ (one : ℕ × Instruction). one.0) (λ (spot : Spot). (spot.line, spot.inst)) (spots_of known func.body)

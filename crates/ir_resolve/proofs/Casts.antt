@@ -1,19 +1,13 @@
--- What a text says but for its casts, with which its module does without: definitions, labels and tests of lines.
-use Rattle.std.proofs.Common.{◌≡◌, ◌∙◌, ℕ, Bool, true, false, not, cond, if◌then◌else◌, List, [], ◌∷◌, ◌++◌, map, refl, ap, sym, subst}
+-- The text without its casts has the layouts, definitions, blocks, labels and values of the text.
+use Rattle.std.proofs.Common.{◌≡◌, ◌∙◌, ℕ, Bool, true, false, not, cond, if◌then◌else◌, List, [], ◌∷◌, ◌++◌, map, refl, ap, sym}
 use Rattle.std.specs.Prelude.{Option, Some, None, take_while, flat_map, decimal}
-use Rattle.std.specs.List.{Contains}
 use Rattle.std.proofs.lemmas.List.{map-append}
 use Rattle.std.proofs.lemmas.List.Sums.{take_while-cons}
-use Rattle.list_laws.proofs.Contents.{contains_map, contains_image, IsImage}
 use Rattle.line_parts.specs.declared.readings.TypeWord.{TypeWord}
 use Rattle.ir_lines.specs.Statements.{Statement, Line, define, cast}
-use Rattle.ir_lines.specs.Parts.{targets, gives}
-use Rattle.ir_lines.specs.Sections.{Definition, BlockLines, Naming, result_named, arguments_named, values_of, definition_said, definitions_of, is_close, is_label, is_case, label_said, until_label, block_at, labelled_blocks, first_block, blocks_of, count_numbered}
-use Rattle.ir_lines.specs.Scope.{Scope, scope_of}
-use Rattle.ir_lines.specs.InBody.{InBody}
-use Rattle.ir_lines.specs.ReadLines.{CasesStand, opens_case}
+use Rattle.ir_lines.specs.Parts.{gives}
+use Rattle.ir_lines.specs.Sections.{Definition, BlockLines, LayoutLine, Naming, layout_said, layouts_of, result_named, arguments_named, values_of, definition_said, definitions_of, is_close, is_label, label_said, until_label, block_at, labelled_blocks, first_block, blocks_of, count_numbered}
 use Rattle.ir_resolve.specs.Resolved.{uncast, uncast_line}
-use Rattle.ir_resolve.proofs.Entries.{CasesFollow}
 
 abbrev pub uncast_in : Definition → Definition
 uncast_in func = record {
@@ -37,17 +31,17 @@ said-same : (s : Statement) → label_said (uncast s) ≡ label_said s
 said-same (cast result op from value to) = refl
 said-same _ = refl
 
-case-same : (s : Statement) → is_case (uncast s) ≡ is_case s
-case-same (cast result op from value to) = refl
-case-same _ = refl
+-- ---- layouts
 
-opens-same : (s : Statement) → opens_case (uncast s) ≡ opens_case s
-opens-same (cast result op from value to) = refl
-opens-same _ = refl
+layout-same : (n : ℕ) (s : Statement) → layout_said n (uncast s) ≡ layout_said n s
+layout-same n (cast result op from value to) = refl
+layout-same n _ = refl
 
-pub targets-same : (s : Statement) → targets (uncast s) ≡ targets s
-targets-same (cast result op from value to) = refl
-targets-same _ = refl
+pub layouts-same : (ls : List Line) → layouts_of (map uncast_line ls) ≡ layouts_of ls
+layouts-same [] = refl
+layouts-same (l ∷ ls) =
+    ap (λ (xs : List LayoutLine). xs ++ layouts_of (map uncast_line ls)) (layout-same l.number l.says)
+    ∙ ap (λ (xs : List LayoutLine). layout_said l.number l.says ++ xs) (layouts-same ls)
 
 -- ---- definitions
 
@@ -158,55 +152,3 @@ results-same (l ∷ ls) =
 
 pub values-same : (func : Definition) → values_of (uncast_in func) ≡ values_of func
 values-same func = ap (λ (ns : List Naming). arguments_named func.line [] func.arguments ++ ns) (results-same func.body)
-
--- ---- tests that see no cast
-
-abbrev pub SeesNoCast : List Line → (Scope → Statement → Bool) → Type 0
-SeesNoCast lines test = (func : Definition) (s : Statement)
-    → test (scope_of (map uncast_line lines) (uncast_in func)) (uncast s) ≡ test (scope_of lines func) s
-
-pub in_body-uncast : (lines : List Line) (line : ℕ) (test : Scope → Statement → Bool) → SeesNoCast lines test → InBody lines line test
-    → InBody (map uncast_line lines) line test
-in_body-uncast lines line test same found = record {
-  func = uncast_in found.func;
-  defined = subst (λ (ds : List Definition). Contains ds (uncast_in found.func)) (sym (definitions-same lines))
-      (contains_map uncast_in (definitions_of lines) found.func found.defined);
-  found = uncast_line found.found;
-  inside = contains_map uncast_line found.func.body found.found found.inside;
-  number = found.number;
-  faulty = same found.func found.found.says ∙ found.faulty;
-}
-
--- each definition of the text without casts is that of one with them
-pub defined_before : (lines : List Line) (func : Definition) → Contains (definitions_of (map uncast_line lines)) func → IsImage uncast_in (definitions_of lines) func
-defined_before lines func defined =
-    contains_image uncast_in (definitions_of lines) func (subst (λ (ds : List Definition). Contains ds func) (definitions-same lines) defined)
-
-pub uncast-in_body : (lines : List Line) (line : ℕ) (test : Scope → Statement → Bool) → SeesNoCast lines test → InBody (map uncast_line lines) line test
-    → InBody lines line test
-uncast-in_body lines line test same found =
-    let d = defined_before lines found.func found.defined in
-    let l = contains_image uncast_line d.of.body found.found (subst (λ (f : Definition). Contains f.body found.found) (sym d.is) found.inside) in
-    record {
-      func = d.of;
-      defined = d.inside;
-      found = l.of;
-      inside = l.inside;
-      number = ap (λ (one : Line). one.number) l.is ∙ found.number;
-      faulty = sym (same d.of l.of.says) ∙ ap (λ (one : Line). test (scope_of (map uncast_line lines) (uncast_in d.of)) one.says) l.is
-          ∙ ap (λ (f : Definition). test (scope_of (map uncast_line lines) f) found.found.says) d.is ∙ found.faulty;
-    }
-
--- ---- cases
-
-cases-uncast : (may : Bool) (ls : List Line) → CasesStand may ls → CasesStand may (map uncast_line ls)
-cases-uncast may [] cases = tt
-cases-uncast may (l ∷ ls) cases = (
-  λ is. cases.0 (sym (case-same l.says) ∙ is),
-  subst (λ (b : Bool). CasesStand b (map uncast_line ls)) (sym (opens-same l.says)) (cases-uncast (opens_case l.says) ls cases.1),
-)
-
-pub follow-uncast : (lines : List Line) → CasesFollow lines → CasesFollow (map uncast_line lines)
-follow-uncast lines follow func defined =
-    let d = defined_before lines func defined in
-    subst (λ (f : Definition). CasesStand false f.body) d.is (cases-uncast false d.of.body (follow d.of d.inside))

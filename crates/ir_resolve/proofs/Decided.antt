@@ -83,9 +83,6 @@ operand_decided (operands.Fun a) (operands.Fun b) = elim (number_decided a.0 b.0
 ]
 operand_decided _ _ = inr (λ e. (cc))
 
-pub stable_operand : (x y : Operand) → ¬ (x ≢ y) → x ≡ y
-stable_operand x y likely = holds (operand_decided x y) likely
-
 option_decided : {A : Type 0} → ((a b : A) → Decided (a ≡ b)) → (x y : Option A) → Decided (x ≡ y)
 option_decided each None None = inl refl
 option_decided each None (Some y) = inr (λ e. none-some y e)

@@ -3,7 +3,7 @@ use Rattle.std.proofs.Common.{◌≡◌, ◌∙◌, ℕ, zero, suc, ◌+◌, Lis
 use Rattle.std.specs.Prelude.{Option, Some, None, filter, slice_get}
 use Rattle.std.proofs.lemmas.List.{length-map}
 use Rattle.std.proofs.lemmas.List.Elements.{filter-append}
-use Rattle.std.proofs.lemmas.Option.{same_Some, none-some}
+use Rattle.std.proofs.lemmas.Option.{none-some}
 use Rattle.ir_ast.specs.Insts.{Instruction}
 use Rattle.ir_ast.specs.Funcs.{instructions_of}
 use Rattle.ir_ast.specs.Faults.GroupShape.{number_at}
@@ -14,8 +14,7 @@ use Rattle.ir_lines.specs.Modules.{Known, argument_of, instruction_said}
 use Rattle.ir_resolve.specs.Resolved.{Spot, case_lines, spot_said, spots_of, uncast, uncast_line}
 use Rattle.ir_resolve.proofs.Bodies.{function_insts}
 use Rattle.ir_resolve.proofs.Casts.{uncast_in}
-use Rattle.ir_resolve.proofs.Phis.{insts_said}
-use Rattle.ir_resolve.proofs.Derivations.{bare, made_of, has_result, results, take_front}
+use Rattle.ir_resolve.proofs.Values.{bare, made_of, has_result, results, take_front}
 
 -- the instruction of a line with those behind it, where it has one
 abbrev pub said_at : Known → Line → List Line → Option Instruction
@@ -23,6 +22,10 @@ said_at known l behind = instruction_said known (map uncast_line behind) (uncast
 
 abbrev pub insts : Known → List Line → List Instruction
 insts known ls = map (λ (spot : Spot). spot.inst) (spots_of known (map uncast_line ls))
+
+abbrev pub insts_said : Option Instruction → List Instruction
+insts_said None = []
+insts_said (Some inst) = inst ∷ []
 
 -- the instructions of lines that have others behind them
 abbrev pub front : Known → List Line → List Line → List Instruction
@@ -129,68 +132,3 @@ number-at lines func before rest whole =
     ap (take (length is)) (insts_split lines func before rest whole) ∙ take_front is (insts known rest) in
     ap (λ (xs : List Instruction). length (map argument_of args) + length (filter has_result xs)) taken
     ∙ (let count = results-front known before rest in omega (arith, count, length-map args argument_of, length-append args (results before)))
-
--- ---- lines and spots
-
--- the line of a spot, and its place
-pub record SpotAt (known : Known) (ls : List Line) (place : ℕ) (spot : Spot) : Type 0 where
-  pub before : List Line
-  pub line : Line
-  pub after : List Line
-  pub whole : ls ≡ before ++ line ∷ after
-  pub said : said_at known line after ≡ Some spot.inst
-  pub number : line.number ≡ spot.line
-  pub place_is : place ≡ length (front known before (line ∷ after))
-
-pub spot_at : (known : Known) (ls : List Line) (place : ℕ) (spot : Spot) → slice_get (spots_of known (map uncast_line ls)) place ≡ Some spot → SpotAt known ls place spot
-spot_at known [] place spot e = absurd (none-some spot e)
-spot_at known (l ∷ ls) place spot e = by (said_at known l ls) refl place e (spot_at known ls)
-  where
-    cs : List ℕ
-    cs = case_lines (map uncast_line ls) (uncast l.says)
-
-    behind : (o : Option Instruction) → said_at known l ls ≡ o → (k : ℕ) → (at : SpotAt known ls k spot)
-        → (place : ℕ) → place ≡ length (insts_said o ++ front known at.before (at.line ∷ at.after)) → SpotAt known (l ∷ ls) place spot
-    behind o is k at place e = record {
-      before = l ∷ at.before;
-      line = at.line;
-      after = at.after;
-      whole = ap (λ (xs : List Line). l ∷ xs) at.whole;
-      said = at.said;
-      number = at.number;
-      place_is = e ∙ ap (λ (x : Option Instruction). length (insts_said x ++ front known at.before (at.line ∷ at.after))) (sym (ap (said_at known l) (sym at.whole) ∙ is));
-    }
-
-    by : (o : Option Instruction) → said_at known l ls ≡ o → (place : ℕ)
-        → slice_get (spot_said l.number cs o ++ spots_of known (map uncast_line ls)) place ≡ Some spot
-        → ((k : ℕ) (one : Spot) → slice_get (spots_of known (map uncast_line ls)) k ≡ Some one → SpotAt known ls k one) → SpotAt known (l ∷ ls) place spot
-    by None is place e ih = let at = ih place spot e in behind None is place at place at.place_is
-    by (Some one) is zero e ih =
-        let same = same_Some (record { line = l.number; cases = cs; inst = one }) spot e in
-        record {
-          before = [];
-          line = l;
-          after = ls;
-          whole = refl;
-          said = is ∙ ap (λ (s : Spot). Some s.inst) same;
-          number = ap (λ (s : Spot). s.line) same;
-          place_is = refl;
-        }
-    by (Some one) is (suc k) e ih = let at = ih k spot e in behind (Some one) is k at (suc k) (ap suc at.place_is)
-
--- and the other way
-pub spot_there : (known : Known) (before : List Line) (l : Line) (after : List Line) (inst : Instruction) → said_at known l after ≡ Some inst
-    → slice_get (spots_of known (map uncast_line (before ++ l ∷ after))) (length (front known before (l ∷ after)))
-    ≡ Some (record { line = l.number; cases = case_lines (map uncast_line after) (uncast l.says); inst = inst })
-spot_there known [] l after inst e =
-    ap (λ (o : Option Instruction). slice_get (spot_said l.number (case_lines (map uncast_line after) (uncast l.says)) o ++ spots_of known (map uncast_line after)) 0) e
-spot_there known (k ∷ before) l after inst e = by (said_at known k (before ++ l ∷ after)) (spot_there known before l after inst e)
-  where
-    by : (o : Option Instruction)
-        → slice_get (spots_of known (map uncast_line (before ++ l ∷ after))) (length (front known before (l ∷ after)))
-        ≡ Some (record { line = l.number; cases = case_lines (map uncast_line after) (uncast l.says); inst = inst })
-        → slice_get (spot_said k.number (case_lines (map uncast_line (before ++ l ∷ after)) (uncast k.says)) o ++ spots_of known (map uncast_line (before ++ l ∷ after)))
-        (length (insts_said o ++ front known before (l ∷ after)))
-        ≡ Some (record { line = l.number; cases = case_lines (map uncast_line after) (uncast l.says); inst = inst })
-    by None ih = ih
-    by (Some one) ih = ih

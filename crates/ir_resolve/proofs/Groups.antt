@@ -33,10 +33,9 @@ use Rattle.ir_lines.specs.TextLines.{place_behind, behind_instruction}
 use Rattle.ir_lines.specs.ReadLines.{is_instruction}
 use Rattle.ir_resolve.specs.Resolved.{uncast, uncast_line}
 use Rattle.ir_resolve.proofs.Booleans.{never, and-left, and-right, both}
-use Rattle.ir_resolve.proofs.Derivations.{place_split, number-first, number_place, names-split, take_front, few_before, names-are, bare, made_of, names_of, results}
-use Rattle.ir_resolve.proofs.Fronts.{insts, front, front-append, front_at, insts_split, number-at}
-use Rattle.ir_resolve.proofs.Phis.{insts_said}
-use Rattle.ir_resolve.proofs.PhiPlaces.{StandsIn, after}
+use Rattle.ir_resolve.proofs.Values.{place_split, number_place, names-split, take_front, names-are, bare, made_of, names_of, results}
+use Rattle.ir_resolve.proofs.Fronts.{insts, front, front-append, front_at, insts_split, number-at, insts_said}
+use Rattle.ir_resolve.proofs.Standing.{StandsIn, after}
 
 abbrev pub are_parts : List ℕ → List Line → Bool
 are_parts token ls = list_all (λ (l : Line). is_part token l.says) ls
@@ -207,70 +206,9 @@ behind_point place (k ∷ earlier) l more token called live says stand = behind_
 
 -- ---- from lines
 
-get_within : {A : Type 0} (P : A → Type 0) (xs ys : List A) → AllByRecursion P xs → (k : ℕ) → k < length xs → IfSome (slice_get (xs ++ ys) k) P
-get_within P [] ys all k within = absurd (omega arith)
-get_within P (x ∷ xs) ys all zero within = all.0
-get_within P (x ∷ xs) ys all (suc k) within = get_within P xs ys all.1 k (omega arith)
-
 within_get : {A : Type 0} (P : A → Type 0) (xs ys : List A) → ((k : ℕ) → k < length xs → IfSome (slice_get (xs ++ ys) k) P) → AllByRecursion P xs
 within_get P [] ys h = tt
 within_get P (x ∷ xs) ys h = (h 0 (omega arith), within_get P xs ys (λ k within. h (suc k) (omega arith)))
-
--- a statepoint among lines has the number of those before it
-point_number : (lines : List Line) (func : Definition) → length (values_of func) < 2 ^ 32 → (earlier : List Line) (number : ℕ) (token : List ℕ) (called : Guarded)
-    (live : List Val) (more : List Line) → func.body ≡ earlier ++ point number token called live ∷ more → ¬ Contains (names_of (values_before func earlier)) token
-    → number_in (bare lines func).values token ≡ length (values_before func earlier)
-point_number lines func few earlier number token called live more whole first =
-    let vb = names_of (values_before func earlier) in
-    let is : names_of (values_of func) ≡ vb ++ token ∷ names_of (results more) = names-split func earlier (point number token called live) more whole in
-    ap (λ (ns : List (List ℕ)). number_in ns token) (names-are lines func ∙ is)
-    ∙ number-first vb token (names_of (results more)) first (few_before func vb (names_of (results more)) token is few)
-    ∙ length-map (values_before func earlier) (λ (one : Naming). one.name)
-
-pub record GroupMade (lines : List Line) (func : Definition) (before rest : List Line) (token : List ℕ) (g : Group func before token) : Type 0 where
-  pub group : ModuleGroup (made_of lines func) (number_in (bare lines func).values token) (length (front (bare lines func) before rest))
-  pub point_is : group.statepoint ≡ point_made (bare lines func) token g.made g.live
-  pub place_is : length (front (bare lines func) before rest) ≡ group.head + suc (length g.parts)
-
-pub group_made : (lines : List Line) (func : Definition) → length (values_of func) < 2 ^ 32 → (before rest : List Line) → func.body ≡ before ++ rest → (token : List ℕ)
-    (g : Group func before token) → GroupMade lines func before rest token g
-group_made lines func few before rest whole token g =
-    let known = bare lines func in
-    let sp = point g.number token g.made g.live in
-    let more = g.parts ++ rest in
-    let E = front known g.earlier (sp ∷ more) in
-    let P = front known g.parts rest in
-    let R = insts known rest in
-    let spi = point_made known token g.made g.live in
-    let F = made_of lines func in
-    let number = number_in known.values token in
-    let split : func.body ≡ g.earlier ++ sp ∷ more = whole ∙ ap (λ (xs : List Line). xs ++ rest) g.whole ∙ append_assoc g.earlier (sp ∷ g.parts) rest in
-    let is : front known before rest ≡ E ++ spi ∷ P =
-    ap (λ (xs : List Line). front known xs rest) g.whole ∙ front-append known g.earlier (sp ∷ g.parts) rest in
-    let all : instructions_of F.blocks ≡ E ++ spi ∷ (P ++ R) =
-    insts_split lines func before rest whole ∙ ap (λ (xs : List Instruction). xs ++ R) is ∙ append_assoc E (spi ∷ P) R in
-    let own = parts_made known token g.parts rest g.own in
-    let place : length (front known before rest) ≡ length E + suc (length P) = ap length is ∙ length-append E (spi ∷ P) in
-    record {
-      group = record {
-        head = length E;
-        statepoint = spi;
-        stands = ap (λ (xs : List Instruction). slice_get xs (length E)) all ∙ get_middle E spi (P ++ R);
-        op = refl;
-        gives = number-at lines func g.earlier (sp ∷ more) split ∙ sym (point_number lines func few g.earlier g.number token g.made g.live more split g.first);
-        before = omega (arith, place);
-        between = λ k behind below.
-            let j = k - suc (length E) in
-            let at_k : k ≡ length E + suc j = omega arith in
-            let within : j < length P = omega (arith, place) in
-            let at : slice_get (instructions_of F.blocks) k ≡ slice_get (P ++ R) j =
-            ap (λ (xs : List Instruction). slice_get xs k) all ∙ ap (slice_get (E ++ spi ∷ (P ++ R))) at_k ∙ get_past E (spi ∷ (P ++ R)) (suc j) in
-            subst (λ (o : Option Instruction). IfSome o (λ inst. is_part_made number inst ≡ true)) (sym at)
-            (get_within (λ (inst : Instruction). is_part_made number inst ≡ true) P R own.0 j within);
-      };
-      point_is = refl;
-      place_is = (let count = own.1 in omega (arith, place, count));
-    }
 
 -- ---- from the module
 
@@ -349,40 +287,3 @@ group_said lines func few stand before rest whole token known_token group =
     in_front [] ys k x below e = absurd (omega arith)
     in_front (y ∷ xs) ys zero x below e = e
     in_front (y ∷ xs) ys (suc k) x below e = in_front xs ys k x (omega arith) e
-
--- ---- lines end with one group of a token
-
-pub record OneGroup (func : Definition) (before : List Line) (token : List ℕ) (g h : Group func before token) : Type 0 where
-  pub called : g.made ≡ h.made
-  pub live : g.live ≡ h.live
-  pub parts : g.parts ≡ h.parts
-
-among : (token : List ℕ) (xs : List Line) (x : Line) (p : List Line) → is_part token x.says ≡ false → are_parts token (xs ++ x ∷ p) ≡ true → ⊥
-among token [] x p other all = let bad : true ≡ false = sym (and-left (is_part token x.says) (are_parts token p) all) ∙ other in cc
-among token (z ∷ xs) x p other all = among token xs x p other (and-right (is_part token z.says) (are_parts token (xs ++ x ∷ p)) all)
-
-same_ends : (token : List ℕ) (xs : List Line) (x : Line) (p ys : List Line) (y : Line) (q : List Line) → xs ++ x ∷ p ≡ ys ++ y ∷ q
-    → is_part token x.says ≡ false → is_part token y.says ≡ false → are_parts token p ≡ true → are_parts token q ≡ true → (x ≡ y) × (p ≡ q)
-same_ends token [] x p [] y q e no_x no_y all_p all_q = (cc, cc)
-same_ends token [] x p (z ∷ ys) y q e no_x no_y all_p all_q =
-    absurd (among token ys y q no_y (subst (λ (ls : List Line). are_parts token ls ≡ true) (let t : p ≡ ys ++ y ∷ q = cc in t) all_p))
-same_ends token (z ∷ xs) x p [] y q e no_x no_y all_p all_q =
-    absurd (among token xs x p no_x (subst (λ (ls : List Line). are_parts token ls ≡ true) (let t : q ≡ xs ++ x ∷ p = cc in t) all_q))
-same_ends token (w ∷ xs) x p (z ∷ ys) y q e no_x no_y all_p all_q = same_ends token xs x p ys y q (let t : xs ++ x ∷ p ≡ ys ++ y ∷ q = cc in t) no_x no_y all_p all_q
-
-abbrev called_by : Guarded → Statement → Guarded
-called_by other (statepoint result called live) = called
-called_by other _ = other
-
-abbrev live_by : Statement → List Val
-live_by (statepoint result called live) = live
-live_by _ = []
-
-pub one_group : (func : Definition) (before : List Line) (token : List ℕ) (g h : Group func before token) → OneGroup func before token g h
-one_group func before token g h =
-    let e = same_ends token g.earlier (point g.number token g.made g.live) g.parts h.earlier (point h.number token h.made h.live) h.parts (sym g.whole ∙ h.whole) refl refl g.own h.own in
-    record {
-      called = ap (λ (l : Line). called_by g.made l.says) e.0;
-      live = ap (λ (l : Line). live_by l.says) e.0;
-      parts = e.1;
-    }

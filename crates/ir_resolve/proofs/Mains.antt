@@ -18,7 +18,7 @@ use Rattle.ir_lines.specs.Statements.{Line}
 use Rattle.ir_lines.specs.Sections.{Definition, definitions_of, arguments_named}
 use Rattle.ir_lines.specs.Modules.{known_of, type_of, argument_of, function_of, module_of}
 use Rattle.ir_lines.specs.Faults.NoMain.{NoMain, is_main, takes_nothing, is_status}
-use Rattle.ir_resolve.proofs.Booleans.{true-false, not-true, and-left, and-right, both}
+use Rattle.ir_resolve.proofs.Booleans.{true-false, and-left, and-right, both}
 
 abbrev is_named : Definition → Bool
 is_named func = bytes_eq func.name (codes "main")
@@ -154,9 +154,3 @@ main_resolved form lines line fault main =
     true-false (is_main (find is_named (definitions_of lines)))
     (found_main lines (definitions_of lines) main.earlier main.main main.later main.whole
     (recursion_from_All (λ (func : Function). func.name ≢ codes "main") main.earlier main.first) main.name main.args main.answer) fault.lacks
-
-pub main_spelled : (form : Form) (lines : List Line) → ¬ HasMain (module_of form lines).content → NoMain lines 0
-main_spelled form lines none = record {
-  at_no_line = refl;
-  lacks = not-true (is_main (find is_named (definitions_of lines))) (λ is. none (has_main form lines is));
-}

@@ -9,8 +9,7 @@ use Rattle.ir_lines.specs.Modules.{Known, layout_of, function_of, instruction_li
 use Rattle.ir_lines.specs.Faults.PointerCast.{PointerCast, is_cast}
 use Rattle.ir_resolve.specs.Resolved.{Resolved, uncast, uncast_line, spots_of, stands_for, resolved}
 use Rattle.ir_resolve.proofs.Booleans.{not-true}
-use Rattle.ir_resolve.proofs.Casts.{uncast_in, definitions-same}
-use Rattle.ir_resolve.proofs.Types.{layouts-same}
+use Rattle.ir_resolve.proofs.Casts.{uncast_in, definitions-same, layouts-same}
 
 -- the text of these layouts and definitions
 abbrev known_by : List LayoutLine → List Definition → Definition → Known

@@ -2,5 +2,3 @@ pub mod Resolved
 pub mod TextFaults
 pub mod ModuleFaults
 pub mod FaultSet
-pub mod Agreement
-pub mod Statements

@@ -1,5 +1,5 @@
 -- The first fault of a text resolved and of its module is the least of both; and what is known of a module without one.
-use Rattle.std.proofs.Common.{◌≡◌, ◌∙◌, ℕ, ◌+◌, ◌⊎◌, inl, inr, sym, ap, subst, List, length, Option, Some, None, Result, Ok, Err, IfOk}
+use Rattle.std.proofs.Common.{◌≡◌, ◌∙◌, ℕ, ◌+◌, inl, inr, sym, ap, subst, List, length, Option, None, Result, Ok, Err, IfOk}
 use Rattle.std.specs.List.{All}
 use Rattle.std.specs.Str.Lines.{lines}
 use Rattle.ir_ast.specs.declared.modules.Form.{Form}
@@ -14,11 +14,9 @@ use Rattle.ir_lines.specs.declared.faults.Fault.{Fault}
 use Rattle.ir_lines.specs.Statements.{Line}
 use Rattle.ir_lines.specs.Modules.{module_of}
 use Rattle.ir_lines.specs.Notes.{Notes}
-use Rattle.ir_lines.specs.PlainFaults.{ComesFirst}
 use Rattle.ir_lines.specs.Views.{seen_lines}
-use Rattle.ir_lines.proofs.NoteLemmas.{Either, notes-then, notes-same}
+use Rattle.ir_lines.proofs.NoteLemmas.{Either, notes-then, notes-same, notes-none}
 use Rattle.ir_resolve.specs.Resolved.{Resolved, resolved}
-use Rattle.ir_resolve.specs.Agreement.{IsLeast}
 use Rattle.ir_resolve.specs.TextFaults.{HasTextFault, pointer_cast}
 use Rattle.ir_resolve.specs.ModuleFaults.{HasModuleFault}
 use Rattle.ir_resolve.specs.FaultSet.{HasResolvedFault, HasNoResolvedFault, of_text, of_module}
@@ -33,27 +31,6 @@ use Rattle.ir_types.specs.FaultSet.{IsLeastFault}
 use Rattle.ir_types.specs.FirstMissed.{IsFirstMissed}
 use Rattle.ir_types.specs.Answers.{Answers, PathsAnswer}
 use Rattle.ir_types.proofs.PathLaw.{missed-least, definite-faultless}
-
--- ---- what was noted
-
-found-in : (fault : Fault) (F : ℕ → ℕ → Type 0) → (None ≡ Some fault) ⊎ F fault.line fault.code → F fault.line fault.code
-found-in fault F (inl e) = absurd (let bad : None ≡ Some fault = e in cc)
-found-in fault F (inr f) = f
-
-first-of : (fault kept : Fault) (line code : ℕ) → Some fault ≡ Some kept → ComesFirst kept.line kept.code line code
-    → ComesFirst fault.line fault.code line code
-first-of fault kept line code e f = let same : kept ≡ fault = cc in subst (λ (one : Fault). ComesFirst one.line one.code line code) same f
-
--- nothing was noted before: what was noted is the least
-pub noted-least : (F : ℕ → ℕ → Type 0) (fault : Fault) → Notes None (Some fault) F → IsLeast F fault.line fault.code
-noted-least F fault n = record {
-  is = found-in fault F n.source;
-  least = λ line code f. let u = n.least line code f in first-of fault u.fault line code u.is u.first;
-}
-
--- nothing was noted: there is none
-pub noted-none : (F : ℕ → ℕ → Type 0) → Notes None None F → (line code : ℕ) → ¬ F line code
-noted-none F n line code f = let u = n.least line code f in let bad : None ≡ Some u.fault = u.is in cc
 
 -- ---- the text's own faults, and those of its module
 
@@ -108,7 +85,7 @@ text-noted r form ls f l noted found whole cases given is are g own its =
 pub text-unbroken : (r : Readings) (found : Option Fault) → found ≡ None → Notes None found (OfEither r.form (seen_lines r.lines))
     → HasNoResolvedFault r.form (seen_lines r.lines)
 text-unbroken r found is noted =
-    noted-none (OfEither r.form (seen_lines r.lines)) (subst (λ (f : Option Fault). Notes None f (OfEither r.form (seen_lines r.lines))) is noted)
+    notes-none (OfEither r.form (seen_lines r.lines)) (subst (λ (f : Option Fault). Notes None f (OfEither r.form (seen_lines r.lines))) is noted)
 
 pub text-module : (r : Readings) (form : Form) (ls : List NumberedReading) → form ≡ r.form → ls ≡ r.lines → (whole : LinedModule)
     → HasNoResolvedFault r.form (seen_lines r.lines) → whole ≡ (resolved form (seen_lines ls)).whole → whole ≡ module_of r.form (seen_lines r.lines)

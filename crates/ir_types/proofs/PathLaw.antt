@@ -13,8 +13,7 @@ use Rattle.definite_assign.specs.Faults.{HasMissedUse, LineIsDefinite}
 use Rattle.definite_assign.proofs.UseLemmas.{use_within}
 use Rattle.ir_lines.specs.Statements.{Line}
 use Rattle.ir_lines.specs.Modules.{module_of}
-use Rattle.ir_lines.specs.PlainFaults.{ComesFirst}
-use Rattle.ir_resolve.specs.Agreement.{IsLeast}
+use Rattle.ir_lines.specs.FaultOrder.{ComesFirst, IsLeast}
 use Rattle.ir_resolve.specs.FaultSet.{HasResolvedFault, HasNoResolvedFault}
 use Rattle.ir_types.specs.Faults.NotDefinite.{NotDefinite}
 use Rattle.ir_types.specs.FaultSet.{HasFault, HasNoFault, IsLeastFault, plain, not_definite}

@@ -3,7 +3,7 @@
 use Rattle.std.specs.Prelude.{ℕ, List}
 use Rattle.ir_ast.specs.declared.modules.Form.{Form}
 use Rattle.ir_lines.specs.Statements.{Line}
-use Rattle.ir_lines.specs.PlainFaults.{ComesFirst}
+use Rattle.ir_lines.specs.FaultOrder.{ComesFirst}
 use Rattle.ir_resolve.specs.FaultSet.{HasResolvedFault, HasNoResolvedFault}
 use Rattle.ir_types.specs.Faults.NotDefinite.{NotDefinite}
 

@@ -1,10 +1,8 @@
 -- Whether a declaration is one of the externals.
 use Rattle.std.proofs.Common.{◌≡◌, ◌∙◌, ℕ, ◌⊎◌, inl, inr, Bool, true, false, ◌&&◌, List, [], ◌∷◌, ◌++◌, refl, ap, sym, subst}
 use Rattle.std.specs.Prelude.{map, IsTrue, ◌↔◌, codes}
-use Rattle.std.specs.Str.{bytes_eq}
 use Rattle.std.specs.List.{Contains}
 use Rattle.std.proofs.lemmas.Bool.Decides.{Decides-eqb}
-use Rattle.std.proofs.lemmas.Slice.Eq.{bytes_eq-Decides}
 use Rattle.std.proofs.lemmas.List.{append_cancel_left}
 use Rattle.std.proofs.lemmas.List.Elements.{Contains-append_right, Contains-append_cases}
 use Rattle.line_parts.specs.declared.readings.TypeWord.{TypeWord}
@@ -59,20 +57,6 @@ external-is name due answer gives types takes r named answered is = (
   (λ t. ap (λ (n : List ℕ). external n answer types) named ∙ ap (λ (a : TypeWord). external due a types) answered
       ∙ ap (λ (ts : List TypeWord). external due gives ts) (same_types-are types takes (sym is ∙ t))),
   (λ e. is ∙ ap (λ (ts : List TypeWord). same_types ts takes) (ap (λ (one : External). one.parameters) e) ∙ same_types-self takes),
-)
-
-pub external-name : (name due : List ℕ) (answer gives : TypeWord) (types takes : List TypeWord) → bytes_eq name due ≡ false
-    → (IsTrue false ↔ (external name answer types ≡ external due gives takes))
-external-name name due answer gives types takes other = (
-  (λ t. absurd (let bad : false ≡ true = t in cc)),
-  (λ e. sym other ∙ (bytes_eq-Decides name due).1 (ap (λ (one : External). one.name) e)),
-)
-
-pub external-answer : (name due : List ℕ) (answer gives : TypeWord) (types takes : List TypeWord) → same_type answer gives ≡ false
-    → (IsTrue false ↔ (external name answer types ≡ external due gives takes))
-external-answer name due answer gives types takes other = (
-  (λ t. absurd (let bad : false ≡ true = t in cc)),
-  (λ e. sym other ∙ ap (λ (a : TypeWord). same_type a gives) (ap (λ (one : External). one.answer) e) ∙ same_type-self gives),
 )
 
 -- `gc_new` of a layout

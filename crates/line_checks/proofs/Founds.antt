@@ -1,8 +1,7 @@
 -- What is found at the elements of a list, one after another.
 use Rattle.std.proofs.Common.{◌≡◌, ◌∙◌, ℕ, ◌+◌, ◌<◌, ◌⊎◌, inl, inr, List, [], ◌∷◌, ◌++◌, length, get_or, take, drop, refl, ap, sym, subst, arith, suc, add-one, length-append}
-use Rattle.std.specs.Prelude.{Option, Some, map, slice_get, slice_range, option_map}
-use Rattle.std.proofs.Math.Seq.{take-append_seam, take-length}
-use Rattle.std.proofs.lemmas.List.{length-drop}
+use Rattle.std.specs.Prelude.{Option, Some, map, slice_get, option_map}
+use Rattle.std.proofs.Math.Seq.{take-append_seam}
 use Rattle.std.proofs.lemmas.Option.{slice_get-get_or, slice_get-map}
 use Rattle.list_laws.proofs.Places.{cases_below, get_middle, split_at}
 use Rattle.ir_lines.specs.declared.faults.Fault.{Fault}
@@ -50,9 +49,6 @@ notes-turn P xs i x old between new at m n =
     (notes-then old between new (FoundUpTo P xs i) (P (take i xs) x (drop (i + 1) xs)) m n)
 
 -- ---- at all elements
-
-pub rest-range : {X : Type 0} (xs : List X) (i : ℕ) → slice_range xs i (length xs) ≡ drop i xs
-rest-range xs i = ap (λ n. take n (drop i xs)) (sym (length-drop i xs)) ∙ take-length (drop i xs)
 
 drop-whole : {X : Type 0} (before : List X) (here : X) (after : List X) → drop (suc (length before)) (before ++ here ∷ after) ≡ after
 drop-whole [] here after = refl

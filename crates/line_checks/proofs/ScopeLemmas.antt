@@ -1,6 +1,6 @@
 -- The tests of a line over tables are those over what its function can name.
-use Rattle.std.proofs.Common.{◌≡◌, ◌∙◌, ℕ, ◌<◌, Bool, true, false, cond, ◌&&◌, ◌||◌, List, [], ◌∷◌, ◌++◌, length, refl, ap, sym, subst, arith}
-use Rattle.std.specs.Prelude.{Option, Some, None, map, filter_map, find, slice_get, option_map, is_none, not, nat_lt, codes, ◌==◌}
+use Rattle.std.proofs.Common.{◌≡◌, ◌∙◌, ℕ, ◌<◌, Bool, true, false, cond, ◌&&◌, ◌||◌, List, [], ◌∷◌, ◌++◌, length, refl, ap, sym, arith}
+use Rattle.std.specs.Prelude.{Option, Some, None, map, filter_map, find, slice_get, option_map, is_none, not, nat_lt, codes}
 use Rattle.std.specs.Option.{option_and_then}
 use Rattle.std.specs.List.{list_any, cons_option, position_or_len}
 use Rattle.std.specs.Str.{bytes_eq}
@@ -8,27 +8,23 @@ use Rattle.std.proofs.lemmas.List.Folds.{list_any-append}
 use Rattle.std.proofs.lemmas.Option.{slice_get-get_or}
 use Rattle.std.proofs.lemmas.Bool.Decides.{nat_tests}
 use Rattle.line_parts.specs.declared.readings.TypeWord.{TypeWord}
-use Rattle.line_parts.specs.declared.readings.TypeWord.TheVariants.{Void, Int}
-use Rattle.line_tokens.specs.declared.literals.Literal.{Literal}
+use Rattle.line_parts.specs.declared.readings.TypeWord.TheVariants.{Int}
 use Rattle.line_parts.specs.Parts.{Val}
 use Rattle.line_parts.specs.Parts as values
 use Rattle.line_parts.specs.Lists.{Given, given, function}
 use Rattle.group_parts.specs.Statepoints.{Guarded}
 use Rattle.ir_ast.specs.declared.modules.Form.{Form}
-use Rattle.ir_lines.specs.Statements.{Statement, phi, layout_step, call, ret_void, ret, statepoint}
+use Rattle.ir_lines.specs.Statements.{Statement, phi, call, statepoint}
 use Rattle.ir_lines.specs.TextForms.{is_source}
 use Rattle.ir_lines.specs.Parts.{uses, local_name, values_named, targets, entry_labels, passed_function, functions_named, layouts_named}
-use Rattle.ir_lines.specs.Places.{place_in, number_in}
-use Rattle.ir_lines.specs.Sections.{LayoutLine, Head, Naming}
+use Rattle.ir_lines.specs.Places.{place_in}
+use Rattle.ir_lines.specs.Sections.{Head, Naming}
 use Rattle.ir_lines.specs.Scope.{Scope, layout_named, head_named, value_named, block_named}
-use Rattle.ir_lines.specs.Types.{same_type, literal_fits, naming_fits, fits}
+use Rattle.ir_lines.specs.Types.{literal_fits, naming_fits, fits}
 use Rattle.ir_lines.specs.Again.{at_name}
 use Rattle.ir_lines.specs.Faults.UnknownName.{names_unknown}
-use Rattle.ir_lines.specs.Faults.TypeClash.{misfits, place_fits, is_task, starts_task, checks_kind, takes_operands, agrees, call_agrees, takes_types, statepoint_agrees, keeps_rule, clashes}
-use Rattle.ir_lines.specs.Faults.EntryHasPred.{names_entry}
-use Rattle.line_checks.specs.LineFaults.{Tables, AreTables, LineFault, LineFaultIn, Coded, is_missing, misses, misses_used, misses_label, misses_label_of_phi, misses_entry, misses_function, misses_name, type_fits, fits_in, misfits_in, count_fits, task_starts, operands_fit, call_fits, statepoint_fits, rule_kept, clashes_in, targets_first}
-use Rattle.ir_lines.specs.Faults.PointerOrder.{orders_pointers}
-use Rattle.ir_lines.specs.Faults.PointerCast.{is_cast}
+use Rattle.ir_lines.specs.Faults.TypeClash.{is_task, starts_task, checks_kind, takes_operands, agrees, call_agrees, takes_types, statepoint_agrees}
+use Rattle.line_checks.specs.LineFaults.{Tables, AreTables, is_missing, misses, misses_used, misses_label, misses_label_of_phi, misses_entry, misses_function, misses_name, type_fits, fits_in, task_starts, operands_fit, call_fits, statepoint_fits}
 use Rattle.ir_lines.proofs.PlaceLemmas.{at-name}
 
 -- ---- names
@@ -130,16 +126,6 @@ fits-same scope tables t ty (values.number literal) = refl
 fits-same scope tables t ty (values.truth said) = refl
 fits-same scope tables t ty values.null = refl
 
-misfits-same : (scope : Scope) (tables : Tables) (what : Statement) → AreTables scope tables → misfits_in tables what ≡ misfits scope what
-misfits-same scope tables what t =
-    λ i. list_any (λ (used : Val × TypeWord). not (fits-same scope tables t used.1 used.0 i)) (uses what)
-
-placed-same : (place : Option Literal) (found : Option LayoutLine) → count_fits place (option_map (λ one. length one.fields) found) ≡ place_fits place found
-placed-same None None = refl
-placed-same None (Some layout) = refl
-placed-same (Some place) None = refl
-placed-same (Some place) (Some layout) = refl
-
 map-itself : {X : Type 0} (xs : List X) → map (λ x. x) xs ≡ xs
 map-itself [] = refl
 map-itself (x ∷ xs) = ap (λ ys. x ∷ ys) (map-itself xs)
@@ -183,36 +169,3 @@ statepoint-same form scope tables t made =
     ∙ ap
     (λ found. call_agrees form scope made.signature.answer made.callee made.passed && (takes_types made.signature.parameters found && literal_fits (Int 32) made.count))
     (head-same scope tables t made.callee)
-
-rule-same : (form : Form) (scope : Scope) (tables : Tables) (what : Statement) → AreTables scope tables → rule_kept form tables what ≡ keeps_rule form scope what
-rule-same form scope tables (layout_step result named address width index place) t =
-    ap (λ ns. count_fits place (at_name ns tables.fields named)) t.layouts
-    ∙ ap (λ fs. count_fits place (at_name (map (λ one. one.name) scope.layouts) fs named)) t.fields
-    ∙ ap (count_fits place) (at-name (λ (one : LayoutLine). one.name) (λ (one : LayoutLine). length one.fields) scope.layouts named)
-    ∙ placed-same place (layout_named scope named)
-rule-same form scope tables (call result answer callee passed) t = call-same form scope tables t answer callee passed
-rule-same form scope tables (statepoint result made live) t = statepoint-same form scope tables t made
-rule-same form scope tables ret_void t = ap (same_type Void) t.answer
-rule-same form scope tables (ret ty value) t = ap (same_type ty) t.answer
-rule-same form scope tables _ t = refl
-
-clash-same : (form : Form) (scope : Scope) (tables : Tables) (what : Statement) → AreTables scope tables → clashes_in form tables what ≡ clashes form scope what
-clash-same form scope tables what t =
-    or-same _ _ _ _ (misfits-same scope tables what t) (ap not (rule-same form scope tables what t))
-
-entry-same : (scope : Scope) (tables : Tables) (what : Statement) → AreTables scope tables → targets_first tables what ≡ names_entry scope what
-entry-same scope tables what t = ap (λ (blocks : List (List ℕ)). list_any (λ name. number_in blocks name == 0) (targets what)) t.blocks
-
--- ---- the codes of a line
-
-coded-same : (form : Form) (scope : Scope) (tables : Tables) (what : Statement) (code : ℕ) → AreTables scope tables → LineFaultIn form tables what code ≡ LineFault form scope what code
-coded-same form scope tables what code t =
-    ap (λ b. Coded b (clashes_in form tables what) (targets_first tables what) (orders_pointers what) (is_cast what) code) (unknown-same scope tables what t)
-    ∙ ap (λ b. Coded (names_unknown scope what) b (targets_first tables what) (orders_pointers what) (is_cast what) code) (clash-same form scope tables what t)
-    ∙ ap (λ b. Coded (names_unknown scope what) (clashes form scope what) b (orders_pointers what) (is_cast what) code) (entry-same scope tables what t)
-
-pub line-in : (form : Form) (scope : Scope) (tables : Tables) (what : Statement) (code : ℕ) → AreTables scope tables → LineFaultIn form tables what code → LineFault form scope what code
-line-in form scope tables what code t f = subst (λ (F : Type 0). F) (coded-same form scope tables what code t) f
-
-pub line-of : (form : Form) (scope : Scope) (tables : Tables) (what : Statement) (code : ℕ) → AreTables scope tables → LineFault form scope what code → LineFaultIn form tables what code
-line-of form scope tables what code t f = subst (λ (F : Type 0). F) (sym (coded-same form scope tables what code t)) f

@@ -1,4 +1,3 @@
 pub mod TopFaults
 pub mod LineFaults
 pub mod Founds
-pub mod FunctionFaults

@@ -1,11 +1,10 @@
 -- The faults of a line of a function that it has by itself; and the same over the tables of the code: names, with
 -- what stands beside them.
-use Rattle.std.specs.Prelude.{◌≡◌, ℕ, ◌==◌, Bool, true, false, not, ◌&&◌, ◌||◌, List, [], ◌∷◌, map, length, codes, Option, Some, None, is_none}
-use Rattle.std.specs.List.{list_any, Contains}
+use Rattle.std.specs.Prelude.{◌≡◌, ℕ, Bool, true, false, not, ◌&&◌, ◌||◌, List, [], ◌∷◌, map, length, codes, Option, Some, None, is_none}
+use Rattle.std.specs.List.{list_any}
 use Rattle.std.specs.Str.{bytes_eq}
 use Rattle.line_parts.specs.declared.readings.TypeWord.{TypeWord}
-use Rattle.line_parts.specs.declared.readings.TypeWord.TheVariants.{Void, Int}
-use Rattle.line_tokens.specs.declared.literals.Literal.{Literal}
+use Rattle.line_parts.specs.declared.readings.TypeWord.TheVariants.{Int}
 use Rattle.line_parts.specs.declared.readings.Value.{Value}
 use Rattle.line_parts.specs.Seen.{seen_value}
 use Rattle.line_parts.specs.Parts.{Val}
@@ -14,40 +13,16 @@ use Rattle.line_parts.specs.Lists.{Given, given, function}
 use Rattle.group_parts.specs.Statepoints.{Guarded}
 use Rattle.ir_ast.specs.declared.modules.Form.{Form}
 use Rattle.line_checks.specs.declared.lines.Scope.{Scope as ScopeTable}
-use Rattle.ir_lines.specs.Statements.{Statement, Line, convert, select, phi, layout_step, load, store, call, ret_void, ret, statepoint}
+use Rattle.ir_lines.specs.Statements.{Statement, phi, call, statepoint}
 use Rattle.ir_lines.specs.TextForms.{is_source}
 use Rattle.ir_lines.specs.Parts.{uses, local_name, targets, passed_function, layouts_named}
-use Rattle.ir_lines.specs.Places.{place_in, number_in}
+use Rattle.ir_lines.specs.Places.{place_in}
 use Rattle.ir_lines.specs.Sections.{Head}
 use Rattle.ir_lines.specs.Scope.{Scope}
-use Rattle.ir_lines.specs.Types.{same_type, is_cell, literal_fits, takes_null}
+use Rattle.ir_lines.specs.Types.{same_type, literal_fits, takes_null}
 use Rattle.ir_lines.specs.Again.{at_name}
 use Rattle.ir_lines.specs.Tables.{seen_head}
-use Rattle.ir_lines.specs.Faults.UnknownName.{names_unknown}
-use Rattle.ir_lines.specs.Faults.TypeClash.{clashes, widens, is_field, is_task, checks_kind, agrees, takes_types}
-use Rattle.ir_lines.specs.Faults.EntryHasPred.{names_entry}
-use Rattle.ir_lines.specs.Faults.PointerOrder.{orders_pointers}
-use Rattle.ir_lines.specs.Faults.PointerCast.{is_cast}
-
--- the codes of a line by what its tests say
-pub data Coded (unknown clash entry order conversion : Bool) (code : ℕ) : Type 0 where
-  unknown_name : code ≡ 4 → unknown ≡ true → Coded unknown clash entry order conversion code
-  type_clash : code ≡ 5 → clash ≡ true → Coded unknown clash entry order conversion code
-  entry_has_pred : code ≡ 6 → entry ≡ true → Coded unknown clash entry order conversion code
-  pointer_order : code ≡ 15 → order ≡ true → Coded unknown clash entry order conversion code
-  pointer_cast : code ≡ 16 → conversion ≡ true → Coded unknown clash entry order conversion code
-
--- the codes that a line has by itself
-abbrev pub LineFault : Form → Scope → Statement → ℕ → Type 0
-LineFault form scope what code =
-    Coded (names_unknown scope what) (clashes form scope what) (names_entry scope what) (orders_pointers what) (is_cast what) code
-
--- a line among these has the code
-pub record LineFaults (form : Form) (scope : Scope) (lines : List Line) (line code : ℕ) : Type 0 where
-  pub found : Line
-  pub inside : Contains lines found
-  pub number : found.number ≡ line
-  pub faulty : LineFault form scope found.says code
+use Rattle.ir_lines.specs.Faults.TypeClash.{is_task, checks_kind, agrees, takes_types}
 
 -- ---- over tables
 
@@ -138,19 +113,6 @@ fits_in names types ty (values.number literal) = literal_fits ty literal
 fits_in names types ty (values.truth said) = same_type ty (Int 1)
 fits_in names types ty values.null = takes_null ty
 
--- one of these uses doesn't fit
-abbrev pub misfits_of : List (List ℕ) → List TypeWord → List (Val × TypeWord) → Bool
-misfits_of names types used = list_any (λ one. not (fits_in names types one.1 one.0)) used
-
-abbrev pub misfits_in : Tables → Statement → Bool
-misfits_in tables what = misfits_of tables.values tables.types (uses what)
-
--- the place of a field is below their number
-abbrev pub count_fits : Option Literal → Option ℕ → Bool
-count_fits None count = true
-count_fits (Some place) None = true
-count_fits (Some place) (Some count) = is_field place count
-
 abbrev pub starts_at : Tables → Given → Bool
 starts_at tables (given ty value) = false
 starts_at tables (function name) = is_task (at_name tables.heads tables.head_list name)
@@ -172,30 +134,3 @@ abbrev pub statepoint_fits : Form → Tables → Guarded → Bool
 statepoint_fits form tables made =
     call_fits form tables made.signature.answer made.callee made.passed
     && (takes_types made.signature.parameters (at_name tables.heads tables.head_list made.callee) && literal_fits (Int 32) made.count)
-
-abbrev pub rule_kept : Form → Tables → Statement → Bool
-rule_kept form tables (convert result op width value to) = widens op width to
-rule_kept form tables (select result condition left_ty left right_ty right) = same_type left_ty right_ty
-rule_kept form tables (layout_step result named address width index place) = count_fits place (at_name tables.layouts tables.fields named)
-rule_kept form tables (load result ty address) = is_cell ty
-rule_kept form tables (store ty value address) = is_cell ty
-rule_kept form tables (call result answer callee passed) = call_fits form tables answer callee passed
-rule_kept form tables (statepoint result made live) = statepoint_fits form tables made
-rule_kept form tables ret_void = same_type Void tables.answer
-rule_kept form tables (ret ty value) = same_type ty tables.answer
-rule_kept form tables _ = true
-
-abbrev pub clashes_in : Form → Tables → Statement → Bool
-clashes_in form tables what = misfits_in tables what || not (rule_kept form tables what)
-
--- a name, where there is one, of the first of these
-abbrev pub is_first : List (List ℕ) → Option (List ℕ) → Bool
-is_first names None = false
-is_first names (Some name) = number_in names name == 0
-
-abbrev pub targets_first : Tables → Statement → Bool
-targets_first tables what = list_any (λ name. number_in tables.blocks name == 0) (targets what)
-
-abbrev pub LineFaultIn : Form → Tables → Statement → ℕ → Type 0
-LineFaultIn form tables what code =
-    Coded (misses_name tables what) (clashes_in form tables what) (targets_first tables what) (orders_pointers what) (is_cast what) code

@@ -1,7 +1,6 @@
 -- The faults that are seen without the lines of functions: those of layouts, declarations and heads, and of no main function.
-use Rattle.std.specs.Prelude.{◌≡◌, ℕ, false, ◌⊎◌, List, map, find, codes, Option}
+use Rattle.std.specs.Prelude.{◌≡◌, ℕ, false, ◌⊎◌, List, codes, Option}
 use Rattle.std.specs.List.{Contains}
-use Rattle.std.specs.Str.{bytes_eq}
 use Rattle.line_parts.specs.declared.readings.TypeWord.{TypeWord}
 use Rattle.line_parts.specs.Lists.{Named}
 use Rattle.ir_ast.specs.declared.modules.Form.{Form}
@@ -9,12 +8,10 @@ use Rattle.ir_ast.specs.declared.modules.Form.TheVariants.{Source}
 use Rattle.ir_ast.specs.Lists.{HasFront}
 use Rattle.ir_ast.specs.Faults.Reserved.{IsExternalName}
 use Rattle.ir_lines.specs.Statements.{Statement, Line, layout, declare, define}
-use Rattle.ir_lines.specs.Sections.{Definition, layouts_of, definitions_of, types_of}
+use Rattle.ir_lines.specs.Sections.{types_of}
 use Rattle.ir_lines.specs.Externals.{external, externals_of, helpers}
 use Rattle.ir_lines.specs.Faults.BadLayout.{are_cells}
 use Rattle.ir_lines.specs.Faults.NoStrategy.{is_strategy}
-use Rattle.ir_lines.specs.Faults.NoMain.{is_main}
-use Rattle.ir_lines.specs.Again.{TopAgain}
 
 -- the codes of a declaration, where definitions and layouts have these names
 abbrev pub DeclareFault : Form → List (List ℕ) → List (List ℕ) → TypeWord → List ℕ → List Named → ℕ → Type 0
@@ -39,14 +36,3 @@ pub record OuterFaults (form : Form) (functions layouts : List (List ℕ)) (line
   pub inside : Contains lines found
   pub number : found.number ≡ line
   pub faulty : OuterFault form functions layouts found.says code
-
--- there is no main function that takes nothing and answers `i32` or `i64`
-abbrev pub LacksMain : List Definition → ℕ → ℕ → Type 0
-LacksMain funcs line code =
-    ((line ≡ 0) × (code ≡ 11)) × (is_main (find (λ func. bytes_eq func.name (codes "main")) funcs) ≡ false)
-
-abbrev pub FoundByTop : Form → List Line → ℕ → ℕ → Type 0
-FoundByTop form lines line code =
-    TopAgain lines line code
-    ⊎ (OuterFaults form (map (λ one. one.name) (definitions_of lines)) (map (λ one. one.name) (layouts_of lines)) lines line code
-    ⊎ LacksMain (definitions_of lines) line code)

@@ -1,40 +1,31 @@
-//! The faults of a line of a function that the line has by itself.
+//! What a line of a function names that there isn't, and whether its calls fit.
 
-ghost use Rattle.std.specs.Prelude.{◌≡◌, ◌||◌, ◌&&◌, [], codes, not, map, is_none, option_map, OnOk};
+ghost use Rattle.std.specs.Prelude.{◌≡◌, ◌||◌, ◌&&◌, [], codes, not, map, is_none, option_map};
 ghost use Rattle.std.specs.Option.{option_copied};
 ghost use Rattle.std.specs.Str.{bytes_eq};
 ghost use Rattle.line_parts.specs.Seen.{seen_argument, seen_entry, seen_passed, seen_value};
 ghost use Rattle.group_parts.specs.Seen.{seen_guarded};
-ghost use Rattle.line_checks.specs.LineFaults.{Coded, LineFaultIn, tables_in, seen_use, is_missing, is_first, misses, misses_used, misses_entry, misses_label_of_phi, misses_label, misses_passed, misses_function, misses_name, misfits_of, count_fits, starts_at, task_starts, operands_fit, call_fits, statepoint_fits, rule_kept, clashes_in, targets_first};
-ghost use Rattle.line_checks.specs.FunctionFaults.{LinesIn};
+ghost use Rattle.line_checks.specs.LineFaults.{tables_in, seen_use, is_missing, misses, misses_used, misses_entry, misses_label_of_phi, misses_label, misses_passed, misses_function, misses_name, starts_at, task_starts, operands_fit, call_fits, statepoint_fits};
 ghost use Rattle.ir_lines.specs.Modules.{passed_type};
-ghost use Rattle.ir_lines.specs.Notes.{Notes};
 ghost use Rattle.ir_lines.specs.Parts.{local_name, passed_function, layouts_named, targets, uses};
 ghost use Rattle.ir_lines.specs.Places.{place_in};
 ghost use Rattle.ir_lines.specs.Sections.{types_of};
 ghost use Rattle.ir_lines.specs.Tables.{seen_head};
 ghost use Rattle.ir_lines.specs.Types.{same_type, same_types, literal_fits};
-ghost use Rattle.ir_lines.specs.Views.{said, seen_lines};
-ghost use Rattle.ir_lines.specs.Faults.TypeClash.{widens, is_field, is_task, is_kind, gives_kind, checks_kind, agrees, takes_types};
+ghost use Rattle.ir_lines.specs.Views.{said};
+ghost use Rattle.ir_lines.specs.Faults.TypeClash.{is_task, is_kind, gives_kind, checks_kind, agrees, takes_types};
 ghost use Rattle.ir_lines.specs.TextForms.{is_source};
 ghost use Rattle.ir_lines.specs.Again.{at_name};
 ghost use Rattle.ir_lines.specs.Faults.PointerCast.{is_cast};
-ghost use Rattle.ir_lines.specs.Faults.PointerOrder.{is_order, orders, orders_pointers};
 
-use crate::fits::fits;
 use crate::tops::has_types;
-use ir_ast::{Form, Pred};
-use ir_lines::best::First;
-use ir_lines::literals::{is_cell, is_within, same_type, wrapped};
+use ir_ast::Form;
+use ir_lines::literals::{is_within, same_type, wrapped};
 use ir_lines::names::{Names, is_text};
 use ir_lines::operands::passed_type;
 use ir_lines::parts::{targets, uses};
 use ir_lines::scope::{Head, Local, Top};
-use ir_reader::{
-    Argument, Conversion, Entry, Literal, NumberedReading, Passed, Reading, StatepointCall,
-    TypeWord, Value,
-};
-use std::alloc::{AllocError, Global};
+use ir_reader::{Argument, Entry, Passed, Reading, StatepointCall, TypeWord, Value};
 
 /// What the lines of a function can name.
 #[derive(Clone, Copy)]
@@ -55,16 +46,6 @@ fn is_missing(names: &Names, name: Option<&[u8]>) -> bool
 {
     match name {
         Some(name) => names.find(name).is_none(),
-        None => false,
-    }
-}
-
-// Whether a name, where there is one, is that of the first of these.
-fn is_first(names: &Names, name: Option<&[u8]>) -> bool
-    ensures { result ≡ is_first names.now (option_copied name.entry) }
-{
-    match name {
-        Some(name) => names.number(name) == 0,
         None => false,
     }
 }
@@ -270,60 +251,6 @@ fn checks_kind(passed: &[Passed]) -> bool
     }
 }
 
-fn widens(op: Conversion, from: u32, to: u32) -> bool
-    ensures { result ≡ widens op from to }
-{
-    match op {
-        Conversion::Trunc => to < from,
-        Conversion::Zext | Conversion::Sext => from < to,
-    }
-}
-
-/// Whether a number is the place of one of so many fields.
-pub fn is_field(place: Literal, count: usize) -> bool
-    ensures { result ≡ is_field place count }
-{
-    (!place.negative || place.magnitude == 0) && place.magnitude < count as u64
-}
-
-fn count_fits(place: Option<Literal>, count: Option<usize>) -> bool
-    ensures { result ≡ count_fits place count }
-{
-    match place {
-        None => true,
-        Some(place) => match count {
-            None => true,
-            Some(count) => is_field(place, count),
-        },
-    }
-}
-
-// ---- pointers
-
-fn is_order(pred: Pred) -> bool
-    ensures { result ≡ is_order pred }
-{
-    !matches!(pred, Pred::Eq | Pred::Ne)
-}
-
-fn orders(pred: Pred, ty: TypeWord) -> bool
-    ensures { result ≡ orders pred ty }
-{
-    match ty {
-        TypeWord::Managed => is_order(pred),
-        _ => false,
-    }
-}
-
-fn orders_pointers(reading: &Reading) -> bool
-    ensures { result ≡ orders_pointers (said reading.now) }
-{
-    match reading {
-        Reading::Compare { pred, ty, .. } => orders(*pred, *ty),
-        _ => false,
-    }
-}
-
 /// A conversion from or to pointers.
 pub fn is_cast(reading: &Reading) -> bool
     ensures { result ≡ is_cast (said reading.now) }
@@ -331,27 +258,7 @@ pub fn is_cast(reading: &Reading) -> bool
     matches!(reading, Reading::Cast { .. })
 }
 
-// ---- the faults of a line
-
-/// What the tests of a line say.
-#[derive(Clone, Copy)]
-struct Tests {
-    unknown: bool,
-    clash: bool,
-    entry: bool,
-    order: bool,
-    cast: bool,
-}
-
-fn note_tests(tests: Tests, line: u32, first: &mut First)
-    ensures { Notes first.old.found first.new.found (λ l code. (l ≡ line) × Coded tests.unknown tests.clash tests.entry tests.order tests.cast code) }
-{
-    first.note_if(tests.unknown, line, 4);
-    first.note_if(tests.clash, line, 5);
-    first.note_if(tests.entry, line, 6);
-    first.note_if(tests.order, line, 15);
-    first.note_if(tests.cast, line, 16);
-}
+// ---- a line in its scope
 
 impl Scope<'_, '_, '_, '_> {
     /// Whether a line that uses these values names something that there isn't.
@@ -363,17 +270,6 @@ impl Scope<'_, '_, '_, '_> {
             || misses_label(&self.local.blocks, reading)
             || misses_function(&self.top.heads, reading)
             || misses_layout(&self.top.layouts, reading)
-    }
-
-    fn misfits(&self, used: &[(Value, TypeWord)]) -> bool
-        ensures { result ≡ misfits_of self.now.local.now.values self.now.local.now.types.items (map seen_use used.now) }
-    {
-        for one in used {
-            if !fits(self.local, one.1, &one.0) {
-                return true;
-            }
-        }
-        false
     }
 
     fn starts_at(&self, passed: &Passed) -> bool
@@ -444,100 +340,5 @@ impl Scope<'_, '_, '_, '_> {
             call.callee,
             call.passed.as_slice(),
         ) && self.statepoint_type_agrees(call)
-    }
-
-    // What a form asks besides the types of its operands.
-    fn keeps_rule(&self, reading: &Reading) -> bool
-        ensures { result ≡ rule_kept self.now.form (tables_in self.now) (said reading.now) }
-    {
-        match reading {
-            Reading::Convert { op, width, to, .. } => widens(*op, *width, *to),
-            Reading::Select {
-                left_ty,
-                right_ty,
-                ..
-            } => same_type(*left_ty, *right_ty),
-            Reading::LayoutElement { layout, place, .. } => {
-                count_fits(*place, self.top.field_count(layout))
-            }
-            Reading::Load { ty, .. } => is_cell(*ty),
-            Reading::Store { ty, .. } => is_cell(*ty),
-            Reading::ValueCall {
-                answer,
-                callee,
-                passed,
-                ..
-            } => self.call_agrees(*answer, callee, passed.as_slice()),
-            Reading::VoidCall { callee, passed } => {
-                self.call_agrees(TypeWord::Void, callee, passed.as_slice())
-            }
-            Reading::Statepoint { call, .. } => self.statepoint_agrees(call),
-            Reading::ReturnVoid => same_type(TypeWord::Void, self.local.answer),
-            Reading::Return { ty, .. } => same_type(*ty, self.local.answer),
-            _ => true,
-        }
-    }
-
-    fn clashes(&self, reading: &Reading, used: &[(Value, TypeWord)]) -> bool
-        requires { map seen_use used.now ≡ uses (said reading.now) }
-        ensures { result ≡ clashes_in self.now.form (tables_in self.now) (said reading.now) }
-    {
-        self.misfits(used) || !self.keeps_rule(reading)
-    }
-
-    fn names_entry(&self, reading: &Reading) -> bool
-        ensures { result ≡ targets_first (tables_in self.now) (said reading.now) }
-    {
-        let targets = targets(reading);
-        is_first(&self.local.blocks, targets.one) || is_first(&self.local.blocks, targets.other)
-    }
-
-    fn tests(&self, reading: &Reading, used: &[(Value, TypeWord)]) -> Tests
-        requires { map seen_use used.now ≡ uses (said reading.now) }
-        ensures unknown { result.unknown ≡ misses_name (tables_in self.now) (said reading.now) }
-        ensures clash { result.clash ≡ clashes_in self.now.form (tables_in self.now) (said reading.now) }
-        ensures entry { result.entry ≡ targets_first (tables_in self.now) (said reading.now) }
-        ensures order { result.order ≡ orders_pointers (said reading.now) }
-        ensures cast { result.cast ≡ is_cast (said reading.now) }
-    {
-        Tests {
-            unknown: self.misses_name(reading, used),
-            clash: self.clashes(reading, used),
-            entry: self.names_entry(reading),
-            order: orders_pointers(reading),
-            cast: is_cast(reading),
-        }
-    }
-
-    /// Notes the faults of a line: a name that there isn't, types that clash, the first block as a target, an order
-    /// of pointers, a cast.
-    fn note_line(
-        &self,
-        alloc: Global,
-        line: &NumberedReading,
-        first: &mut First,
-    ) -> Result<(), AllocError>
-        ensures { OnOk result (Notes first.old.found first.new.found
-            (λ l code. (l ≡ line.now.line) × LineFaultIn self.now.form (tables_in self.now) (said line.now.reading) code)) }
-    {
-        let uses = uses(alloc, &line.reading)?;
-        let tests = self.tests(&line.reading, uses.as_slice());
-        note_tests(tests, line.line, first);
-        Ok(())
-    }
-
-    /// Notes the faults that lines have by themselves.
-    pub fn note_lines(
-        &self,
-        alloc: Global,
-        lines: &[NumberedReading],
-        first: &mut First,
-    ) -> Result<(), AllocError>
-        ensures { OnOk result (Notes first.old.found first.new.found (LinesIn self.now.form (tables_in self.now) (seen_lines lines.now))) }
-    {
-        for line in lines {
-            self.note_line(alloc, line, first)?;
-        }
-        Ok(())
     }
 }

@@ -1,8 +1,7 @@
-//! The faults of layouts, declarations and heads, and of a module without a main function.
+//! The faults of layouts, declarations and heads.
 
-ghost use Rattle.std.specs.Prelude.{◌≡◌, ◌⊎◌, ◌↔◌, ◌&&◌, [], ◌∷◌, IsTrue, map, find, codes};
+ghost use Rattle.std.specs.Prelude.{◌≡◌, ◌⊎◌, ◌↔◌, ◌&&◌, [], ◌∷◌, IsTrue, map, codes};
 ghost use Rattle.std.specs.Option.{option_copied};
-ghost use Rattle.std.specs.Str.{bytes_eq};
 ghost use Rattle.std.specs.List.{Contains, list_all};
 ghost use Rattle.ir_ast.specs.Lists.{HasFront};
 ghost use Rattle.ir_ast.specs.Faults.Reserved.{externals, IsExternalName};
@@ -11,10 +10,8 @@ ghost use Rattle.ir_lines.specs.Sections.{types_of};
 ghost use Rattle.ir_lines.specs.Types.{same_type, same_types, is_cell};
 ghost use Rattle.ir_lines.specs.Externals.{external, externals_of, makers_of, own_externals, own_basics, own_helpers, basics, helpers, gc_new};
 ghost use Rattle.ir_lines.specs.Notes.{Notes};
-ghost use Rattle.ir_lines.specs.Tables.{seen_definition};
-ghost use Rattle.line_checks.specs.TopFaults.{DeclareFault, DefineFault, OuterFault, OuterFaults, LacksMain};
+ghost use Rattle.line_checks.specs.TopFaults.{DeclareFault, DefineFault, OuterFault, OuterFaults};
 ghost use Rattle.ir_lines.specs.Views.{said, seen_lines};
-ghost use Rattle.ir_lines.specs.Faults.NoMain.{is_main, is_status};
 ghost use Rattle.ir_lines.specs.Faults.NoStrategy.{is_strategy};
 ghost use Rattle.ir_lines.specs.Faults.BadLayout.{are_cells};
 
@@ -23,7 +20,6 @@ use ir_lines::best::First;
 use ir_lines::literals::is_cell;
 use ir_lines::names::is_text;
 use ir_lines::scope::Top;
-use ir_lines::sections::Definition;
 use ir_reader::{Argument, NumberedReading, Reading, TypeWord};
 
 const STRATEGY: &[u8] = b"statepoint-example";
@@ -315,34 +311,4 @@ fn note_head(line: u32, name: &[u8], strategy: Option<&[u8]>, first: &mut First)
 {
     first.note_if(!is_strategy(strategy), line, 10);
     first.note_if(is_external_name(name), line, 14);
-}
-
-fn is_status(answer: TypeWord) -> bool
-    ensures { result ≡ is_status answer }
-{
-    matches!(answer, TypeWord::Int(32) | TypeWord::Int(64))
-}
-
-fn is_main(func: &Definition) -> bool
-    ensures { result ≡ is_main (Some (seen_definition func.now)) }
-{
-    func.arguments.is_empty() && is_status(func.answer)
-}
-
-fn has_main(funcs: &[Definition]) -> bool
-    ensures { result ≡ is_main (find (λ func. bytes_eq func.name (codes "main")) (map seen_definition funcs.now)) }
-{
-    for func in funcs {
-        if is_text(func.name, b"main") {
-            return is_main(func);
-        }
-    }
-    false
-}
-
-/// Notes that there is no main function that takes nothing and answers `i32` or `i64`.
-pub fn note_main(funcs: &[Definition], first: &mut First)
-    ensures { Notes first.old.found first.new.found (LacksMain (map seen_definition funcs.now)) }
-{
-    first.note_if(!has_main(funcs), 0, 11);
 }

@@ -1,6 +1,6 @@
 -- There are at most as many layouts, functions, blocks and instructions as lines.
 use Rattle.std.proofs.Common.{◌≡◌, ◌∙◌, ℕ, ◌+◌, ◌≤◌, suc, refl, sym, ap, subst, Bool, true, false, cond, List, [], ◌∷◌, ◌++◌, length, Option, Some, None, arith}
-use Rattle.std.specs.Prelude.{map, not, take_while, decimal, is_none, if◌then◌else◌}
+use Rattle.std.specs.Prelude.{map, not, decimal, is_none, if◌then◌else◌}
 use Rattle.std.proofs.lemmas.List.{length-map, length-append}
 use Rattle.std.proofs.lemmas.List.Sums.{take_while-cons}
 use Rattle.ir_ast.specs.Insts.{Instruction}
@@ -10,16 +10,6 @@ use Rattle.ir_lines.specs.Statements.{Statement, Line, layout, define, label}
 use Rattle.ir_lines.specs.Sections.{Definition, BlockLines, is_label, label_said, until_label, block_at, labelled_blocks, first_block, blocks_of, layout_said, layouts_of, definition_said, definitions_of, arguments_named, count_numbered}
 use Rattle.ir_lines.specs.Modules.{Known, block_of, instruction_said, with_line, instructions_of as lined_instructions, insts_of}
 use Rattle.module_build.proofs.Bodies.{in_block}
-
-while-more : (b : Bool) (l : Line) (rest : List Line) (n : ℕ) → length rest ≤ n → length (cond b (l ∷ rest) []) ≤ suc n
-while-more true l rest n few = omega (arith, few)
-while-more false l rest n few = omega arith
-
-pub few-while : (test : Line → Bool) (ls : List Line) → length (take_while test ls) ≤ length ls
-few-while test [] = omega arith
-few-while test (l ∷ ls) =
-    subst (λ (xs : List Line). length xs ≤ suc (length ls)) (sym (take_while-cons test l ls))
-    (while-more (test l) l (take_while test ls) (length ls) (few-while test ls))
 
 few-layout : (line : ℕ) (what : Statement) → length (layout_said line what) ≤ 1
 few-layout line (layout name fields) = omega arith

@@ -1,8 +1,6 @@
-//! The module that lines stand for.
+//! The instructions, arguments and layouts that lines stand for.
 
-ghost use Rattle.std.specs.Prelude.{◌≡◌, [], ◌∷◌, ◌++◌, ◌+◌, ◌<◌, length, map, flat_map, option_map, drop, IfOk, OnOk};
-ghost use Rattle.std.specs.List.{All};
-ghost use Rattle.ir_ast.specs.Blocks.{EndsAtTerminator};
+ghost use Rattle.std.specs.Prelude.{◌≡◌, [], ◌∷◌, ◌++◌, ◌+◌, ◌<◌, length, map, option_map, drop, IfOk, OnOk};
 ghost use Rattle.std.specs.Option.{option_copied};
 ghost use Rattle.line_parts.specs.Parts as values;
 ghost use Rattle.line_parts.specs.Seen.{seen_value, seen_argument, seen_entry, seen_passed};
@@ -12,23 +10,15 @@ ghost use Rattle.ir_lines.specs.Statements.{statepoint};
 ghost use Rattle.ir_lines.specs.Places.{number_in};
 ghost use Rattle.ir_lines.specs.Views.{said, seen_lines};
 ghost use Rattle.module_build.specs.Known.{known_in};
-ghost use Rattle.module_build.specs.Placed.{IsPlacedFunction, IsPlaced};
-ghost use Rattle.ir_lines.specs.Tables.{seen_definition, seen_block};
-ghost use Rattle.ir_lines.specs.Sections.{arguments_named, blocks_of, layout_said, layouts_of};
-ghost use Rattle.module_build.specs.Built.{known_with, lined_function};
-ghost use Rattle.ir_lines.specs.Modules.{module_of, wrapped, used_operand, instruction, instruction_said, with_line, insts_of, numbers_of, external_callee, callee_of, passed_operand, given_type, case_values, case_labels, element_of, entry_operand, entry_label, operand_in, label_in, type_of, block_of, argument_of, layout_of, binary_of, conversion_of, cell_of, place_of};
+ghost use Rattle.ir_lines.specs.Sections.{arguments_named, layout_said, layouts_of};
+ghost use Rattle.ir_lines.specs.Modules.{wrapped, used_operand, instruction, instruction_said, with_line, external_callee, callee_of, passed_operand, given_type, case_values, case_labels, element_of, entry_operand, entry_label, operand_in, label_in, type_of, argument_of, layout_of, binary_of, conversion_of, cell_of, place_of};
 
-use ir_ast::{
-    Arg, Block, Callee, Cell, Elem, Form, Func, Inst, Layout, Module, Name, Op, Operand, Operands,
-    Pred, Ty, Types,
-};
-use ir_lines::best::First;
+use ir_ast::{Arg, Callee, Cell, Elem, Inst, Layout, Name, Op, Operand, Operands, Pred, Ty, Types};
 use ir_lines::literals::wrapped;
 use ir_lines::names::{is_text, number_of};
 use ir_lines::operands::{binary_of, conversion_of, element_of, passed_type, type_of};
 use ir_lines::parts::TOKEN;
 use ir_lines::scope::{Local, Top};
-use ir_lines::sections::{BlockLines, Definition, HeadNames, blocks, definitions};
 use ir_reader::{
     Argument, Binary, Conversion, Entry, Literal, NumberedReading, Passed, Reading, StatepointCall,
     TypeWord, Value,
@@ -689,85 +679,6 @@ impl Scope<'_, '_, '_, '_> {
             _ => Ok(None),
         }
     }
-
-    // A block, and the lines of its instructions behind the others.
-    fn block(
-        &self,
-        alloc: Global,
-        block: &BlockLines,
-        numbers: &mut Vec<u32>,
-    ) -> Result<Block, AllocError>
-        requires { EndsAtTerminator (insts_of (known_in self.now) (seen_lines block.now.lines.now)) }
-        ensures block { IfOk result (λ made. made ≡ record {
-          name = block.now.name.now;
-          insts = insts_of (known_in self.now) (seen_lines block.now.lines.now);
-        }) }
-        ensures numbers { OnOk result (numbers.new.items
-            ≡ numbers.old.items ++ numbers_of (known_in self.now) (seen_lines block.now.lines.now)) }
-    {
-        let insts = self.insts(alloc, block.lines, numbers)?;
-        let name = owned(alloc, block.name)?;
-        Ok(Block::of(name, insts))
-    }
-
-    fn insts(
-        &self,
-        alloc: Global,
-        lines: &[NumberedReading],
-        numbers: &mut Vec<u32>,
-    ) -> Result<Vec<Inst>, AllocError>
-        ensures insts { IfOk result (λ insts. insts.items ≡ insts_of (known_in self.now) (seen_lines lines.now)) }
-        ensures numbers { OnOk result (numbers.new.items ≡ numbers.old.items ++ numbers_of (known_in self.now) (seen_lines lines.now)) }
-    {
-        let mut insts = Vec::new(alloc);
-        for (i, line) in lines.iter().enumerate() {
-            let made = self.instruction(alloc, &line.reading, behind(lines, i))?;
-            keep(&mut insts, numbers, line.line, made)?;
-        }
-        Ok(insts)
-    }
-
-    // The blocks, and the lines of their instructions behind the others.
-    fn built_blocks(
-        &self,
-        alloc: Global,
-        blocks: &[BlockLines],
-        numbers: &mut Vec<u32>,
-    ) -> Result<Vec<Block>, AllocError>
-        requires { All (λ block. EndsAtTerminator (insts_of (known_in self.now) block.lines)) (map seen_block blocks.now) }
-        ensures blocks { IfOk result (λ built. built.items ≡ map (block_of (known_in self.now)) (map seen_block blocks.now)) }
-        ensures numbers { OnOk result (numbers.new.items ≡ numbers.old.items
-            ++ flat_map (λ block. numbers_of (known_in self.now) block.lines) (map seen_block blocks.now)) }
-    {
-        let mut built = Vec::new(alloc);
-        for block in blocks {
-            let made = self.block(alloc, block, numbers)?;
-            built.push(made)?;
-        }
-        Ok(built)
-    }
-
-    // The function that a definition with these names and blocks stands for, with the lines of its instructions.
-    fn function(
-        &self,
-        alloc: Global,
-        func: &Definition,
-        names: &HeadNames,
-        blocks: &[BlockLines],
-    ) -> Result<Func, AllocError>
-        requires names { map (λ n. n.items) names.now.arguments.items
-            ≡ map (λ one. one.name) (arguments_named func.now.line [] (map seen_argument func.now.arguments.now)) }
-        requires blocks { map seen_block blocks.now ≡ blocks_of (seen_definition func.now) }
-        requires placed { IsPlacedFunction (known_in self.now) (seen_definition func.now) }
-        ensures { IfOk result (λ made. made ≡ lined_function (known_in self.now) (seen_definition func.now)) }
-    {
-        let mut numbers = Vec::new(alloc);
-        let built = self.built_blocks(alloc, blocks, &mut numbers)?;
-        let name = owned(alloc, func.name)?;
-        let args = arguments_of(alloc, func.line, func.arguments, names.arguments.as_slice())?;
-        let whole = Func::of(name, type_of(func.answer), args, built);
-        Ok(whole.with_lines(numbers))
-    }
 }
 
 /// The lines behind one.
@@ -819,37 +730,6 @@ pub fn arguments_of(
     Ok(args)
 }
 
-// The function that a definition stands for, with the lines of its instructions.
-fn function_of(alloc: Global, form: Form, top: &Top, func: &Definition) -> Result<Func, AllocError>
-    requires { IsPlacedFunction (known_with top.now (seen_definition func.now)) (seen_definition func.now) }
-    ensures { IfOk result (λ made. made ≡ lined_function (known_with top.now (seen_definition func.now)) (seen_definition func.now)) }
-{
-    let names = HeadNames::of(alloc, func.arguments)?;
-    let sections = blocks(alloc, func, names.entry.as_slice())?;
-    let mut unused = First::NONE;
-    let local = Local::of(alloc, form, func, &names, sections.as_slice(), &mut unused)?;
-    let scope = Scope { top, local: &local };
-    scope.function(alloc, func, &names, sections.as_slice())
-}
-
-// The functions that definitions stand for, in their order.
-fn functions_of(
-    alloc: Global,
-    form: Form,
-    top: &Top,
-    funcs: &[Definition],
-) -> Result<Vec<Func>, AllocError>
-    requires { All (λ func. IsPlacedFunction (known_with top.now func) func) (map seen_definition funcs.now) }
-    ensures { IfOk result (λ made. made.items ≡ map (λ func. lined_function (known_with top.now func) func) (map seen_definition funcs.now)) }
-{
-    let mut made = Vec::new(alloc);
-    for func in funcs {
-        let one = function_of(alloc, form, top, func)?;
-        made.push(one)?;
-    }
-    Ok(made)
-}
-
 fn cells_of(alloc: Global, fields: &[TypeWord]) -> Result<Vec<Cell>, AllocError>
     ensures { IfOk result (λ cells. cells.items ≡ map cell_of fields.now) }
 {
@@ -891,17 +771,4 @@ pub fn layouts_of(alloc: Global, lines: &[NumberedReading]) -> Result<Vec<Layout
         keep_layout(alloc, line, &mut layouts)?;
     }
     Ok(layouts)
-}
-
-/// The module that these lines of a text in this form stand for, with the lines of its instructions.
-pub fn module_of(alloc: Global, form: Form, lines: &[NumberedReading]) -> Result<Module, AllocError>
-    requires { IsPlaced (seen_lines lines.now) }
-    ensures { IfOk result (λ whole. whole ≡ module_of form (seen_lines lines.now)) }
-{
-    let mut unused = First::NONE;
-    let top = Top::of(alloc, lines, &mut unused)?;
-    let layouts = layouts_of(alloc, lines)?;
-    let found = definitions(alloc, lines)?;
-    let funcs = functions_of(alloc, form, &top, found.as_slice())?;
-    Ok(Module::of(layouts, funcs, form))
 }

@@ -1,6 +1,4 @@
-//! The module that lines stand for.
+//! The instructions, arguments and layouts that lines stand for, by number.
 #![tactic(auto)]
 
 pub mod build;
-
-pub use build::module_of;

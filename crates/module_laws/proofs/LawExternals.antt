@@ -46,9 +46,6 @@ use Rattle.module_laws.proofs.LawHeads.{HeadFrom, from_definition, from_declarat
 use Rattle.module_laws.proofs.LawLines.{InLaw, made, is_value_in}
 use Rattle.module_laws.proofs.LawCalls.{IsGoodCall, found_by_name, unplaced, contains_mapped, funcs_of, names_defined, called, given_from_types, args_fit, argument-value, over, no_function, no_functions, call_made, signed, calls_definition, contains_external}
 
-layout_names : List Line → List (List ℕ)
-layout_names lines = map (λ one. one.name) (layouts_of lines)
-
 -- a declaration of faultless lines is one of the externals, and in the source form no helper
 pub declared : (form : Form) (lines : List Line) → HasNoResolvedFault form lines → (l : Line) → Contains lines l → (answer : TypeWord) (name : List ℕ) (parameters : List Named)
     → l.says ≡ declare answer name parameters
@@ -334,9 +331,6 @@ calls_check form lines func name answer passed c =
     (kind_passed (known_of lines func) passed c.takes (checked_kind form lines func name answer passed c))
     (λ is. absurd (not_called form lines func name answer passed own_check c is_check is))
     (All-nil (λ layout. layout < length (module_of form lines).content.layouts)) refl
-
-abbrev At : Form → List Line → Definition → List ℕ → TypeWord → List Given → External → Type 0
-At form lines func name answer passed e = CallsExternal form lines func name answer passed e
 
 moved : (form : Form) (lines : List Line) (func : Definition) (name : List ℕ) (answer : TypeWord) (passed : List Given) (e f : External) → e ≡ f
     → CallsExternal form lines func name answer passed f → CallsExternal form lines func name answer passed e

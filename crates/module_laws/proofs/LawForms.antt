@@ -20,7 +20,7 @@ use Rattle.ir_lines.specs.Modules.{known_of, block_of, argument_of}
 use Rattle.ir_resolve.specs.Resolved.{stands_for}
 use Rattle.ir_resolve.specs.FaultSet.{HasNoResolvedFault}
 use Rattle.ir_resolve.proofs.Unbroken.{unbroken_of, unbroken_entry, unbroken_phis, unbroken_derived, unbroken_pointers, unbroken_shapes, unbroken_main}
-use Rattle.ir_resolve.proofs.PhiPlaces.{BodyStands, bodies}
+use Rattle.ir_resolve.proofs.Standing.{BodyStands, bodies}
 use Rattle.ir_lines.specs.ReadLines.{IsReadLines, is_instruction}
 use Rattle.ir_lines.specs.TextLines.{IsTextLines}
 use Rattle.module_build.specs.Placed.{IsPlacedFunction, IsPlaced}

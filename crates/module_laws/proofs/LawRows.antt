@@ -35,12 +35,10 @@ use Rattle.ir_lines.proofs.LawNames.{stands, number-is, contains_middle}
 use Rattle.ir_resolve.specs.Resolved.{uncast_line, resolved}
 use Rattle.ir_resolve.specs.FaultSet.{of_module}
 use Rattle.ir_resolve.proofs.Casts.{uncast_in, definitions-same}
-use Rattle.ir_resolve.proofs.Derivations.{bare, made_of}
-use Rattle.ir_resolve.proofs.Fronts.{said_at, insts, front, insts-cons as insts_cons, insts_split}
+use Rattle.ir_resolve.proofs.Values.{bare, made_of, token_numbered}
+use Rattle.ir_resolve.proofs.Fronts.{said_at, insts, front, insts-cons as insts_cons, insts_split, insts_said as insts_told}
 use Rattle.ir_resolve.proofs.Groups.{are_parts, point, GroupSaid, group_said}
-use Rattle.ir_resolve.proofs.GroupFaults.{token_numbered}
-use Rattle.ir_resolve.proofs.PhiPlaces.{BodyStands}
-use Rattle.ir_resolve.proofs.Phis.{insts_said as insts_told}
+use Rattle.ir_resolve.proofs.Standing.{BodyStands}
 use Rattle.ir_resolve.proofs.Unbroken.{unbroken_shapes}
 use Rattle.module_laws.proofs.LawFacts.{or-left, and-left, and-right, true-false}
 use Rattle.module_laws.proofs.LawBodies.{insts_said, insts-cons, body_insts, func_insts}

@@ -111,9 +111,6 @@ no_names form lines os e =
 abbrev pub Plain_inst : Option (List ℕ) → Op → Ty → List Operand → Instruction
 Plain_inst result op ty operands = instruction result op ty operands []
 
-abbrev pub NoLayout : Form → List Line → Type 0
-NoLayout form lines = All (λ layout. layout < length (content form lines).layouts) []
-
 pub no_layout : (form : Form) (lines : List Line) → All (λ layout. layout < length (content form lines).layouts) []
 no_layout form lines = All-nil (λ layout. layout < length (content form lines).layouts)
 

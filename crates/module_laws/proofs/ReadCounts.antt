@@ -23,7 +23,7 @@ use Rattle.ir_reader.specs.Raws.{seen_numbered}
 use Rattle.ir_lines.specs.Statements.{Statement, Line, layout, declare, define, close, label, switch_case, switch_end, gc_relocate}
 use Rattle.ir_lines.specs.Sections.{Definition, layouts_of, layout_said, definitions_of, definition_said, is_case, is_close}
 use Rattle.ir_lines.specs.Views.{said, seen_line}
-use Rattle.ir_lines.specs.TextLines.{place_behind, Goes, Stand}
+use Rattle.ir_lines.specs.TextLines.{place_behind, Stand}
 use Rattle.ir_lines.specs.Parts.{is_of_group}
 use Rattle.ir_lines.specs.ReadLines.{is_instruction, is_relocate, relocates_first, RelocatesAreFew, instruction_count, opens_case, CasesStand}
 use Rattle.module_laws.proofs.Runs.{Runs}
@@ -159,10 +159,6 @@ fit-is c e =
     both true y e = (refl, e)
     both false y e = absurd (let bad : false ≡ true = e in cc)
 
-run-fits : (form : Form) (c : Counts) (ls : List Line) → Run form c ls → Fit c
-run-fits form c [] run = fit-is c run
-run-fits form c (l ∷ ls) run = fit-is c run.0
-
 -- what one line adds
 record Adds (c next : Counts) (s : Statement) : Type 0 where
   layouts : next.layouts ≡ c.layouts + length (layout_said 0 s)
@@ -254,10 +250,6 @@ values_in (l ∷ ls) place c in' body own run =
     let more = values_in ls body.next (counted (kind_in Source l.says) c) body.more.0 body.more.1 own.1 run.1 in
     let a = values_add c l.says plain own.0 in
     omega (arith, count-cons l ls)
-
-run_first : (form : Form) (c : Counts) (ls : List Line) → Run form c ls → counts_fit c ≡ true
-run_first form c [] run = run
-run_first form c (l ∷ ls) run = run.0
 
 run-while : (form : Form) (p : Line → Bool) (ls : List Line) (c : Counts) → Run form c ls → Run form c (take_while p ls)
 run-while form p [] c run = run
@@ -358,10 +350,6 @@ in_all ls = sum_by (λ (func : Definition). instruction_count func.body) (defini
 
 abbrev Total : Place → List Line → Type 0
 Total place ls = body_part place ls + in_all ls ≤ instruction_count ls
-
-abbrev TotalAt : Place → Statement → ℕ → List Line → Option Place → Type 0
-TotalAt place s n ls None = Unit {0}
-TotalAt place s n ls (Some next) = Total next ls → Total place (record { number = n; says = s } ∷ ls)
 
 -- a line of no definition
 plain_total : (place : Place) (s : Statement) (n : ℕ) (ls : List Line) (next : Place) → is_define s ≡ false → in_all (record { number = n; says = s } ∷ ls) ≡ in_all ls

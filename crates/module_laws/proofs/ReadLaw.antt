@@ -1,4 +1,4 @@
--- The lines of a text that was read are as a reader gives them, so that the law of the typer is one of texts.
+-- The lines of a text that was read are as a reader gives them.
 use Rattle.std.proofs.Common.{◌≡◌, ℕ, ◌+◌, ◌≤◌, refl, Bool, true, false, not, List, [], ◌∷◌, map, length, arith}
 use Rattle.std.specs.List.{All, AllByRecursion, Contains, sum_by}
 use Rattle.std.specs.Str.Lines.{lines as text_lines}
@@ -20,7 +20,6 @@ use Rattle.ir_lines.specs.Modules.{known_of, block_of}
 use Rattle.ir_lines.specs.Views.{seen_line, seen_lines}
 use Rattle.ir_lines.specs.TextLines.{Stand, statement_fits, is_formed, stands_in}
 use Rattle.ir_lines.specs.ReadLines.{IsReadFunction, IsReadLines, SaysRead, is_instruction, instruction_count}
-use Rattle.ir_resolve.specs.Statements.{AreRead, Rise}
 use Rattle.module_build.specs.Placed.{IsPlacedFunction, IsPlaced}
 use Rattle.module_build.proofs.Bodies.{Body}
 use Rattle.module_laws.proofs.LawHeads.{SaysOf, says-defined}
@@ -105,18 +104,3 @@ read_law r read =
       few_instructions = instructions_few r.form lines (opening r.form).counts own text.placed counts;
       few_lines = text.few;
     }
-
--- ---- numbers of lines
-
-rise_within : (ls : List Line) (from to : ℕ) → Within from (numbers ls) to → Rise from ls
-rise_within [] from to within = tt
-rise_within (l ∷ ls) from to within = (within.0, rise_within ls l.number to within.1)
-
-read_rise : (r : Readings) → IsRead r → Rise 0 (seen_lines r.lines)
-read_rise r read =
-    let to = 1 + length (text_lines r.text) in
-    rise_within (seen_lines r.lines) 0 to (within-later (numbers (seen_lines r.lines)) 0 1 to (omega arith) (lines-rise r read))
-
--- so what is proved of lines as a reader gives them holds of those of each text that was read
-pub are_read : (r : Readings) → IsRead r → AreRead r.form (seen_lines r.lines)
-are_read r read = record { read = read_law r read; placed = read-lines r read; order = λ is. read_rise r read }

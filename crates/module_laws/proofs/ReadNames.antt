@@ -1,12 +1,12 @@
 -- The names that the lines of a text spell are names.
-use Rattle.std.proofs.Common.{◌≡◌, ◌∙◌, ℕ, zero, suc, ◌-◌, refl, sym, ap, subst, Bool, true, false, ◌&&◌, ◌==◌, if◌then◌else◌, List, [], ◌∷◌, ◌++◌, length, take, drop, map, Option, Some, None}
+use Rattle.std.proofs.Common.{◌≡◌, ℕ, zero, suc, ◌-◌, refl, subst, Bool, true, false, ◌&&◌, ◌==◌, if◌then◌else◌, List, [], ◌∷◌, ◌++◌, length, take, drop, map, Option, Some, None}
 use Rattle.std.specs.Prelude.{IfSome, codes, unwrap_or, option_map, ⊤}
-use Rattle.std.specs.List.{All, AllByRecursion}
+use Rattle.std.specs.List.{AllByRecursion}
 use Rattle.std.specs.Str.{bytes_eq}
 use Rattle.std.proofs.lemmas.List.Elements.{All-from_recursion}
 use Rattle.sp_text.specs.Bytes.{is_blank, semicolon, percent, at_sign, after_blanks}
 use Rattle.sp_text.specs.Tokens.{Tok, tok, bad, is_token, is_name, first_then, front_of, front_and_more, tokens_after, tokens, says_nothing}
-use Rattle.sp_text.specs.Labels.{is_label, label_in, label_of}
+use Rattle.sp_text.specs.Labels.{is_label, label_in}
 use Rattle.sp_text.specs.declared.tokens.Kind.{Kind}
 use Rattle.sp_text.specs.declared.tokens.Kind.TheVariants as kinds
 use Rattle.sp_text.proofs.TokenLemmas.{front_of-some, kind_of-some}
@@ -76,9 +76,6 @@ tokens-good bs = tokens_after-good bs 0
 abbrev pub GF : {A : Type 0} → (A → Type 0) → Found A → Type 0
 GF Q None = ⊤
 GF Q (Some x) = Q x.0 × Good x.1
-
-abbrev Any : {A : Type 0} → A → Type 0
-Any x = ⊤
 
 after-good : {A B : Type 0} (Q : A → Type 0) (R : B → Type 0) (what : Found A) (next : A → List Tok → Found B) → GF Q what
     → ((x : A) (rest : List Tok) → Q x → Good rest → GF R (next x rest)) → GF R (after what next)
@@ -228,9 +225,6 @@ unfolding past_all
 all_good what ts g = at_most_good (length ts) what ts g
 
 -- ---- types and values
-
-abbrev T : {A : Type 0} → A → Type 0
-T x = ⊤
 
 addrspace_good : (ts : List Tok) → Good ts → GF (λ (x : Unit {0}). ⊤) (addrspace_at ts)
 unfolding addrspace_at

@@ -1,5 +1,5 @@
 -- The lines of a text that was read rise in its order.
-use Rattle.std.proofs.Common.{◌≡◌, ℕ, ◌+◌, ◌≤◌, ◌<◌, zero, suc, refl, ap, subst, Bool, true, false, List, [], ◌∷◌, ◌++◌, length, map, Ok, Err, Result, arith}
+use Rattle.std.proofs.Common.{◌≡◌, ℕ, ◌+◌, ◌≤◌, ◌<◌, zero, suc, refl, ap, subst, Bool, true, false, List, [], ◌∷◌, length, map, Ok, Err, Result, arith}
 use Rattle.std.specs.Prelude.{slice_index, if◌then◌else◌}
 use Rattle.std.specs.Str.Lines.{lines}
 use Rattle.sp_text.specs.Lines.{numbered, lines_of as text_lines}
@@ -22,10 +22,6 @@ within-later (x ∷ xs) before from to first within = (omega (arith, first, with
 pub within-spans : (xs : List ℕ) (from to : ℕ) → Within from xs to → from ≤ to
 within-spans [] from to within = within
 within-spans (x ∷ xs) from to within = let h = within-spans xs x to within.1 in omega (arith, h, within.0)
-
-pub within-append : (xs ys : List ℕ) (from middle to : ℕ) → Within from xs middle → Within middle ys to → Within from (xs ++ ys) to
-within-append [] ys from middle to front back = within-later ys from middle to front back
-within-append (x ∷ xs) ys from middle to front back = (front.0, within-append xs ys x middle to front.1 back)
 
 -- each of them stands between both ends
 pub within-from : (xs : List ℕ) (from to i : ℕ) → Within from xs to → i < length xs → from ≤ slice_index xs i

@@ -11,7 +11,7 @@ use Rattle.ir_types.specs.declared.faults.TypeFault.{TypeFault as TypingFault}
 use Rattle.ir_types.specs.declared.faults.TypeFault.TheVariants as answers
 use Rattle.ir_lines.specs.Views.{seen_line, seen_lines}
 use Rattle.ir_lines.specs.Statements.{Line, lines_of}
-use Rattle.ir_lines.specs.PlainFaults.{ComesFirst}
+use Rattle.ir_lines.specs.FaultOrder.{ComesFirst}
 use Rattle.ir_types.specs.FaultSet.{IsLeastFault}
 use Rattle.ir_lines.specs.Modules.{module_of}
 use Rattle.statepoint_tool.specs.Causes.{IsReadAs, IsAccepted, HasTextFault, unread, over_limit, faulty}

@@ -1,3 +1,4 @@
+pub mod CaseLines
 pub mod LostNotes
 pub mod RowNotes
 pub mod Uncast

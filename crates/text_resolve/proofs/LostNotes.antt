@@ -1,14 +1,17 @@
 -- What a line loses, code by code, and what it loses by itself and by its cases.
 use Rattle.std.proofs.Common.{◌≡◌, ℕ, inl, inr, Bool, List}
-use Rattle.std.specs.Prelude.{Option}
+use Rattle.std.specs.Prelude.{Option, IsTrue}
 use Rattle.ir_ast.specs.declared.modules.Form.{Form}
 use Rattle.ir_lines.specs.declared.faults.Fault.{Fault}
 use Rattle.ir_lines.specs.Statements.{Line}
-use Rattle.ir_lines.specs.Notes.{Notes}
+use Rattle.ir_lines.specs.Notes.{Notes, Is}
 use Rattle.ir_lines.proofs.NoteLemmas.{Either, notes-then, notes-same}
 use Rattle.line_checks.specs.LineFaults.{Tables}
-use Rattle.line_checks.proofs.CodeLemmas.{When}
 use Rattle.text_resolve.specs.Lost.{LostBy, LostIn, LineLost, WidthsBehind, unknown_name, spelled_wrong, pointer_cast, counted_wrong}
+
+-- this line with this code, where the test holds
+abbrev pub When : Bool → ℕ → ℕ → ℕ → ℕ → Type 0
+When test line number l code = IsTrue test × Is line number l code
 
 abbrev pub Four : Bool → Bool → Bool → Bool → ℕ → ℕ → ℕ → Type 0
 Four unknown misspelled conversion miscounted line =

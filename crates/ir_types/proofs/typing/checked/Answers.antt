@@ -10,7 +10,8 @@ use Rattle.ir_resolve.specs.FaultSet.{HasResolvedFault}
 use Rattle.module_build.specs.Placed.{IsPlaced}
 use Rattle.module_laws.proofs.ReadTexts.{read-lines}
 use Rattle.text_resolve.proofs.Placing.{resolved-placed}
-use Rattle.ir_types.proofs.AnswerLaws.{noted-least, text-noted, text-unbroken, text-module, formed-text, answers-paths, module-paths, kept-paths, functions-paths}
+use Rattle.ir_lines.proofs.NoteLemmas.{notes-least}
+use Rattle.ir_types.proofs.AnswerLaws.{text-noted, text-unbroken, text-module, formed-text, answers-paths, module-paths, kept-paths, functions-paths}
 use Rattle.ir_types.proofs.PathLaw.{plain-least}
 use Rattle.ir_types.proofs.typing.checked.Goals as goal
 
@@ -37,7 +38,7 @@ returns-in-Some-clause-answers c =
     c.in_ok-text.text.whole c.in_ok-text.text.cases.items c.as_slice.result.now c.in_ok-text.ensures.whole c.in_ok-text.ensures.cases c.as_slice.ensures.value
     c.in_ok-text.ensures.fault c.in_ok-fault.ensures in
     plain-least form lines c.in-Some.fault.line c.in-Some.fault.code
-    (noted-least (λ line code. HasResolvedFault form lines line code) c.in-Some.fault
+    (notes-least (λ line code. HasResolvedFault form lines line code) c.in-Some.fault
     (subst (λ (found : Option Fault). Notes None found (λ line code. HasResolvedFault form lines line code)) c.in-Some.is noted))
 
 pub returns-in-None-clause-answers : goal.returns-in-None-clause-answers

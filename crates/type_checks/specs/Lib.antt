@@ -1,4 +1,0 @@
-pub mod Follows
-pub mod Derivations
-pub mod Groups
-pub mod Edges
