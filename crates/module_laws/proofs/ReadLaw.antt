@@ -1,7 +1,6 @@
 -- The lines of a text that was read are as a reader gives them.
-use Rattle.std.proofs.Common.{◌≡◌, ℕ, ◌+◌, ◌≤◌, refl, Bool, true, false, not, List, [], ◌∷◌, map, length, arith}
+use Rattle.std.proofs.Common.{◌≡◌, ◌+◌, ◌≤◌, refl, Bool, true, false, not, List, [], ◌∷◌, map, length, arith}
 use Rattle.std.specs.List.{All, AllByRecursion, Contains, sum_by}
-use Rattle.std.specs.Str.Lines.{lines as text_lines}
 use Rattle.std.proofs.lemmas.List.{length-map}
 use Rattle.std.proofs.lemmas.List.Sums.{count_by-le-length}
 use Rattle.std.proofs.lemmas.List.Elements.{All-contains, All-from_recursion, recursion_from_All}
@@ -25,7 +24,6 @@ use Rattle.module_build.proofs.Bodies.{Body}
 use Rattle.module_laws.proofs.LawHeads.{SaysOf, says-defined}
 use Rattle.module_build.proofs.Placing.{IsPlacedBody, definitions-placed, read-placed}
 use Rattle.module_laws.proofs.ReadTexts.{read-runs, read-lines}
-use Rattle.module_laws.proofs.Rising.{Within, numbers, within-later, lines-rise}
 use Rattle.module_laws.proofs.ReadNames.{runs_names}
 use Rattle.module_laws.proofs.ReadTypes.{SaysNames, calls_void, said_read}
 use Rattle.module_laws.proofs.ReadCounts.{Run, NoGroups, IsCounted, runs-counted, layouts_total, functions_total, total_all, instructions_total, few_values_in, each_counted, relocates_few, cases_stand, has_line}
