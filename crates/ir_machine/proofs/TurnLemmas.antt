@@ -26,8 +26,8 @@ module _ (content : ModuleContent) (machinery : Machinery) where
       follows_more content machinery (record { places = false; trace = false }) start new new later count first now (leads start one count first now follows)
       false one GoesOn refl refl does refl now (sym (append_known-nil now))
 
-  pub leads_hurried : (old new later : Machine) → LeadsOn machinery false old new → machine_step machinery new ≡ goes_on later → LeadsOn machinery false old later
-  leads_hurried old new later leads goes = leads_step old new later leads (ap told (sym goes))
+  pub leads_fast : (old new later : Machine) → LeadsOn machinery false old new → machine_step machinery new ≡ goes_on later → LeadsOn machinery false old later
+  leads_fast old new later leads goes = leads_step old new later leads (ap told (sym goes))
 
   pub leads_kept : (old new later : Machine) → LeadsOn machinery false old new → later ≡ new → LeadsOn machinery false old later
   leads_kept old new later leads same = subst (λ (machine : Machine). LeadsOn machinery false old machine) (sym same) leads

@@ -76,19 +76,19 @@ impl<'m, 'i> Executor<'m, 'i> {
         self.run.frame.rest = lines.behind(count);
     }
 
-    /// The running task takes a jump, or a poll at which nothing happens, if it stands at one and has steps left. Whether it does.
+    /// The running task takes a jump, a call, a return, or a poll at which nothing happens, if it stands at one and has steps left. Whether it does.
     #[inline(always)]
-    pub fn hurry(&mut self, program: &'m Program<'_, '_>) -> Result<bool, Memory>
+    pub fn fast_step(&mut self, program: &'m Program<'_, '_>) -> Result<bool, Memory>
         ensures { IfOk result (λ went. GoesOnTo (machine_step (machinery program.now) (seen self.old)) (seen self.old) went (seen self.new)) }
     {
         match self.run.frame.rest.front() {
             None => Ok(false),
-            Some(parts) => self.hurry_at(program, parts.0, parts.2),
+            Some(parts) => self.fast_step_at(program, parts.0, parts.2),
         }
     }
 
     #[inline(always)]
-    fn hurry_at(
+    fn fast_step_at(
         &mut self,
         program: &'m Program<'_, '_>,
         inst: &Inst,
@@ -98,26 +98,26 @@ impl<'m, 'i> Executor<'m, 'i> {
         ensures { IfOk result (λ went. GoesOnTo (acts_at (machinery program.now) self.old inst.now rest.entry.insts.now inst.now.op) (seen self.old) went (seen self.new)) }
     {
         match inst.op() {
-            Op::Br => self.hurry_to(program, label_at(inst.labels(), 0)),
+            Op::Br => self.fast_jump(program, label_at(inst.labels(), 0)),
             Op::CondBr => {
                 let taken = branch_taken(self.word(inst, 0));
-                self.hurry_to(program, label_at(inst.labels(), taken))
+                self.fast_jump(program, label_at(inst.labels(), taken))
             }
             Op::Statepoint { callee, types, .. } => match callee {
-                Callee::Poll => self.hurry_past(program, inst, rest, types.list().len()),
+                Callee::Poll => self.fast_poll(program, inst, rest, types.list().len()),
                 Callee::Fun(func) => {
-                    self.hurry_in(program, inst, rest, func.0, types.list().len())
+                    self.fast_call(program, inst, rest, func.0, types.list().len())
                 }
                 _ => Ok(false),
             },
-            Op::Ret => self.hurry_out(program, inst, rest),
+            Op::Ret => self.fast_return(program, inst, rest),
             _ => Ok(false),
         }
     }
 
     // A jump, if there is a step left.
     #[inline(always)]
-    fn hurry_to(&mut self, program: &'m Program<'_, '_>, block: u32) -> Result<bool, Memory>
+    fn fast_jump(&mut self, program: &'m Program<'_, '_>, block: u32) -> Result<bool, Memory>
         ensures { IfOk result (λ went. GoesOnTo (lifted (seen self.old) (stepped (machinery program.now).setting (seen self.old).state (jumped (machinery program.now).setting block))) (seen self.old) went (seen self.new)) }
     {
         if self.steps >= program.bound {
@@ -132,7 +132,7 @@ impl<'m, 'i> Executor<'m, 'i> {
 
     // A poll of a statepoint under a plan without lines.
     #[inline(always)]
-    fn hurry_past(
+    fn fast_poll(
         &mut self,
         program: &'m Program<'_, '_>,
         inst: &Inst,
@@ -158,7 +158,7 @@ impl<'m, 'i> Executor<'m, 'i> {
 
     // A call of a statepoint, if there is a step left and the task has frames left.
     #[inline(always)]
-    fn hurry_in(
+    fn fast_call(
         &mut self,
         program: &'m Program<'_, '_>,
         inst: &Inst,
@@ -210,7 +210,7 @@ impl<'m, 'i> Executor<'m, 'i> {
 
     // A return to a frame that waits, if there is a step left.
     #[inline(always)]
-    fn hurry_out(
+    fn fast_return(
         &mut self,
         program: &'m Program<'_, '_>,
         inst: &Inst,

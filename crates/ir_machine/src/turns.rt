@@ -56,7 +56,7 @@ impl<'m, 'i> Executor<'m, 'i> {
         ensures { IfOk result (λ turn. WentFar (machinery program.now) (seen self.old) turn (seen self.new)) }
     {
         for _ in 0..u64::MAX {
-            self.rush(program)?;
+            self.fast_steps(program)?;
             let did = self.step(program)?;
             if is_shown(did) {
                 return Ok(Turn { event: false, did });
@@ -65,14 +65,14 @@ impl<'m, 'i> Executor<'m, 'i> {
         Err(Memory)
     }
 
-    // All lines that stay in their frame, all jumps, and all polls at which nothing happens, up to another line.
+    // All lines that stay in their frame, all jumps, calls and returns, and all polls at which nothing happens, up to another line.
     #[inline(always)]
-    fn rush(&mut self, program: &'m Program<'_, '_>) -> Result<(), Memory>
+    fn fast_steps(&mut self, program: &'m Program<'_, '_>) -> Result<(), Memory>
         ensures { OnOk result (LeadsOn (machinery program.now) false (seen self.old) (seen self.new)) }
     {
         for _ in 0..u64::MAX {
             self.go_over(program);
-            let went = self.hurry(program)?;
+            let went = self.fast_step(program)?;
             if !went {
                 return Ok(());
             }

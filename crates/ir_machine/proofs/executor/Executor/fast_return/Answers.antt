@@ -11,7 +11,7 @@ use Rattle.machine_frames.specs.declared.tasks.Task.{Task}
 use Rattle.machine_frames.specs.Tasks.{Leaves, Returns}
 use Rattle.ir_machine.specs.Executors.{acts_at, machinery, seen}
 use Rattle.ir_machine.proofs.CallLemmas.{ret_step}
-use Rattle.ir_machine.proofs.executor.Executor.hurry_out.Goals as goal
+use Rattle.ir_machine.proofs.executor.Executor.fast_return.Goals as goal
 
 pub returns : goal.returns
 returns c =

@@ -10,7 +10,7 @@ use Rattle.machine_lines.specs.Lines.{line_of, lines_left}
 use Rattle.machine_frames.specs.Frames.{kept_in}
 use Rattle.std.proofs.lemmas.List.{take-map}
 use Rattle.ir_machine.specs.Executors.{machinery, seen}
-use Rattle.ir_machine.proofs.executor.Executor.hurry_in.Goals as goal
+use Rattle.ir_machine.proofs.executor.Executor.fast_call.Goals as goal
 
 pub returns : goal.returns
 returns c =
