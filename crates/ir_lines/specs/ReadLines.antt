@@ -10,8 +10,7 @@ use Rattle.line_parts.specs.declared.readings.TypeWord.{TypeWord}
 use Rattle.line_parts.specs.declared.readings.TypeWord.TheVariants.{Void, Int, Managed}
 use Rattle.line_parts.specs.Parts.{Val, is_case_value, is_scalar_type}
 use Rattle.line_parts.specs.Lists.{Named, Given, given, function}
-use Rattle.group_parts.specs.Statepoints.{Guarded}
-use Rattle.ir_lines.specs.Statements.{Statement, Line, layout, define, label, binary, compare, convert, select, phi, scalar_step, layout_step, load, call, switch, switch_case, ret, cast, jump, branch, store, ret_void, unreachable, statepoint, gc_result, gc_relocate}
+use Rattle.ir_lines.specs.Statements.{Guarded, Statement, Line, layout, define, label, binary, compare, convert, select, phi, scalar_step, layout_step, load, call, switch, switch_case, ret, cast, jump, branch, store, ret_void, unreachable, statepoint, gc_result, gc_relocate}
 use Rattle.ir_lines.specs.Parts.{is_of_group}
 use Rattle.ir_lines.specs.Sections.{Definition, layouts_of, definitions_of, blocks_of, is_case}
 

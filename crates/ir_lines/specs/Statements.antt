@@ -12,12 +12,24 @@ use Rattle.line_parts.specs.declared.readings.TypeWord.TheVariants as types
 use Rattle.line_tokens.specs.declared.literals.Literal.{Literal}
 use Rattle.line_parts.specs.Parts.{Val, null}
 use Rattle.line_parts.specs.Lists.{Named, Given}
-use Rattle.group_parts.specs.Statepoints.{Signature, Guarded}
 use Rattle.line_forms.specs.Slots.{Item}
 use Rattle.line_forms.specs.Slots as items
 use Rattle.line_forms.specs.Seen.{Said}
 use Rattle.line_forms.specs.Seen as readings
 use Rattle.ir_reader.specs.Text.{Numbered}
+
+-- a function type `R (A, ..)`
+pub record Signature : Type 0 where
+  pub answer : TypeWord
+  pub parameters : List TypeWord
+
+-- a statepoint's call: its id, the function's type and name, the number of arguments that it tells, the arguments
+pub record Guarded : Type 0 where
+  pub id : Literal
+  pub signature : Signature
+  pub callee : List ℕ
+  pub count : Literal
+  pub passed : List Given
 
 pub data Statement : Type 0 where
   -- `%T = type { F, F, .. }`
@@ -116,15 +128,13 @@ abbrev pub literal_of : Option Item → Literal
 literal_of (Some (items.literal n)) = n
 literal_of _ = record { negative = false; magnitude = 0 }
 
-abbrev pub no_signature : Signature
-no_signature = record { answer = types.Void; parameters = [] }
+abbrev pub types_of : Option Item → List TypeWord
+types_of (Some (items.types ts)) = ts
+types_of _ = []
 
-abbrev pub no_call : Guarded
-no_call = record { id = literal_of None; signature = no_signature; callee = []; count = literal_of None; passed = [] }
-
-abbrev pub guarded_of : Option Item → Guarded
-guarded_of (Some (items.guarded c)) = c
-guarded_of _ = no_call
+abbrev pub handed_of : Option Item → List Given
+handed_of (Some (items.handed ps)) = ps
+handed_of _ = []
 
 abbrev pub live_of : Option Item → List Val
 live_of (Some (items.live vs)) = vs
@@ -161,7 +171,13 @@ of_form forms.ReturnVoid at = ret_void
 of_form forms.Return at = ret (type_of (at 0)) (value_of (at 1))
 of_form forms.Unreachable at = unreachable
 of_form (forms.Cast op) at = cast (name_of (at 0)) op (type_of (at 1)) (value_of (at 2)) (type_of (at 3))
-of_form forms.Statepoint at = statepoint (name_of (at 0)) (guarded_of (at 1)) (live_of (at 2))
+of_form forms.Statepoint at = statepoint (name_of (at 0)) (record {
+  id = literal_of (at 1);
+  signature = record { answer = type_of (at 2); parameters = types_of (at 3) };
+  callee = name_of (at 4);
+  count = literal_of (at 5);
+  passed = handed_of (at 6);
+}) (live_of (at 7))
 of_form forms.GcResult at = gc_result (name_of (at 0)) (type_of (at 1)) (name_of (at 2))
 of_form forms.GcRelocate at = gc_relocate (name_of (at 0)) (name_of (at 1)) (literal_of (at 2)) (literal_of (at 3))
 

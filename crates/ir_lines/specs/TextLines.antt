@@ -3,13 +3,12 @@ use Rattle.std.specs.Prelude.{◌≡◌, ℕ, ◌≤◌, Bool, true, false, not,
 use Rattle.std.specs.List.{All, list_all}
 use Rattle.ir_ast.specs.declared.modules.Form.{Form}
 use Rattle.ir_ast.specs.declared.modules.Form.TheVariants.{Source, Rewritten}
-use Rattle.group_parts.specs.Statepoints.{Guarded}
 use Rattle.ir_reader.specs.declared.states.Place.{Place}
 use Rattle.ir_reader.specs.declared.states.Place.TheVariants as places
 use Rattle.line_parts.specs.Parts.{is_value_type, is_answer_type, is_cast_type, is_scalar_type, is_case_value}
 use Rattle.line_parts.specs.Lists.{Given, given, function, is_argument_type, is_task_start}
-use Rattle.ir_reader.specs.Limits.{width_fits, type_fits, value_fits, place_fits, argument_fits, given_fits, entry_value_fits, name_fits, literal_fits, guarded_fits, live_fits}
-use Rattle.ir_lines.specs.Statements.{Statement, Line, layout, declare, define, close, label, binary, compare, convert, select, phi, scalar_step, layout_step, load, store, call, jump, branch, switch, switch_case, switch_end, ret_void, ret, unreachable, cast, statepoint, gc_result, gc_relocate}
+use Rattle.ir_reader.specs.Limits.{width_fits, type_fits, value_fits, place_fits, argument_fits, given_fits, entry_value_fits, name_fits, literal_fits, live_fits}
+use Rattle.ir_lines.specs.Statements.{Statement, Line, Guarded, layout, declare, define, close, label, binary, compare, convert, select, phi, scalar_step, layout_step, load, store, call, jump, branch, switch, switch_case, switch_end, ret_void, ret, unreachable, cast, statepoint, gc_result, gc_relocate}
 use Rattle.ir_lines.specs.Parts.{is_of_group}
 use Rattle.ir_lines.specs.ReadLines.{RelocatesAreFew}
 
@@ -103,7 +102,9 @@ statement_fits (switch width value default) = width_fits width && value_fits val
 statement_fits (switch_case width value to) = width_fits width && value_fits value
 statement_fits (ret ty value) = type_fits ty && value_fits value
 statement_fits (cast result op from value to) = type_fits from && (value_fits value && type_fits to)
-statement_fits (statepoint result made live) = guarded_fits made && live_fits live
+statement_fits (statepoint result made live) =
+    literal_fits made.id && (type_fits made.signature.answer && (list_all type_fits made.signature.parameters
+    && (literal_fits made.count && (list_all given_fits made.passed && live_fits live))))
 statement_fits (gc_result result ty token) = type_fits ty
 statement_fits (gc_relocate result token base derived) = literal_fits base && literal_fits derived
 statement_fits _ = true

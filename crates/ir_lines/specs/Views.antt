@@ -4,7 +4,9 @@ use Rattle.line_forms.specs.declared.readings.Reading.{Reading}
 use Rattle.ir_reader.specs.declared.raw.NumberedReading.{NumberedReading}
 use Rattle.line_forms.specs.Seen.{seen}
 use Rattle.ir_reader.specs.Raws.{seen_numbered}
-use Rattle.ir_lines.specs.Statements.{Statement, Line, stated, line_of}
+use Rattle.line_forms.specs.declared.readings.StatepointCall.{StatepointCall}
+use Rattle.line_parts.specs.Seen.{seen_passed}
+use Rattle.ir_lines.specs.Statements.{Statement, Line, Guarded, stated, line_of}
 
 abbrev pub said : Reading → Statement
 said reading = stated (seen reading)
@@ -14,3 +16,13 @@ seen_line reading = line_of (seen_numbered reading)
 
 abbrev pub seen_lines : List NumberedReading → List Line
 seen_lines readings = map seen_line readings
+
+-- the call of a statepoint
+abbrev pub seen_guarded : StatepointCall → Guarded
+seen_guarded c = record {
+  id = c.id;
+  signature = record { answer = c.function_type.answer; parameters = c.function_type.parameters.items };
+  callee = c.callee.now;
+  count = c.count;
+  passed = map seen_passed c.passed.items;
+}

@@ -7,20 +7,20 @@ use Rattle.line_forms.specs.declared.forms.Form.{Form}
 use Rattle.ir_reader.specs.declared.states.Place.{Place}
 use Rattle.ir_reader.specs.declared.states.State.{State}
 use Rattle.line_parts.specs.Gives.{after}
-use Rattle.line_forms.specs.Slots.{Item, parse}
-use Rattle.line_forms.specs.Forms.{slots, form_of, form_in, stands_in}
+use Rattle.line_forms.specs.Slots.{Item}
+use Rattle.line_forms.specs.Forms.{fit, form_of, form_in, stands_in}
 use Rattle.ir_reader.specs.Places.{behind}
 use Rattle.line_forms.specs.Seen.{of_form, line_at}
 use Rattle.ir_reader.specs.Text.{said_by, tokens_outcome}
-use Rattle.line_forms.proofs.FamilyLines.{form_is}
+use Rattle.line_forms.proofs.FamilyLines.{fit_parts, form_is}
 
 no_form : (text : TextForm) (form : Form) → form_in text [] ≡ Some form → ⊥
 unfolding form_in form_of
 no_form text_forms.Source form e = cc
 no_form text_forms.Rewritten form e = cc
 
-pub fitting : (state : State) (form : Form) (place : Place) (says : List Item) (line : List Tok) → parse (slots form) line ≡ Some (says, []) → stands_in state.form form says ≡ true → behind state.place form ≡ Some place
+pub fitting : (state : State) (form : Form) (place : Place) (says : List Item) (line : List Tok) → fit form line ≡ Some (says, []) → stands_in state.form form says ≡ true → behind state.place form ≡ Some place
     → tokens_outcome state line ≡ said_by state form place (Some (of_form form says))
 unfolding tokens_outcome line_at after
-fitting state form place says [] e stands b = absurd (no_form state.form form (form_is state.form form says [] [] e stands))
-fitting state form place says (t ∷ ts) e stands b = rw (form_is state.form form says (t ∷ ts) [] e stands, b, e) refl
+fitting state form place says [] e stands b = absurd (no_form state.form form (form_is state.form form says [] [] (fit_parts form [] says [] e).0 stands))
+fitting state form place says (t ∷ ts) e stands b = rw (form_is state.form form says (t ∷ ts) [] (fit_parts form (t ∷ ts) says [] e).0 stands, b, e) refl

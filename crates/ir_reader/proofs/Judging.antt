@@ -20,8 +20,8 @@ use Rattle.ir_reader.specs.declared.states.Counts.{Counts}
 use Rattle.ir_reader.specs.declared.states.Counted.{Counted}
 use Rattle.ir_reader.specs.declared.states.Counted.TheVariants as kinds
 use Rattle.line_parts.specs.Gives.{Found, after, is_nil}
-use Rattle.line_forms.specs.Slots.{Item, parse}
-use Rattle.line_forms.specs.Forms.{slots, form_in, is_dropped_form}
+use Rattle.line_forms.specs.Slots.{Item}
+use Rattle.line_forms.specs.Forms.{fit, form_in, is_dropped_form}
 use Rattle.line_forms.specs.Seen.{Said, label, of_form, line_at, ended}
 use Rattle.ir_reader.specs.Places.{behind, behind_label}
 use Rattle.ir_reader.specs.Limits.{said_fits, said_counts_as, counts_as, counted, counted_in, counts_fit}
@@ -61,7 +61,7 @@ found-is s form next (Some (items, t ∷ rest)) = refl
 formed-is : (s : State) (form : Form) (ts : List Tok) (next : Option Place) → formed s form ts next ≡ limited s (placed_formed form ts next)
 unfolding line_at
 formed-is s form ts None = refl
-formed-is s form ts (Some next) = found-is s form next (parse (slots form) ts)
+formed-is s form ts (Some next) = found-is s form next (fit form ts)
 
 by_form-is : (s : State) (ts : List Tok) (form : Option Form) → by_form s ts form ≡ limited s (placed_by_form s.place ts form)
 by_form-is s ts None = refl
@@ -267,7 +267,7 @@ found_leads place to next form what (Some (items, [])) e is = leads_as place (of
 formed_leads : (place next : Place) (form : Form) (ts : List Tok) (what : Said) (to : Option Place) → behind place form ≡ to → placed_formed form ts to ≡ says what next → Leads place what next
 unfolding line_at
 formed_leads place next form ts what None e is = absurd cc
-formed_leads place next form ts what (Some to) e is = found_leads place to next form what (parse (slots form) ts) e is
+formed_leads place next form ts what (Some to) e is = found_leads place to next form what (fit form ts) e is
 
 by_form_leads : (place next : Place) (ts : List Tok) (what : Said) (form : Option Form) → placed_by_form place ts form ≡ says what next → Leads place what next
 by_form_leads place next ts what None is = absurd cc

@@ -7,14 +7,13 @@ use Rattle.ir_reader.specs.declared.states.Counts.{Counts}
 use Rattle.ir_reader.specs.declared.states.Counted.{Counted}
 use Rattle.ir_reader.specs.declared.states.Counted.TheVariants as kinds
 use Rattle.line_parts.specs.declared.readings.TypeWord.{TypeWord}
-use Rattle.line_parts.specs.declared.readings.TypeWord.TheVariants as types
+use Rattle.line_parts.specs.declared.readings.TypeWord.TheVariants as words
 use Rattle.line_tokens.specs.declared.literals.Literal.{Literal}
 use Rattle.line_parts.specs.Parts.{Val, number}
 use Rattle.line_parts.specs.Lists.{Named, Given, given, function}
 use Rattle.ir_ast.specs.declared.modules.Form.{Form as TextForm}
 use Rattle.ir_ast.specs.declared.modules.Form.TheVariants as text_forms
-use Rattle.group_parts.specs.Statepoints.{Signature, Guarded}
-use Rattle.line_forms.specs.Slots.{Item, layout_name, width, ty, value, place, fields, entries, declared, defined, called, guarded, live, literal, family_answer}
+use Rattle.line_forms.specs.Slots.{Item, layout_name, width, ty, value, place, fields, entries, declared, defined, called, types, handed, live, literal, family_answer}
 use Rattle.line_forms.specs.Seen.{Said, label, line}
 
 -- ---- what one line says
@@ -24,7 +23,7 @@ abbrev pub width_fits : ℕ → Bool
 width_fits bits = nat_le 1 bits && nat_le bits 64
 
 abbrev pub type_fits : TypeWord → Bool
-type_fits (types.Int bits) = width_fits bits
+type_fits (words.Int bits) = width_fits bits
 type_fits _ = true
 
 -- from -2^63 to 2^64 - 1
@@ -53,12 +52,6 @@ entry_value_fits e = value_fits e.0
 abbrev pub name_fits : List ℕ → Bool
 name_fits bytes = nat_le (length bytes) 4096
 
-abbrev pub signature_fits : Signature → Bool
-signature_fits s = type_fits s.answer && list_all type_fits s.parameters
-
-abbrev pub guarded_fits : Guarded → Bool
-guarded_fits c = literal_fits c.id && signature_fits c.signature && literal_fits c.count && list_all given_fits c.passed
-
 -- the live entries of a statepoint
 abbrev pub live_fits : List Val → Bool
 live_fits vs = nat_le (length vs) 16384 && list_all value_fits vs
@@ -79,7 +72,8 @@ item_fits (entries es) = list_all entry_value_fits es
 item_fits (declared n ps) = list_all argument_fits ps
 item_fits (defined n ps) = name_fits n && nat_le (length ps) 64 && list_all argument_fits ps
 item_fits (called n ps) = list_all given_fits ps
-item_fits (guarded c) = guarded_fits c
+item_fits (types ps) = list_all type_fits ps
+item_fits (handed ps) = list_all given_fits ps
 item_fits (live vs) = live_fits vs
 item_fits (literal n) = literal_fits n
 item_fits (family_answer answer) = answer_fits answer

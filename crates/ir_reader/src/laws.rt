@@ -7,8 +7,8 @@ ghost use Rattle.ir_ast.specs.declared.modules.Form.{Form as TextForm};
 ghost use Rattle.line_forms.specs.declared.forms.Form.{Form as LineForm};
 ghost use Rattle.ir_reader.specs.declared.states.Place.{Place as LinePlace};
 ghost use Rattle.ir_reader.specs.declared.states.State.{State as LineState};
-ghost use Rattle.line_forms.specs.Slots.{Item, parse};
-ghost use Rattle.line_forms.specs.Forms.{slots, stands_in};
+ghost use Rattle.line_forms.specs.Slots.{Item};
+ghost use Rattle.line_forms.specs.Forms.{fit, stands_in};
 ghost use Rattle.line_forms.specs.Seen.{of_form};
 ghost use Rattle.ir_reader.specs.Judged.{Judged};
 ghost use Rattle.ir_reader.specs.Places.{behind};
@@ -17,7 +17,7 @@ ghost use Rattle.ir_reader.specs.Text.{said_by, tokens_outcome, Fault, Numbered,
 /// A line that fits a form which may stand in its text and place is read by that form: it is dropped, over a limit, or
 /// says what stands at the form's slots.
 pub fn fitting_line()
-    ensures { (state : LineState) (form : LineForm) (place : LinePlace) (says : List Item) (line : List Tok) → parse (slots form) line ≡ Some (says, [])
+    ensures { (state : LineState) (form : LineForm) (place : LinePlace) (says : List Item) (line : List Tok) → fit form line ≡ Some (says, [])
         → stands_in state.form form says ≡ true → behind state.place form ≡ Some place
         → tokens_outcome state line ≡ said_by state form place (Some (of_form form says)) }
 {}

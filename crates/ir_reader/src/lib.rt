@@ -12,11 +12,11 @@ mod states;
 mod text;
 
 pub use faults::ReadFault;
-pub use group_parts::{FunctionType, StatepointCall};
 pub use laws::{fitting_line, judged_text};
-pub use line_forms::{Reading, one_form, one_reading, own_form};
+pub use line_forms::{FunctionType, Reading, StatepointCall, one_form, one_reading, own_form};
 pub use line_parts::{
-    AllPassed, Argument, Arguments, Entries, Entry, Fields, Passed, TypeWord, Value,
+    AllPassed, Argument, Arguments, Entries, Entry, Fields, LiveEntries, Parameters, Passed,
+    TypeWord, Value,
 };
 pub use line_tokens::{Binary, Cast, Conversion, Literal};
 pub use raw::{NumberedReading, Raw};

@@ -2,14 +2,12 @@
 
 ghost use Rattle.std.specs.Prelude.{◌≡◌, IsTrue, map, length, nat_le, ◌&&◌};
 ghost use Rattle.std.specs.List.{list_all};
-ghost use Rattle.ir_reader.specs.Limits.{width_fits, type_fits, literal_fits, value_fits, place_fits, argument_fits, given_fits, entry_value_fits, name_fits, item_fits, signature_fits, guarded_fits, live_fits, answer_fits, said_fits, said_counts_as, counts_fit, counted, counted_in};
+ghost use Rattle.ir_reader.specs.Limits.{width_fits, type_fits, literal_fits, value_fits, place_fits, argument_fits, given_fits, entry_value_fits, name_fits, item_fits, live_fits, answer_fits, said_fits, said_counts_as, counts_fit, counted, counted_in};
 ghost use Rattle.line_forms.specs.Slots.{defined};
 ghost use Rattle.line_forms.specs.Seen.{seen};
 ghost use Rattle.line_parts.specs.Seen.{seen_value, seen_argument, seen_passed, seen_entry};
-ghost use Rattle.group_parts.specs.Seen.{seen_type, seen_guarded};
 
 use crate::states::{Counted, Counts};
-use group_parts::{FunctionType, StatepointCall};
 use ir_ast::Form as TextForm;
 use line_forms::Reading;
 use line_parts::{Argument, Entry, Passed, TypeWord, Value};
@@ -137,21 +135,6 @@ fn entries_fit(entries: &[Entry]) -> bool
     true
 }
 
-fn type_of_function_fits(ty: &FunctionType) -> bool
-    ensures { result ≡ signature_fits (seen_type ty.now) }
-{
-    type_fits(ty.answer) && types_fit(ty.parameters.as_slice())
-}
-
-fn call_fits(call: &StatepointCall) -> bool
-    ensures { result ≡ guarded_fits (seen_guarded call.now) }
-{
-    literal_fits(call.id)
-        && type_of_function_fits(&call.function_type)
-        && literal_fits(call.count)
-        && passed_fit(call.passed.as_slice())
-}
-
 fn values_fit(values: &[Value]) -> bool
     ensures { result ≡ list_all value_fits (map seen_value values.now) }
 {
@@ -263,7 +246,14 @@ pub fn reading_fits(reading: &Reading) -> bool
             to,
             ..
         } => type_fits(*from) && value_fits(value) && type_fits(*to),
-        Reading::Statepoint { call, live, .. } => { call_fits(call) && live_fit(live.as_slice()) }
+        Reading::Statepoint { call, live, .. } => {
+            literal_fits(call.id)
+                && type_fits(call.function_type.answer)
+                && types_fit(call.function_type.parameters.as_slice())
+                && literal_fits(call.count)
+                && passed_fit(call.passed.as_slice())
+                && live_fit(live.as_slice())
+        }
         Reading::GcResult { answer, .. } => type_fits(*answer),
         Reading::GcRelocate { base, derived, .. } => {
             literal_fits(*base) && literal_fits(*derived)

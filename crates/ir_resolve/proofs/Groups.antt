@@ -21,8 +21,7 @@ use Rattle.line_tokens.specs.declared.words.Binary.TheVariants.{Add}
 use Rattle.line_tokens.specs.declared.words.Conversion.{Conversion}
 use Rattle.line_tokens.specs.declared.words.Conversion.TheVariants.{Trunc}
 use Rattle.line_parts.specs.Parts.{Val}
-use Rattle.group_parts.specs.Statepoints.{Guarded}
-use Rattle.ir_lines.specs.Statements.{Line, Statement, layout, declare, define, close, binary, convert, switch_case, switch_end, cast, statepoint, gc_result, gc_relocate}
+use Rattle.ir_lines.specs.Statements.{Guarded, Line, Statement, layout, declare, define, close, binary, convert, switch_case, switch_end, cast, statepoint, gc_result, gc_relocate}
 use Rattle.ir_lines.specs.Statements as says
 use Rattle.ir_lines.specs.Parts.{live_use, gives}
 use Rattle.ir_lines.specs.Places.{number_in}

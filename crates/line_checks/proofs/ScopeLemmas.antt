@@ -12,9 +12,8 @@ use Rattle.line_parts.specs.declared.readings.TypeWord.TheVariants.{Int}
 use Rattle.line_parts.specs.Parts.{Val}
 use Rattle.line_parts.specs.Parts as values
 use Rattle.line_parts.specs.Lists.{Given, given, function}
-use Rattle.group_parts.specs.Statepoints.{Guarded}
 use Rattle.ir_ast.specs.declared.modules.Form.{Form}
-use Rattle.ir_lines.specs.Statements.{Statement, phi, call, statepoint}
+use Rattle.ir_lines.specs.Statements.{Guarded, Statement, phi, call, statepoint}
 use Rattle.ir_lines.specs.TextForms.{is_source}
 use Rattle.ir_lines.specs.Parts.{uses, local_name, values_named, targets, entry_labels, passed_function, functions_named, layouts_named}
 use Rattle.ir_lines.specs.Places.{place_in}

@@ -10,10 +10,9 @@ use Rattle.line_parts.specs.Seen.{seen_value}
 use Rattle.line_parts.specs.Parts.{Val}
 use Rattle.line_parts.specs.Parts as values
 use Rattle.line_parts.specs.Lists.{Given, given, function}
-use Rattle.group_parts.specs.Statepoints.{Guarded}
 use Rattle.ir_ast.specs.declared.modules.Form.{Form}
 use Rattle.line_checks.specs.declared.lines.Scope.{Scope as ScopeTable}
-use Rattle.ir_lines.specs.Statements.{Statement, phi, call, statepoint}
+use Rattle.ir_lines.specs.Statements.{Guarded, Statement, phi, call, statepoint}
 use Rattle.ir_lines.specs.TextForms.{is_source}
 use Rattle.ir_lines.specs.Parts.{uses, local_name, targets, passed_function, layouts_named}
 use Rattle.ir_lines.specs.Places.{place_in}

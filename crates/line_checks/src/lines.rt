@@ -4,7 +4,6 @@ ghost use Rattle.std.specs.Prelude.{◌≡◌, ◌||◌, ◌&&◌, [], codes, no
 ghost use Rattle.std.specs.Option.{option_copied};
 ghost use Rattle.std.specs.Str.{bytes_eq};
 ghost use Rattle.line_parts.specs.Seen.{seen_argument, seen_entry, seen_passed, seen_value};
-ghost use Rattle.group_parts.specs.Seen.{seen_guarded};
 ghost use Rattle.line_checks.specs.LineFaults.{tables_in, seen_use, is_missing, misses, misses_used, misses_entry, misses_label_of_phi, misses_label, misses_passed, misses_function, misses_name, starts_at, task_starts, operands_fit, call_fits, statepoint_fits};
 ghost use Rattle.ir_lines.specs.Modules.{passed_type};
 ghost use Rattle.ir_lines.specs.Parts.{local_name, passed_function, layouts_named, targets, uses};
@@ -12,7 +11,7 @@ ghost use Rattle.ir_lines.specs.Places.{place_in};
 ghost use Rattle.ir_lines.specs.Sections.{types_of};
 ghost use Rattle.ir_lines.specs.Tables.{seen_head};
 ghost use Rattle.ir_lines.specs.Types.{same_type, same_types, literal_fits};
-ghost use Rattle.ir_lines.specs.Views.{said};
+ghost use Rattle.ir_lines.specs.Views.{seen_guarded, said};
 ghost use Rattle.ir_lines.specs.Faults.TypeClash.{is_task, is_kind, gives_kind, checks_kind, agrees, takes_types};
 ghost use Rattle.ir_lines.specs.TextForms.{is_source};
 ghost use Rattle.ir_lines.specs.Again.{at_name};

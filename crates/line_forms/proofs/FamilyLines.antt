@@ -2,7 +2,7 @@
 -- declares tells whether it is a line of a statepoint group.
 use Rattle.std.proofs.Common.{◌≡◌, ℕ, min, Bool, true, false, cond, ◌&&◌, ◌||◌, eqb, List, [], ◌∷◌, ◌++◌, Option, Some, None, refl, sym, ap, ◌∙◌}
 use Rattle.std.specs.Prelude.{codes, not, drop}
-use Rattle.std.specs.List.{list_any}
+use Rattle.std.specs.List.{list_all, list_any}
 use Rattle.std.specs.Str.{bytes_eq}
 use Rattle.std.proofs.lemmas.Bool.{true≢false, eqb-true}
 use Rattle.std.proofs.lemmas.List.Folds.{list_any-append}
@@ -27,9 +27,9 @@ use Rattle.line_tokens.specs.Families.{statepoint_name, relocate_name, result_fr
 use Rattle.line_parts.specs.Parts.{word_at, mark_at, local_at, global_at, value_at, case_value_at, addrspace_at, pointer_at, spelled_type_at, type_behind, allowed_type_at, is_value_type, is_answer_type, is_cast_type, is_scalar_type, is_managed, place_at, strategy_at, to_brace_at}
 use Rattle.line_tokens.specs.Words.{pred_of}
 use Rattle.line_parts.specs.Lists.{Named, Given, fields_at, entries_at, head_at, called_at, arguments_at, all_passed_at, is_task_start}
-use Rattle.group_parts.specs.Statepoints.{first_types_at, last_types_at, statepoint_type_at, number_at, token_at, guarded_at, live_at, result_at, named_result, suffix_of, declares_family, family_answer_at, bracketing_at}
-use Rattle.line_forms.specs.Slots.{Slot, Item, says, says_nothing, part, parse, blank, m, w, g, dropped, a_managed, a_quoted, a_hash, to_brace, a_local, a_layout_name, a_width, a_type, an_answer, a_cast_type, a_value, a_case, a_pred, a_scalar, a_layout, a_place, some_fields, some_entries, a_declared, a_defined, a_called, a_strategy, a_statepoint_type, a_family_answer, a_family, a_bracketing, a_token, a_guarded, a_live, a_result, a_number, name, layout_name, width, ty, value, pred, scalar, layout, place, fields, entries, declared, defined, called, strategy, guarded, live, literal, family_answer}
-use Rattle.line_forms.specs.Forms.{slots, form_of, first_global, callee_of, declared_of, behind_result, called_form, declared_form, group_form, form_in, is_group_form, names_family, stands_in}
+use Rattle.line_parts.specs.Groups.{number_at, zero_at, token_at, types_at, handed_at, closing_at, live_at, result_at, named_result, suffix_of, declares_family, family_answer_at, bracketing_at}
+use Rattle.line_forms.specs.Slots.{Slot, Item, says, says_nothing, part, parse, blank, m, w, g, dropped, a_managed, a_quoted, a_hash, to_brace, a_local, a_layout_name, a_width, a_type, an_answer, a_cast_type, a_value, a_case, a_pred, a_scalar, a_layout, a_place, some_fields, some_entries, a_declared, a_defined, a_called, a_strategy, a_zero, a_closing, a_family_answer, a_family, a_bracketing, a_token, a_global, some_types, some_handed, some_live, a_result, a_number, name, layout_name, width, ty, value, pred, scalar, layout, place, fields, entries, declared, defined, called, strategy, types as types_said, handed, live, literal, family_answer}
+use Rattle.line_forms.specs.Forms.{slots, agree, fit, first_types, last_types, form_of, first_global, callee_of, declared_of, behind_result, called_form, declared_form, group_form, form_in, is_group_form, names_family, stands_in}
 use Rattle.line_forms.proofs.Openings.{told, rest_is, said_is, word_found, mark_found, local_found, like, opens, found_is}
 
 -- ---- a part, and what follows it
@@ -108,7 +108,8 @@ unnamed_part a_quoted ts here rest names e = nothing_unnamed (one_at (stands is_
 unnamed_part a_hash ts here rest names e = nothing_unnamed (one_at (stands is_hash) ts) here rest e
 unnamed_part to_brace ts here rest names e = nothing_unnamed (to_brace_at ts) here rest e
 unnamed_part (g text) ts here rest names e = nothing_unnamed (one_at (stands (is_global text)) ts) here rest e
-unnamed_part a_statepoint_type ts here rest names e = nothing_unnamed (statepoint_type_at ts) here rest e
+unnamed_part a_zero ts here rest names e = nothing_unnamed (zero_at ts) here rest e
+unnamed_part a_closing ts here rest names e = nothing_unnamed (closing_at ts) here rest e
 unnamed_part a_family_answer ts here rest names e = says_unnamed family_answer (family_answer_at ts) (λ x. refl) here rest e
 unnamed_part a_family ts here rest names e = nothing_unnamed (one_at (stands declares_family) ts) here rest e
 unnamed_part a_bracketing ts here rest names e = nothing_unnamed (bracketing_at ts) here rest e
@@ -131,8 +132,10 @@ unnamed_part a_defined ts here rest names e = says_unnamed (λ head. defined hea
 unnamed_part a_called ts here rest names e = absurd (true≢false names)
 unnamed_part a_strategy ts here rest names e = says_unnamed strategy (strategy_at ts) (λ x. refl) here rest e
 unnamed_part a_token ts here rest names e = says_unnamed name (token_at ts) (λ x. refl) here rest e
-unnamed_part a_guarded ts here rest names e = says_unnamed guarded (guarded_at ts) (λ x. refl) here rest e
-unnamed_part a_live ts here rest names e = says_unnamed live (live_at ts) (λ x. refl) here rest e
+unnamed_part a_global ts here rest names e = says_unnamed name (global_at ts) (λ x. refl) here rest e
+unnamed_part some_types ts here rest names e = says_unnamed types_said (types_at ts) (λ x. refl) here rest e
+unnamed_part some_handed ts here rest names e = says_unnamed handed (handed_at ts) (λ x. refl) here rest e
+unnamed_part some_live ts here rest names e = says_unnamed live (live_at ts) (λ x. refl) here rest e
 unnamed_part a_result ts here rest names e = says_unnamed ty (result_at ts) (λ x. refl) here rest e
 unnamed_part (a_number of_type) ts here rest names e = says_unnamed literal (number_at of_type ts) (λ x. refl) here rest e
 
@@ -208,25 +211,6 @@ word-keeps ts rest text e = one-keeps ts _ rest (λ bytes. refl) e
 
 mark-keeps : (ts rest : List Tok) (text : List ℕ) → first_global ts ≡ first_global rest → Keeps ts (mark_at text rest)
 mark-keeps ts rest text e = one-keeps ts _ rest (λ bytes. refl) e
-
-first_types-keeps : (ts rest : List Tok) → first_global ts ≡ first_global rest → Keeps ts (first_types_at rest)
-unfolding first_types_at
-first_types-keeps ts rest e =
-    after-keeps ts _ _ (mark-keeps ts rest (codes "(") e) (λ _ r1 e1. after-keeps ts _ _ (word-keeps ts r1 (codes "i64") e1) (λ _ r2 e2.
-    after-keeps ts _ _ (mark-keeps ts r2 (codes ",") e2) (λ _ r3 e3. after-keeps ts _ _ (word-keeps ts r3 (codes "i32") e3) (λ _ r4 e4.
-    after-keeps ts _ _ (mark-keeps ts r4 (codes ",") e4) (λ _ r5 e5. word-keeps ts r5 (codes "ptr") e5)))))
-
-last_types-keeps : (ts rest : List Tok) → first_global ts ≡ first_global rest → Keeps ts (last_types_at rest)
-unfolding last_types_at
-last_types-keeps ts rest e =
-    after-keeps ts _ _ (mark-keeps ts rest (codes ",") e) (λ _ r1 e1. after-keeps ts _ _ (word-keeps ts r1 (codes "i32") e1) (λ _ r2 e2.
-    after-keeps ts _ _ (mark-keeps ts r2 (codes ",") e2) (λ _ r3 e3. after-keeps ts _ _ (word-keeps ts r3 (codes "i32") e3) (λ _ r4 e4.
-    after-keeps ts _ _ (mark-keeps ts r4 (codes ",") e4) (λ _ r5 e5. after-keeps ts _ _ (word-keeps ts r5 (codes "...") e5) (λ _ r6 e6. mark-keeps ts r6 (codes ")") e6))))))
-
-statepoint_type-keeps : (ts : List Tok) → Keeps ts (statepoint_type_at ts)
-unfolding statepoint_type_at
-statepoint_type-keeps ts =
-    after-keeps ts _ _ (word-keeps ts ts (codes "token") refl) (λ _ r1 e1. after-keeps ts _ _ (first_types-keeps ts r1 e1) (λ _ r2 e2. last_types-keeps ts r2 e2))
 
 family_answer-keeps : (ts : List Tok) → Keeps ts (family_answer_at ts)
 unfolding family_answer_at
@@ -551,10 +535,6 @@ managed_split : (f : List Slot) (ts : List Tok) (said : List Item) (end : List T
 unfolding part
 managed_split = quiet_split a_managed (allowed_type_at is_managed) (λ ts. refl) (allowed-keeps is_managed) refl
 
-statepoint_split : (f : List Slot) (ts : List Tok) (said : List Item) (end : List Tok) → parse (a_statepoint_type ∷ blank ∷ f) ts ≡ Some (said, end) → BehindPart f ts said end
-unfolding part
-statepoint_split = quiet_split a_statepoint_type statepoint_type_at (λ ts. refl) statepoint_type-keeps refl
-
 family_answer_split : (f : List Slot) (ts : List Tok) (said : List Item) (end : List Tok) → parse (a_family_answer ∷ blank ∷ f) ts ≡ Some (said, end) → BehindPart f ts said end
 unfolding part
 family_answer_split f ts said end e =
@@ -565,6 +545,37 @@ family_answer_split f ts said end e =
       behind = record { at = b.rest; more = b.more; parse_is = b.parse_is; names = past_slot a_family_answer _ ts said end a refl ∙ past_slot blank _ a.rest a.more end b refl };
       first = keeps_is ts (family_answer_at ts) t.thing a.rest (family_answer-keeps ts) t.found_is ∙ ap (λ (r : List Tok). first_global r) (blank_is a.rest b.here b.rest b.part_is);
     }
+
+-- marks and words name no function
+abbrev is_quiet : Slot → Bool
+is_quiet blank = true
+is_quiet (m text) = true
+is_quiet (w text) = true
+is_quiet _ = false
+
+quiet_first : (s : Slot) (ts : List Tok) (here : List Item) (rest : List Tok) → is_quiet s ≡ true → part s ts ≡ Some (here, rest) → first_global ts ≡ first_global rest
+unfolding part
+quiet_first blank ts here rest quiet e = ap (λ (r : List Tok). first_global r) (rest_is ([], ts) (here, rest) e)
+quiet_first (m text) ts here rest quiet e =
+    let x = nothing_is (mark_at text ts) here rest e in keeps_is ts (mark_at text ts) x.0 rest (mark-keeps ts ts text refl) x.1
+quiet_first (w text) ts here rest quiet e =
+    let x = nothing_is (word_at text ts) here rest e in keeps_is ts (word_at text ts) x.0 rest (word-keeps ts ts text refl) x.1
+quiet_first s ts here rest quiet e = absurd (true≢false (sym quiet))
+
+-- behind slots that name no function
+record BehindQuiet (f : List Slot) (ts end : List Tok) : Type 0 where
+  at : List Tok
+  more : List Item
+  parse_is : parse f at ≡ Some (more, end)
+  first : first_global ts ≡ first_global at
+
+quiet_behind : (f g : List Slot) (ts : List Tok) (said : List Item) (end : List Tok) → list_all is_quiet f ≡ true → parse (f ++ g) ts ≡ Some (said, end) → BehindQuiet g ts end
+quiet_behind [] g ts said end quiet e = record { at = ts; more = said; parse_is = e; first = refl }
+quiet_behind (s ∷ f) g ts said end quiet e =
+    let p = split s (f ++ g) ts said end e in
+    let b = both (is_quiet s) (list_all is_quiet f) quiet in
+    let r = quiet_behind f g p.rest p.more end b.1 p.parse_is in
+    record { at = r.at; more = r.more; parse_is = r.parse_is; first = quiet_first s ts p.here p.rest b.0 p.part_is ∙ r.first }
 
 function_named : (text : List ℕ) (f : List Slot) (ts : List Tok) (said : List Item) (end : List Tok) → parse (g text ∷ f) ts ≡ Some (said, end) → first_global ts ≡ Some text
 unfolding part
@@ -623,8 +634,8 @@ statepoint : (ts : List Tok) (said : List Item) (end : List Tok) → parse (slot
 statepoint ts said end e =
     let r = result_split _ ts said end e in
     let c = call_split _ r.behind.at r.behind.more end r.behind.parse_is in
-    let t = statepoint_split _ c.behind.at c.behind.more end c.behind.parse_is in
-    ap (λ (x : List Tok). callee_of x) r.at_is ∙ callee_first _ r.behind.at r.behind.more end c ∙ t.first ∙ function_named statepoint_name _ t.behind.at t.behind.more end t.behind.parse_is
+    let t = quiet_behind (first_types ++ (last_types ++ (blank ∷ []))) _ c.behind.at c.behind.more end refl c.behind.parse_is in
+    ap (λ (x : List Tok). callee_of x) r.at_is ∙ callee_first _ r.behind.at r.behind.more end c ∙ t.first ∙ function_named statepoint_name _ t.at t.more end t.parse_is
 
 relocate : (ts : List Tok) (said : List Item) (end : List Tok) → parse (slots forms.GcRelocate) ts ≡ Some (said, end) → callee_of (behind_result ts) ≡ Some relocate_name
 relocate ts said end e =
@@ -775,3 +786,23 @@ same_reading text form other says also line e stands d stands_too =
     let same : form ≡ other = same_form form other (form_in text line) (form_is text form says line [] e stands) (form_is text other also line [] d stands_too) in
     let d-form : parse (slots form) line ≡ Some (also, []) = rw same d in
     (same, one_said says also (parse (slots form) line) e d-form)
+
+-- ---- what fits
+
+-- what stands at the slots of a line that fits, and belongs together
+pub fit_parts : (form : Form) (ts : List Tok) (said : List Item) (rest : List Tok) → fit form ts ≡ Some (said, rest) → (parse (slots form) ts ≡ Some (said, rest)) × (agree form said ≡ true)
+unfolding fit
+fit_parts form ts said rest e =
+    let a = after_some (parse (slots form) ts) (λ said rest. cond (agree form said) (told (said, rest)) None) (said, rest) e in
+    let p = if_some (agree form a.0.0) (a.0.0, a.0.1) (said, rest) a.2 in
+    let same : a.0.0 ≡ said = ap (λ (x : List Item × List Tok). x.0) p.1 in
+    (a.1 ∙ ap (λ (x : List Item × List Tok). told x) p.1, rw (← same) p.0)
+
+pub fit_is : (form : Form) (ts : List Tok) (said : List Item) (rest : List Tok) → parse (slots form) ts ≡ Some (said, rest) → agree form said ≡ true → fit form ts ≡ Some (said, rest)
+unfolding fit after
+fit_is form ts said rest e agrees = rw (e, agrees) refl
+
+-- only a statepoint's parts have to
+pub agree_own : (form : Form) (said : List Item) → is_group_form form ≡ false → agree form said ≡ true
+agree_own forms.Statepoint said own = absurd (true≢false own)
+agree_own form said own = refl

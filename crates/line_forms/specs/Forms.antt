@@ -1,5 +1,5 @@
 -- The table of forms.
-use Rattle.std.specs.Prelude.{ℕ, Bool, true, false, ◌||◌, List, [], ◌∷◌, not, Option, Some, None, is_some, codes, option_map, if◌then◌else◌}
+use Rattle.std.specs.Prelude.{ℕ, Bool, true, false, ◌||◌, List, [], ◌∷◌, ◌++◌, not, Option, Some, None, is_some, codes, option_map, if◌then◌else◌}
 use Rattle.std.specs.List.{list_any}
 use Rattle.std.specs.Str.{bytes_eq}
 use Rattle.sp_text.specs.Tokens.{Tok, tok}
@@ -15,14 +15,16 @@ use Rattle.line_forms.specs.declared.forms.DroppedLine.TheVariants as drop_lines
 use Rattle.line_tokens.specs.Marks.{is_word, is_mark, is_local, global_of, begins}
 use Rattle.line_tokens.specs.Numbers.{width_of}
 use Rattle.line_parts.specs.Drops.{past, past_all}
+use Rattle.line_parts.specs.Gives.{Found, after}
+use Rattle.line_parts.specs.Groups.{takes_own}
 use Rattle.line_tokens.specs.Families.{statepoint_name, relocate_name, is_result_name, is_family_name}
 use Rattle.line_tokens.specs.Words.{spelled_by, binary_word, binary_flags, conversion_word, conversion_flags, cast_word, all_binaries, all_conversions, all_casts}
-use Rattle.line_forms.specs.Slots.{Slot, Item, called, declared, blank, m, w, g, dropped, a_managed, a_quoted, a_hash, to_brace, a_local, a_layout_name, a_width, a_type, an_answer, a_cast_type, a_value, a_case, a_pred, a_scalar, a_layout, a_place, some_fields, some_entries, a_declared, a_defined, a_called, a_strategy, a_statepoint_type, a_family_answer, a_family, a_bracketing, a_token, a_guarded, a_live, a_result, a_number}
+use Rattle.line_forms.specs.Slots.{Slot, Item, parse, name, called, declared, types, handed, blank, m, w, g, dropped, a_managed, a_quoted, a_hash, to_brace, a_local, a_layout_name, a_width, a_type, an_answer, a_cast_type, a_value, a_case, a_pred, a_scalar, a_layout, a_place, some_fields, some_entries, a_declared, a_defined, a_called, a_strategy, a_zero, a_closing, a_family_answer, a_family, a_bracketing, a_token, a_global, some_types, some_handed, some_live, a_result, a_number}
 
 -- ---- the slots of each form
 
 -- `%x = ..`
-abbrev result_is : List Slot → List Slot
+abbrev pub result_is : List Slot → List Slot
 result_is f = a_local ∷ blank ∷ m (codes "=") ∷ blank ∷ f
 
 -- `label %l`
@@ -34,12 +36,35 @@ abbrev flagged : Flags → Slot
 flagged which = dropped (drops.Words which)
 
 -- the end of an instruction
-abbrev ended : List Slot
+abbrev pub ended : List Slot
 ended = dropped drops.Attachments ∷ []
 
 -- `call`, behind words and before groups that are dropped
-abbrev calling : List Slot → List Slot
+abbrev pub calling : List Slot → List Slot
 calling f = flagged flags.Calling ∷ w (codes "call") ∷ dropped drops.Groups ∷ blank ∷ f
+
+-- the type of a statepoint: `token (i64, i32, ptr`, and `, i32, i32, ...)`
+abbrev pub first_types : List Slot
+first_types = w (codes "token") ∷ blank ∷ m (codes "(") ∷ w (codes "i64") ∷ m (codes ",") ∷ blank ∷ w (codes "i32") ∷ m (codes ",") ∷ blank ∷ w (codes "ptr") ∷ []
+
+abbrev pub last_types : List Slot
+last_types = m (codes ",") ∷ blank ∷ w (codes "i32") ∷ m (codes ",") ∷ blank ∷ w (codes "i32") ∷ m (codes ",") ∷ blank ∷ w (codes "...") ∷ m (codes ")") ∷ []
+
+-- its name and its id: ` @llvm.experimental.gc.statepoint.p0(i64 ID, i32 0, `
+abbrev pub point_id : List Slot
+point_id = blank ∷ g statepoint_name ∷ m (codes "(") ∷ a_number (codes "i64") ∷ m (codes ",") ∷ blank ∷ a_zero ∷ m (codes ",") ∷ blank ∷ []
+
+-- the type of what it calls: `ptr elementtype(R (A, ..))`
+abbrev pub callee_type : List Slot
+callee_type = w (codes "ptr") ∷ dropped drops.BesideElementType ∷ blank ∷ w (codes "elementtype") ∷ m (codes "(") ∷ an_answer ∷ blank ∷ m (codes "(") ∷ some_types ∷ m (codes ")") ∷ m (codes ")") ∷ []
+
+-- its name, and the number of arguments: ` @f, i32 C, i32 0`
+abbrev pub callee_count : List Slot
+callee_count = dropped drops.BesideElementType ∷ blank ∷ a_global ∷ m (codes ",") ∷ blank ∷ a_number (codes "i32") ∷ m (codes ",") ∷ blank ∷ a_zero ∷ []
+
+-- the arguments and the live entries: `, T V, .., i32 0, i32 0) [ "gc-live"(P V, ..) ]`
+abbrev pub point_end : List Slot
+point_end = some_handed ∷ a_closing ∷ dropped drops.Groups ∷ some_live ∷ ended
 
 abbrev pub slots : Form → List Slot
 slots (forms.Dropped drop_lines.SourceFilename) = w (codes "source_filename") ∷ blank ∷ m (codes "=") ∷ blank ∷ a_quoted ∷ []
@@ -70,10 +95,19 @@ slots forms.SwitchEnd = m (codes "]") ∷ ended
 slots forms.ReturnVoid = w (codes "ret") ∷ blank ∷ w (codes "void") ∷ ended
 slots forms.Return = w (codes "ret") ∷ blank ∷ a_type ∷ blank ∷ a_value ∷ ended
 slots forms.Unreachable = w (codes "unreachable") ∷ ended
-slots forms.Statepoint = result_is (calling (a_statepoint_type ∷ blank ∷ g statepoint_name ∷ m (codes "(") ∷ a_guarded ∷ dropped drops.Groups ∷ a_live ∷ ended))
+slots forms.Statepoint = result_is (calling (first_types ++ (last_types ++ (point_id ++ (callee_type ++ (callee_count ++ point_end))))))
 slots forms.GcResult = result_is (calling (a_result ∷ m (codes "(") ∷ a_token ∷ m (codes ")") ∷ dropped drops.Groups ∷ ended))
 slots forms.GcRelocate = result_is (calling (a_managed ∷ blank ∷ g relocate_name ∷ m (codes "(") ∷ a_token ∷ m (codes ",") ∷ blank ∷ a_number (codes "i32") ∷ m (codes ",") ∷ blank ∷ a_number (codes "i32") ∷ m (codes ")") ∷ dropped drops.Groups ∷ ended))
 slots (forms.Cast op) = result_is (w (cast_word op) ∷ blank ∷ a_cast_type ∷ blank ∷ a_value ∷ blank ∷ w (codes "to") ∷ blank ∷ a_cast_type ∷ ended)
+
+-- what stands at the slots belongs together: `ptr` stands in what `task_start` takes alone
+abbrev pub agree : Form → List Item → Bool
+agree forms.Statepoint (token ∷ id ∷ answer ∷ types parameters ∷ name callee ∷ count ∷ handed passed ∷ more) = takes_own callee parameters passed
+agree _ _ = true
+
+-- what a front of this form says
+unfoldable pub fit : Form → List Tok → Found (List Item)
+fit form ts = after (parse (slots form) ts) (λ items rest. if agree form items then Some (items, rest) else None)
 
 -- ---- which form a line can have, by the tokens that it begins with
 

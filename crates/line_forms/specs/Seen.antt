@@ -13,9 +13,8 @@ use Rattle.line_parts.specs.declared.faults.Stop.{Stop}
 use Rattle.line_parts.specs.declared.faults.Stop.TheVariants as stops
 use Rattle.line_parts.specs.Gives.{Found, after, is_nil}
 use Rattle.line_parts.specs.Seen.{seen_value, seen_argument, seen_passed, seen_entry}
-use Rattle.group_parts.specs.Seen.{seen_guarded}
-use Rattle.line_forms.specs.Forms.{slots}
-use Rattle.line_forms.specs.Slots.{Item, parse, name, layout_name, width, ty, value, pred, scalar, layout, place, fields, entries, declared, defined, called, strategy, guarded, live, literal, family_answer}
+use Rattle.line_forms.specs.Forms.{fit}
+use Rattle.line_forms.specs.Slots.{Item, name, layout_name, width, ty, value, pred, scalar, layout, place, fields, entries, declared, defined, called, strategy, types, handed, live, literal, family_answer}
 
 -- a line that is made of tokens: its form, and what it says at the form's slots
 pub record Line : Type 0 where
@@ -56,13 +55,13 @@ seen readings.ReturnVoid = of_form forms.ReturnVoid []
 seen (readings.Return t v) = of_form forms.Return (ty t ∷ value (seen_value v) ∷ [])
 seen readings.Unreachable = of_form forms.Unreachable []
 seen (readings.Cast x op t v u) = of_form (forms.Cast op) (name x.now ∷ ty t ∷ value (seen_value v) ∷ ty u ∷ [])
-seen (readings.Statepoint x c vs) = of_form forms.Statepoint (name x.now ∷ guarded (seen_guarded c) ∷ live (map seen_value vs.items) ∷ [])
+seen (readings.Statepoint x c vs) = of_form forms.Statepoint (name x.now ∷ literal c.id ∷ ty c.function_type.answer ∷ types c.function_type.parameters.items ∷ name c.callee.now ∷ literal c.count ∷ handed (map seen_passed c.passed.items) ∷ live (map seen_value vs.items) ∷ [])
 seen (readings.GcResult x t token) = of_form forms.GcResult (name x.now ∷ ty t ∷ name token.now ∷ [])
 seen (readings.GcRelocate x token b d) = of_form forms.GcRelocate (name x.now ∷ name token.now ∷ literal b ∷ literal d ∷ [])
 
 -- a front of this form
 unfoldable pub line_at : Form → List Tok → Found Said
-line_at form ts = after (parse (slots form) ts) (λ items rest. Some (of_form form items, rest))
+line_at form ts = after (fit form ts) (λ items rest. Some (of_form form items, rest))
 
 -- what a whole line says: nothing stands behind it
 abbrev pub ended : Found Said → Option Said

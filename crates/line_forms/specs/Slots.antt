@@ -9,10 +9,10 @@ use Rattle.line_parts.specs.Gives.{Found, after, one_at}
 use Rattle.line_tokens.specs.Marks.{is_quoted, is_hash, is_global, stands}
 use Rattle.line_tokens.specs.Numbers.{width_of}
 use Rattle.line_parts.specs.Drops.{past_all}
-use Rattle.line_parts.specs.Parts.{Val, word_at, mark_at, local_at, value_at, case_value_at, allowed_type_at, is_value_type, is_answer_type, is_cast_type, is_scalar_type, is_managed, place_at, strategy_at, to_brace_at}
+use Rattle.line_parts.specs.Parts.{Val, word_at, mark_at, local_at, global_at, value_at, case_value_at, allowed_type_at, is_value_type, is_answer_type, is_cast_type, is_scalar_type, is_managed, place_at, strategy_at, to_brace_at}
 use Rattle.line_tokens.specs.Words.{pred_of}
 use Rattle.line_parts.specs.Lists.{Named, Given, fields_at, entries_at, head_at, called_at}
-use Rattle.group_parts.specs.Statepoints.{Guarded, statepoint_type_at, number_at, token_at, guarded_at, live_at, result_at, declares_family, family_answer_at, bracketing_at}
+use Rattle.line_parts.specs.Groups.{number_at, zero_at, token_at, types_at, handed_at, closing_at, live_at, result_at, declares_family, family_answer_at, bracketing_at}
 
 -- what a form says at a slot
 pub data Item : Type 0 where
@@ -31,7 +31,8 @@ pub data Item : Type 0 where
   defined : List ℕ → List Named → Item
   called : List ℕ → List Given → Item
   strategy : Option (List ℕ) → Item
-  guarded : Guarded → Item
+  types : List TypeWord → Item
+  handed : List Given → Item
   live : List Val → Item
   literal : Literal → Item
   -- none where it is `token`
@@ -52,7 +53,8 @@ pub data Slot : Type 0 where
   a_quoted : Slot
   a_hash : Slot
   to_brace : Slot
-  a_statepoint_type : Slot
+  a_zero : Slot
+  a_closing : Slot
   a_family : Slot
   a_bracketing : Slot
   -- parts that say something
@@ -76,8 +78,10 @@ pub data Slot : Type 0 where
   a_called : Slot
   a_strategy : Slot
   a_token : Slot
-  a_guarded : Slot
-  a_live : Slot
+  a_global : Slot
+  some_types : Slot
+  some_handed : Slot
+  some_live : Slot
   a_result : Slot
   -- a number of this type
   a_number : List ℕ → Slot
@@ -99,7 +103,8 @@ part a_quoted ts = says_nothing (one_at (stands is_quoted) ts)
 part a_hash ts = says_nothing (one_at (stands is_hash) ts)
 part to_brace ts = says_nothing (to_brace_at ts)
 part (g text) ts = says_nothing (one_at (stands (is_global text)) ts)
-part a_statepoint_type ts = says_nothing (statepoint_type_at ts)
+part a_zero ts = says_nothing (zero_at ts)
+part a_closing ts = says_nothing (closing_at ts)
 part a_family_answer ts = says family_answer (family_answer_at ts)
 part a_family ts = says_nothing (one_at (stands declares_family) ts)
 part a_bracketing ts = says_nothing (bracketing_at ts)
@@ -122,8 +127,10 @@ part a_defined ts = says (λ head. defined head.0 head.1) (head_at false ts)
 part a_called ts = says (λ call. called call.0 call.1) (called_at ts)
 part a_strategy ts = says strategy (strategy_at ts)
 part a_token ts = says name (token_at ts)
-part a_guarded ts = says guarded (guarded_at ts)
-part a_live ts = says live (live_at ts)
+part a_global ts = says name (global_at ts)
+part some_types ts = says types (types_at ts)
+part some_handed ts = says handed (handed_at ts)
+part some_live ts = says live (live_at ts)
 part a_result ts = says ty (result_at ts)
 part (a_number of_type) ts = says literal (number_at of_type ts)
 

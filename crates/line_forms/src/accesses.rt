@@ -1,5 +1,5 @@
 //! Instructions that reach memory, and calls.
-#![tactic(auto, unfolding(crate::specs::Seen::line_at, crate::specs::Slots::parse, crate::specs::Slots::part, line_parts::specs::Gives::after))]
+#![tactic(auto, unfolding(crate::specs::Seen::line_at, crate::specs::Forms::fit, crate::specs::Slots::parse, crate::specs::Slots::part, line_parts::specs::Gives::after))]
 
 ghost use Rattle.line_parts.specs.Gives.{Gives};
 ghost use Rattle.line_forms.specs.Seen.{seen, line_at};

@@ -1,34 +1,143 @@
 //! The lines of statepoint groups, and the declarations of what they call.
-#![tactic(auto, unfolding(crate::specs::Seen::line_at, crate::specs::Slots::parse, crate::specs::Slots::part, line_parts::specs::Gives::after))]
+#![tactic(auto, unfolding(crate::specs::Seen::line_at, crate::specs::Forms::fit, crate::specs::Slots::parse, crate::specs::Slots::part, line_parts::specs::Gives::after))]
 
+ghost use Rattle.std.specs.Prelude.{[], ◌∷◌, map};
 ghost use Rattle.line_parts.specs.Gives.{Gives};
+ghost use Rattle.line_parts.specs.Seen.{seen_passed, seen_value};
+ghost use Rattle.line_forms.specs.Forms.{result_is, calling, first_types, last_types, point_id, callee_type, callee_count, point_end};
 ghost use Rattle.line_forms.specs.Seen.{seen, of_form, line_at, dropped_says};
+ghost use Rattle.line_forms.specs.Slots.{name, ty, types, literal, handed, live, parse};
 
 use crate::forms::{DroppedLine, Form};
-use crate::readings::Reading;
-use group_parts::{
-    bracketing, family_answer, family_name, guarded, live_if_any, number_of, relocate_function,
-    result_type, statepoint_function, statepoint_type, token_name,
+use crate::readings::{FunctionType, Reading, StatepointCall};
+use line_parts::{
+    AllPassed, Cursor, LiveEntries, Stop, TypeWord, bracketing, closing, family_answer,
+    family_name, handed, live_if_any, number_of, parameters, relocate_function, result_type,
+    statepoint_function, takes_own, token_name, zero,
 };
-use line_parts::{Cursor, Stop, TypeWord};
-use line_tokens::{Dropped, Flags};
+use line_tokens::{Dropped, Flags, Literal};
 use std::alloc::Global;
 
-pub fn statepoint<'a>(cursor: &mut Cursor<'a>, alloc: Global) -> Result<Reading<'a>, Stop>
-    ensures { Gives seen result cursor.new (line_at Form.Statepoint cursor.old) }
+// `%x = call`, before the type of what is called.
+fn called_result<'a>(cursor: &mut Cursor<'a>) -> Result<&'a [u8], Stop>
+    ensures { Gives (λ x. name x.now ∷ []) result cursor.new (parse (result_is (calling [])) cursor.old) }
 {
     let result = cursor.local()?;
     cursor.mark(b"=")?;
     cursor.skip(Dropped::Words(Flags::Calling));
     cursor.word(b"call")?;
     cursor.skip(Dropped::Groups);
-    statepoint_type(cursor)?;
+    Ok(result)
+}
+
+// Passes `token (i64, i32, ptr`.
+fn first_types(cursor: &mut Cursor) -> Result<(), Stop>
+    ensures { Gives (λ _. []) result cursor.new (parse first_types cursor.old) }
+{
+    cursor.word(b"token")?;
+    cursor.mark(b"(")?;
+    cursor.word(b"i64")?;
+    cursor.mark(b",")?;
+    cursor.word(b"i32")?;
+    cursor.mark(b",")?;
+    cursor.word(b"ptr")
+}
+
+// Passes `, i32, i32, ...)`.
+fn last_types(cursor: &mut Cursor) -> Result<(), Stop>
+    ensures { Gives (λ _. []) result cursor.new (parse last_types cursor.old) }
+{
+    cursor.mark(b",")?;
+    cursor.word(b"i32")?;
+    cursor.mark(b",")?;
+    cursor.word(b"i32")?;
+    cursor.mark(b",")?;
+    cursor.word(b"...")?;
+    cursor.mark(b")")
+}
+
+// The id of a statepoint, behind its name.
+fn statepoint_id(cursor: &mut Cursor) -> Result<Literal, Stop>
+    ensures { Gives (λ id. literal id ∷ []) result cursor.new (parse point_id cursor.old) }
+{
     statepoint_function(cursor)?;
     cursor.mark(b"(")?;
-    let call = guarded(cursor, alloc)?;
+    let id = number_of(cursor, b"i64")?;
+    cursor.mark(b",")?;
+    zero(cursor)?;
+    cursor.mark(b",")?;
+    Ok(id)
+}
+
+// The type of what a statepoint calls.
+fn callee_type(cursor: &mut Cursor, alloc: Global) -> Result<FunctionType, Stop>
+    ensures { Gives (λ t. ty t.answer ∷ types t.parameters.items ∷ []) result cursor.new (parse callee_type cursor.old) }
+{
+    cursor.word(b"ptr")?;
+    cursor.skip(Dropped::BesideElementType);
+    cursor.word(b"elementtype")?;
+    cursor.mark(b"(")?;
+    let answer = cursor.answer_type()?;
+    cursor.mark(b"(")?;
+    let parameters = parameters(cursor, alloc)?;
+    cursor.mark(b")")?;
+    cursor.mark(b")")?;
+    Ok(FunctionType { answer, parameters })
+}
+
+// The name of what a statepoint calls, and how many arguments the line says that there are.
+fn callee_count<'a>(cursor: &mut Cursor<'a>) -> Result<(&'a [u8], Literal), Stop>
+    ensures { Gives (λ said. name said.0.now ∷ literal said.1 ∷ []) result cursor.new (parse callee_count cursor.old) }
+{
+    cursor.skip(Dropped::BesideElementType);
+    let callee = cursor.global()?;
+    cursor.mark(b",")?;
+    let count = number_of(cursor, b"i32")?;
+    cursor.mark(b",")?;
+    zero(cursor)?;
+    Ok((callee, count))
+}
+
+// The arguments and the live entries.
+fn point_end<'a>(
+    cursor: &mut Cursor<'a>,
+    alloc: Global,
+) -> Result<(AllPassed<'a>, LiveEntries<'a>), Stop>
+    ensures { Gives (λ end. handed (map seen_passed end.0.items) ∷ live (map seen_value end.1.items) ∷ []) result cursor.new (parse point_end cursor.old) }
+{
+    let passed = handed(cursor, alloc)?;
+    closing(cursor)?;
     cursor.skip(Dropped::Groups);
     let live = live_if_any(cursor, alloc)?;
     cursor.skip(Dropped::Attachments);
+    Ok((passed, live))
+}
+
+#[tactic(auto, unfolding(crate::specs::Seen::line_at, crate::specs::Forms::fit, line_parts::specs::Gives::after))]
+pub fn statepoint<'a>(cursor: &mut Cursor<'a>, alloc: Global) -> Result<Reading<'a>, Stop>
+    ensures { Gives seen result cursor.new (line_at Form.Statepoint cursor.old) }
+{
+    let result = called_result(cursor)?;
+    first_types(cursor)?;
+    last_types(cursor)?;
+    let id = statepoint_id(cursor)?;
+    let function_type = callee_type(cursor, alloc)?;
+    let (callee, count) = callee_count(cursor)?;
+    let (passed, live) = point_end(cursor, alloc)?;
+    if !takes_own(
+        callee,
+        function_type.parameters.as_slice(),
+        passed.as_slice(),
+    ) {
+        return Err(Stop::NoReading);
+    }
+    let call = StatepointCall {
+        id,
+        function_type,
+        callee,
+        count,
+        passed,
+    };
     Ok(Reading::Statepoint { result, call, live })
 }
 

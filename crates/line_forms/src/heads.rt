@@ -1,5 +1,5 @@
 //! Lines outside functions, and the end of a function.
-#![tactic(auto, unfolding(crate::specs::Seen::line_at, crate::specs::Slots::parse, crate::specs::Slots::part, line_parts::specs::Gives::after))]
+#![tactic(auto, unfolding(crate::specs::Seen::line_at, crate::specs::Forms::fit, crate::specs::Slots::parse, crate::specs::Slots::part, line_parts::specs::Gives::after))]
 
 ghost use Rattle.std.specs.Prelude.{[]};
 ghost use Rattle.line_parts.specs.Gives.{Gives};

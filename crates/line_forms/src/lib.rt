@@ -16,4 +16,4 @@ pub use forms::{DroppedLine, Form};
 pub use laws::{one_form, one_reading, own_form};
 pub use lines::{whole_dropped, whole_kept};
 pub use opening::form_in;
-pub use readings::Reading;
+pub use readings::{FunctionType, Reading, StatepointCall};

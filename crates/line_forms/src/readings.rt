@@ -1,7 +1,25 @@
-use group_parts::{LiveEntries, StatepointCall};
 use ir_ast::Pred;
-use line_parts::{AllPassed, Arguments, Entries, Fields, TypeWord, Value};
+use line_parts::{AllPassed, Arguments, Entries, Fields, LiveEntries, Parameters, TypeWord, Value};
 use line_tokens::{Binary, Cast, Conversion, Literal};
+
+/// The type of a function, `R (A, ..)`.
+#[derive(Drop)]
+pub struct FunctionType {
+    pub answer: TypeWord,
+    pub parameters: Parameters,
+}
+
+/// The call that a statepoint makes (Garbage Collection Safepoints in LLVM, "llvm.experimental.gc.statepoint").
+#[derive(Drop)]
+pub struct StatepointCall<'a> {
+    pub id: Literal,
+    /// The type that the line gives the callee.
+    pub function_type: FunctionType,
+    pub callee: &'a [u8],
+    /// How many arguments the line says that there are.
+    pub count: Literal,
+    pub passed: AllPassed<'a>,
+}
 
 /// What a line says. Names stand without their mark, and are slices of the text.
 #[derive(Drop)]

@@ -1,5 +1,6 @@
 pub mod Drops
 pub mod Gives
+pub mod Groups
 pub mod Lists
 pub mod Parts
 pub mod Seen

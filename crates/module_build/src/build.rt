@@ -4,11 +4,10 @@ ghost use Rattle.std.specs.Prelude.{◌≡◌, [], ◌∷◌, ◌++◌, ◌+◌,
 ghost use Rattle.std.specs.Option.{option_copied};
 ghost use Rattle.line_parts.specs.Parts as values;
 ghost use Rattle.line_parts.specs.Seen.{seen_value, seen_argument, seen_entry, seen_passed};
-ghost use Rattle.group_parts.specs.Seen.{seen_guarded};
 ghost use Rattle.ir_lines.specs.Parts.{live_use, token_type};
 ghost use Rattle.ir_lines.specs.Statements.{statepoint};
 ghost use Rattle.ir_lines.specs.Places.{number_in};
-ghost use Rattle.ir_lines.specs.Views.{said, seen_lines};
+ghost use Rattle.ir_lines.specs.Views.{seen_guarded, said, seen_lines};
 ghost use Rattle.module_build.specs.Known.{known_in};
 ghost use Rattle.ir_lines.specs.Sections.{arguments_named, layout_said, layouts_of};
 ghost use Rattle.ir_lines.specs.Modules.{wrapped, used_operand, instruction, instruction_said, with_line, external_callee, callee_of, passed_operand, given_type, case_values, case_labels, element_of, entry_operand, entry_label, operand_in, label_in, type_of, argument_of, layout_of, binary_of, conversion_of, cell_of, place_of};

@@ -10,17 +10,19 @@ use Rattle.line_parts.specs.Gives.{Found, after, one_at}
 use Rattle.line_tokens.specs.declared.words.Dropped.TheVariants as drops
 use Rattle.line_tokens.specs.declared.literals.Literal.{Literal}
 use Rattle.line_tokens.specs.Families.{is_result_of}
-use Rattle.group_parts.specs.Statepoints.{Signature, Guarded, signature_at, element_at, named_target, target_at, is_plain, is_type_of, begins_argument, handed_at, id_at, count_at, closing_at, guarded_at, suffix_of, named_result, result_at, statepoint_type_at, family_answer_at, declares_family, bracketing_at, token_at, live_at, number_at}
+use Rattle.line_parts.specs.Groups.{is_plain, is_function, takes_own, types_at, begins_argument, handed_at, closing_at, zero_at, suffix_of, named_result, result_at, number_at, token_at, live_at, declares_family, family_answer_at, bracketing_at}
 use Rattle.line_tokens.specs.Marks.{is_mark, is_quoted, is_hash, is_global, stands, begins}
 use Rattle.line_tokens.specs.Numbers.{width_of}
 use Rattle.line_parts.specs.Drops.{past, past_all}
 use Rattle.line_parts.specs.Parts.{Val, word_at, mark_at, local_at, place_at, strategy_at, to_brace_at, name_if_any, is_managed, global_at, value_at, spelled_type_at, allowed_type_at, case_value_at, is_value_type, is_answer_type, is_cast_type, is_scalar_type, is_case_value}
 use Rattle.line_tokens.specs.Words.{pred_of}
 use Rattle.line_parts.specs.Lists.{Named, Given, given, function, at_most_at, listed_at, list_to, comma, fields_at, is_argument_type, argument_at, arguments_at, is_task_start, head_at, given_behind, passed_at, all_passed_at, called_at, entry_at, begins_entry, entries_at}
-use Rattle.line_forms.specs.Slots.{Item, Slot, part, parse, blank, m, w, dropped, a_managed, a_quoted, a_hash, to_brace, a_local, a_layout_name, a_width, a_type, an_answer, a_cast_type, a_value, a_case, a_pred, a_scalar, a_layout, a_place, some_fields, some_entries, a_declared, a_defined, a_called, a_strategy, a_statepoint_type, a_family_answer, a_family, a_bracketing, a_token, a_guarded, a_live, a_result, a_number}
+use Rattle.line_forms.specs.Slots.{Item, Slot, part, parse, blank, m, w, dropped, a_managed, a_quoted, a_hash, to_brace, a_local, a_layout_name, a_width, a_type, an_answer, a_cast_type, a_value, a_case, a_pred, a_scalar, a_layout, a_place, some_fields, some_entries, a_declared, a_defined, a_called, a_strategy, a_zero, a_closing, a_family_answer, a_family, a_bracketing, a_token, a_global, some_types, some_handed, some_live, a_result, a_number}
 use Rattle.line_forms.specs.Slots as items
 use Rattle.line_forms.specs.Forms.{slots}
 use Rattle.line_forms.specs.Seen.{Said, label, line}
+use Rattle.line_forms.proofs.FamilyLines.{fit_parts}
+use Rattle.ir_lines.specs.Statements.{Guarded}
 use Rattle.ir_lines.specs.TextLines.{given_is_formed, call_is_formed}
 use Rattle.module_laws.proofs.Runs.{IsSpelled}
 
@@ -220,42 +222,6 @@ called-types ts call rest e =
 
 -- ---- statepoints
 
-abbrev signature_of : TypeWord → List TypeWord → Signature
-signature_of answer parameters = record { answer = answer; parameters = parameters }
-
-abbrev signature_types : Bool → Signature → Bool
-signature_types plain s = is_answer_type s.answer && list_all (is_argument_type plain) s.parameters
-
-signature-is : (plain : Bool) (s other : Signature) → s ≡ other → signature_types plain s ≡ true → signature_types plain other ≡ true
-signature-is plain s other e h = rw (← e) h
-
-signature-types : (ts : List Tok) (s : Signature) (rest : List Tok) → signature_at ts ≡ Some (s, rest) → signature_types true s ≡ true
-unfolding signature_at
-signature-types ts s rest e =
-    let a = went (allowed_type_at is_answer_type ts) (λ answer ts. after (mark_at (codes "(") ts) (λ _ ts.
-    after (list_to (allowed_type_at (is_argument_type true)) (codes ")") ts) (λ parameters ts. after (mark_at (codes ")") ts) (λ _ ts.
-    Some (signature_of answer parameters, ts))))) (s, rest) e in
-    let b = went (mark_at (codes "(") a.rest) (λ _ ts.
-    after (list_to (allowed_type_at (is_argument_type true)) (codes ")") ts) (λ parameters ts. after (mark_at (codes ")") ts) (λ _ ts.
-    Some (signature_of a.x parameters, ts)))) (s, rest) a.more in
-    let c = went (list_to (allowed_type_at (is_argument_type true)) (codes ")") b.rest) (λ parameters ts. after (mark_at (codes ")") ts) (λ _ ts.
-    Some (signature_of a.x parameters, ts))) (s, rest) b.more in
-    let d = went (mark_at (codes ")") c.rest) (λ _ ts. Some (signature_of a.x c.x, ts)) (s, rest) c.more in
-    signature-is true (signature_of a.x c.x) s (first-is (signature_of a.x c.x) s d.rest rest d.more)
-    (and_from (is_answer_type a.x) (list_all (is_argument_type true) c.x) (allowed-type is_answer_type ts a.x a.rest a.is)
-    (list-all (is_argument_type true) (allowed_type_at (is_argument_type true)) (codes ")")
-    (λ ts ty rest g. allowed-type (is_argument_type true) ts ty rest g) b.rest c.x c.rest c.is))
-
-element-types : (ts : List Tok) (s : Signature) (rest : List Tok) → element_at ts ≡ Some (s, rest) → signature_types true s ≡ true
-unfolding element_at
-element-types ts s rest e =
-    let a = went (word_at (codes "elementtype") ts) (λ _ ts. after (mark_at (codes "(") ts) (λ _ ts.
-    after (signature_at ts) (λ s ts. after (mark_at (codes ")") ts) (λ _ ts. Some (s, ts))))) (s, rest) e in
-    let b = went (mark_at (codes "(") a.rest) (λ _ ts. after (signature_at ts) (λ s ts. after (mark_at (codes ")") ts) (λ _ ts. Some (s, ts)))) (s, rest) a.more in
-    let c = went (signature_at b.rest) (λ s ts. after (mark_at (codes ")") ts) (λ _ ts. Some (s, ts))) (s, rest) b.more in
-    let d = went (mark_at (codes ")") c.rest) (λ _ ts. Some (c.x, ts)) (s, rest) c.more in
-    signature-is true c.x s (first-is c.x s d.rest rest d.more) (signature-types b.rest c.x c.rest c.is)
-
 none-plain : (ps : List TypeWord) → list_all (is_argument_type true) ps ≡ true → not (list_any is_plain ps) ≡ true → list_all (is_argument_type false) ps ≡ true
 none-plain [] e f = refl
 none-plain (types.Plain ∷ ps) e f = absurd (let bad : false ≡ true = f in cc)
@@ -267,72 +233,49 @@ plain-given : (b : Bool) (ps : List TypeWord) → list_all (is_argument_type tru
 plain-given true ps e f = e
 plain-given false ps e f = none-plain ps e f
 
-and-right-true : (x y : Bool) → y ≡ true → (x && y) ≡ x
-and-right-true true y e = e
-and-right-true false y e = refl
-
-abbrev target_test : Signature × List ℕ → Bool
-target_test t = is_type_of t.1 t.0 && signature_types true t.0
-
--- what a statepoint calls has the type that its name asks
-target-types : (ts : List Tok) (t : Signature × List ℕ) (rest : List Tok) → target_at ts ≡ Some (t, rest) → target_test t ≡ true
-unfolding target_at
-target-types ts t rest e =
-    let a = went (word_at (codes "ptr") ts) (λ _ ts. after (element_at (past_all drops.BesideElementType ts)) (λ s ts.
-    after (global_at (past_all drops.BesideElementType ts)) (λ name ts. named_target s name ts))) (t, rest) e in
-    let b = went (element_at (past_all drops.BesideElementType a.rest)) (λ s ts.
-    after (global_at (past_all drops.BesideElementType ts)) (λ name ts. named_target s name ts)) (t, rest) a.more in
-    let c = went (global_at (past_all drops.BesideElementType b.rest)) (λ name ts. named_target b.x name ts) (t, rest) b.more in
-    chosen-by target_test (is_type_of c.x b.x) (b.x, c.x) t c.rest rest
-    (and-right-true (is_type_of c.x b.x) (signature_types true b.x) (element-types (past_all drops.BesideElementType a.rest) b.x b.rest b.is)) c.more
-
 both : (x y : Bool) → (x && y) ≡ true → (x ≡ true) × (y ≡ true)
 both true y e = (refl, e)
 both false y e = absurd (let bad : false ≡ true = e in cc)
 
-handed-by : (name : List ℕ) (b : Bool) (ts : List Tok) (xs : List Given) (rest : List Tok)
-    → (if b then listed_at (passed_at (is_task_start name)) begins_argument (past (is_mark (codes ",")) ts) else Some ([], ts)) ≡ Some (xs, rest)
-    → list_all (given_is_formed name) xs ≡ true
-handed-by name true ts xs rest e =
-    (listed (given_is_formed name) (passed_at (is_task_start name)) begins_argument
-    (λ ts one rest f. sym (same-given name one) ∙ passed-type (is_task_start name) ts one rest f) (past (is_mark (codes ",")) ts) xs rest e).all
-handed-by name false ts xs rest e =
-    let none : [] ≡ xs = first-is [] xs ts rest e in ap (λ (ys : List Given). list_all (given_is_formed name) ys) (sym none)
+handed-by : (b : Bool) (ts : List Tok) (xs : List Given) (rest : List Tok)
+    → (if b then listed_at (passed_at true) begins_argument (past (is_mark (codes ",")) ts) else Some ([], ts)) ≡ Some (xs, rest)
+    → list_all (passes true) xs ≡ true
+handed-by true ts xs rest e = (listed (passes true) (passed_at true) begins_argument (passed-type true) (past (is_mark (codes ",")) ts) xs rest e).all
+handed-by false ts xs rest e =
+    let none : [] ≡ xs = first-is [] xs ts rest e in ap (λ (ys : List Given). list_all (passes true) ys) (sym none)
 
-handed-types : (name : List ℕ) (ts : List Tok) (xs : List Given) (rest : List Tok) → handed_at (is_task_start name) ts ≡ Some (xs, rest)
-    → list_all (given_is_formed name) xs ≡ true
+handed-types : (ts : List Tok) (xs : List Given) (rest : List Tok) → handed_at ts ≡ Some (xs, rest) → list_all (passes true) xs ≡ true
 unfolding handed_at
-handed-types name ts xs rest e = handed-by name (begins_argument ts) ts xs rest e
+handed-types ts xs rest e = handed-by (begins_argument ts) ts xs rest e
 
-call-is : (c other : Guarded) → c ≡ other → call_is_formed c ≡ true → call_is_formed other ≡ true
-call-is c other e h = rw (← e) h
+own-parts : (b p f : Bool) → (b || not (p || f)) ≡ true → ((b || not p) ≡ true) × ((b || not f) ≡ true)
+own-parts true p f e = (refl, refl)
+own-parts false false f e = (refl, e)
+own-parts false true f e = absurd (let bad : false ≡ true = e in cc)
 
-abbrev guarded_of : Literal → Signature × List ℕ → Literal → List Given → Guarded
-guarded_of id t count passed = record { id = id; signature = t.0; callee = t.1; count = count; passed = passed }
+given-own : (callee : List ℕ) (b : Bool) → is_task_start callee ≡ b → (ps : List Given) → list_all (passes true) ps ≡ true → (b || not (list_any is_function ps)) ≡ true
+    → list_all (given_is_formed callee) ps ≡ true
+given-own callee b is [] e f = refl
+given-own callee b is (given ty value ∷ ps) e f =
+    let p = both (is_value_type ty) (list_all (passes true) ps) e in
+    and_from (is_value_type ty) (list_all (given_is_formed callee) ps) p.0 (given-own callee b is ps p.1 f)
+given-own callee true is (function name ∷ ps) e f = and_from (is_task_start callee) (list_all (given_is_formed callee) ps) is (given-own callee true is ps e refl)
+given-own callee false is (function name ∷ ps) e f = absurd (let bad : false ≡ true = f in cc)
 
-call-formed : (id : Literal) (t : Signature × List ℕ) (count : Literal) (passed : List Given) → target_test t ≡ true → list_all (given_is_formed t.1) passed ≡ true
-    → call_is_formed (guarded_of id t count passed) ≡ true
-call-formed id t count passed e f =
-    let h = both (is_type_of t.1 t.0) (signature_types true t.0) e in
-    let g = both (is_answer_type t.0.answer) (list_all (is_argument_type true) t.0.parameters) h.1 in
-    let taken = list_all (is_argument_type (is_task_start t.1)) t.0.parameters in
-    let given = list_all (given_is_formed t.1) passed in
-    and_from (is_answer_type t.0.answer) (taken && given) g.0
-    (and_from taken given (plain-given (is_task_start t.1) t.0.parameters g.1 h.0) f)
-
-guarded-formed : (ts : List Tok) (c : Guarded) (rest : List Tok) → guarded_at ts ≡ Some (c, rest) → call_is_formed c ≡ true
-unfolding guarded_at
-guarded-formed ts c rest e =
-    let a = went (id_at ts) (λ id ts. after (target_at ts) (λ target ts. after (count_at ts) (λ count ts.
-    after (handed_at (is_task_start target.1) ts) (λ passed ts. after (closing_at ts) (λ _ ts. Some (guarded_of id target count passed, ts)))))) (c, rest) e in
-    let b = went (target_at a.rest) (λ target ts. after (count_at ts) (λ count ts.
-    after (handed_at (is_task_start target.1) ts) (λ passed ts. after (closing_at ts) (λ _ ts. Some (guarded_of a.x target count passed, ts))))) (c, rest) a.more in
-    let d = went (count_at b.rest) (λ count ts.
-    after (handed_at (is_task_start b.x.1) ts) (λ passed ts. after (closing_at ts) (λ _ ts. Some (guarded_of a.x b.x count passed, ts)))) (c, rest) b.more in
-    let h = went (handed_at (is_task_start b.x.1) d.rest) (λ passed ts. after (closing_at ts) (λ _ ts. Some (guarded_of a.x b.x d.x passed, ts))) (c, rest) d.more in
-    let k = went (closing_at h.rest) (λ _ ts. Some (guarded_of a.x b.x d.x h.x, ts)) (c, rest) h.more in
-    call-is (guarded_of a.x b.x d.x h.x) c (first-is (guarded_of a.x b.x d.x h.x) c k.rest rest k.more)
-    (call-formed a.x b.x d.x h.x (target-types a.rest b.x b.rest b.is) (handed-types b.x.1 d.rest h.x h.rest h.is))
+-- what a statepoint calls has the type that its name asks, and passes what it takes
+pub statepoint-formed : (made : Guarded)
+    → (is_answer_type made.signature.answer && (list_all (is_argument_type true) made.signature.parameters && (list_all (passes true) made.passed && true))) ≡ true
+    → takes_own made.callee made.signature.parameters made.passed ≡ true → call_is_formed made ≡ true
+statepoint-formed made e own =
+    let starts = is_task_start made.callee in
+    let taken = list_all (is_argument_type starts) made.signature.parameters in
+    let all = list_all (given_is_formed made.callee) made.passed in
+    let a = both (is_answer_type made.signature.answer) (list_all (is_argument_type true) made.signature.parameters && (list_all (passes true) made.passed && true)) e in
+    let b = both (list_all (is_argument_type true) made.signature.parameters) (list_all (passes true) made.passed && true) a.1 in
+    let o = own-parts starts (list_any is_plain made.signature.parameters) (list_any is_function made.passed) own in
+    and_from (is_answer_type made.signature.answer) (taken && all) a.0
+    (and_from taken all (plain-given starts made.signature.parameters b.0 o.0)
+    (given-own made.callee starts refl made.passed (both (list_all (passes true) made.passed) true b.1).0 o.1))
 
 same-if : {A : Type 0} (b : Bool) (x y : A) (r s : List Tok) → (if b then found x r else None) ≡ found y s → x ≡ y
 same-if true x y r s e = first-is x y r s e
@@ -358,7 +301,8 @@ says_something a_quoted = false
 says_something a_hash = false
 says_something to_brace = false
 says_something (items.g text) = false
-says_something a_statepoint_type = false
+says_something a_zero = false
+says_something a_closing = false
 says_something a_family = false
 says_something a_bracketing = false
 says_something _ = true
@@ -374,7 +318,8 @@ item_suits some_entries (items.entries es) = nat_le 1 (length es)
 item_suits a_declared (items.declared n ps) = list_all (λ one. is_argument_type (is_task_start n) one.ty) ps
 item_suits a_defined (items.defined n ps) = list_all (λ one. is_argument_type false one.ty) ps
 item_suits a_called (items.called n ps) = list_all (given_is_formed n) ps
-item_suits a_guarded (items.guarded c) = call_is_formed c
+item_suits some_types (items.types ps) = list_all (is_argument_type true) ps
+item_suits some_handed (items.handed ps) = list_all (passes true) ps
 item_suits a_result (items.ty t) = is_value_type t
 item_suits _ _ = true
 
@@ -410,7 +355,8 @@ part-suits a_quoted ts here mid e = nothing-here (one_at (stands is_quoted) ts) 
 part-suits a_hash ts here mid e = nothing-here (one_at (stands is_hash) ts) here mid e
 part-suits to_brace ts here mid e = nothing-here (to_brace_at ts) here mid e
 part-suits (items.g text) ts here mid e = nothing-here (one_at (stands (is_global text)) ts) here mid e
-part-suits a_statepoint_type ts here mid e = nothing-here (statepoint_type_at ts) here mid e
+part-suits a_zero ts here mid e = nothing-here (zero_at ts) here mid e
+part-suits a_closing ts here mid e = nothing-here (closing_at ts) here mid e
 part-suits a_family_answer ts here mid e = one-here a_family_answer (λ a. items.family_answer a) (family_answer_at ts) here mid (λ x rest f. refl) e
 part-suits a_family ts here mid e = nothing-here (one_at (stands declares_family) ts) here mid e
 part-suits a_bracketing ts here mid e = nothing-here (bracketing_at ts) here mid e
@@ -440,8 +386,12 @@ part-suits a_called ts here mid e =
     one-here a_called (λ call. items.called call.0 call.1) (called_at ts) here mid (called-types ts) e
 part-suits a_strategy ts here mid e = one-here a_strategy (λ s. items.strategy s) (strategy_at ts) here mid (λ x rest f. refl) e
 part-suits a_token ts here mid e = one-here a_token (λ n. items.name n) (token_at ts) here mid (λ x rest f. refl) e
-part-suits a_guarded ts here mid e = one-here a_guarded (λ c. items.guarded c) (guarded_at ts) here mid (guarded-formed ts) e
-part-suits a_live ts here mid e = one-here a_live (λ vs. items.live vs) (live_at ts) here mid (λ x rest f. refl) e
+part-suits a_global ts here mid e = one-here a_global (λ n. items.name n) (global_at ts) here mid (λ x rest f. refl) e
+part-suits some_types ts here mid e =
+    one-here some_types (λ ps. items.types ps) (types_at ts) here mid
+    (λ x rest f. list-all (is_argument_type true) (allowed_type_at (is_argument_type true)) (codes ")") (allowed-type (is_argument_type true)) ts x rest f) e
+part-suits some_handed ts here mid e = one-here some_handed (λ ps. items.handed ps) (handed_at ts) here mid (handed-types ts) e
+part-suits some_live ts here mid e = one-here some_live (λ vs. items.live vs) (live_at ts) here mid (λ x rest f. refl) e
 part-suits a_result ts here mid e = one-here a_result (λ t. items.ty t) (result_at ts) here mid (result-type ts) e
 part-suits (a_number of_type) ts here mid e = one-here (a_number of_type) (λ n. items.literal n) (number_at of_type ts) here mid (λ x rest f. refl) e
 
@@ -479,4 +429,4 @@ said_suits (line l) = suits (slots l.form) l.items
 
 pub spelled-suits : (what : Said) → IsSpelled what → said_suits what ≡ true
 spelled-suits (label name) h = refl
-spelled-suits (line l) h = parse-suits (slots l.form) (tokens h.0) l.items [] h.1
+spelled-suits (line l) h = parse-suits (slots l.form) (tokens h.0) l.items [] (fit_parts l.form (tokens h.0) l.items [] h.1).0

@@ -31,8 +31,7 @@ use Rattle.line_tokens.specs.declared.words.Conversion.{Conversion}
 use Rattle.line_tokens.specs.declared.words.Conversion.TheVariants.{Trunc, Zext, Sext}
 use Rattle.line_parts.specs.Parts.{Val}
 use Rattle.line_parts.specs.Lists.{Given}
-use Rattle.group_parts.specs.Statepoints.{Guarded}
-use Rattle.ir_lines.specs.Statements.{Line, Statement, binary, compare, convert, select, phi, scalar_step, layout_step, load, store, call, jump, branch, switch, ret_void, ret, unreachable, statepoint, gc_result, gc_relocate}
+use Rattle.ir_lines.specs.Statements.{Guarded, Line, Statement, binary, compare, convert, select, phi, scalar_step, layout_step, load, store, call, jump, branch, switch, ret_void, ret, unreachable, statepoint, gc_result, gc_relocate}
 use Rattle.ir_lines.specs.Parts.{is_of_group, live_use, token_use, index_use}
 use Rattle.ir_lines.specs.Sections.{Definition}
 use Rattle.ir_lines.specs.Scope.{scope_of, head_named}

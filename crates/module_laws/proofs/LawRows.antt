@@ -20,10 +20,9 @@ use Rattle.ir_ast.specs.Funcs.{instructions_of}
 use Rattle.ir_ast.specs.Faults.GroupShape.{Group as ModuleGroup, is_statepoint, is_part as is_part_made, entries_of, number_at, ResultInShape, RelocateInShape, ShapeOf}
 use Rattle.ir_cfg.specs.Statepoints.{is_relocate as is_relocate_op, relocates_of, StatepointsAreSmall, IdIsWord}
 use Rattle.line_tokens.specs.declared.literals.Literal.{Literal}
-use Rattle.ir_lines.specs.Statements.{Line, Statement, statepoint, gc_result, gc_relocate}
+use Rattle.ir_lines.specs.Statements.{Guarded, Line, Statement, statepoint, gc_result, gc_relocate}
 use Rattle.line_parts.specs.declared.readings.TypeWord.{TypeWord}
 use Rattle.line_parts.specs.Parts.{Val}
-use Rattle.group_parts.specs.Statepoints.{Guarded}
 use Rattle.ir_lines.specs.Parts.{gives, token_type, live_use}
 use Rattle.ir_lines.specs.Sections.{Definition, Naming, definitions_of, arguments_named, result_named, values_before, values_of}
 use Rattle.ir_lines.specs.Scope.{scope_of, value_named}

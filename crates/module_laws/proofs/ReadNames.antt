@@ -21,14 +21,14 @@ use Rattle.line_tokens.specs.declared.words.Dropped.TheVariants as drops
 use Rattle.line_parts.specs.Gives.{Found, after, one_at, with_rest}
 use Rattle.line_tokens.specs.declared.literals.Literal.{Literal}
 use Rattle.line_tokens.specs.Families.{is_result_of}
-use Rattle.group_parts.specs.Statepoints.{Signature, Guarded, first_types_at, last_types_at, statepoint_type_at, number_at, is_zero, zero_at, token_at, signature_at, element_at, target_at, is_type_of, closing_at, begins_argument, handed_at, id_at, count_at, guarded_at, live_entry_at, is_live_tag, bundle_at, live_at, suffix_of, result_at, declares_family, family_answer_at, bracketing_at}
+use Rattle.line_parts.specs.Groups.{number_at, is_zero, zero_at, token_at, types_at, closing_at, begins_argument, handed_at, live_entry_at, is_live_tag, bundle_at, live_at, suffix_of, result_at, declares_family, family_answer_at, bracketing_at}
 use Rattle.line_tokens.specs.Marks.{is_mark, is_word, is_global, is_number, is_quoted, is_hash, local_of, global_of, quoted_of, stands, begins}
 use Rattle.line_tokens.specs.Numbers.{width_of, literal_of}
 use Rattle.line_parts.specs.Drops.{past, past_all, past_at_most, past_dropped, past_group, past_word, past_quoted_value, past_bracketing, after_bracket, past_attachment, past_head_attachment, past_alignment, past_one_of, flag_words, is_attribute_word, is_bang_name, is_bang_number, is_one_of}
 use Rattle.line_parts.specs.Parts.{Val, word_at, mark_at, local_at, global_at, addrspace_at, is_one, pointer_at, other_type_at, type_behind, spelled_type_at, allowed_type_at, value_of, value_at, case_value_at, is_case_value, name_if_any, begins_place, place_at, strategy_at, to_brace_at, ends_with_brace, is_value_type, is_answer_type, is_cast_type, is_scalar_type, is_managed}
 use Rattle.line_tokens.specs.Words.{pred_of}
 use Rattle.line_parts.specs.Lists.{Named, Given, at_most_at, listed_at, list_to, comma, fields_at, is_argument_type, argument_at, arguments_at, is_task_start, head_at, given_behind, passed_at, all_passed_at, called_at, entry_at, begins_entry, entries_at}
-use Rattle.line_forms.specs.Slots.{Item, Slot, part, parse, blank, m, w, dropped, a_managed, a_quoted, a_hash, to_brace, a_local, a_layout_name, a_width, a_type, an_answer, a_cast_type, a_value, a_case, a_pred, a_scalar, a_layout, a_place, some_fields, some_entries, a_declared, a_defined, a_called, a_strategy, a_statepoint_type, a_family_answer, a_family, a_bracketing, a_token, a_guarded, a_live, a_result, a_number}
+use Rattle.line_forms.specs.Slots.{Item, Slot, part, parse, blank, m, w, dropped, a_managed, a_quoted, a_hash, to_brace, a_local, a_layout_name, a_width, a_type, an_answer, a_cast_type, a_value, a_case, a_pred, a_scalar, a_layout, a_place, some_fields, some_entries, a_declared, a_defined, a_called, a_strategy, a_zero, a_closing, a_family_answer, a_family, a_bracketing, a_token, a_global, some_types, some_handed, some_live, a_result, a_number}
 use Rattle.line_forms.specs.Slots as items
 use Rattle.line_forms.specs.Forms.{slots}
 use Rattle.ir_reader.specs.declared.states.State.{State}
@@ -37,6 +37,7 @@ use Rattle.line_parts.specs.Seen.{seen_argument}
 use Rattle.ir_reader.specs.Raws.{seen_numbered}
 use Rattle.ir_lines.specs.Views.{said, seen_line}
 use Rattle.ir_lines.specs.ReadLines.{IsNameIfAny}
+use Rattle.line_forms.proofs.FamilyLines.{fit_parts}
 use Rattle.module_laws.proofs.Runs.{IsSpelled, Runs}
 use Rattle.module_laws.proofs.ReadTypes.{SaysNames}
 
@@ -383,9 +384,6 @@ Nothing x = ⊤
 abbrev AnyNumber : Literal → Type 0
 AnyNumber x = ⊤
 
-abbrev AnyType : Signature → Type 0
-AnyType x = ⊤
-
 number_good : (of_type : List ℕ) (ts : List Tok) → Good ts → GF AnyNumber (number_at of_type ts)
 unfolding number_at
 number_good of_type ts g =
@@ -401,59 +399,6 @@ unfolding token_at
 token_good ts g =
     after-good Nothing IsName (word_at (codes "token") ts) _ (word_good (codes "token") ts g) (λ x1 r1 q1 g1. local_good (past_all drops.Groups r1) (all_good drops.Groups r1 g1))
 
-first_types_good : (ts : List Tok) → Good ts → GF Nothing (first_types_at ts)
-unfolding first_types_at
-first_types_good ts g =
-    after-good Nothing Nothing (mark_at (codes "(") ts) _ (mark_good (codes "(") ts g) (λ x1 r1 q1 g1.
-    after-good Nothing Nothing (word_at (codes "i64") r1) _ (word_good (codes "i64") r1 g1) (λ x2 r2 q2 g2.
-    after-good Nothing Nothing (mark_at (codes ",") r2) _ (mark_good (codes ",") r2 g2) (λ x3 r3 q3 g3.
-    after-good Nothing Nothing (word_at (codes "i32") r3) _ (word_good (codes "i32") r3 g3) (λ x4 r4 q4 g4.
-    after-good Nothing Nothing (mark_at (codes ",") r4) _ (mark_good (codes ",") r4 g4) (λ x5 r5 q5 g5. word_good (codes "ptr") r5 g5)))))
-
-last_types_good : (ts : List Tok) → Good ts → GF Nothing (last_types_at ts)
-unfolding last_types_at
-last_types_good ts g =
-    after-good Nothing Nothing (mark_at (codes ",") ts) _ (mark_good (codes ",") ts g) (λ x1 r1 q1 g1.
-    after-good Nothing Nothing (word_at (codes "i32") r1) _ (word_good (codes "i32") r1 g1) (λ x2 r2 q2 g2.
-    after-good Nothing Nothing (mark_at (codes ",") r2) _ (mark_good (codes ",") r2 g2) (λ x3 r3 q3 g3.
-    after-good Nothing Nothing (word_at (codes "i32") r3) _ (word_good (codes "i32") r3 g3) (λ x4 r4 q4 g4.
-    after-good Nothing Nothing (mark_at (codes ",") r4) _ (mark_good (codes ",") r4 g4) (λ x5 r5 q5 g5.
-    after-good Nothing Nothing (word_at (codes "...") r5) _ (word_good (codes "...") r5 g5) (λ x6 r6 q6 g6. mark_good (codes ")") r6 g6))))))
-
-statepoint_type_good : (ts : List Tok) → Good ts → GF Nothing (statepoint_type_at ts)
-unfolding statepoint_type_at
-statepoint_type_good ts g =
-    after-good Nothing Nothing (word_at (codes "token") ts) _ (word_good (codes "token") ts g) (λ x1 r1 q1 g1.
-    after-good Nothing Nothing (first_types_at r1) _ (first_types_good r1 g1) (λ x2 r2 q2 g2. last_types_good r2 g2))
-
-signature_good : (ts : List Tok) → Good ts → GF AnyType (signature_at ts)
-unfolding signature_at
-signature_good ts g =
-    after-good (λ (x : TypeWord). ⊤) AnyType (allowed_type_at is_answer_type ts) _ (type_good is_answer_type ts g) (λ x1 r1 q1 g1.
-    after-good Nothing AnyType (mark_at (codes "(") r1) _ (mark_good (codes "(") r1 g1) (λ x2 r2 q2 g2.
-    after-good (λ (xs : List TypeWord). AllByRecursion (λ (x : TypeWord). ⊤) xs) AnyType (list_to (allowed_type_at (is_argument_type true)) (codes ")") r2) _
-    (list_good (λ (x : TypeWord). ⊤) (allowed_type_at (is_argument_type true)) (codes ")") (type_good (is_argument_type true)) r2 g2) (λ x3 r3 q3 g3.
-    after-good Nothing AnyType (mark_at (codes ")") r3) _ (mark_good (codes ")") r3 g3) (λ x4 r4 q4 g4. (tt, g4)))))
-
-element_good : (ts : List Tok) → Good ts → GF AnyType (element_at ts)
-unfolding element_at
-element_good ts g =
-    after-good Nothing AnyType (word_at (codes "elementtype") ts) _ (word_good (codes "elementtype") ts g) (λ x1 r1 q1 g1.
-    after-good Nothing AnyType (mark_at (codes "(") r1) _ (mark_good (codes "(") r1 g1) (λ x2 r2 q2 g2.
-    after-good AnyType AnyType (signature_at r2) _ (signature_good r2 g2) (λ x3 r3 q3 g3.
-    after-good Nothing AnyType (mark_at (codes ")") r3) _ (mark_good (codes ")") r3 g3) (λ x4 r4 q4 g4. (tt, g4)))))
-
-abbrev AnyTarget : Signature × List ℕ → Type 0
-AnyTarget t = ⊤
-
-target_good : (ts : List Tok) → Good ts → GF AnyTarget (target_at ts)
-unfolding target_at
-target_good ts g =
-    after-good Nothing AnyTarget (word_at (codes "ptr") ts) _ (word_good (codes "ptr") ts g) (λ x1 r1 q1 g1.
-    after-good AnyType AnyTarget (element_at (past_all drops.BesideElementType r1)) _ (element_good (past_all drops.BesideElementType r1) (all_good drops.BesideElementType r1 g1)) (λ x2 r2 q2 g2.
-    after-good IsName AnyTarget (global_at (past_all drops.BesideElementType r2)) _ (global_good (past_all drops.BesideElementType r2) (all_good drops.BesideElementType r2 g2)) (λ x3 r3 q3 g3.
-    chosen_good AnyTarget (is_type_of x3 x2) (Some ((x2, x3), r3)) None (tt, g3) tt)))
-
 closing_good : (ts : List Tok) → Good ts → GF Nothing (closing_at ts)
 unfolding closing_at
 closing_good ts g =
@@ -465,39 +410,11 @@ closing_good ts g =
 abbrev AnyPassed : List Given → Type 0
 AnyPassed xs = AllByRecursion (λ (x : Given). ⊤) xs
 
-handed_good : (plain : Bool) (ts : List Tok) → Good ts → GF AnyPassed (handed_at plain ts)
+handed_good : (ts : List Tok) → Good ts → GF AnyPassed (handed_at ts)
 unfolding handed_at
-handed_good plain ts g =
-    chosen_good AnyPassed (begins_argument ts) (listed_at (passed_at plain) begins_argument (past (is_mark (codes ",")) ts)) (Some ([], ts))
-    (listed_good (λ (x : Given). ⊤) (passed_at plain) begins_argument (passed_good plain) (past (is_mark (codes ",")) ts) (past_good (is_mark (codes ",")) ts g)) (tt, g)
-
-id_good : (ts : List Tok) → Good ts → GF AnyNumber (id_at ts)
-unfolding id_at
-id_good ts g =
-    after-good AnyNumber AnyNumber (number_at (codes "i64") ts) _ (number_good (codes "i64") ts g) (λ x1 r1 q1 g1.
-    after-good Nothing AnyNumber (mark_at (codes ",") r1) _ (mark_good (codes ",") r1 g1) (λ x2 r2 q2 g2.
-    after-good Nothing AnyNumber (zero_at r2) _ (zero_good r2 g2) (λ x3 r3 q3 g3.
-    after-good Nothing AnyNumber (mark_at (codes ",") r3) _ (mark_good (codes ",") r3 g3) (λ x4 r4 q4 g4. (tt, g4)))))
-
-count_good : (ts : List Tok) → Good ts → GF AnyNumber (count_at ts)
-unfolding count_at
-count_good ts g =
-    after-good Nothing AnyNumber (mark_at (codes ",") ts) _ (mark_good (codes ",") ts g) (λ x1 r1 q1 g1.
-    after-good AnyNumber AnyNumber (number_at (codes "i32") r1) _ (number_good (codes "i32") r1 g1) (λ x2 r2 q2 g2.
-    after-good Nothing AnyNumber (mark_at (codes ",") r2) _ (mark_good (codes ",") r2 g2) (λ x3 r3 q3 g3.
-    after-good Nothing AnyNumber (zero_at r3) _ (zero_good r3 g3) (λ x4 r4 q4 g4. (tt, g4)))))
-
-abbrev AnyCall : Guarded → Type 0
-AnyCall c = ⊤
-
-guarded_good : (ts : List Tok) → Good ts → GF AnyCall (guarded_at ts)
-unfolding guarded_at
-guarded_good ts g =
-    after-good AnyNumber AnyCall (id_at ts) _ (id_good ts g) (λ x1 r1 q1 g1.
-    after-good AnyTarget AnyCall (target_at r1) _ (target_good r1 g1) (λ x2 r2 q2 g2.
-    after-good AnyNumber AnyCall (count_at r2) _ (count_good r2 g2) (λ x3 r3 q3 g3.
-    after-good AnyPassed AnyCall (handed_at (is_task_start x2.1) r3) _ (handed_good (is_task_start x2.1) r3 g3) (λ x4 r4 q4 g4.
-    after-good Nothing AnyCall (closing_at r4) _ (closing_good r4 g4) (λ x5 r5 q5 g5. (tt, g5))))))
+handed_good ts g =
+    chosen_good AnyPassed (begins_argument ts) (listed_at (passed_at true) begins_argument (past (is_mark (codes ",")) ts)) (Some ([], ts))
+    (listed_good (λ (x : Given). ⊤) (passed_at true) begins_argument (passed_good true) (past (is_mark (codes ",")) ts) (past_good (is_mark (codes ",")) ts g)) (tt, g)
 
 live_entry_good : (ts : List Tok) → Good ts → GF (λ (x : Val). ⊤) (live_entry_at ts)
 unfolding live_entry_at
@@ -574,7 +491,8 @@ part_good a_quoted ts g = nothing_good (λ (x : Unit {0}). ⊤) (one_at (stands 
 part_good a_hash ts g = nothing_good (λ (x : Unit {0}). ⊤) (one_at (stands is_hash) ts) (any_good (stands is_hash) ts g)
 part_good to_brace ts g = nothing_good (λ (x : Unit {0}). ⊤) (to_brace_at ts) (brace_good ts g)
 part_good (items.g text) ts h = nothing_good (λ (x : Unit {0}). ⊤) (one_at (stands (is_global text)) ts) (any_good (stands (is_global text)) ts h)
-part_good a_statepoint_type ts g = nothing_good (λ (x : Unit {0}). ⊤) (statepoint_type_at ts) (statepoint_type_good ts g)
+part_good a_zero ts g = nothing_good Nothing (zero_at ts) (zero_good ts g)
+part_good a_closing ts g = nothing_good Nothing (closing_at ts) (closing_good ts g)
 part_good a_family_answer ts g = says_good (λ (x : Option TypeWord). ⊤) (λ a. items.family_answer a) (family_answer_at ts) (λ x q. tt) (family_answer_good ts g)
 part_good a_family ts g = nothing_good (λ (x : Unit {0}). ⊤) (one_at (stands declares_family) ts) (any_good (stands declares_family) ts g)
 part_good a_bracketing ts g = nothing_good (λ (x : Unit {0}). ⊤) (bracketing_at ts) (bracketed_good ts g)
@@ -601,8 +519,12 @@ part_good a_defined ts g = says_good HeadNamed (λ head. items.defined head.0 he
 part_good a_called ts g = says_good (λ (x : List ℕ × List Given). ⊤) (λ call. items.called call.0 call.1) (called_at ts) (λ x q. tt) (called_good ts g)
 part_good a_strategy ts g = says_good (λ (x : Option (List ℕ)). ⊤) (λ s. items.strategy s) (strategy_at ts) (λ x q. tt) (strategy_good ts g)
 part_good a_token ts g = says_good IsName (λ n. items.name n) (token_at ts) (λ x q. q) (token_good ts g)
-part_good a_guarded ts g = says_good AnyCall (λ c. items.guarded c) (guarded_at ts) (λ x q. tt) (guarded_good ts g)
-part_good a_live ts g = says_good AnyLive (λ vs. items.live vs) (live_at ts) (λ x q. tt) (live_good ts g)
+part_good a_global ts g = says_good IsName (λ n. items.name n) (global_at ts) (λ x q. q) (global_good ts g)
+part_good some_types ts g =
+    says_good (λ (xs : List TypeWord). AllByRecursion (λ (x : TypeWord). ⊤) xs) (λ ps. items.types ps) (types_at ts) (λ x q. tt)
+    (list_good (λ (x : TypeWord). ⊤) (allowed_type_at (is_argument_type true)) (codes ")") (type_good (is_argument_type true)) ts g)
+part_good some_handed ts g = says_good AnyPassed (λ ps. items.handed ps) (handed_at ts) (λ x q. tt) (handed_good ts g)
+part_good some_live ts g = says_good AnyLive (λ vs. items.live vs) (live_at ts) (λ x q. tt) (live_good ts g)
 part_good a_result ts g = says_good (λ (x : TypeWord). ⊤) (λ t. items.ty t) (result_at ts) (λ x q. tt) (result_good ts g)
 part_good (a_number of_type) ts g = says_good AnyNumber (λ n. items.literal n) (number_at of_type ts) (λ x q. tt) (number_good of_type ts g)
 
@@ -644,7 +566,7 @@ label_name bs name e = by (is_label bs) refl e
 
 spelled_names : (what : Said) → IsSpelled what → NamesSaid what
 spelled_names (label name) h = label_name (after_blanks h.0) name h.1
-spelled_names (line l) h = (subst (λ (x : Found (List Item)). GF ItemsNamed x) h.1 (parse_good (slots l.form) (tokens h.0) (tokens-good h.0))).0
+spelled_names (line l) h = (subst (λ (x : Found (List Item)). GF ItemsNamed x) (fit_parts l.form (tokens h.0) l.items [] h.1).0 (parse_good (slots l.form) (tokens h.0) (tokens-good h.0))).0
 
 names_said : (r : Reading) → NamesSaid (seen r) → SaysNames (said r)
 names_said (readings.Layout n fs) h = h.0

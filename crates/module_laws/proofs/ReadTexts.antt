@@ -8,11 +8,14 @@ use Rattle.std.proofs.lemmas.List.Elements.{All-nil, All-cons}
 use Rattle.std.proofs.lemmas.List.Splits.{length-slice_split}
 use Rattle.std.proofs.lemmas.List.Sums.{count_by-le-length}
 use Rattle.sp_text.specs.Lines.{numbered, lines_of as text_lines}
+use Rattle.sp_text.specs.Tokens.{tokens}
 use Rattle.ir_ast.specs.declared.modules.Form.{Form}
 use Rattle.ir_ast.specs.declared.modules.Form.TheVariants.{Source, Rewritten}
 use Rattle.ir_reader.specs.declared.states.Place.{Place}
 use Rattle.ir_reader.specs.declared.states.Place.TheVariants as places
 use Rattle.ir_reader.specs.declared.states.State.{State}
+use Rattle.line_forms.proofs.FamilyLines.{fit_parts}
+use Rattle.line_forms.specs.declared.forms.Form.TheVariants as forms
 use Rattle.line_forms.specs.declared.readings.Reading.{Reading}
 use Rattle.line_forms.specs.declared.readings.Reading.TheVariants as readings
 use Rattle.ir_reader.specs.declared.raw.NumberedReading.{NumberedReading}
@@ -21,10 +24,10 @@ use Rattle.line_forms.specs.Seen.{seen}
 use Rattle.ir_reader.specs.Raws.{Readings, IsRead, seen_numbered}
 use Rattle.ir_reader.specs.Text.{is_top, opening, readings_in}
 use Rattle.ir_lines.specs.Statements.{Line}
-use Rattle.ir_lines.specs.Views.{said, seen_line, seen_lines}
+use Rattle.ir_lines.specs.Views.{said, seen_guarded, seen_line, seen_lines}
 use Rattle.ir_lines.specs.TextLines.{place_behind, Stand, statement_fits, is_formed, stands_in, IsTextLines}
-use Rattle.module_laws.proofs.Formed.{said_suits, spelled-suits}
-use Rattle.module_laws.proofs.Runs.{said_behind, IsOwn, Runs, readings-run, readings-few}
+use Rattle.module_laws.proofs.Formed.{said_suits, spelled-suits, statepoint-formed}
+use Rattle.module_laws.proofs.Runs.{said_behind, IsOwn, IsSpelled, Runs, readings-run, readings-few}
 use Rattle.module_laws.proofs.ReadCounts.{runs-counted, relocates_few}
 
 -- ---- line by line
@@ -67,20 +70,30 @@ fit-of [] s top = All-nil Fits
 fit-of (r ∷ rs) s run =
     All-cons Fits (seen_line r) (map seen_line rs) (sym (same-limits r.reading) ∙ run.step.fits) (fit-of rs run.next run.more)
 
-same-forms : (r : Reading) → said_suits (seen r) ≡ is_formed (said r)
-same-forms readings.Close = refl
-same-forms (readings.Label n) = refl
-same-forms readings.SwitchEnd = refl
-same-forms readings.ReturnVoid = refl
-same-forms readings.Unreachable = refl
-same-forms (readings.Jump l) = refl
-same-forms (readings.Branch c l m) = refl
-same-forms (readings.Switch n v d) = refl
-same-forms (readings.Binary x op n l m) = refl
-same-forms (readings.Convert x op n v to) = refl
-same-forms (readings.LayoutElement x l a n i p) = refl
-same-forms (readings.GcRelocate x token b d) = refl
-same-forms r = simp and-true
+abbrev is_point : Reading → Bool
+is_point (readings.Statepoint x c vs) = true
+is_point _ = false
+
+same-forms : (r : Reading) → is_point r ≡ false → said_suits (seen r) ≡ is_formed (said r)
+same-forms (readings.Statepoint x c vs) e = absurd (let bad : true ≡ false = e in cc)
+same-forms readings.Close e = refl
+same-forms (readings.Label n) e = refl
+same-forms readings.SwitchEnd e = refl
+same-forms readings.ReturnVoid e = refl
+same-forms readings.Unreachable e = refl
+same-forms (readings.Jump l) e = refl
+same-forms (readings.Branch c l m) e = refl
+same-forms (readings.Switch n v d) e = refl
+same-forms (readings.Binary x op n l m) e = refl
+same-forms (readings.Convert x op n v to) e = refl
+same-forms (readings.LayoutElement x l a n i p) e = refl
+same-forms (readings.GcRelocate x token b d) e = refl
+same-forms r e = simp and-true
+
+is-formed : (r : Reading) → IsSpelled (seen r) → is_formed (said r) ≡ true
+is-formed (readings.Statepoint x c vs) h =
+    statepoint-formed (seen_guarded c) (spelled-suits (seen (readings.Statepoint x c vs)) h) (fit_parts forms.Statepoint (tokens h.0) _ [] h.1).1
+is-formed r h = sym (same-forms r refl) ∙ spelled-suits (seen r) h
 
 same-own : (form : Form) (r : Reading) → IsOwn form (seen r) → stands_in form (said r) ≡ true
 same-own Rewritten r own = refl
@@ -102,7 +115,7 @@ Formed l = is_formed l.says ≡ true
 formed-of : (rs : List NumberedReading) (s : State) → Runs s (map seen_numbered rs) → All Formed (map seen_line rs)
 formed-of [] s top = All-nil Formed
 formed-of (r ∷ rs) s run =
-    All-cons Formed (seen_line r) (map seen_line rs) (sym (same-forms r.reading) ∙ spelled-suits (seen r.reading) run.step.spelled)
+    All-cons Formed (seen_line r) (map seen_line rs) (is-formed r.reading run.step.spelled)
     (formed-of rs run.next run.more)
 
 -- ---- few lines

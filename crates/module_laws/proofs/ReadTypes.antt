@@ -12,9 +12,8 @@ use Rattle.line_forms.specs.declared.readings.Reading.{Reading}
 use Rattle.line_forms.specs.declared.readings.Reading.TheVariants as readings
 use Rattle.line_parts.specs.Parts.{Val, is_value_type, is_answer_type}
 use Rattle.line_parts.specs.Lists.{Named, Given, given, function, is_argument_type, is_task_start}
-use Rattle.group_parts.specs.Statepoints.{Guarded}
-use Rattle.ir_reader.specs.Limits.{width_fits, type_fits, value_fits, place_fits, argument_fits, given_fits, entry_value_fits, name_fits, literal_fits, signature_fits, guarded_fits, live_fits}
-use Rattle.ir_lines.specs.Statements.{Statement, layout, define, label, binary, compare, convert, select, phi, scalar_step, layout_step, load, store, call, switch, switch_case, ret, statepoint, gc_result, gc_relocate}
+use Rattle.ir_reader.specs.Limits.{width_fits, type_fits, value_fits, place_fits, argument_fits, given_fits, entry_value_fits, name_fits, literal_fits, live_fits}
+use Rattle.ir_lines.specs.Statements.{Guarded, Statement, layout, define, label, binary, compare, convert, select, phi, scalar_step, layout_step, load, store, call, switch, switch_case, ret, statepoint, gc_result, gc_relocate}
 use Rattle.ir_lines.specs.TextLines.{statement_fits, is_formed, given_is_formed, call_is_formed}
 use Rattle.ir_lines.specs.Views.{said}
 use Rattle.ir_lines.specs.ReadLines.{IsValueType, IsAnswerType, IsNameIfAny, IsReadArgument, IsReadPassed, IsReadStatepoint, SaysRead}
@@ -99,23 +98,24 @@ passed_read callee (one ∷ more) e f =
     let b = both (given_fits one) (list_all given_fits more) f in
     (given_read callee one a.0 b.0, passed_read callee more a.1 b.1)
 
-statepoint_read : (result : List ℕ) (made : Guarded) (live : List Val) → call_is_formed made ≡ true → (guarded_fits made && live_fits live) ≡ true → IsName result
+statepoint_read : (result : List ℕ) (made : Guarded) (live : List Val) → is_formed (statepoint result made live) ≡ true → statement_fits (statepoint result made live) ≡ true → IsName result
     → IsReadStatepoint result made live
 statepoint_read result made live e f name =
     let given = list_all (given_is_formed made.callee) made.passed in
     let taken = list_all (is_argument_type (is_task_start made.callee)) made.signature.parameters in
     let a = both (is_answer_type made.signature.answer) (taken && given) e in
     let b = both taken given a.1 in
-    let c = both (guarded_fits made) (live_fits live) f in
-    let d = both (literal_fits made.id && signature_fits made.signature && literal_fits made.count) (list_all given_fits made.passed) c.0 in
-    let g = both (literal_fits made.id && signature_fits made.signature) (literal_fits made.count) d.0 in
-    let h = both (literal_fits made.id) (signature_fits made.signature) g.0 in
-    let i = both (type_fits made.signature.answer) (list_all type_fits made.signature.parameters) h.1 in
-    let k = both (nat_le (length live) 16384) (list_all value_fits live) c.1 in
+    let passes = list_all given_fits made.passed in
+    let c = both (literal_fits made.id) (type_fits made.signature.answer && (list_all type_fits made.signature.parameters && (literal_fits made.count && (passes && live_fits live)))) f in
+    let d = both (type_fits made.signature.answer) (list_all type_fits made.signature.parameters && (literal_fits made.count && (passes && live_fits live))) c.1 in
+    let g = both (list_all type_fits made.signature.parameters) (literal_fits made.count && (passes && live_fits live)) d.1 in
+    let h = both (literal_fits made.count) (passes && live_fits live) g.1 in
+    let i = both passes (live_fits live) h.1 in
+    let k = both (nat_le (length live) 16384) (list_all value_fits live) i.1 in
     record {
       named = name;
-      answered = answer_type made.signature.answer a.0 i.0;
-      passed = All-from_recursion IsReadPassed made.passed (passed_read made.callee made.passed b.1 d.1);
+      answered = answer_type made.signature.answer a.0 d.0;
+      passed = All-from_recursion IsReadPassed made.passed (passed_read made.callee made.passed b.1 i.0);
       few = leb-true (length live) 16384 k.0;
     }
 

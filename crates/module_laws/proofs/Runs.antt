@@ -13,11 +13,11 @@ use Rattle.ir_reader.specs.declared.states.Counted.TheVariants as kinds
 use Rattle.ir_reader.specs.declared.states.Place.{Place}
 use Rattle.ir_reader.specs.declared.states.State.{State}
 use Rattle.line_parts.specs.Gives.{Found, after, is_nil}
-use Rattle.line_forms.specs.Forms.{slots, form_in, stands_in, is_dropped_form}
-use Rattle.line_forms.specs.Slots.{Item, parse}
+use Rattle.line_forms.specs.Forms.{fit, form_in, stands_in, is_dropped_form}
+use Rattle.line_forms.specs.Slots.{Item}
 use Rattle.ir_reader.specs.Places.{behind, behind_label}
 use Rattle.ir_reader.specs.Limits.{said_fits, said_counts_as, counted, counted_in, counts_fit}
-use Rattle.line_forms.proofs.FamilyLines.{stands_where_read}
+use Rattle.line_forms.proofs.FamilyLines.{fit_parts, stands_where_read}
 use Rattle.line_forms.specs.Seen.{Said, label, line, of_form, line_at, ended}
 use Rattle.ir_reader.specs.Text.{Outcome, no_reading, over_limit, nothing, said, is_top, next_state, within, dropped_within, said_by, formed, by_form, tokens_outcome, label_outcome, labelled, outcome, Fault, syntax_fault, limit_fault, Numbered, with_first, readings_by, readings}
 
@@ -30,7 +30,7 @@ said_behind place (line l) = behind place l.form
 -- the bytes of some line spell it
 abbrev pub IsSpelled : Said → Type 0
 IsSpelled (label name) = (bytes : List ℕ) × (label_of bytes ≡ Some name)
-IsSpelled (line l) = (bytes : List ℕ) × (parse (slots l.form) (tokens bytes) ≡ Some (l.items, []))
+IsSpelled (line l) = (bytes : List ℕ) × (fit l.form (tokens bytes) ≡ Some (l.items, []))
 
 -- no line that is dropped
 abbrev pub IsKept : Said → Type 0
@@ -60,7 +60,7 @@ both true y e = (refl, e)
 both false y e = absurd (let bad : false ≡ true = e in cc)
 
 within-step : (s : State) (form : Form) (place : Place) (items : List Item) (bytes : List ℕ) (b : Bool) (what : Said) (next : State)
-    → form_in s.form (tokens bytes) ≡ Some form → parse (slots form) (tokens bytes) ≡ Some (items, []) → behind s.place form ≡ Some place
+    → form_in s.form (tokens bytes) ≡ Some form → fit form (tokens bytes) ≡ Some (items, []) → behind s.place form ≡ Some place
     → is_dropped_form form ≡ false → (said_fits (of_form form items) && counts_fit (next_state s place (of_form form items)).counts) ≡ b
     → (if b then said (of_form form items) (next_state s place (of_form form items)) else over_limit) ≡ said what next
     → IsStep s what next
@@ -78,11 +78,11 @@ within-step s form place items bytes true what next f p e kept fits o =
       few = λ _. h.1;
       spelled = (bytes, p);
       kept = kept;
-      own = stands_where_read s.form form items (tokens bytes) [] f p;
+      own = stands_where_read s.form form items (tokens bytes) [] f (fit_parts form (tokens bytes) items [] p).0;
     })
 
 dropped-step : (s : State) (form : Form) (place : Place) (items : List Item) (bytes : List ℕ) (b : Bool) (what : Said) (next : State)
-    → form_in s.form (tokens bytes) ≡ Some form → parse (slots form) (tokens bytes) ≡ Some (items, []) → behind s.place form ≡ Some place
+    → form_in s.form (tokens bytes) ≡ Some form → fit form (tokens bytes) ≡ Some (items, []) → behind s.place form ≡ Some place
     → is_dropped_form form ≡ b → (if b then dropped_within (of_form form items) else within s place (of_form form items)) ≡ said what next
     → IsStep s what next
 dropped-step s form place items bytes true what next f p e kept o = absurd (by (said_fits (of_form form items)) o)
@@ -95,7 +95,7 @@ dropped-step s form place items bytes false what next f p e kept o =
 
 -- what the tokens of a form come to
 found-step : (s : State) (form : Form) (place : Place) (bytes : List ℕ) (found : Found (List Item)) (what : Said) (next : State)
-    → form_in s.form (tokens bytes) ≡ Some form → parse (slots form) (tokens bytes) ≡ found → behind s.place form ≡ Some place
+    → form_in s.form (tokens bytes) ≡ Some form → fit form (tokens bytes) ≡ found → behind s.place form ≡ Some place
     → said_by s form place (ended (after found (λ items rest. Some (of_form form items, rest)))) ≡ said what next
     → IsStep s what next
 unfolding after
@@ -109,7 +109,7 @@ formed-step : (s : State) (form : Form) (bytes : List ℕ) (place : Option Place
 unfolding line_at
 formed-step s form bytes None what next f e o = absurd (let bad : no_reading ≡ said what next = o in cc)
 formed-step s form bytes (Some place) what next f e o =
-    found-step s form place bytes (parse (slots form) (tokens bytes)) what next f refl e o
+    found-step s form place bytes (fit form (tokens bytes)) what next f refl e o
 
 form-step : (s : State) (bytes : List ℕ) (form : Option Form) (what : Said) (next : State)
     → form_in s.form (tokens bytes) ≡ form → by_form s (tokens bytes) form ≡ said what next → IsStep s what next

@@ -17,10 +17,9 @@ use Rattle.ir_reader.specs.declared.states.Counted.TheVariants as kinds
 use Rattle.ir_reader.specs.declared.states.State.{State}
 use Rattle.ir_reader.specs.Limits.{counted, counted_in, counts_fit}
 use Rattle.ir_reader.specs.declared.states.Place.TheVariants as places
-use Rattle.line_forms.specs.Forms.{slots, form_in}
+use Rattle.line_forms.specs.Forms.{fit, form_in}
 use Rattle.ir_reader.specs.Places.{behind, behind_label}
 use Rattle.line_forms.specs.Seen.{Said, label, of_form}
-use Rattle.line_forms.specs.Slots.{parse}
 use Rattle.ir_reader.specs.Text.{said, outcome, is_top, next_state}
 use Rattle.ir_lines.specs.Statements.{Statement}
 use Rattle.read_back.specs.Said.{instruction_says, block_says}
@@ -74,7 +73,7 @@ line_outcome of names inst one s formed inside fit =
     ap (λ (kind : Counted). record { form = s.form; place = place_after inst.op; counts = counted (counted_in s.form kind) s.counts }) one.counts in
     let plain : (is_top s.place && is_metadata (32 ∷ 32 ∷ text)) ≡ false = rw inside refl in
     let form_is : form_in s.form (tokens (32 ∷ 32 ∷ text)) ≡ Some one.form = rw (formed, indented text) one.reads.form_is in
-    let fitting : parse (slots one.form) (tokens (32 ∷ 32 ∷ text)) ≡ Some (one.items, []) = rw (indented text) one.reads.whole in
+    let fitting : fit one.form (tokens (32 ∷ 32 ∷ text)) ≡ Some (one.items, []) = rw (indented text) one.reads.whole in
     let stands : behind s.place one.form ≡ Some (place_after inst.op) = rw inside one.stands in
     let counts : counts_fit (next_state s (place_after inst.op) what).counts ≡ true = ap (λ (n : State). counts_fit n.counts) next ∙ fit in
     formed_in s (32 ∷ 32 ∷ text) one.form (place_after inst.op) one.items one.reads.clean plain form_is fitting stands one.kept one.fits counts ∙ ap (said what) next

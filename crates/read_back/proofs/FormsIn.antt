@@ -1,6 +1,6 @@
 -- A line of the source form in a text of the rewritten form: the same line, since no call of it names a function of the three families.
 use Rattle.std.proofs.Common.{◌≡◌, refl, ap, ◌∙◌, ℕ, Bool, true, false, cond, ◌||◌, inl, inr, List, [], ◌∷◌, ◌++◌, length, Some, None, codes}
-use Rattle.std.specs.Prelude.{drop, nat_eq}
+use Rattle.std.specs.Prelude.{drop, nat_eq, not}
 use Rattle.std.specs.List.{starts_with}
 use Rattle.std.specs.Str.{bytes_eq}
 use Rattle.std.proofs.lemmas.Bool.{or_parts, or_cases}
@@ -18,8 +18,9 @@ use Rattle.line_forms.specs.declared.forms.Form.TheVariants as forms
 use Rattle.line_tokens.specs.declared.words.Dropped.TheVariants as drops
 use Rattle.line_tokens.specs.declared.words.Flags.TheVariants as flags
 use Rattle.line_tokens.specs.Families.{statepoint_name, relocate_name, result_front, result_suffix, is_suffix, is_result_name, is_family_name}
-use Rattle.line_forms.specs.Forms.{slots, form_of, form_in, named_form, group_form, word_form, called_form, declared_form, callee_of, declared_of, first_global}
-use Rattle.line_forms.specs.Slots.{Item, parse}
+use Rattle.line_forms.specs.Forms.{fit, is_group_form, form_of, form_in, named_form, group_form, word_form, called_form, declared_form, callee_of, declared_of, first_global}
+use Rattle.line_forms.specs.Slots.{Item}
+use Rattle.line_forms.proofs.FamilyLines.{agree_own, fit_is, stands_where_read}
 use Rattle.read_back.proofs.Steps.{IsClean, past_all-none}
 use Rattle.read_back.proofs.Spellings.{SpellsType, void_type}
 use Rattle.read_back.proofs.Forms.{ReadsAs, result_tokens}
@@ -29,8 +30,19 @@ use Rattle.read_back.proofs.GroupSteps.{as_is, token_then, blank_then}
 -- in a text of this form the text is a line of this form, and says this at the form's slots
 pub record ReadsIn (of : TextForm) (text : List ℕ) (form : Form) (items : List Item) : Type 0 where
   pub form_is : form_in of (tokens text) ≡ Some form
-  pub whole : parse (slots form) (tokens text) ≡ Some (items, [])
+  pub whole : fit form (tokens text) ≡ Some (items, [])
   pub clean : IsClean text
+
+-- only a statepoint's parts have to agree
+pub as_fit : {text : List ℕ} {form : Form} {items : List Item} → ReadsAs text form items → fit form (tokens text) ≡ Some (items, [])
+unfolding form_in
+as_fit {text} {form} {items} reads =
+    fit_is form (tokens text) items [] reads.whole
+    (agree_own form items (not_true (is_group_form form) (stands_where_read text_forms.Source form items (tokens text) [] reads.form_is reads.whole)))
+  where
+    not_true : (b : Bool) → not b ≡ true → b ≡ false
+    not_true true is = absurd (let bad : false ≡ true = is in cc)
+    not_true false is = refl
 
 -- a call or a declaration, of which the function that it names tells what it is
 abbrev pub names_function : Form → Bool
@@ -53,11 +65,11 @@ plain_in text_forms.Rewritten ts form plain is = rw is (group_plain ts form plai
 
 -- a line that is no call and no declaration
 pub in_both : (of : TextForm) {text : List ℕ} {form : Form} {items : List Item} → names_function form ≡ false → ReadsAs text form items → ReadsIn of text form items
-in_both of {text} {form} plain reads = record { form_is = plain_in of (tokens text) form plain reads.form_is; whole = reads.whole; clean = reads.clean }
+in_both of {text} {form} plain reads = record { form_is = plain_in of (tokens text) form plain reads.form_is; whole = as_fit reads; clean = reads.clean }
 
 pub in_source : {text : List ℕ} {form : Form} {items : List Item} → ReadsAs text form items → ReadsIn text_forms.Source text form items
 unfolding form_in
-in_source reads = record { form_is = reads.form_is; whole = reads.whole; clean = reads.clean }
+in_source reads = record { form_is = reads.form_is; whole = as_fit reads; clean = reads.clean }
 
 -- ---- the function that a call names
 
@@ -141,7 +153,7 @@ declared_by o ts is = rw is refl
 pub declare_in : (of : TextForm) {spelled : List ℕ} {answer : TypeWord} (t : SpellsType spelled answer) (o : List ℕ) → is_name o ≡ true → is_family_name o ≡ false → (rest : List ℕ) {items : List Item}
     → ReadsAs (codes "declare " ++ (spelled ++ (32 ∷ 64 ∷ (o ++ (40 ∷ rest))))) forms.Declare items → ReadsIn of (codes "declare " ++ (spelled ++ (32 ∷ 64 ∷ (o ++ (40 ∷ rest))))) forms.Declare items
 declare_in text_forms.Source t o is other rest reads = in_source reads
-declare_in text_forms.Rewritten {spelled} t o is other rest reads = record { form_is = form_is; whole = reads.whole; clean = reads.clean }
+declare_in text_forms.Rewritten {spelled} t o is other rest reads = record { form_is = form_is; whole = as_fit reads; clean = reads.clean }
   where
     plain : declared_form (Some o) ≡ forms.Declare
     plain = rw other refl

@@ -14,6 +14,7 @@ use Rattle.line_parts.specs.declared.readings.TypeWord.TheVariants as types
 use Rattle.line_forms.specs.Slots.{family_answer}
 use Rattle.ir_reader.specs.Limits.{answer_fits}
 use Rattle.line_tokens.specs.Families.{statepoint_name, relocate_name, result_suffix, result_front, is_family_name}
+use Rattle.line_forms.proofs.FamilyLines.{fit_is}
 use Rattle.line_forms.specs.Forms.{slots, form_in, declared_form, declared_of, first_global}
 use Rattle.read_back.proofs.Steps.{Reads, past_all-none, end, word, spaced, space, over_blank, drop_at, drop_end}
 use Rattle.read_back.proofs.Spellings.{integer_type, integer_other, pointer_type, pointer_other, decimal-is, decimal-digits}
@@ -90,7 +91,7 @@ statepoint_declares ts =
     rw (past_all-none drops.HeadAttachments (tok kinds.Word (codes "token") ∷ rest) (word_none (codes "token") rest)) (rw (past_all-none drops.Groups (tok kinds.Word (codes "token") ∷ rest) refl) refl)
 
 pub statepoint_declared : IsDropped (codes "declare token @llvm.experimental.gc.statepoint.p0(i64, i32, ptr, i32, i32, ...)")
-statepoint_declared = record { answer = None; reads = record { form_is = form_is; whole = all.whole; clean = all.clean }; fits = refl }
+statepoint_declared = record { answer = None; reads = record { form_is = form_is; whole = fit_is (forms.Dropped drop_lines.Family) _ _ [] all.whole refl; clean = all.clean }; fits = refl }
   where
     all : Reads (slots (forms.Dropped drop_lines.Family)) (codes "declare token @llvm.experimental.gc.statepoint.p0(i64, i32, ptr, i32, i32, ...)") (Some (tok kinds.Word (codes "declare"))) (family_answer None ∷ [])
     all = word (codes "declare") refl refl refl refl (spaced (drop_at drops.HeadAttachments (word_none (codes "token")) (drop_at drops.Groups (λ more. refl) (over_blank (token_answer_step refl

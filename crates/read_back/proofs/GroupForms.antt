@@ -14,12 +14,13 @@ use Rattle.line_tokens.specs.declared.words.Dropped.TheVariants as drops
 use Rattle.line_tokens.specs.declared.words.Flags.TheVariants as flags
 use Rattle.line_parts.specs.Drops.{after_bracket}
 use Rattle.line_tokens.specs.Families.{statepoint_name, relocate_name, result_front, result_suffix, is_suffix, is_family_name, is_result_of}
+use Rattle.line_forms.proofs.FamilyLines.{fit_is}
 use Rattle.line_forms.specs.Forms.{slots, form_in, called_form, declared_form, callee_of, first_global}
 use Rattle.line_parts.specs.Lists.{Given, comma}
 use Rattle.line_tokens.specs.Marks.{is_mark, is_word, begins}
 use Rattle.line_parts.specs.Parts.{Val, is_value_type, is_answer_type}
-use Rattle.line_forms.specs.Slots.{Item, name, ty, guarded, live, literal, dropped, a_live, family_answer}
-use Rattle.group_parts.specs.Statepoints.{Guarded, live_entry_at, suffix_of}
+use Rattle.line_forms.specs.Slots.{Item, name, ty, types as types_said, handed, live, literal, dropped, some_live, family_answer}
+use Rattle.line_parts.specs.Groups.{live_entry_at, suffix_of}
 use Rattle.ir_printer.specs.Lists.{joined}
 use Rattle.read_back.proofs.Steps.{Reads, IsClean, past_all-none, end, mark, word, local, spaced, space, over_blank, drop_at, drop_end}
 use Rattle.read_back.proofs.Spellings.{SpellsType, SpellsLiteral, pointer_type}
@@ -28,9 +29,14 @@ use Rattle.read_back.proofs.Listed.{SpellsElement, others}
 use Rattle.read_back.proofs.Forms.{result_tokens}
 use Rattle.read_back.proofs.ListForms.{EndsAtMark, word_none}
 use Rattle.read_back.proofs.FormsIn.{ReadsIn, call_callee, value_in, call_tokens, declare_tokens, declared_name, declared_by}
-use Rattle.read_back.proofs.GroupSteps.{as_is, token_then, blank_then, type_tokens, type_spelled, statepoint_type_step, global_step, token_step, place_step, call_spelled, SpellsCall, guarded_step, live_step, no_live, result_step, family_answer_step, family_step, bracketing_step}
+use Rattle.read_back.proofs.GroupSteps.{as_is, token_then, mark_then, blank_then, global_step, token_step, number_step, call_spelled, SpellsCall, call_step, live_step, no_live, result_step, family_answer_step, family_step, bracketing_step}
 
 -- ---- statepoints
+
+abbrev type_tokens : List Tok → List Tok
+type_tokens ts = tok kinds.Word (codes "token") ∷ tok kinds.Punct (codes "(") ∷ tok kinds.Word (codes "i64") ∷ tok kinds.Punct (codes ",") ∷ tok kinds.Word (codes "i32")
+    ∷ tok kinds.Punct (codes ",") ∷ tok kinds.Word (codes "ptr") ∷ tok kinds.Punct (codes ",") ∷ tok kinds.Word (codes "i32")
+    ∷ tok kinds.Punct (codes ",") ∷ tok kinds.Word (codes "i32") ∷ tok kinds.Punct (codes ",") ∷ tok kinds.Word (codes "...") ∷ tok kinds.Punct (codes ")") ∷ ts
 
 statepoint_callee : (ts : List Tok) → callee_of (tok kinds.Word (codes "call") ∷ type_tokens (tok kinds.Global (codes "@llvm.experimental.gc.statepoint.p0") ∷ ts)) ≡ Some statepoint_name
 unfolding callee_of first_global statepoint_name
@@ -47,47 +53,49 @@ statepoint_front rest = codes "call token (i64, i32, ptr, i32, i32, ...) @llvm.e
 
 statepoint_tokens : (rest : List ℕ) → tokens (statepoint_front rest) ≡ tok kinds.Word (codes "call") ∷ type_tokens (tok kinds.Global (codes "@llvm.experimental.gc.statepoint.p0") ∷ tokens (40 ∷ rest))
 statepoint_tokens rest =
-    let behind : tokens (codes "token (i64, i32, ptr, i32, i32, ...) @llvm.experimental.gc.statepoint.p0(" ++ rest) ≡ type_tokens (tok kinds.Global (codes "@llvm.experimental.gc.statepoint.p0") ∷ tokens (40 ∷ rest)) =
-    type_spelled (codes " @llvm.experimental.gc.statepoint.p0(" ++ rest) ∙ ap type_tokens (blank_then (token_then kinds.Global (codes "@llvm.experimental.gc.statepoint.p0") refl refl (as_is (40 ∷ rest)))).is in
-    (token_then kinds.Word (codes "call") refl refl (blank_then (as_is (codes "token (i64, i32, ptr, i32, i32, ...) @llvm.experimental.gc.statepoint.p0(" ++ rest)))).is ∙ ap (λ ts. tok kinds.Word (codes "call") ∷ ts) behind
+    (token_then kinds.Word (codes "call") refl refl (blank_then (token_then kinds.Word (codes "token") refl refl (blank_then (mark_then 40 refl (token_then kinds.Word (codes "i64") refl refl (mark_then 44 refl (blank_then
+    (token_then kinds.Word (codes "i32") refl refl (mark_then 44 refl (blank_then (token_then kinds.Word (codes "ptr") refl refl (mark_then 44 refl (blank_then
+    (token_then kinds.Word (codes "i32") refl refl (mark_then 44 refl (blank_then (token_then kinds.Word (codes "i32") refl refl (mark_then 44 refl (blank_then
+    (token_then kinds.Word (codes "...") refl refl (mark_then 41 refl (blank_then (token_then kinds.Global (codes "@llvm.experimental.gc.statepoint.p0") refl refl (as_is (40 ∷ rest)))))))))))))))))))))))))).is
 
--- the line of a statepoint whose live entries are spelled by the end of the text
-statepoint_by : {P Y : Type 0} (n : List ℕ) → is_name n ≡ true → (id answer callee count : List ℕ) (ptext : P → List ℕ) (psaid : P → TypeWord) (ps : List P) (text : Y → List ℕ) (said : Y → Given) (ys : List Y) (made : Guarded)
-    → SpellsCall id answer callee count ptext psaid ps text said ys made → {rest : List ℕ} {first : Option Tok} {items : List Item}
-    → Reads (dropped drops.Groups ∷ a_live ∷ dropped drops.Attachments ∷ []) rest first items
-    → ReadsIn text_forms.Rewritten (37 ∷ (n ++ (32 ∷ 61 ∷ 32 ∷ statepoint_front (call_spelled id answer (map ptext ps) made.callee count (others text ys) rest)))) forms.Statepoint (name n ∷ guarded made ∷ items)
-unfolding statepoint_name
-statepoint_by n is id answer callee count ptext psaid ps text said ys made c {rest} {items = items} r = record { form_is = form_is; whole = all.whole; clean = all.clean }
-  where
-    body : List ℕ
-    body = call_spelled id answer (map ptext ps) made.callee count (others text ys) rest
+module _ {P Y : Type 0} (n : List ℕ) (is : is_name n ≡ true) {id answer callee count : List ℕ} {a b : Literal} {word_is : TypeWord} {ptext : P → List ℕ} {psaid : P → TypeWord} {ps : List P} {text : Y → List ℕ} {said : Y → Given} {ys : List Y}
+    (c : SpellsCall id answer callee count a b word_is ptext psaid ps text said ys) where
+  abbrev spelled : List ℕ → List ℕ
+  spelled rest = 37 ∷ (n ++ (32 ∷ 61 ∷ 32 ∷ statepoint_front (call_spelled id answer (map ptext ps) callee count (others text ys) rest)))
 
-    all : Reads (slots forms.Statepoint) (37 ∷ (n ++ (32 ∷ 61 ∷ 32 ∷ statepoint_front body))) (Some (tok kinds.Local (37 ∷ n))) (name n ∷ guarded made ∷ items)
-    all = local n is refl (space (mark 61 refl refl refl (space (drop_at (drops.Words flags.Calling) (λ more. refl) (word (codes "call") refl refl refl refl (spaced (drop_at drops.Groups (λ more. refl) (over_blank
-        (statepoint_type_step (space (global_step (codes "llvm.experimental.gc.statepoint.p0") refl refl refl (mark 40 refl refl refl
-        (guarded_step id answer callee count ptext psaid ps text said ys made c r)))))))))))))
+  abbrev saying : List Item → List Item
+  saying items = name n ∷ literal a ∷ ty word_is ∷ types_said (map psaid ps) ∷ name callee ∷ literal b ∷ handed (map said ys) ∷ items
 
-    form_is : form_in text_forms.Rewritten (tokens (37 ∷ (n ++ (32 ∷ 61 ∷ 32 ∷ statepoint_front body)))) ≡ Some forms.Statepoint
-    form_is = rw (result_tokens n (statepoint_front body) is) (rw (statepoint_tokens body)
-        (value_in (37 ∷ n) statepoint_name (type_tokens (tok kinds.Global (codes "@llvm.experimental.gc.statepoint.p0") ∷ tokens (40 ∷ body))) (statepoint_callee (tokens (40 ∷ body))) ∙ ap Some statepoint_called))
+  -- the line of a statepoint whose live entries are spelled by the end of the text
+  statepoint_by : {rest : List ℕ} {first : Option Tok} {entries : List Val} → Reads (dropped drops.Groups ∷ some_live ∷ dropped drops.Attachments ∷ []) rest first (live entries ∷ [])
+      → ReadsIn text_forms.Rewritten (spelled rest) forms.Statepoint (saying (live entries ∷ []))
+  unfolding statepoint_name
+  statepoint_by {rest} {entries = entries} r = record { form_is = form_is; whole = fit_is forms.Statepoint _ _ [] all.whole c.own; clean = all.clean }
+    where
+      body : List ℕ
+      body = call_spelled id answer (map ptext ps) callee count (others text ys) rest
 
--- a statepoint without live entries
-pub bare_statepoint_line : {P Y : Type 0} (n : List ℕ) → is_name n ≡ true → (id answer callee count : List ℕ) (ptext : P → List ℕ) (psaid : P → TypeWord) (ps : List P) (text : Y → List ℕ) (said : Y → Given) (ys : List Y) (made : Guarded)
-    → SpellsCall id answer callee count ptext psaid ps text said ys made
-    → ReadsIn text_forms.Rewritten (37 ∷ (n ++ (32 ∷ 61 ∷ 32 ∷ statepoint_front (call_spelled id answer (map ptext ps) made.callee count (others text ys) [])))) forms.Statepoint (name n ∷ guarded made ∷ live [] ∷ [])
-bare_statepoint_line n is id answer callee count ptext psaid ps text said ys made c =
-    statepoint_by n is id answer callee count ptext psaid ps text said ys made c (drop_end drops.Groups (no_live (drop_end drops.Attachments end)))
+      all : Reads (slots forms.Statepoint) (spelled rest) (Some (tok kinds.Local (37 ∷ n))) (saying (live entries ∷ []))
+      all = local n is refl (space (mark 61 refl refl refl (space (drop_at (drops.Words flags.Calling) (λ more. refl) (word (codes "call") refl refl refl refl (spaced (drop_at drops.Groups (λ more. refl) (over_blank
+          (word (codes "token") refl refl refl refl (space (mark 40 refl refl refl (word (codes "i64") refl refl refl refl (mark 44 refl refl refl (space (word (codes "i32") refl refl refl refl (mark 44 refl refl refl (space
+          (word (codes "ptr") refl refl refl refl (mark 44 refl refl refl (space (word (codes "i32") refl refl refl refl (mark 44 refl refl refl (space (word (codes "i32") refl refl refl refl (mark 44 refl refl refl (space
+          (word (codes "...") refl refl refl refl (mark 41 refl refl refl (space (global_step (codes "llvm.experimental.gc.statepoint.p0") refl refl refl (mark 40 refl refl refl (call_step c r)))))))))))))))))))))))))))))
 
--- and one with some
-pub live_statepoint_line : {P Y L : Type 0} (n : List ℕ) → is_name n ≡ true → (id answer callee count : List ℕ) (ptext : P → List ℕ) (psaid : P → TypeWord) (ps : List P) (text : Y → List ℕ) (said : Y → Given) (ys : List Y) (made : Guarded)
-    → SpellsCall id answer callee count ptext psaid ps text said ys made → (ltext : L → List ℕ) (lsaid : L → Val) (ls : List L)
-    → All (λ l. SpellsElement live_entry_at comma EndsAtMark (ltext l) (lsaid l)) ls
-    → All (λ l. (rest : List ℕ) → EndsAtMark rest → begins (is_mark (codes ")")) (tokens (ltext l ++ rest)) ≡ false) ls
-    → ReadsIn text_forms.Rewritten (37 ∷ (n ++ (32 ∷ 61 ∷ 32 ∷ statepoint_front (call_spelled id answer (map ptext ps) made.callee count (others text ys) (codes " [ \"gc-live\"(" ++ (joined (codes ", ") (map ltext ls) ++ codes ") ]"))))))
-    forms.Statepoint (name n ∷ guarded made ∷ live (map lsaid ls) ∷ [])
-live_statepoint_line n is id answer callee count ptext psaid ps text said ys made c ltext lsaid ls each opens =
-    statepoint_by n is id answer callee count ptext psaid ps text said ys made c
-    (spaced (drop_at drops.Groups (λ more. refl) (live_step ltext lsaid ls each opens (drop_end drops.Attachments end))))
+      form_is : form_in text_forms.Rewritten (tokens (spelled rest)) ≡ Some forms.Statepoint
+      form_is = rw (result_tokens n (statepoint_front body) is) (rw (statepoint_tokens body)
+          (value_in (37 ∷ n) statepoint_name (type_tokens (tok kinds.Global (codes "@llvm.experimental.gc.statepoint.p0") ∷ tokens (40 ∷ body))) (statepoint_callee (tokens (40 ∷ body))) ∙ ap Some statepoint_called))
+
+  -- a statepoint without live entries
+  pub bare_statepoint_line : ReadsIn text_forms.Rewritten (spelled []) forms.Statepoint (saying (live [] ∷ []))
+  bare_statepoint_line = statepoint_by (drop_end drops.Groups (no_live (drop_end drops.Attachments end)))
+
+  -- and one with some
+  pub live_statepoint_line : {L : Type 0} (ltext : L → List ℕ) (lsaid : L → Val) (ls : List L)
+      → All (λ l. SpellsElement live_entry_at comma EndsAtMark (ltext l) (lsaid l)) ls
+      → All (λ l. (rest : List ℕ) → EndsAtMark rest → begins (is_mark (codes ")")) (tokens (ltext l ++ rest)) ≡ false) ls
+      → ReadsIn text_forms.Rewritten (spelled (codes " [ \"gc-live\"(" ++ (joined (codes ", ") (map ltext ls) ++ codes ") ]"))) forms.Statepoint (saying (live (map lsaid ls) ∷ []))
+  live_statepoint_line ltext lsaid ls each opens =
+      statepoint_by (spaced (drop_at drops.Groups (λ more. refl) (live_step ltext lsaid ls each opens (drop_end drops.Attachments end))))
 
 -- ---- results
 
@@ -115,7 +123,7 @@ result_is suffix = rw (result_named suffix) (bytes_self suffix)
 pub result_line : (n : List ℕ) → is_name n ≡ true → {spelled : List ℕ} {of_type : TypeWord} (t : SpellsType spelled of_type) (suffix : List ℕ) → ResultNamed t suffix → (token : List ℕ) → is_name token ≡ true
     → ReadsIn text_forms.Rewritten (37 ∷ (n ++ (32 ∷ 61 ∷ 32 ∷ (codes "call " ++ (spelled ++ (32 ∷ 64 ∷ ((codes "llvm.experimental.gc.result." ++ suffix) ++ (40 ∷ (codes "token %" ++ (token ++ codes ")"))))))))))
     forms.GcResult (name n ∷ ty of_type ∷ name token ∷ [])
-result_line n is {spelled} {of_type} t suffix r token token_is = record { form_is = form_is; whole = all.whole; clean = all.clean }
+result_line n is {spelled} {of_type} t suffix r token token_is = record { form_is = form_is; whole = fit_is forms.GcResult _ _ [] all.whole refl; clean = all.clean }
   where
     o : List ℕ
     o = codes "llvm.experimental.gc.result." ++ suffix
@@ -145,7 +153,7 @@ pub relocate_line : (n : List ℕ) → is_name n ≡ true → (token : List ℕ)
     → ReadsIn text_forms.Rewritten (37 ∷ (n ++ (32 ∷ 61 ∷ 32 ∷ (codes "call ptr addrspace(1) @llvm.experimental.gc.relocate.p1(token %" ++ (token ++ (codes ", i32 " ++ (base ++ (codes ", i32 " ++ (derived ++ codes ")")))))))))
     forms.GcRelocate (name n ∷ name token ∷ literal b ∷ literal d ∷ [])
 unfolding relocate_name
-relocate_line n is token token_is {base} {derived} {b} {d} s u = record { form_is = form_is; whole = all.whole; clean = all.clean }
+relocate_line n is token token_is {base} {derived} {b} {d} s u = record { form_is = form_is; whole = fit_is forms.GcRelocate _ _ [] all.whole refl; clean = all.clean }
   where
     o : List ℕ
     o = codes "llvm.experimental.gc.relocate.p1"
@@ -158,8 +166,8 @@ relocate_line n is token token_is {base} {derived} {b} {d} s u = record { form_i
 
     all : Reads (slots forms.GcRelocate) (37 ∷ (n ++ (32 ∷ 61 ∷ 32 ∷ text))) (Some (tok kinds.Local (37 ∷ n))) (name n ∷ name token ∷ literal b ∷ literal d ∷ [])
     all = local n is refl (space (mark 61 refl refl refl (space (drop_at (drops.Words flags.Calling) (λ more. refl) (word (codes "call") refl refl refl refl (spaced (drop_at drops.Groups pointer_type.group (over_blank
-        (managed_step pointer_type refl (space (global_step o refl refl refl (mark 40 refl refl refl (token_step token token_is refl (mark 44 refl refl refl (space (place_step s refl
-        (mark 44 refl refl refl (space (place_step u refl (mark 41 refl refl refl (drop_end drops.Groups (drop_end drops.Attachments end))))))))))))))))))))))
+        (managed_step pointer_type refl (space (global_step o refl refl refl (mark 40 refl refl refl (token_step token token_is refl (mark 44 refl refl refl (space (number_step (codes "i32") refl refl refl s refl
+        (mark 44 refl refl refl (space (number_step (codes "i32") refl refl refl u refl (mark 41 refl refl refl (drop_end drops.Groups (drop_end drops.Attachments end))))))))))))))))))))))
 
     form_is : form_in text_forms.Rewritten (tokens (37 ∷ (n ++ (32 ∷ 61 ∷ 32 ∷ text)))) ≡ Some forms.GcRelocate
     form_is = rw (result_tokens n text is) (rw (call_tokens pointer_type o refl rest)
@@ -178,7 +186,7 @@ family_form t o named is rest =
 pub family_line : {spelled : List ℕ} {answer : TypeWord} (t : SpellsType spelled answer) → is_answer_type answer ≡ true → is_word (codes "token") (tok kinds.Word t.first) ≡ false
     → (o : List ℕ) → is_name o ≡ true → is_family_name o ≡ true → (text : List ℕ) → IsClean text → after_bracket 0 (tokens (text ++ [])) ≡ Some (tokens [])
     → ReadsIn text_forms.Rewritten (codes "declare " ++ (spelled ++ (32 ∷ 64 ∷ (o ++ (40 ∷ (text ++ [])))))) (forms.Dropped drop_lines.Family) (family_answer (Some answer) ∷ [])
-family_line {spelled} {answer} t allow other o named is text clean e = record { form_is = family_form t o named is (text ++ []); whole = all.whole; clean = all.clean }
+family_line {spelled} {answer} t allow other o named is text clean e = record { form_is = family_form t o named is (text ++ []); whole = fit_is (forms.Dropped drop_lines.Family) _ _ [] all.whole refl; clean = all.clean }
   where
     all : Reads (slots (forms.Dropped drop_lines.Family)) (codes "declare " ++ (spelled ++ (32 ∷ 64 ∷ (o ++ (40 ∷ (text ++ [])))))) (Some (tok kinds.Word (codes "declare"))) (family_answer (Some answer) ∷ [])
     all = word (codes "declare") refl refl refl refl (spaced (drop_at drops.HeadAttachments (word_none t.first) (drop_at drops.Groups t.group (over_blank (family_answer_step t allow other refl

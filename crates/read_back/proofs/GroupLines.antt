@@ -40,8 +40,8 @@ use Rattle.line_tokens.specs.Marks.{is_mark, begins}
 use Rattle.line_parts.specs.Parts.{allowed_type_at, spelled_type_at, pointer_at}
 use Rattle.line_forms.specs.Slots.{Item}
 use Rattle.line_forms.specs.Slots as parts
-use Rattle.group_parts.specs.Statepoints.{Guarded, is_plain, live_entry_at}
-use Rattle.read_back.specs.Said.{word_of, value_says, literal_of, parameter_says, made_says}
+use Rattle.line_parts.specs.Groups.{takes_own, live_entry_at}
+use Rattle.read_back.specs.Said.{word_of, value_says, literal_of, parameter_says}
 use Rattle.read_back.proofs.Steps.{first_of}
 use Rattle.read_back.proofs.Spellings.{SpellsLiteral, literal_token, signed-spellable, integer_suffix, integer_type, pointer_type, decimal-is, decimal-digits}
 use Rattle.read_back.proofs.Listed.{SpellsElement, others}
@@ -151,28 +151,25 @@ pub record IsGuarded (names : Names) (callee : Callee) (takes : List Ty) (n : Li
   pub narrow : IsNarrow ty
   pub there : CalleeBelow names callee
   pub taken : AllByRecursion IsTaken takes
-  pub typed : (is_task_start (callee_name names callee) || not (list_any is_plain (map parameter_says takes))) ≡ true
+  pub own : takes_own (callee_name names callee) (map parameter_says takes) (map (passed_given names) (zip takes os)) ≡ true
   pub passed : AllByRecursion (PassedReads (is_task_start (callee_name names callee)) names) (zip takes os)
   pub live : AllByRecursion (IsLive names) (drop (length takes) os)
   pub few : length (drop (length takes) os) ≤ 16384
   pub counted : length takes < 2 ^ 64
 
 spells_call : (names : Names) → HaveNames names → (id : ℕ) (callee : Callee) (takes : List Ty) (n : List ℕ) (ty : Ty) (os : List Operand) → IsGuarded names callee takes n ty os
-    → SpellsCall (integer_text 64 id) (type_text ty) (callee_name names callee) (decimal (length takes)) parameter_text parameter_says takes (passed_text names) (passed_given names) (zip takes os)
-    (made_says names id callee takes (made (Some n) (ast.Statepoint id callee takes) ty os []))
+    → SpellsCall (integer_text 64 id) (type_text ty) (callee_name names callee) (decimal (length takes)) (literal_of (signed 64 id)) (literal_of (pos (length takes))) (word_of ty)
+    parameter_text parameter_says takes (passed_text names) (passed_given names) (zip takes os)
 spells_call names have id callee takes n ty os is = record {
   numbered = integer_literal 64 id (omega arith) (omega arith);
   answers = answer_spelled ty is.answers is.narrow;
   allowed_answer = answer_allowed ty is.answers;
   parameters = All-from_recursion _ takes (each_taken takes is.taken);
   parameters_open = All-from_recursion _ takes (each_taken_opens takes is.taken);
-  parameters_are = refl;
-  callee_is = refl;
   named = callee-named names have callee is.there;
-  typed = is.typed;
   counted = literal_token (pos (length takes)) is.counted;
   arguments = All-from_recursion _ (zip takes os) (each_element (is_task_start (callee_name names callee)) names (zip takes os) is.passed);
-  arguments_are = refl;
+  own = is.own;
 }
 
 statepoint_shape : (names : Names) (id : ℕ) (callee : Callee) (takes : List Ty) (n : List ℕ) (ty : Ty) (os : List Operand)
@@ -185,10 +182,11 @@ statepoint_shape names id callee takes n ty os = simp append_assoc
 live_shape : (body : List ℕ) → codes " [ " ++ ((codes "\"gc-live\"(" ++ (body ++ codes ")")) ++ codes " ]") ≡ codes " [ \"gc-live\"(" ++ (body ++ codes ") ]")
 live_shape body = simp append_assoc
 
-guarded_in_limit : (names : Names) (id : ℕ) (callee : Callee) (takes : List Ty) (n : List ℕ) (ty : Ty) (os : List Operand) → IsGuarded names callee takes n ty os
-    → item_fits (parts.guarded (made_says names id callee takes (made (Some n) (ast.Statepoint id callee takes) ty os []))) ≡ true
-guarded_in_limit names id callee takes n ty os is =
-    rw (signed_fits 64 id (omega arith), answer_fits ty is.answers is.narrow, all_fit takes is.taken, each_fits (is_task_start (callee_name names callee)) names (zip takes os) is.passed) refl
+-- what a statepoint's line says before its live entries
+abbrev call_says : Names → ℕ → Callee → List Ty → List ℕ → Ty → List Operand → List Item → List Item
+call_says names id callee takes n ty os more =
+    parts.name n ∷ parts.literal (literal_of (signed 64 id)) ∷ parts.ty (word_of ty) ∷ parts.types (map parameter_says takes) ∷ parts.name (callee_name names callee)
+    ∷ parts.literal (literal_of (pos (length takes))) ∷ parts.handed (map (passed_given names) (zip takes os)) ∷ more
 
 live_in_limit : (names : Names) (entries : List Operand) → AllByRecursion (IsLive names) entries → length entries ≤ 16384 → item_fits (parts.live (map (value_says names tys.Ptr) entries)) ≡ true
 live_in_limit names entries all few = rw (length-map entries (value_says names tys.Ptr), le-leb (length entries) 16384 few, live_values_fit names entries all) refl
@@ -198,26 +196,31 @@ pub statepoint_reads : (names : Names) → HaveNames names → (id : ℕ) (calle
     → LineIn text_forms.Rewritten names (made (Some n) (ast.Statepoint id callee takes) ty os [])
 statepoint_reads names have id callee takes n ty os is = record {
   form = forms.Statepoint;
-  items = parts.name n ∷ parts.guarded call ∷ parts.live (map (value_says names tys.Ptr) (drop (length takes) os)) ∷ [];
+  items = call_says names id callee takes n ty os (parts.live (map (value_says names tys.Ptr) (drop (length takes) os)) ∷ []);
   reads = rw (statepoint_shape names id callee takes n ty os) (by (drop (length takes) os) is.live);
   says = refl;
-  fits = rw (guarded_in_limit names id callee takes n ty os is, live_in_limit names (drop (length takes) os) is.live is.few) refl;
+  fits = rw (
+    signed_fits 64 id (omega arith),
+    answer_fits ty is.answers is.narrow,
+    all_fit takes is.taken,
+    each_fits (is_task_start (callee_name names callee)) names (zip takes os) is.passed,
+    live_in_limit names (drop (length takes) os) is.live is.few,
+  ) refl;
   stands = refl;
   counts = refl;
   kept = refl;
 }
   where
-    call : Guarded
-    call = made_says names id callee takes (made (Some n) (ast.Statepoint id callee takes) ty os [])
+    spells : SpellsCall (integer_text 64 id) (type_text ty) (callee_name names callee) (decimal (length takes)) (literal_of (signed 64 id)) (literal_of (pos (length takes))) (word_of ty)
+        parameter_text parameter_says takes (passed_text names) (passed_given names) (zip takes os)
+    spells = spells_call names have id callee takes n ty os is
 
     by : (entries : List Operand) → AllByRecursion (IsLive names) entries
         → ReadsIn text_forms.Rewritten (37 ∷ (n ++ (32 ∷ 61 ∷ 32 ∷ statepoint_front (call_spelled (integer_text 64 id) (type_text ty) (map parameter_text takes) (callee_name names callee) (decimal (length takes))
-        (others (passed_text names) (zip takes os)) (bundles_text names [] entries))))) forms.Statepoint (parts.name n ∷ parts.guarded call ∷ parts.live (map (value_says names tys.Ptr) entries) ∷ [])
-    by [] all = bare_statepoint_line n is.named (integer_text 64 id) (type_text ty) (callee_name names callee) (decimal (length takes)) parameter_text parameter_says takes (passed_text names) (passed_given names) (zip takes os) call
-        (spells_call names have id callee takes n ty os is)
+        (others (passed_text names) (zip takes os)) (bundles_text names [] entries))))) forms.Statepoint (call_says names id callee takes n ty os (parts.live (map (value_says names tys.Ptr) entries) ∷ []))
+    by [] all = bare_statepoint_line n is.named spells
     by (entry ∷ entries) all = rw (live_shape (joined (codes ", ") (map (entry_text names) (entry ∷ entries))))
-        (live_statepoint_line n is.named (integer_text 64 id) (type_text ty) (callee_name names callee) (decimal (length takes)) parameter_text parameter_says takes (passed_text names) (passed_given names) (zip takes os) call
-        (spells_call names have id callee takes n ty os is) (entry_text names) (value_says names tys.Ptr) (entry ∷ entries)
+        (live_statepoint_line n is.named spells (entry_text names) (value_says names tys.Ptr) (entry ∷ entries)
         (All-from_recursion _ (entry ∷ entries) (each_live names have (entry ∷ entries) all)) (All-from_recursion _ (entry ∷ entries) (each_live_opens names have (entry ∷ entries) all)))
 
 -- ---- results and relocates

@@ -21,9 +21,11 @@ use Rattle.line_tokens.specs.Marks.{is_mark, is_word, begins, stands}
 use Rattle.line_tokens.specs.Numbers.{decimal_from}
 use Rattle.line_parts.specs.Parts.{Val, mark_at, value_at, is_value_type, is_answer_type, is_managed, allowed_type_at, spelled_type_at}
 use Rattle.line_parts.specs.Parts as values
-use Rattle.line_forms.specs.Slots.{Item, name, ty, guarded, live, literal, family_answer, Slot, g, a_statepoint_type, a_family_answer, a_family, a_bracketing, a_token, a_guarded, a_live, a_result, a_number, part, parse}
-use Rattle.group_parts.specs.Statepoints.{Signature, Guarded, first_types_at, last_types_at, statepoint_type_at, number_at, is_zero, zero_at, token_at, signature_at, is_type_of, element_at, target_at, closing_at, begins_argument, handed_at, id_at, count_at, guarded_at, live_entry_at, bundle_at, live_at, suffix_of, result_at, family_answer_at, bracketing_at}
-use Rattle.read_back.proofs.Steps.{Reads, Stops, IsClean, clean-both, name-clean, one, step, step_to, past_all-none, first_of, stops-kind}
+use Rattle.line_forms.specs.Forms.{callee_type, callee_count}
+use Rattle.line_forms.specs.Slots.{Item, name, ty, types as types_said, handed, live, literal, family_answer, Slot, blank, m, g, a_zero, a_closing, a_family_answer, a_family, a_bracketing, a_token, a_global, some_types, some_handed, some_live, a_result, a_number, part, parse}
+use Rattle.line_parts.specs.Groups.{number_at, is_zero, zero_at, token_at, types_at, takes_own, closing_at, begins_argument, handed_at, live_entry_at, bundle_at, live_at, suffix_of, result_at, family_answer_at, bracketing_at}
+use Rattle.read_back.proofs.Steps.{Reads, Stops, IsClean, clean-both, name-clean, one, step, step_to, past_all-none, first_of, stops-kind, mark, word, spaced, space, over_blank, drop_at}
+use Rattle.read_back.proofs.PartSteps.{answer_step}
 use Rattle.read_back.proofs.Spellings.{SpellsType, SpellsValue, SpellsLiteral, allowed, pointer_type}
 use Rattle.read_back.proofs.Listed.{SpellsElement, others, comma_spelled, clean_others, ends_others, listed, list_read, list_clean}
 use Rattle.read_back.proofs.ListForms.{EndsAtMark, at_comma, at_closing, closing_tokens, anywhere, goes_by_comma, passed_spelled, passed_opens, step_any}
@@ -45,28 +47,7 @@ mark_then {rest} b is e = record { is = tokens-spelled kinds.Punct (b ∷ []) re
 pub blank_then : {rest : List ℕ} {ts : List Tok} → Spelled rest ts → Spelled (32 ∷ rest) ts
 blank_then {rest} e = record { is = tokens-blank 32 rest refl ∙ e.is }
 
--- ---- the type of a statepoint, and the name of one of the families
-
-abbrev pub type_tokens : List Tok → List Tok
-type_tokens ts = tok kinds.Word (codes "token") ∷ tok kinds.Punct (codes "(") ∷ tok kinds.Word (codes "i64") ∷ tok kinds.Punct (codes ",") ∷ tok kinds.Word (codes "i32")
-    ∷ tok kinds.Punct (codes ",") ∷ tok kinds.Word (codes "ptr") ∷ tok kinds.Punct (codes ",") ∷ tok kinds.Word (codes "i32")
-    ∷ tok kinds.Punct (codes ",") ∷ tok kinds.Word (codes "i32") ∷ tok kinds.Punct (codes ",") ∷ tok kinds.Word (codes "...") ∷ tok kinds.Punct (codes ")") ∷ ts
-
-pub type_spelled : (rest : List ℕ) → tokens (codes "token (i64, i32, ptr, i32, i32, ...)" ++ rest) ≡ type_tokens (tokens rest)
-type_spelled rest =
-    (token_then kinds.Word (codes "token") refl refl (blank_then (mark_then 40 refl (token_then kinds.Word (codes "i64") refl refl (mark_then 44 refl (blank_then
-    (token_then kinds.Word (codes "i32") refl refl (mark_then 44 refl (blank_then (token_then kinds.Word (codes "ptr") refl refl (mark_then 44 refl (blank_then
-    (token_then kinds.Word (codes "i32") refl refl (mark_then 44 refl (blank_then (token_then kinds.Word (codes "i32") refl refl (mark_then 44 refl (blank_then
-    (token_then kinds.Word (codes "...") refl refl (mark_then 41 refl (as_is rest))))))))))))))))))))).is
-
-type_part : (ts : List Tok) → part a_statepoint_type (type_tokens ts) ≡ Some ([], ts)
-unfolding part after statepoint_type_at first_types_at last_types_at one_at
-type_part ts = refl
-
-pub statepoint_type_step : {f : List Slot} {rest : List ℕ} {first : Option Tok} {items : List Item} → Reads f rest first items
-    → Reads (a_statepoint_type ∷ f) (codes "token (i64, i32, ptr, i32, i32, ...)" ++ rest) (Some (tok kinds.Word (codes "token"))) items
-statepoint_type_step {rest = rest} r =
-    step_to a_statepoint_type (codes "token (i64, i32, ptr, i32, i32, ...)" ++ rest) (tok kinds.Word (codes "token")) _ [] r.clean (type_spelled rest) (type_part (tokens rest)) r
+-- ---- names of functions
 
 global_part : (n : List ℕ) → bytes_eq n n ≡ true → (ts : List Tok) → part (g n) (tok kinds.Global (64 ∷ n) ∷ ts) ≡ Some ([], ts)
 unfolding part after one_at
@@ -77,7 +58,16 @@ pub global_step : {f : List Slot} {rest : List ℕ} {first : Option Tok} {items 
     → Reads f rest first items → Reads (g n ∷ f) (64 ∷ (n ++ rest)) (Some (tok kinds.Global (64 ∷ n))) items
 global_step n is same stop r = one (g n) kinds.Global (64 ∷ n) [] is (name-clean n is) stop (global_part n same) r
 
--- ---- tokens and places
+callee_part : (n : List ℕ) (ts : List Tok) → part a_global (tok kinds.Global (64 ∷ n) ∷ ts) ≡ Some (name n ∷ [], ts)
+unfolding part after one_at
+callee_part n ts = refl
+
+-- a function
+pub callee_step : {f : List Slot} {rest : List ℕ} {first : Option Tok} {items : List Item} (n : List ℕ) → is_name n ≡ true → Stops rest
+    → Reads f rest first items → Reads (a_global ∷ f) (64 ∷ (n ++ rest)) (Some (tok kinds.Global (64 ∷ n))) (name n ∷ items)
+callee_step n is stop r = one a_global kinds.Global (64 ∷ n) (name n ∷ []) is (name-clean n is) stop (callee_part n) r
+
+-- ---- tokens and numbers
 
 token_part : (n : List ℕ) (ts : List Tok) → part a_token (tok kinds.Word (codes "token") ∷ tok kinds.Local (37 ∷ n) ∷ ts) ≡ Some (name n ∷ [], ts)
 unfolding part after token_at one_at
@@ -90,19 +80,20 @@ token_step {rest = rest} n is stop r =
     step_to a_token (codes "token %" ++ (n ++ rest)) (tok kinds.Word (codes "token")) (tok kinds.Local (37 ∷ n) ∷ tokens rest) (name n ∷ []) (clean-both n rest (name-clean n is) r.clean)
     (token_then kinds.Word (codes "token") refl refl (blank_then (token_then kinds.Local (37 ∷ n) is stop (as_is rest)))).is (token_part n (tokens rest)) r
 
-place_part : {text : List ℕ} {l : Literal} → SpellsLiteral text l → (ts : List Tok) → part (a_number (codes "i32")) (tok kinds.Word (codes "i32") ∷ tok kinds.Number text ∷ ts) ≡ Some (literal l ∷ [], ts)
+number_part : (of_type : List ℕ) → bytes_eq of_type of_type ≡ true → {text : List ℕ} {l : Literal} → SpellsLiteral text l → (ts : List Tok) → part (a_number of_type) (tok kinds.Word of_type ∷ tok kinds.Number text ∷ ts) ≡ Some (literal l ∷ [], ts)
 unfolding part after number_at one_at
-place_part {text} s ts = rw (past_all-none drops.Groups (tok kinds.Number text ∷ ts) refl) (rw s.says refl)
+number_part of_type same {text} s ts = rw same (rw (past_all-none drops.Groups (tok kinds.Number text ∷ ts) refl) (rw s.says refl))
 
 number_stops : (rest : List ℕ) → Stops rest → stops (continues kinds.Number) rest ≡ true
 number_stops rest stop = stops-kind kinds.Number rest stop
 
--- `i32 B`
-pub place_step : {f : List Slot} {rest text : List ℕ} {l : Literal} {first : Option Tok} {items : List Item} → SpellsLiteral text l → Stops rest
-    → Reads f rest first items → Reads (a_number (codes "i32") ∷ f) (codes "i32 " ++ (text ++ rest)) (Some (tok kinds.Word (codes "i32"))) (literal l ∷ items)
-place_step {rest = rest} {text = text} {l = l} s stop r =
-    step_to (a_number (codes "i32")) (codes "i32 " ++ (text ++ rest)) (tok kinds.Word (codes "i32")) (tok kinds.Number text ∷ tokens rest) (literal l ∷ []) (clean-both text rest s.clean r.clean)
-    (token_then kinds.Word (codes "i32") refl refl (blank_then (token_then kinds.Number text s.is (number_stops rest stop) (as_is rest)))).is (place_part s (tokens rest)) r
+-- `T N`
+pub number_step : {f : List Slot} {rest text : List ℕ} {l : Literal} {first : Option Tok} {items : List Item} (of_type : List ℕ) → is_token kinds.Word of_type ≡ true → bytes_eq of_type of_type ≡ true → IsClean of_type
+    → SpellsLiteral text l → Stops rest → Reads f rest first items → Reads (a_number of_type ∷ f) (of_type ++ (32 ∷ (text ++ rest))) (Some (tok kinds.Word of_type)) (literal l ∷ items)
+number_step {rest = rest} {text = text} {l = l} of_type is same clean s stop r =
+    step_to (a_number of_type) (of_type ++ (32 ∷ (text ++ rest))) (tok kinds.Word of_type) (tok kinds.Number text ∷ tokens rest) (literal l ∷ [])
+    (clean-both of_type (32 ∷ (text ++ rest)) clean (clean-both text rest s.clean r.clean))
+    (token_then kinds.Word of_type is refl (blank_then (token_then kinds.Number text s.is (number_stops rest stop) (as_is rest)))).is (number_part of_type same s (tokens rest)) r
 
 -- ---- what a statepoint calls
 
@@ -116,39 +107,35 @@ zero_says ts = rw (past_all-none drops.Groups (tok kinds.Number (codes "0") ∷ 
 abbrev comma_tok : Tok
 comma_tok = tok kinds.Punct (codes ",")
 
-id_spelled : {text : List ℕ} {l : Literal} → SpellsLiteral text l → (rest : List ℕ)
-    → tokens (codes "i64 " ++ (text ++ (codes ", i32 0, " ++ rest))) ≡ tok kinds.Word (codes "i64") ∷ tok kinds.Number text ∷ comma_tok ∷ zero_tokens (comma_tok ∷ tokens rest)
-id_spelled {text} s rest =
-    (token_then kinds.Word (codes "i64") refl refl (blank_then (token_then kinds.Number text s.is refl (mark_then 44 refl (blank_then
-    (token_then kinds.Word (codes "i32") refl refl (blank_then (token_then kinds.Number (codes "0") refl refl (mark_then 44 refl (blank_then (as_is rest))))))))))).is
+zero_part : (ts : List Tok) → part a_zero (zero_tokens ts) ≡ Some ([], ts)
+unfolding part after
+zero_part ts = rw (zero_says ts) refl
 
-id_says : {text : List ℕ} {l : Literal} → SpellsLiteral text l → (ts : List Tok) → id_at (tok kinds.Word (codes "i64") ∷ tok kinds.Number text ∷ comma_tok ∷ zero_tokens (comma_tok ∷ ts)) ≡ Some (l, ts)
-unfolding id_at number_at after one_at
-id_says {text} s ts =
-    rw (past_all-none drops.Groups (tok kinds.Number text ∷ comma_tok ∷ zero_tokens (comma_tok ∷ ts)) refl) (rw s.says (rw (zero_says (comma_tok ∷ ts)) refl))
+-- `i32 0`
+pub zero_step : {f : List Slot} {rest : List ℕ} {first : Option Tok} {items : List Item} → Stops rest → Reads f rest first items → Reads (a_zero ∷ f) (codes "i32 0" ++ rest) (Some (tok kinds.Word (codes "i32"))) items
+zero_step {rest = rest} stop r =
+    step_to a_zero (codes "i32 0" ++ rest) (tok kinds.Word (codes "i32")) (tok kinds.Number (codes "0") ∷ tokens rest) [] r.clean
+    (token_then kinds.Word (codes "i32") refl refl (blank_then (token_then kinds.Number (codes "0") refl (number_stops rest stop) (as_is rest)))).is (zero_part (tokens rest)) r
 
-count_spelled : {text : List ℕ} {l : Literal} → SpellsLiteral text l → (rest : List ℕ) → Stops rest
-    → tokens (codes ", i32 " ++ (text ++ (codes ", i32 0" ++ rest))) ≡ comma_tok ∷ tok kinds.Word (codes "i32") ∷ tok kinds.Number text ∷ comma_tok ∷ zero_tokens (tokens rest)
-count_spelled {text} s rest stop =
-    (mark_then 44 refl (blank_then (token_then kinds.Word (codes "i32") refl refl (blank_then (token_then kinds.Number text s.is refl (mark_then 44 refl (blank_then
-    (token_then kinds.Word (codes "i32") refl refl (blank_then (token_then kinds.Number (codes "0") refl (number_stops rest stop) (as_is rest))))))))))).is
+abbrev pub ParametersRead : {P : Type 0} → (P → List ℕ) → (P → TypeWord) → List P → Type 0
+ParametersRead text said ps = All (λ p. SpellsElement (allowed_type_at (is_argument_type true)) comma EndsAtMark (text p) (said p)) ps
 
-count_says : {text : List ℕ} {l : Literal} → SpellsLiteral text l → (ts : List Tok) → count_at (comma_tok ∷ tok kinds.Word (codes "i32") ∷ tok kinds.Number text ∷ comma_tok ∷ zero_tokens ts) ≡ Some (l, ts)
-unfolding count_at number_at after one_at
-count_says {text} s ts = rw (past_all-none drops.Groups (tok kinds.Number text ∷ comma_tok ∷ zero_tokens ts) refl) (rw s.says (rw (zero_says ts) refl))
+abbrev pub Opens : {P : Type 0} → (P → List ℕ) → List P → Type 0
+Opens text ps = All (λ p. (rest : List ℕ) → EndsAtMark rest → begins (is_mark (codes ")")) (tokens (text p ++ rest)) ≡ false) ps
 
-signature_says : {text : List ℕ} {word : TypeWord} (t : SpellsType text word) → is_answer_type word ≡ true → (parameters : List TypeWord) (ts us : List Tok)
-    → list_to (allowed_type_at (is_argument_type true)) (codes ")") ts ≡ Some (parameters, tok kinds.Punct (codes ")") ∷ us)
-    → signature_at (tok kinds.Word t.first ∷ (t.more ++ (tok kinds.Punct (codes "(") ∷ ts))) ≡ Some (record { answer = word; parameters = parameters }, us)
-unfolding signature_at after one_at
-signature_says {text} {word} t allow parameters ts us e = rw (allowed text word t is_answer_type allow (tok kinds.Punct (codes "(") ∷ ts)) (rw e refl)
+types_part : (all : List TypeWord) (ts us : List Tok) → types_at ts ≡ Some (all, us) → part some_types ts ≡ Some (types_said all ∷ [], us)
+unfolding part after
+types_part all ts us e = rw e refl
 
-target_says : (s : Signature) (o : List ℕ) → is_type_of o s ≡ true → (ts us : List Tok) → signature_at ts ≡ Some (s, tok kinds.Punct (codes ")") ∷ tok kinds.Global (64 ∷ o) ∷ us)
-    → target_at (tok kinds.Word (codes "ptr") ∷ tok kinds.Word (codes "elementtype") ∷ tok kinds.Punct (codes "(") ∷ ts) ≡ Some ((s, o), us)
-unfolding target_at element_at after one_at
-target_says s o is ts us e =
-    rw (past_all-none drops.BesideElementType (tok kinds.Word (codes "elementtype") ∷ tok kinds.Punct (codes "(") ∷ ts) refl)
-    (rw e (rw (past_all-none drops.BesideElementType (tok kinds.Global (64 ∷ o) ∷ us) refl) (rw is refl)))
+-- the parameters of a function type
+types_step : {f : List Slot} {rest : List ℕ} {first : Option Tok} {items : List Item} {P : Type 0} (text : P → List ℕ) (said : P → TypeWord) (ps : List P) → ParametersRead text said ps → Opens text ps
+    → Reads f (41 ∷ rest) first items
+    → Reads (some_types ∷ f) (joined (codes ", ") (map text ps) ++ (41 ∷ rest)) (first_of (tokens (joined (codes ", ") (map text ps) ++ (41 ∷ rest)))) (types_said (map said ps) ∷ items)
+types_step {rest = rest} text said ps each opens r =
+    step_any some_types _ (types_said (map said ps) ∷ [])
+    (clean-both (joined (codes ", ") (map text ps)) (41 ∷ rest) (list_clean (allowed_type_at (is_argument_type true)) comma EndsAtMark text said (λ y rest e ends. at_comma (text y ++ rest)) ps each) r.clean)
+    (types_part (map said ps) _ _ (list_read (allowed_type_at (is_argument_type true)) (codes ")") EndsAtMark text said (λ y rest e ends. at_comma (text y ++ rest)) ps (41 ∷ rest) each opens (at_closing rest)
+    (rw (closing_tokens rest) refl) (rw (closing_tokens rest) refl))) r
 
 -- ---- what a statepoint passes
 
@@ -160,6 +147,13 @@ closing_spelled rest =
 closing_says : (ts : List Tok) → closing_at (comma_tok ∷ zero_tokens (comma_tok ∷ zero_tokens (tok kinds.Punct (codes ")") ∷ ts))) ≡ Some (tt, ts)
 unfolding closing_at after one_at
 closing_says ts = rw (zero_says (comma_tok ∷ zero_tokens (tok kinds.Punct (codes ")") ∷ ts))) (rw (zero_says (tok kinds.Punct (codes ")") ∷ ts)) refl)
+
+closing_part : (ts : List Tok) → part a_closing (comma_tok ∷ zero_tokens (comma_tok ∷ zero_tokens (tok kinds.Punct (codes ")") ∷ ts))) ≡ Some ([], ts)
+unfolding part after
+closing_part ts = rw (closing_says ts) refl
+
+closing_step : {f : List Slot} {rest : List ℕ} {first : Option Tok} {items : List Item} → Reads f rest first items → Reads (a_closing ∷ f) (codes ", i32 0, i32 0)" ++ rest) (Some comma_tok) items
+closing_step {rest = rest} r = step_to a_closing (codes ", i32 0, i32 0)" ++ rest) comma_tok _ [] r.clean (closing_spelled rest) (closing_part (tokens rest)) r
 
 -- `, i32 0)`, the second half of the end
 abbrev second_half : List Tok → Found (Unit {0})
@@ -226,19 +220,35 @@ open_comma : (text : List ℕ) → mark_at (codes ")") (tokens (44 ∷ 32 ∷ te
 unfolding one_at
 open_comma text = rw (comma_spelled text) refl
 
-handed_element : {text : List ℕ} {x : Given} (plain : Bool) → SpellsElement (passed_at plain) comma EndsAtMark text x → SpellsElement (passed_at plain) begins_argument EndsHanded text x
+-- what is read where no function may stand is read where one may
+passed_more : (plain : Bool) (x : Given) (ts us : List Tok) → passed_at plain ts ≡ Some (x, us) → passed_at true ts ≡ Some (x, us)
+unfolding passed_at allowed_type_at after
+passed_more true x ts us e = e
+passed_more false x ts us e = by (spelled_type_at ts) e
+  where
+    abbrev read : Bool → Found TypeWord → Found Given
+    read plain found = after (after found (λ ty rest. cond (is_argument_type plain ty) (Some (ty, rest)) None)) (λ ty rest. given_behind ty (past_all drops.Groups rest))
+
+    by : (found : Found TypeWord) → read false found ≡ Some (x, us) → read true found ≡ Some (x, us)
+    by None e = e
+    by (Some (types.Void, rest)) e = e
+    by (Some (types.Int width, rest)) e = e
+    by (Some (types.Managed, rest)) e = e
+    by (Some (types.Plain, rest)) e = cc
+
+handed_element : {text : List ℕ} {x : Given} (plain : Bool) → SpellsElement (passed_at plain) comma EndsAtMark text x → SpellsElement (passed_at true) begins_argument EndsHanded text x
 handed_element {text} {x} plain e = record {
   clean = e.clean;
-  says = λ rest ends. e.says rest ends.ends;
+  says = λ rest ends. passed_more plain x (tokens (text ++ rest)) (tokens rest) (e.says rest ends.ends);
   shorter = λ rest ends. e.shorter rest ends.ends;
   goes = λ rest ends. rw (comma_spelled (text ++ rest)) (rw (not_closing plain x (tokens (text ++ rest)) (tokens rest) (e.says rest ends.ends) ends.whole) refl);
 }
 
-handed_comma : {text : List ℕ} {x : Given} (plain : Bool) (rest : List ℕ) → SpellsElement (passed_at plain) begins_argument EndsHanded text x → EndsHanded rest → EndsHanded (44 ∷ 32 ∷ (text ++ rest))
-handed_comma {text} {x} plain rest e ends = record {
+handed_comma : {text : List ℕ} {x : Given} (rest : List ℕ) → SpellsElement (passed_at true) begins_argument EndsHanded text x → EndsHanded rest → EndsHanded (44 ∷ 32 ∷ (text ++ rest))
+handed_comma {text} {x} rest e ends = record {
   ends = at_comma (text ++ rest);
   opens = open_comma (text ++ rest);
-  whole = rw (comma_spelled (text ++ rest)) (not_half plain x (tokens (text ++ rest)) (tokens rest) (e.says rest ends) ends.opens);
+  whole = rw (comma_spelled (text ++ rest)) (not_half true x (tokens (text ++ rest)) (tokens rest) (e.says rest ends) ends.opens);
 }
 
 at_end : (rest : List ℕ) → EndsHanded (codes ", i32 0, i32 0)" ++ rest)
@@ -257,55 +267,30 @@ handed_shape first more end = simp append_assoc
 
 -- the arguments, a comma before each
 handed_reads : {Y : Type 0} (plain : Bool) (text : Y → List ℕ) (said : Y → Given) (ys : List Y) → All (λ y. SpellsElement (passed_at plain) comma EndsAtMark (text y) (said y)) ys → (rest : List ℕ)
-    → handed_at plain (tokens (others text ys ++ (codes ", i32 0, i32 0)" ++ rest))) ≡ Some (map said ys, tokens (codes ", i32 0, i32 0)" ++ rest))
+    → handed_at (tokens (others text ys ++ (codes ", i32 0, i32 0)" ++ rest))) ≡ Some (map said ys, tokens (codes ", i32 0, i32 0)" ++ rest))
 unfolding handed_at
 handed_reads plain text said [] each rest = rw (no_argument rest) refl
 handed_reads {Y} plain text said (y ∷ ys) each rest =
     let end : List ℕ = codes ", i32 0, i32 0)" ++ rest in
-    let all : All (λ y. SpellsElement (passed_at plain) begins_argument EndsHanded (text y) (said y)) (y ∷ ys) = λ k d low. handed_element plain (each k d low) in
-    let found = listed (passed_at plain) begins_argument EndsHanded text said (λ y rest e ends. handed_comma plain rest e ends) y ys end all (at_end rest) (no_argument rest) in
-    let behind : EndsHanded (others text ys ++ end) = ends_others (passed_at plain) begins_argument EndsHanded text said (λ y rest e ends. handed_comma plain rest e ends) ys end (λ k d low. all (suc k) d (omega (arith, low))) (at_end rest) in
-    let more : begins_argument (tokens (44 ∷ 32 ∷ (text y ++ (others text ys ++ end)))) ≡ true = (All-head (λ one. SpellsElement (passed_at plain) begins_argument EndsHanded (text one) (said one)) y ys all).goes (others text ys ++ end) behind in
+    let all : All (λ y. SpellsElement (passed_at true) begins_argument EndsHanded (text y) (said y)) (y ∷ ys) = λ k d low. handed_element plain (each k d low) in
+    let found = listed (passed_at true) begins_argument EndsHanded text said (λ y rest e ends. handed_comma rest e ends) y ys end all (at_end rest) (no_argument rest) in
+    let behind : EndsHanded (others text ys ++ end) = ends_others (passed_at true) begins_argument EndsHanded text said (λ y rest e ends. handed_comma rest e ends) ys end (λ k d low. all (suc k) d (omega (arith, low))) (at_end rest) in
+    let more : begins_argument (tokens (44 ∷ 32 ∷ (text y ++ (others text ys ++ end)))) ≡ true = (All-head (λ one. SpellsElement (passed_at true) begins_argument EndsHanded (text one) (said one)) y ys all).goes (others text ys ++ end) behind in
     rw (handed_shape (text y) (others text ys) end) (rw more (rw (comma_spelled (text y ++ (others text ys ++ end))) (rw (append_assoc (text y) (others text ys) end) at found)))
 
+handed_part : (all : List Given) (ts us : List Tok) → handed_at ts ≡ Some (all, us) → part some_handed ts ≡ Some (handed all ∷ [], us)
+unfolding part after
+handed_part all ts us e = rw e refl
+
+handed_step : {f : List Slot} {rest : List ℕ} {first : Option Tok} {items : List Item} {Y : Type 0} (plain : Bool) (text : Y → List ℕ) (said : Y → Given) (ys : List Y)
+    → All (λ y. SpellsElement (passed_at plain) comma EndsAtMark (text y) (said y)) ys → Reads f (codes ", i32 0, i32 0)" ++ rest) first items
+    → Reads (some_handed ∷ f) (others text ys ++ (codes ", i32 0, i32 0)" ++ rest)) (first_of (tokens (others text ys ++ (codes ", i32 0, i32 0)" ++ rest)))) (handed (map said ys) ∷ items)
+handed_step {rest = rest} plain text said ys each r =
+    step_any some_handed _ (handed (map said ys) ∷ [])
+    (clean-both (others text ys) (codes ", i32 0, i32 0)" ++ rest) (clean_others (passed_at plain) comma EndsAtMark text said (λ y rest e ends. at_comma (text y ++ rest)) ys each) r.clean)
+    (handed_part (map said ys) _ _ (handed_reads plain text said ys each rest)) r
+
 -- ---- a statepoint's call
-
-guarded_says : (t u v w x y : List Tok) (id count : Literal) (s : Signature) (o : List ℕ) (passed : List Given)
-    → id_at t ≡ Some (id, u) → target_at u ≡ Some ((s, o), v) → count_at v ≡ Some (count, w) → handed_at (is_task_start o) w ≡ Some (passed, x) → closing_at x ≡ Some (tt, y)
-    → guarded_at t ≡ Some (record { id = id; signature = s; callee = o; count = count; passed = passed }, y)
-unfolding guarded_at after
-guarded_says t u v w x y id count s o passed a b c d e = rw a (rw b (rw c (rw d (rw e refl))))
-
-abbrev ParametersRead : {P : Type 0} → (P → List ℕ) → (P → TypeWord) → List P → Type 0
-ParametersRead text said ps = All (λ p. SpellsElement (allowed_type_at (is_argument_type true)) comma EndsAtMark (text p) (said p)) ps
-
-abbrev Opens : {P : Type 0} → (P → List ℕ) → List P → Type 0
-Opens text ps = All (λ p. (rest : List ℕ) → EndsAtMark rest → begins (is_mark (codes ")")) (tokens (text p ++ rest)) ≡ false) ps
-
-signature_reads : {answer : List ℕ} {word : TypeWord} (t : SpellsType answer word) → is_answer_type word ≡ true → {P : Type 0} (text : P → List ℕ) (said : P → TypeWord) (ps : List P) → ParametersRead text said ps → Opens text ps → (rest : List ℕ)
-    → signature_at (tokens (answer ++ (codes " (" ++ (joined (codes ", ") (map text ps) ++ (41 ∷ rest))))) ≡ Some (record { answer = word; parameters = map said ps }, tokens rest)
-signature_reads {answer} {word} t allow text said ps each opens rest =
-    let body : List ℕ = joined (codes ", ") (map text ps) ++ (41 ∷ rest) in
-    let found : list_to (allowed_type_at (is_argument_type true)) (codes ")") (tokens body) ≡ Some (map said ps, tok kinds.Punct (codes ")") ∷ tokens rest) =
-    list_read (allowed_type_at (is_argument_type true)) (codes ")") EndsAtMark text said (λ y rest e ends. at_comma (text y ++ rest)) ps (41 ∷ rest) each opens (at_closing rest) (rw (closing_tokens rest) refl) (rw (closing_tokens rest) refl)
-    ∙ ap (λ ts. Some (map said ps, ts)) (closing_tokens rest) in
-    let spelled : tokens (answer ++ (codes " (" ++ body)) ≡ tok kinds.Word t.first ∷ (t.more ++ (tok kinds.Punct (codes "(") ∷ tokens body)) =
-    t.spelled (codes " (" ++ body) refl ∙ ap (λ ts. tok kinds.Word t.first ∷ (t.more ++ ts)) (blank_then (mark_then 40 refl (as_is body))).is in
-    rw spelled (signature_says t allow (map said ps) (tokens body) (tokens rest) found)
-
-target_reads : {answer : List ℕ} {word : TypeWord} (t : SpellsType answer word) → is_answer_type word ≡ true → {P : Type 0} (text : P → List ℕ) (said : P → TypeWord) (ps : List P) → ParametersRead text said ps → Opens text ps
-    → (o : List ℕ) → is_name o ≡ true → is_type_of o (record { answer = word; parameters = map said ps }) ≡ true → (rest : List ℕ) → Stops rest
-    → target_at (tokens (codes "ptr elementtype(" ++ (answer ++ (codes " (" ++ (joined (codes ", ") (map text ps) ++ (codes ")) @" ++ (o ++ rest)))))))
-    ≡ Some ((record { answer = word; parameters = map said ps }, o), tokens rest)
-target_reads {answer} {word} t allow text said ps each opens o is fits rest stop =
-    let body : List ℕ = answer ++ (codes " (" ++ (joined (codes ", ") (map text ps) ++ (codes ")) @" ++ (o ++ rest)))) in
-    let s : Signature = record { answer = word; parameters = map said ps } in
-    let spelled : tokens (codes "ptr elementtype(" ++ body) ≡ tok kinds.Word (codes "ptr") ∷ tok kinds.Word (codes "elementtype") ∷ tok kinds.Punct (codes "(") ∷ tokens body =
-    (token_then kinds.Word (codes "ptr") refl refl (blank_then (token_then kinds.Word (codes "elementtype") refl refl (mark_then 40 refl (as_is body))))).is in
-    let found : signature_at (tokens body) ≡ Some (s, tok kinds.Punct (codes ")") ∷ tok kinds.Global (64 ∷ o) ∷ tokens rest) =
-    signature_reads t allow text said ps each opens (codes ") @" ++ (o ++ rest))
-    ∙ ap (λ ts. Some (s, ts)) (mark_then 41 refl (blank_then (token_then kinds.Global (64 ∷ o) is stop (as_is rest)))).is in
-    rw spelled (target_says s o fits (tokens body) (tokens rest) found)
 
 others_stop : {Y : Type 0} (text : Y → List ℕ) (ys : List Y) (rest : List ℕ) → Stops (others text ys ++ (codes ", i32 0, i32 0)" ++ rest))
 others_stop text [] rest = refl
@@ -318,57 +303,30 @@ call_spelled id answer parameters callee count arguments rest =
     ++ (codes ", i32 " ++ (count ++ (codes ", i32 0" ++ (arguments ++ (codes ", i32 0, i32 0)" ++ rest))))))))))))
 
 -- what is known of a statepoint's call
-pub record SpellsCall {P Y : Type 0} (id answer callee count : List ℕ) (ptext : P → List ℕ) (psaid : P → TypeWord) (ps : List P) (text : Y → List ℕ) (said : Y → Given) (ys : List Y) (made : Guarded) : Type 0 where
-  pub numbered : SpellsLiteral id made.id
-  pub answers : SpellsType answer made.signature.answer
-  pub allowed_answer : is_answer_type made.signature.answer ≡ true
+pub record SpellsCall {P Y : Type 0} (id answer callee count : List ℕ) (a b : Literal) (word : TypeWord) (ptext : P → List ℕ) (psaid : P → TypeWord) (ps : List P) (text : Y → List ℕ) (said : Y → Given) (ys : List Y) : Type 0 where
+  pub numbered : SpellsLiteral id a
+  pub answers : SpellsType answer word
+  pub allowed_answer : is_answer_type word ≡ true
   pub parameters : ParametersRead ptext psaid ps
   pub parameters_open : Opens ptext ps
-  pub parameters_are : map psaid ps ≡ made.signature.parameters
-  pub callee_is : callee ≡ made.callee
-  pub named : is_name made.callee ≡ true
-  pub typed : is_type_of made.callee made.signature ≡ true
-  pub counted : SpellsLiteral count made.count
-  pub arguments : All (λ y. SpellsElement (passed_at (is_task_start made.callee)) comma EndsAtMark (text y) (said y)) ys
-  pub arguments_are : map said ys ≡ made.passed
+  pub named : is_name callee ≡ true
+  pub counted : SpellsLiteral count b
+  pub arguments : All (λ y. SpellsElement (passed_at (is_task_start callee)) comma EndsAtMark (text y) (said y)) ys
+  pub own : takes_own callee (map psaid ps) (map said ys) ≡ true
 
-guarded_reads : {P Y : Type 0} (id answer callee count : List ℕ) (ptext : P → List ℕ) (psaid : P → TypeWord) (ps : List P) (text : Y → List ℕ) (said : Y → Given) (ys : List Y) (made : Guarded)
-    → SpellsCall id answer callee count ptext psaid ps text said ys made → (rest : List ℕ)
-    → guarded_at (tokens (call_spelled id answer (map ptext ps) made.callee count (others text ys) rest)) ≡ Some (made, tokens rest)
-guarded_reads id answer callee count ptext psaid ps text said ys made c rest =
-    let signature : ◌≡◌ {A = Signature} (record { answer = made.signature.answer; parameters = map psaid ps }) made.signature = ap (λ parameters. record { answer = made.signature.answer; parameters = parameters }) c.parameters_are in
-    let ending : List ℕ = codes ", i32 0, i32 0)" ++ rest in
-    let passing : List ℕ = others text ys ++ ending in
-    let counting : List ℕ = codes ", i32 " ++ (count ++ (codes ", i32 0" ++ passing)) in
-    let target : List ℕ = codes "ptr elementtype(" ++ (answer ++ (codes " (" ++ (joined (codes ", ") (map ptext ps) ++ (codes ")) @" ++ (made.callee ++ counting))))) in
-    let fits : is_type_of made.callee (record { answer = made.signature.answer; parameters = map psaid ps }) ≡ true = ap (is_type_of made.callee) signature ∙ c.typed in
-    guarded_says (tokens (codes "i64 " ++ (id ++ (codes ", i32 0, " ++ target)))) (tokens target) (tokens counting) (tokens passing) (tokens ending) (tokens rest)
-    made.id made.count made.signature made.callee made.passed
-    (rw (id_spelled c.numbered target) (id_says c.numbered (tokens target)))
-    (target_reads c.answers c.allowed_answer ptext psaid ps c.parameters c.parameters_open made.callee c.named fits counting refl ∙ ap (λ s. Some ((s, made.callee), tokens counting)) signature)
-    (rw (count_spelled c.counted passing (others_stop text ys rest)) (count_says c.counted (tokens passing)))
-    (handed_reads (is_task_start made.callee) text said ys c.arguments rest ∙ ap (λ all. Some (all, tokens ending)) c.arguments_are)
-    (rw (closing_spelled rest) (closing_says (tokens rest)))
-
-guarded_part : (made : Guarded) (ts us : List Tok) → guarded_at ts ≡ Some (made, us) → part a_guarded ts ≡ Some (guarded made ∷ [], us)
-unfolding part after
-guarded_part made ts us e = rw e refl
-
-guarded_clean : {P Y : Type 0} (id answer callee count : List ℕ) (ptext : P → List ℕ) (psaid : P → TypeWord) (ps : List P) (text : Y → List ℕ) (said : Y → Given) (ys : List Y) (made : Guarded)
-    → SpellsCall id answer callee count ptext psaid ps text said ys made → (rest : List ℕ) → IsClean rest → IsClean (call_spelled id answer (map ptext ps) made.callee count (others text ys) rest)
-guarded_clean id answer callee count ptext psaid ps text said ys made c rest clean =
-    clean-both id _ c.numbered.clean (clean-both answer _ c.answers.clean
-    (clean-both (joined (codes ", ") (map ptext ps)) _ (list_clean (allowed_type_at (is_argument_type true)) comma EndsAtMark ptext psaid (λ y rest e ends. at_comma (ptext y ++ rest)) ps c.parameters)
-    (clean-both made.callee _ (name-clean made.callee c.named) (clean-both count _ c.counted.clean
-    (clean-both (others text ys) _ (clean_others (passed_at (is_task_start made.callee)) comma EndsAtMark text said (λ y rest e ends. at_comma (text y ++ rest)) ys c.arguments) clean)))))
-
-pub guarded_step : {f : List Slot} {rest : List ℕ} {first : Option Tok} {items : List Item} {P Y : Type 0} (id answer callee count : List ℕ) (ptext : P → List ℕ) (psaid : P → TypeWord) (ps : List P) (text : Y → List ℕ) (said : Y → Given) (ys : List Y) (made : Guarded)
-    → SpellsCall id answer callee count ptext psaid ps text said ys made → Reads f rest first items
-    → Reads (a_guarded ∷ f) (call_spelled id answer (map ptext ps) made.callee count (others text ys) rest) (first_of (tokens (call_spelled id answer (map ptext ps) made.callee count (others text ys) rest))) (guarded made ∷ items)
-guarded_step {rest = rest} id answer callee count ptext psaid ps text said ys made c r =
-    step_any a_guarded (call_spelled id answer (map ptext ps) made.callee count (others text ys) rest) (guarded made ∷ [])
-    (guarded_clean id answer callee count ptext psaid ps text said ys made c rest r.clean)
-    (guarded_part made _ (tokens rest) (guarded_reads id answer callee count ptext psaid ps text said ys made c rest)) r
+-- behind the id of a statepoint, up to its live entries
+pub call_step : {P Y : Type 0} {id answer callee count : List ℕ} {a b : Literal} {word : TypeWord} {ptext : P → List ℕ} {psaid : P → TypeWord} {ps : List P} {text : Y → List ℕ} {said : Y → Given} {ys : List Y}
+    → SpellsCall id answer callee count a b word ptext psaid ps text said ys → {f : List Slot} {rest : List ℕ} {first : Option Tok} {items : List Item} → Reads f rest first items
+    → Reads (a_number (codes "i64") ∷ m (codes ",") ∷ blank ∷ a_zero ∷ m (codes ",") ∷ blank ∷ (callee_type ++ (callee_count ++ (some_handed ∷ a_closing ∷ f))))
+    (call_spelled id answer (map ptext ps) callee count (others text ys) rest) (Some (tok kinds.Word (codes "i64")))
+    (literal a ∷ ty word ∷ types_said (map psaid ps) ∷ name callee ∷ literal b ∷ handed (map said ys) ∷ items)
+call_step {callee = callee} {ptext = ptext} {psaid = psaid} {ps = ps} {text = text} {said = said} {ys = ys} c {rest = rest} r =
+    number_step (codes "i64") refl refl refl c.numbered refl (mark 44 refl refl refl (space (zero_step refl (mark 44 refl refl refl (space
+    (word (codes "ptr") refl refl refl refl (spaced (drop_at drops.BesideElementType (λ more. refl) (over_blank (word (codes "elementtype") refl refl refl refl (mark 40 refl refl refl
+    (answer_step c.answers c.allowed_answer refl (space (mark 40 refl refl refl (types_step ptext psaid ps c.parameters c.parameters_open (mark 41 refl refl refl (mark 41 refl refl refl
+    (spaced (drop_at drops.BesideElementType (λ more. refl) (over_blank (callee_step callee c.named refl
+    (mark 44 refl refl refl (space (number_step (codes "i32") refl refl refl c.counted refl (mark 44 refl refl refl (space (zero_step (others_stop text ys rest)
+    (handed_step (is_task_start callee) text said ys c.arguments (closing_step r))))))))))))))))))))))))))
 
 -- ---- live entries
 
@@ -392,7 +350,7 @@ unfoldable live_word : List ℕ
 live_word = codes "\"gc-live\""
 
 live_part : (vs : List Val) (ts us : List Tok) → list_to live_entry_at (codes ")") ts ≡ Some (vs, tok kinds.Punct (codes ")") ∷ tok kinds.Punct (codes "]") ∷ us)
-    → part a_live (tok kinds.Punct (codes "[") ∷ tok kinds.Quoted live_word ∷ tok kinds.Punct (codes "(") ∷ ts) ≡ Some (live vs ∷ [], us)
+    → part some_live (tok kinds.Punct (codes "[") ∷ tok kinds.Quoted live_word ∷ tok kinds.Punct (codes "(") ∷ ts) ≡ Some (live vs ∷ [], us)
 unfolding part after live_at bundle_at one_at live_word
 live_part vs ts us e = rw e refl
 
@@ -403,13 +361,13 @@ live_spelled rest = (mark_then 91 refl (blank_then (token_then kinds.Quoted (cod
 -- `[ "gc-live"(P V, ..) ]`
 pub live_step : {f : List Slot} {rest : List ℕ} {first : Option Tok} {items : List Item} {Y : Type 0} (text : Y → List ℕ) (said : Y → Val) (ys : List Y)
     → All (λ y. SpellsElement live_entry_at comma EndsAtMark (text y) (said y)) ys → Opens text ys
-    → Reads f rest first items → Reads (a_live ∷ f) (codes "[ \"gc-live\"(" ++ (joined (codes ", ") (map text ys) ++ (codes ") ]" ++ rest))) (Some (tok kinds.Punct (codes "["))) (live (map said ys) ∷ items)
+    → Reads f rest first items → Reads (some_live ∷ f) (codes "[ \"gc-live\"(" ++ (joined (codes ", ") (map text ys) ++ (codes ") ]" ++ rest))) (Some (tok kinds.Punct (codes "["))) (live (map said ys) ∷ items)
 live_step {rest = rest} text said ys each opens r =
     let body : List ℕ = joined (codes ", ") (map text ys) ++ (codes ") ]" ++ rest) in
     let found : list_to live_entry_at (codes ")") (tokens body) ≡ Some (map said ys, tok kinds.Punct (codes ")") ∷ tok kinds.Punct (codes "]") ∷ tokens rest) =
     list_read live_entry_at (codes ")") EndsAtMark text said (λ y rest e ends. at_comma (text y ++ rest)) ys (codes ") ]" ++ rest) each opens (at_closing (codes " ]" ++ rest)) (rw (closing_tokens (codes " ]" ++ rest)) refl) (rw (closing_tokens (codes " ]" ++ rest)) refl)
     ∙ ap (λ ts. Some (map said ys, ts)) (mark_then 41 refl (blank_then (mark_then 93 refl (as_is rest)))).is in
-    step_to a_live (codes "[ \"gc-live\"(" ++ body) (tok kinds.Punct (codes "[")) _ (live (map said ys) ∷ [])
+    step_to some_live (codes "[ \"gc-live\"(" ++ body) (tok kinds.Punct (codes "[")) _ (live (map said ys) ∷ [])
     (clean-both (joined (codes ", ") (map text ys)) (codes ") ]" ++ rest) (list_clean live_entry_at comma EndsAtMark text said (λ y rest e ends. at_comma (text y ++ rest)) ys each) r.clean)
     (live_spelled body) (live_part (map said ys) (tokens body) (tokens rest) found) r
 
@@ -417,12 +375,12 @@ nothing_left : (ts : List Tok) → first_of ts ≡ None → ts ≡ []
 nothing_left [] e = refl
 nothing_left (t ∷ ts) e = cc
 
-no_live_part : part a_live [] ≡ Some (live [] ∷ [], [])
+no_live_part : part some_live [] ≡ Some (live [] ∷ [], [])
 unfolding part after live_at
 no_live_part = refl
 
 -- no bundle stands there
-pub no_live : {f : List Slot} {items : List Item} → Reads f [] None items → Reads (a_live ∷ f) [] None (live [] ∷ items)
+pub no_live : {f : List Slot} {items : List Item} → Reads f [] None items → Reads (some_live ∷ f) [] None (live [] ∷ items)
 unfolding parse after
 no_live {f} {items} r = record { whole = rw e (rw no_live_part (rw (rw e at r.whole) refl)); begins = r.begins; clean = refl }
   where

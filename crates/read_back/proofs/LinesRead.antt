@@ -8,8 +8,8 @@ use Rattle.sp_text.specs.Tokens.{Tok, tokens, is_name}
 use Rattle.sp_text.specs.Bytes.{is_blank}
 use Rattle.sp_text.proofs.Spelled.{label-spelled}
 use Rattle.line_parts.specs.Gives.{after}
-use Rattle.line_forms.specs.Forms.{slots, form_of, form_in, is_dropped_form}
-use Rattle.line_forms.specs.Slots.{Item, parse}
+use Rattle.line_forms.specs.Forms.{fit, form_of, form_in, is_dropped_form}
+use Rattle.line_forms.specs.Slots.{Item}
 use Rattle.ir_reader.specs.Places.{behind, behind_label}
 use Rattle.ir_reader.specs.Limits as limits
 use Rattle.ir_reader.specs.Limits.{said_fits, said_counts_as}
@@ -166,7 +166,7 @@ within_said : (s : State) (place : Place) (what : Said) → said_fits what ≡ t
     → within s place what ≡ said what (texts.next_state s place what)
 within_said s place what fits counts = rw (fits, counts) refl
 
-tokens_said : (s : State) (ts : List Tok) (form : Form) (place : Place) (items : List Item) → form_in s.form ts ≡ Some form → parse (slots form) ts ≡ Some (items, [])
+tokens_said : (s : State) (ts : List Tok) (form : Form) (place : Place) (items : List Item) → form_in s.form ts ≡ Some form → fit form ts ≡ Some (items, [])
     → behind s.place form ≡ Some place → is_dropped_form form ≡ false → said_fits (of_form form items) ≡ true → limits.counts_fit (texts.next_state s place (of_form form items)).counts ≡ true
     → tokens_outcome s ts ≡ said (of_form form items) (texts.next_state s place (of_form form items))
 unfolding tokens_outcome line_at after
@@ -174,7 +174,7 @@ tokens_said s [] form place items is fitting stands kept fits counts = let none 
 tokens_said s (t ∷ ts) form place items is fitting stands kept fits counts =
     rw is (rw stands (rw fitting (rw kept (within_said s place (of_form form items) fits counts))))
 
-tokens_dropped : (s : State) (ts : List Tok) (form : Form) (place : Place) (items : List Item) → form_in s.form ts ≡ Some form → parse (slots form) ts ≡ Some (items, [])
+tokens_dropped : (s : State) (ts : List Tok) (form : Form) (place : Place) (items : List Item) → form_in s.form ts ≡ Some form → fit form ts ≡ Some (items, [])
     → behind s.place form ≡ Some place → is_dropped_form form ≡ true → said_fits (of_form form items) ≡ true → tokens_outcome s ts ≡ nothing
 unfolding tokens_outcome line_at after
 tokens_dropped s [] form place items is fitting stands dropped fits = refl
@@ -182,7 +182,7 @@ tokens_dropped s (t ∷ ts) form place items is fitting stands dropped fits = rw
 
 -- a line of a form, where it may stand and passes no limit
 pub formed_in : (s : State) (line : List ℕ) (form : Form) (place : Place) (items : List Item) → IsClean line → (is_top s.place && is_metadata line) ≡ false
-    → form_in s.form (tokens line) ≡ Some form → parse (slots form) (tokens line) ≡ Some (items, [])
+    → form_in s.form (tokens line) ≡ Some form → fit form (tokens line) ≡ Some (items, [])
     → behind s.place form ≡ Some place → is_dropped_form form ≡ false → said_fits (of_form form items) ≡ true → limits.counts_fit (texts.next_state s place (of_form form items)).counts ≡ true
     → outcome s line ≡ said (of_form form items) (texts.next_state s place (of_form form items))
 unfolding outcome
@@ -191,7 +191,7 @@ formed_in s line form place items clean other is fitting stands kept fits counts
 
 -- a line of a form that is dropped, where it may stand
 pub dropped_in : (s : State) (line : List ℕ) (form : Form) (place : Place) (items : List Item) → IsClean line → (is_top s.place && is_metadata line) ≡ false
-    → form_in s.form (tokens line) ≡ Some form → parse (slots form) (tokens line) ≡ Some (items, []) → behind s.place form ≡ Some place → is_dropped_form form ≡ true
+    → form_in s.form (tokens line) ≡ Some form → fit form (tokens line) ≡ Some (items, []) → behind s.place form ≡ Some place → is_dropped_form form ≡ true
     → said_fits (of_form form items) ≡ true → outcome s line ≡ nothing
 unfolding outcome
 dropped_in s line form place items clean other is fitting stands dropped fits =

@@ -40,7 +40,7 @@ use Rattle.line_forms.specs.Slots.{Item, name, width, ty, value, pred}
 use Rattle.ir_lines.specs.Statements.{stated}
 use Rattle.read_back.specs.Said.{word_of, value_says, instruction_says, operator_says, binary_says}
 use Rattle.read_back.proofs.Forms.{ReadsAs, binary_line, compare_line, load_line, store_line, jump_line, unreachable_line, return_void_line}
-use Rattle.read_back.proofs.FormsIn.{ReadsIn, names_function, in_both, in_source}
+use Rattle.read_back.proofs.FormsIn.{as_fit, ReadsIn, names_function, in_both, in_source}
 use Rattle.read_back.proofs.Operands.{HaveNames, block-named, IsNarrow, type_spelled, type_allowed, type_fits_in, value_spelled, value_in_limit}
 
 -- where a block stands behind an instruction
@@ -65,7 +65,7 @@ pub reads_in : (of : TextForm) (names : Names) (inst : Instruction) (one : OneLi
 reads_in text_forms.Source names inst one = in_source one.reads
 reads_in text_forms.Rewritten names inst one = elim one.both [
   | inl plain ↦ in_both text_forms.Rewritten plain one.reads
-  | inr is ↦ record { form_is = is; whole = one.reads.whole; clean = one.reads.clean }
+  | inr is ↦ record { form_is = is; whole = as_fit one.reads; clean = one.reads.clean }
 ]
 
 -- what an instruction counts as

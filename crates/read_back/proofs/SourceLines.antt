@@ -33,7 +33,7 @@ use Rattle.ir_printer.specs.Calls.{callee_name}
 use Rattle.ir_printer.specs.Lines.{operator_text, arithmetic_text, conversion_text}
 use Rattle.ir_ast.specs.declared.modules.Form.{Form as TextForm}
 use Rattle.ir_ast.specs.declared.modules.Form.TheVariants as text_forms
-use Rattle.group_parts.specs.Statepoints.{is_plain}
+use Rattle.line_parts.specs.Groups.{is_plain, is_function, takes_own}
 use Rattle.ir_reader.specs.declared.states.Counted.TheVariants as kinds
 use Rattle.line_parts.specs.declared.readings.TypeWord.TheVariants as types
 use Rattle.line_tokens.specs.declared.words.Binary.{Binary}
@@ -52,7 +52,7 @@ use Rattle.read_back.proofs.Operands.{HaveNames, IsNarrow, in_types}
 use Rattle.read_back.proofs.OneLine.{OneLine, LineIn, counted_as, one_in, made, binary_reads, compare_reads, load_reads, store_reads, jump_reads, return_void_reads, unreachable_reads}
 use Rattle.read_back.proofs.MoreLines.{convert_reads, select_reads, branch_reads, return_reads}
 use Rattle.read_back.proofs.StepLines.{integer_step_reads, pointer_step_reads, layout_step_reads, field_step_reads}
-use Rattle.read_back.proofs.CallLines.{PassedReads, value_passed, function_passed, value_call_reads, void_call_reads, EntryFits, phi_reads}
+use Rattle.read_back.proofs.CallLines.{PassedReads, passed_given, value_passed, function_passed, value_call_reads, void_call_reads, EntryFits, phi_reads}
 use Rattle.read_back.proofs.GroupLines.{IsTaken, IsLive, IsGuarded, statepoint_reads, result_reads, relocate_reads}
 use Rattle.read_back.proofs.SwitchLines.{CaseFits, switch_says_so}
 use Rattle.read_back.proofs.Chains.{InstSays, line_says}
@@ -471,16 +471,28 @@ none_plain callee [] (t ∷ ts) other arguments = absurd arguments
 none_plain callee (o ∷ os) [] other arguments = refl
 none_plain callee (o ∷ os) (t ∷ ts) other arguments = rw (first_other t (argument_first callee o t arguments.0 other)) (none_plain callee os ts other arguments.1)
 
-type_of_callee : (names : Names) (callee : Callee) (os : List Operand) (ts : List Ty) → Arguments callee os ts
-    → (is_task_start (callee_name names callee) || not (list_any is_plain (map parameter_says ts))) ≡ true
-type_of_callee names callees.TaskStart os ts arguments = refl
-type_of_callee names (callees.Fun g) os ts arguments = or_right (is_task_start (callee_name names (callees.Fun g))) _ (ap not (none_plain (callees.Fun g) os ts (λ e. cc) arguments))
-type_of_callee names (callees.New l) os ts arguments = or_right (is_task_start (callee_name names (callees.New l))) _ (ap not (none_plain (callees.New l) os ts (λ e. cc) arguments))
-type_of_callee names callees.Print os ts arguments = ap not (none_plain callees.Print os ts (λ e. cc) arguments)
-type_of_callee names callees.Read os ts arguments = ap not (none_plain callees.Read os ts (λ e. cc) arguments)
-type_of_callee names callees.Poll os ts arguments = ap not (none_plain callees.Poll os ts (λ e. cc) arguments)
-type_of_callee names callees.Check os ts arguments = ap not (none_plain callees.Check os ts (λ e. cc) arguments)
-type_of_callee names callees.Same os ts arguments = ap not (none_plain callees.Same os ts (λ e. cc) arguments)
+none_function : (names : Names) (callee : Callee) (os : List Operand) (ts : List Ty) → ¬ (callee ≡ callees.TaskStart) → Arguments callee os ts → list_any is_function (map (passed_given names) (zip ts os)) ≡ false
+none_function names callee [] [] other arguments = refl
+none_function names callee [] (t ∷ ts) other arguments = refl
+none_function names callee (o ∷ os) [] other arguments = refl
+none_function names callee (operands.Fun f ∷ os) (t ∷ ts) other arguments = absurd (other (function_is callee f t arguments.0).0)
+none_function names callee (operands.Value v ∷ os) (t ∷ ts) other arguments = none_function names callee os ts other arguments.1
+none_function names callee (operands.Int n ∷ os) (t ∷ ts) other arguments = none_function names callee os ts other arguments.1
+none_function names callee (operands.Null ∷ os) (t ∷ ts) other arguments = none_function names callee os ts other arguments.1
+
+no_pointers : (names : Names) (callee : Callee) (os : List Operand) (ts : List Ty) → ¬ (callee ≡ callees.TaskStart) → Arguments callee os ts
+    → not (list_any is_plain (map parameter_says ts) || list_any is_function (map (passed_given names) (zip ts os))) ≡ true
+no_pointers names callee os ts other arguments = rw (none_plain callee os ts other arguments, none_function names callee os ts other arguments) refl
+
+takes_its_own : (names : Names) (callee : Callee) (os : List Operand) (ts : List Ty) → Arguments callee os ts → takes_own (callee_name names callee) (map parameter_says ts) (map (passed_given names) (zip ts os)) ≡ true
+takes_its_own names callees.TaskStart os ts arguments = refl
+takes_its_own names (callees.Fun g) os ts arguments = or_right (is_task_start (callee_name names (callees.Fun g))) _ (no_pointers names (callees.Fun g) os ts (λ e. cc) arguments)
+takes_its_own names (callees.New l) os ts arguments = or_right (is_task_start (callee_name names (callees.New l))) _ (no_pointers names (callees.New l) os ts (λ e. cc) arguments)
+takes_its_own names callees.Print os ts arguments = no_pointers names callees.Print os ts (λ e. cc) arguments
+takes_its_own names callees.Read os ts arguments = no_pointers names callees.Read os ts (λ e. cc) arguments
+takes_its_own names callees.Poll os ts arguments = no_pointers names callees.Poll os ts (λ e. cc) arguments
+takes_its_own names callees.Check os ts arguments = no_pointers names callees.Check os ts (λ e. cc) arguments
+takes_its_own names callees.Same os ts arguments = no_pointers names callees.Same os ts (λ e. cc) arguments
 
 statepoint_case : {of : TextForm} (names : Names) → HaveNames names → (id : ℕ) (callee : Callee) (takes : List Ty) (inst : Instruction) → IsPrintable of names (ops.Statepoint id callee takes) inst → LineIn text_forms.Rewritten names inst
 statepoint_case names have id callee takes inst p =
@@ -509,7 +521,8 @@ statepoint_case names have id callee takes inst p =
       narrow = narrow_of inst.ty p.printed.widths;
       there = there.0;
       taken = all_taken callee front takes p.printed.line.arguments widths;
-      typed = type_of_callee names callee front takes p.printed.line.arguments;
+      own = subst (λ (pairs : List (Ty × Operand)). takes_own (callee_name names callee) (map parameter_says takes) (map (passed_given names) pairs) ≡ true) (zip_take takes inst.operands)
+          (takes_its_own names callee front takes p.printed.line.arguments);
       passed = subst (AllByRecursion (PassedReads (is_task_start (callee_name names callee)) names)) (zip_take takes inst.operands)
           (arguments_read names have callee front takes fits.0 p.printed.line.arguments (front_functions (λ named. named < length names.funcs) (length takes) inst.operands functions) widths);
       live = live_fits names (drop (length takes) inst.operands) (length inst.operands - length takes) fits.1 p.printed.line.entries;

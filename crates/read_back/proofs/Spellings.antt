@@ -29,7 +29,7 @@ use Rattle.line_parts.specs.Parts.{Val, value_of, is_value_type, spelled_type_at
 use Rattle.line_parts.specs.Parts as values
 use Rattle.line_tokens.specs.declared.literals.Literal.{Literal}
 use Rattle.line_forms.specs.Forms.{first_global}
-use Rattle.group_parts.specs.Statepoints.{suffix_of}
+use Rattle.line_parts.specs.Groups.{suffix_of}
 use Rattle.ir_printer.specs.Words.{integer_text}
 use Rattle.read_back.specs.Said.{literal_of, integer_value}
 use Rattle.read_back.proofs.Steps.{Stops, stops-kind, IsClean, digits-clean, name-clean}

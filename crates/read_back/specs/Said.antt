@@ -37,8 +37,7 @@ use Rattle.line_tokens.specs.declared.words.Conversion.TheVariants as conversion
 use Rattle.line_parts.specs.Parts.{Val}
 use Rattle.line_parts.specs.Parts as values
 use Rattle.line_parts.specs.Lists.{Named, Given, given, function}
-use Rattle.group_parts.specs.Statepoints.{Guarded}
-use Rattle.ir_lines.specs.Statements.{Statement}
+use Rattle.ir_lines.specs.Statements.{Guarded, Statement}
 use Rattle.ir_lines.specs.Statements as says
 
 -- ---- types

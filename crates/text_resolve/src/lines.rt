@@ -3,11 +3,10 @@
 ghost use Rattle.std.specs.Prelude.{◌≡◌, ◌||◌, length, map, not, OnOk};
 ghost use Rattle.std.specs.List.{list_any};
 ghost use Rattle.line_parts.specs.Seen.{seen_value};
-ghost use Rattle.group_parts.specs.Seen.{seen_guarded};
 ghost use Rattle.ir_lines.specs.Faults.GroupShape.{is_count};
 ghost use Rattle.ir_lines.specs.Notes.{Notes};
 ghost use Rattle.ir_lines.specs.Parts.{uses};
-ghost use Rattle.ir_lines.specs.Views.{said};
+ghost use Rattle.ir_lines.specs.Views.{seen_guarded, said};
 ghost use Rattle.ir_resolve.specs.TextFaults.{is_outside, is_below_zero};
 ghost use Rattle.line_checks.specs.LineFaults.{seen_use, tables_in, misses_name};
 ghost use Rattle.ir_lines.specs.Faults.PointerCast.{is_cast};

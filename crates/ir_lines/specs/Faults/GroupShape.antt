@@ -5,8 +5,7 @@ use Rattle.std.specs.List.{list_all, Contains}
 use Rattle.std.specs.Str.{bytes_eq}
 use Rattle.line_tokens.specs.declared.literals.Literal.{Literal}
 use Rattle.line_parts.specs.Parts.{Val}
-use Rattle.group_parts.specs.Statepoints.{Guarded}
-use Rattle.ir_lines.specs.Statements.{Line, Statement, statepoint, gc_result, gc_relocate}
+use Rattle.ir_lines.specs.Statements.{Guarded, Line, Statement, statepoint, gc_result, gc_relocate}
 use Rattle.ir_lines.specs.Sections.{Definition, values_before}
 
 -- ---- a line by itself

@@ -6,8 +6,8 @@ use Rattle.line_parts.specs.declared.readings.TypeWord.TheVariants.{Void, Int, M
 use Rattle.line_parts.specs.Parts.{Val}
 use Rattle.line_parts.specs.Parts as values
 use Rattle.line_parts.specs.Lists.{Given, given, function}
-use Rattle.group_parts.specs.Statepoints.{Guarded}
 use Rattle.ir_ast.specs.declared.modules.Form.{Form}
+use Rattle.ir_lines.specs.Statements.{Guarded}
 use Rattle.ir_lines.specs.Sections.{Head}
 use Rattle.ir_lines.specs.Scope.{Scope, head_named}
 use Rattle.ir_lines.specs.TextForms.{is_source}

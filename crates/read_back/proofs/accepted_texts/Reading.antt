@@ -9,6 +9,7 @@ use Rattle.ir_reader.specs.Raws.{IsRead, seen_numbered}
 use Rattle.ir_reader.specs.Text.{Numbered, opening, readings_in}
 use Rattle.ir_reader.specs.declared.raw.NumberedReading.{NumberedReading}
 use Rattle.ir_reader.specs.declared.states.State.{State}
+use Rattle.line_forms.proofs.FamilyLines.{fit_parts}
 use Rattle.line_forms.specs.Seen.{Said, label, line}
 use Rattle.line_forms.specs.declared.readings.Reading.TheVariants as readings
 use Rattle.module_laws.proofs.Runs.{IsKept, IsSpelled, Runs, readings-run}
@@ -16,7 +17,7 @@ use Rattle.read_back.proofs.accepted_texts.Saying.{Readable, lent, line_is_read}
 
 is_read : (what : Said) → IsKept what → IsSpelled what → Readable what
 is_read (label name) kept spelled = record { reading = readings.Label (lent name); is = refl }
-is_read (line l) kept spelled = line_is_read l.form l.items (tokens spelled.0) [] kept spelled.1
+is_read (line l) kept spelled = line_is_read l.form l.items (tokens spelled.0) [] kept (fit_parts l.form (tokens spelled.0) l.items [] spelled.1).0
 
 record AreRead (xs : List Numbered) : Type 0 where
   found : List NumberedReading

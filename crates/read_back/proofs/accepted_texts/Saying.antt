@@ -18,15 +18,14 @@ use Rattle.line_parts.specs.Gives.{Found, after}
 use Rattle.line_parts.specs.Parts.{Val, local, number, truth, null}
 use Rattle.line_parts.specs.Lists.{Named, Given, given, function}
 use Rattle.line_parts.specs.Seen.{seen_value, seen_argument, seen_passed, seen_entry}
-use Rattle.group_parts.specs.Seen.{seen_guarded}
-use Rattle.group_parts.specs.Statepoints.{Guarded}
-use Rattle.group_parts.specs.declared.readings.StatepointCall.{StatepointCall}
-use Rattle.line_forms.specs.Slots.{Item, Slot, part, parse, says, says_nothing, blank, m, w, g, dropped, a_managed, a_quoted, a_hash, to_brace, a_statepoint_type, a_family, a_bracketing, a_family_answer, a_local, a_layout_name, a_width, a_type, an_answer, a_cast_type, a_value, a_case, a_pred, a_scalar, a_layout, a_place, some_fields, some_entries, a_declared, a_defined, a_called, a_strategy, a_token, a_guarded, a_live, a_result, a_number}
+use Rattle.line_forms.specs.Slots.{Item, Slot, part, parse, says, says_nothing, blank, m, w, g, dropped, a_managed, a_quoted, a_hash, to_brace, a_zero, a_closing, a_family, a_bracketing, a_family_answer, a_local, a_layout_name, a_width, a_type, an_answer, a_cast_type, a_value, a_case, a_pred, a_scalar, a_layout, a_place, some_fields, some_entries, a_declared, a_defined, a_called, a_strategy, a_token, a_global, some_types, some_handed, some_live, a_result, a_number}
 use Rattle.line_forms.specs.Slots as items
 use Rattle.line_forms.specs.Forms.{slots, is_dropped_form}
 use Rattle.line_forms.specs.Seen.{Said, of_form, seen}
 use Rattle.line_forms.specs.declared.forms.Form.{Form}
 use Rattle.line_forms.specs.declared.forms.Form.TheVariants as forms
+use Rattle.line_forms.specs.declared.readings.FunctionType.{FunctionType}
+use Rattle.line_forms.specs.declared.readings.StatepointCall.{StatepointCall}
 use Rattle.line_forms.specs.declared.readings.Reading.{Reading}
 use Rattle.line_forms.specs.declared.readings.Reading.TheVariants as readings
 use Rattle.module_laws.proofs.Formed.{went}
@@ -86,17 +85,8 @@ all_back view for back (x ∷ xs) = ap (λ y. y ∷ map view (map for xs)) (back
 abbrev small : {A : Type 0} → List A → SmallVec A
 small xs = record { items = xs; capacity = 0 }
 
-abbrev guarded_for : Guarded → StatepointCall
-guarded_for made = record {
-  id = made.id;
-  function_type = record { answer = made.signature.answer; parameters = small made.signature.parameters };
-  callee = lent made.callee;
-  count = made.count;
-  passed = small (map passed_for made.passed);
-}
-
-guarded_back : (made : Guarded) → seen_guarded (guarded_for made) ≡ made
-guarded_back made = ap (λ passed. record made { passed = passed }) (all_back seen_passed passed_for passed_back made.passed)
+all_passed_back : (ps : List Given) → map seen_passed (map passed_for ps) ≡ ps
+all_passed_back ps = all_back seen_passed passed_for passed_back ps
 
 values_back : (vs : List Val) → map seen_value (map value_for vs) ≡ vs
 values_back vs = all_back seen_value value_for value_back vs
@@ -124,8 +114,10 @@ At a_defined rest = (List ℕ × List Argument) × rest
 At a_called rest = (List ℕ × List Passed) × rest
 At a_strategy rest = Option (List ℕ) × rest
 At a_token rest = List ℕ × rest
-At a_guarded rest = StatepointCall × rest
-At a_live rest = List Value × rest
+At a_global rest = List ℕ × rest
+At some_types rest = List TypeWord × rest
+At some_handed rest = List Passed × rest
+At some_live rest = List Value × rest
 At a_result rest = TypeWord × rest
 At (a_number of_type) rest = Literal × rest
 At _ rest = rest
@@ -155,8 +147,10 @@ saying a_defined f rest a = items.defined a.0.0 (map seen_argument a.0.1) ∷ re
 saying a_called f rest a = items.called a.0.0 (map seen_passed a.0.1) ∷ rest a.1
 saying a_strategy f rest a = items.strategy a.0 ∷ rest a.1
 saying a_token f rest a = items.name a.0 ∷ rest a.1
-saying a_guarded f rest a = items.guarded (seen_guarded a.0) ∷ rest a.1
-saying a_live f rest a = items.live (map seen_value a.0) ∷ rest a.1
+saying a_global f rest a = items.name a.0 ∷ rest a.1
+saying some_types f rest a = items.types a.0 ∷ rest a.1
+saying some_handed f rest a = items.handed (map seen_passed a.0) ∷ rest a.1
+saying some_live f rest a = items.live (map seen_value a.0) ∷ rest a.1
 saying a_result f rest a = items.ty a.0 ∷ rest a.1
 saying (a_number of_type) f rest a = items.literal a.0 ∷ rest a.1
 saying blank f rest a = rest a
@@ -168,7 +162,8 @@ saying a_managed f rest a = rest a
 saying a_quoted f rest a = rest a
 saying a_hash f rest a = rest a
 saying to_brace f rest a = rest a
-saying a_statepoint_type f rest a = rest a
+saying a_zero f rest a = rest a
+saying a_closing f rest a = rest a
 saying a_family f rest a = rest a
 saying a_bracketing f rest a = rest a
 
@@ -259,8 +254,10 @@ part_spoken a_called f ts here more behind e a is =
     spoken (items_of f) a here more behind is (λ (call : List ℕ × List Given). items.called call.0 call.1) call_said call_for call_back _ e
 part_spoken a_strategy f ts here more behind e a is = same_spoken (items_of f) a here more behind is items.strategy _ e
 part_spoken a_token f ts here more behind e a is = same_spoken (items_of f) a here more behind is items.name _ e
-part_spoken a_guarded f ts here more behind e a is = spoken (items_of f) a here more behind is items.guarded seen_guarded guarded_for guarded_back _ e
-part_spoken a_live f ts here more behind e a is = spoken (items_of f) a here more behind is items.live (map seen_value) (map value_for) values_back _ e
+part_spoken a_global f ts here more behind e a is = same_spoken (items_of f) a here more behind is items.name _ e
+part_spoken some_types f ts here more behind e a is = same_spoken (items_of f) a here more behind is items.types _ e
+part_spoken some_handed f ts here more behind e a is = spoken (items_of f) a here more behind is items.handed (map seen_passed) (map passed_for) all_passed_back _ e
+part_spoken some_live f ts here more behind e a is = spoken (items_of f) a here more behind is items.live (map seen_value) (map value_for) values_back _ e
 part_spoken a_result f ts here more behind e a is = same_spoken (items_of f) a here more behind is items.ty _ e
 part_spoken (a_number of_type) f ts here more behind e a is = same_spoken (items_of f) a here more behind is items.literal _ e
 part_spoken blank f ts here more behind e a is = quiet (items_of f) a here more behind is (sym (pair_first ([], ts) (here, behind) e))
@@ -272,7 +269,8 @@ part_spoken a_managed f ts here more behind e a is = passed_over (items_of f) a 
 part_spoken a_quoted f ts here more behind e a is = passed_over (items_of f) a here more behind is _ e
 part_spoken a_hash f ts here more behind e a is = passed_over (items_of f) a here more behind is _ e
 part_spoken to_brace f ts here more behind e a is = passed_over (items_of f) a here more behind is _ e
-part_spoken a_statepoint_type f ts here more behind e a is = passed_over (items_of f) a here more behind is _ e
+part_spoken a_zero f ts here more behind e a is = passed_over (items_of f) a here more behind is _ e
+part_spoken a_closing f ts here more behind e a is = passed_over (items_of f) a here more behind is _ e
 part_spoken a_family f ts here more behind e a is = passed_over (items_of f) a here more behind is _ e
 part_spoken a_bracketing f ts here more behind e a is = passed_over (items_of f) a here more behind is _ e
 
@@ -329,7 +327,11 @@ form_spoken forms.ReturnVoid kept a = record { reading = readings.ReturnVoid; is
 form_spoken forms.Return kept a = record { reading = readings.Return a.0 a.1.0; is = refl }
 form_spoken forms.Unreachable kept a = record { reading = readings.Unreachable; is = refl }
 form_spoken (forms.Cast op) kept a = record { reading = readings.Cast (lent a.0) op a.1.0 a.1.1.0 a.1.1.1.0; is = refl }
-form_spoken forms.Statepoint kept a = record { reading = readings.Statepoint (lent a.0) a.1.0 (small a.1.1.0); is = refl }
+form_spoken forms.Statepoint kept a =
+    let call = a.1.1.1.1 in
+    let type_is : FunctionType = record { answer = a.1.1.0; parameters = small a.1.1.1.0 } in
+    let made : StatepointCall = record { id = a.1.0; function_type = type_is; callee = lent call.0; count = call.1.0; passed = small call.1.1.0 } in
+    record { reading = readings.Statepoint (lent a.0) made (small call.1.1.1.0); is = refl }
 form_spoken forms.GcResult kept a = record { reading = readings.GcResult (lent a.0) a.1.0 (lent a.1.1.0); is = refl }
 form_spoken forms.GcRelocate kept a = record { reading = readings.GcRelocate (lent a.0) (lent a.1.0) a.1.1.0 a.1.1.1.0; is = refl }
 

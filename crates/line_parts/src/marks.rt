@@ -6,9 +6,10 @@ ghost use Rattle.line_tokens.specs.Marks.{is_global, stands};
 ghost use Rattle.line_tokens.specs.Numbers.{literal_of};
 ghost use Rattle.line_parts.specs.Gives.{Gives, Takes, one_at};
 ghost use Rattle.line_parts.specs.Parts.{mark_at, word_at};
-ghost use Rattle.group_parts.specs.Statepoints.{number_at, is_zero, zero_at, token_at, closing_at, is_live_tag};
+ghost use Rattle.line_parts.specs.Groups.{number_at, is_zero, zero_at, token_at, closing_at, is_live_tag};
 
-use line_parts::{Cursor, Stop};
+use crate::cursor::Cursor;
+use crate::faults::Stop;
 use line_tokens::{Dropped, Literal, global, is_mark, is_text, is_word};
 use sp_text::{Kind, Token};
 
@@ -41,7 +42,7 @@ fn names_function(token: &Token, name: &[u8]) -> bool
 }
 
 // Passes the number 0, if it stands there.
-#[tactic(auto, unfolding(line_parts::specs::Gives::one_at))]
+#[tactic(auto, unfolding(crate::specs::Gives::one_at))]
 fn takes_zero_number(cursor: &mut Cursor) -> bool
     ensures { Takes result cursor.new (one_at (stands is_zero) cursor.old) }
 {
@@ -51,7 +52,7 @@ fn takes_zero_number(cursor: &mut Cursor) -> bool
     }
 }
 
-#[tactic(auto, unfolding(line_parts::specs::Gives::one_at))]
+#[tactic(auto, unfolding(crate::specs::Gives::one_at))]
 fn takes_word(cursor: &mut Cursor, text: &[u8]) -> bool
     ensures { Takes result cursor.new (word_at text.now cursor.old) }
 {
@@ -61,7 +62,7 @@ fn takes_word(cursor: &mut Cursor, text: &[u8]) -> bool
     }
 }
 
-#[tactic(auto, unfolding(line_parts::specs::Gives::one_at))]
+#[tactic(auto, unfolding(crate::specs::Gives::one_at))]
 fn takes_mark(cursor: &mut Cursor, text: &[u8]) -> bool
     ensures { Takes result cursor.new (mark_at text.now cursor.old) }
 {
@@ -72,7 +73,7 @@ fn takes_mark(cursor: &mut Cursor, text: &[u8]) -> bool
 }
 
 // Passes `i32 0`, if it stands there.
-#[tactic(auto, unfolding(crate::specs::Statepoints::zero_at, line_parts::specs::Gives::after))]
+#[tactic(auto, unfolding(crate::specs::Groups::zero_at, crate::specs::Gives::after))]
 fn takes_zero(cursor: &mut Cursor) -> bool
     ensures { Takes result cursor.new (zero_at cursor.old) }
 {
@@ -84,7 +85,7 @@ fn takes_zero(cursor: &mut Cursor) -> bool
 }
 
 /// Passes the end of what a statepoint passes, if it stands there.
-#[tactic(auto, unfolding(crate::specs::Statepoints::closing_at, line_parts::specs::Gives::after))]
+#[tactic(auto, unfolding(crate::specs::Groups::closing_at, crate::specs::Gives::after))]
 pub fn takes_closing(cursor: &mut Cursor) -> bool
     ensures { Takes result cursor.new (closing_at cursor.old) }
 {
@@ -126,7 +127,7 @@ pub fn zero(cursor: &mut Cursor) -> Result<(), Stop>
 }
 
 /// Passes the function of this name.
-#[tactic(auto, unfolding(line_parts::specs::Gives::one_at))]
+#[tactic(auto, unfolding(crate::specs::Gives::one_at))]
 pub fn function_named(cursor: &mut Cursor, name: &[u8]) -> Result<(), Stop>
     ensures { Gives (λ _. tt) result cursor.new (one_at (stands (is_global name.now)) cursor.old) }
 {
@@ -141,7 +142,7 @@ pub fn function_named(cursor: &mut Cursor, name: &[u8]) -> Result<(), Stop>
 }
 
 /// A number of this type.
-#[tactic(auto, unfolding(crate::specs::Statepoints::number_at, line_parts::specs::Gives::after))]
+#[tactic(auto, unfolding(crate::specs::Groups::number_at, crate::specs::Gives::after))]
 pub fn number_of(cursor: &mut Cursor, ty: &[u8]) -> Result<Literal, Stop>
     ensures { Gives (λ n. n) result cursor.new (number_at ty.now cursor.old) }
 {
@@ -151,7 +152,7 @@ pub fn number_of(cursor: &mut Cursor, ty: &[u8]) -> Result<Literal, Stop>
 }
 
 /// The name of a token.
-#[tactic(auto, unfolding(crate::specs::Statepoints::token_at, line_parts::specs::Gives::after))]
+#[tactic(auto, unfolding(crate::specs::Groups::token_at, crate::specs::Gives::after))]
 pub fn token_name<'a>(cursor: &mut Cursor<'a>) -> Result<&'a [u8], Stop>
     ensures { Gives (λ name. name.now) result cursor.new (token_at cursor.old) }
 {

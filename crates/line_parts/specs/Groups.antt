@@ -1,4 +1,4 @@
--- The parts of a statepoint group's lines: what a statepoint calls and passes, its live entries, its result.
+-- The parts of lines of statepoint groups: numbers, what a statepoint takes, its live entries, results, declarations.
 use Rattle.std.specs.Prelude.{ℕ, Bool, true, false, ◌&&◌, ◌||◌, not, List, [], ◌∷◌, Option, Some, None, drop, is_some, option_map, codes, if◌then◌else◌}
 use Rattle.std.specs.List.{list_any}
 use Rattle.std.specs.Str.{bytes_eq}
@@ -13,24 +13,10 @@ use Rattle.line_tokens.specs.Marks.{is_mark, is_word, stands, begins}
 use Rattle.line_tokens.specs.Numbers.{literal_of}
 use Rattle.line_parts.specs.Drops.{after_bracket, past_all, past}
 use Rattle.line_parts.specs.Parts.{Val, word_at, mark_at, local_at, global_at, value_at, allowed_type_at, is_value_type, is_answer_type, is_managed}
-use Rattle.line_parts.specs.Lists.{Given, comma, list_to, listed_at, is_argument_type, is_task_start, passed_at}
+use Rattle.line_parts.specs.Lists.{Given, function, comma, list_to, listed_at, is_argument_type, is_task_start, passed_at}
 use Rattle.line_tokens.specs.Families.{is_family_name, is_result_of}
 
--- ---- marks and numbers
-
--- `(i64, i32, ptr`
-unfoldable pub first_types_at : List Tok → Found (Unit {0})
-first_types_at ts = after (mark_at (codes "(") ts) (λ _ ts. after (word_at (codes "i64") ts) (λ _ ts. after (mark_at (codes ",") ts) (λ _ ts.
-    after (word_at (codes "i32") ts) (λ _ ts. after (mark_at (codes ",") ts) (λ _ ts. word_at (codes "ptr") ts)))))
-
--- `, i32, i32, ...)`
-unfoldable pub last_types_at : List Tok → Found (Unit {0})
-last_types_at ts = after (mark_at (codes ",") ts) (λ _ ts. after (word_at (codes "i32") ts) (λ _ ts. after (mark_at (codes ",") ts) (λ _ ts.
-    after (word_at (codes "i32") ts) (λ _ ts. after (mark_at (codes ",") ts) (λ _ ts. after (word_at (codes "...") ts) (λ _ ts. mark_at (codes ")") ts))))))
-
--- `token (i64, i32, ptr, i32, i32, ...)`, the type of a statepoint
-unfoldable pub statepoint_type_at : List Tok → Found (Unit {0})
-statepoint_type_at ts = after (word_at (codes "token") ts) (λ _ ts. after (first_types_at ts) (λ _ ts. last_types_at ts))
+-- ---- numbers
 
 -- a type, then a number
 unfoldable pub number_at : List ℕ → List Tok → Found Literal
@@ -51,36 +37,13 @@ token_at ts = after (word_at (codes "token") ts) (λ _ ts. local_at (past_all dr
 
 -- ---- what a statepoint calls
 
--- a function type `R (A, ..)`
-pub record Signature : Type 0 where
-  pub answer : TypeWord
-  pub parameters : List TypeWord
-
-unfoldable pub signature_at : List Tok → Found Signature
-signature_at ts = after (allowed_type_at is_answer_type ts) (λ answer ts. after (mark_at (codes "(") ts) (λ _ ts.
-    after (list_to (allowed_type_at (is_argument_type true)) (codes ")") ts) (λ parameters ts. after (mark_at (codes ")") ts) (λ _ ts.
-    Some (record { answer = answer; parameters = parameters }, ts)))))
+-- the parameters of a function type
+abbrev pub types_at : List Tok → Found (List TypeWord)
+types_at ts = list_to (allowed_type_at (is_argument_type true)) (codes ")") ts
 
 abbrev pub is_plain : TypeWord → Bool
 is_plain types.Plain = true
 is_plain _ = false
-
--- `ptr` stands in the type of `task_start` alone
-abbrev pub is_type_of : List ℕ → Signature → Bool
-is_type_of name s = is_task_start name || not (list_any is_plain s.parameters)
-
--- `elementtype(R (A, ..))`
-unfoldable pub element_at : List Tok → Found Signature
-element_at ts = after (word_at (codes "elementtype") ts) (λ _ ts. after (mark_at (codes "(") ts) (λ _ ts.
-    after (signature_at ts) (λ s ts. after (mark_at (codes ")") ts) (λ _ ts. Some (s, ts)))))
-
-abbrev pub named_target : Signature → List ℕ → List Tok → Found (Signature × List ℕ)
-named_target s name ts = if is_type_of name s then Some ((s, name), ts) else None
-
--- `ptr elementtype(R (A, ..)) @f`
-unfoldable pub target_at : List Tok → Found (Signature × List ℕ)
-target_at ts = after (word_at (codes "ptr") ts) (λ _ ts. after (element_at (past_all drops.BesideElementType ts)) (λ s ts.
-    after (global_at (past_all drops.BesideElementType ts)) (λ name ts. named_target s name ts)))
 
 -- ---- what a statepoint passes
 
@@ -94,32 +57,16 @@ abbrev pub begins_argument : List Tok → Bool
 begins_argument ts = comma ts && not (is_some (closing_at ts))
 
 -- the arguments, a comma before each
-unfoldable pub handed_at : Bool → List Tok → Found (List Given)
-handed_at plain ts = if begins_argument ts then listed_at (passed_at plain) begins_argument (past (is_mark (codes ",")) ts) else Some ([], ts)
+unfoldable pub handed_at : List Tok → Found (List Given)
+handed_at ts = if begins_argument ts then listed_at (passed_at true) begins_argument (past (is_mark (codes ",")) ts) else Some ([], ts)
 
--- a statepoint's call: its id, the function's type and name, the number of arguments that it tells, the arguments
-pub record Guarded : Type 0 where
-  pub id : Literal
-  pub signature : Signature
-  pub callee : List ℕ
-  pub count : Literal
-  pub passed : List Given
+abbrev pub is_function : Given → Bool
+is_function (function name) = true
+is_function _ = false
 
--- `i64 ID, i32 0, `
-unfoldable pub id_at : List Tok → Found Literal
-id_at ts = after (number_at (codes "i64") ts) (λ id ts. after (mark_at (codes ",") ts) (λ _ ts. after (zero_at ts) (λ _ ts.
-    after (mark_at (codes ",") ts) (λ _ ts. Some (id, ts)))))
-
--- `, i32 C, i32 0`
-unfoldable pub count_at : List Tok → Found Literal
-count_at ts = after (mark_at (codes ",") ts) (λ _ ts. after (number_at (codes "i32") ts) (λ count ts. after (mark_at (codes ",") ts) (λ _ ts.
-    after (zero_at ts) (λ _ ts. Some (count, ts)))))
-
--- `i64 ID, i32 0, ptr elementtype(R (A, ..)) @f, i32 C, i32 0, T V, .., i32 0, i32 0)`
-unfoldable pub guarded_at : List Tok → Found Guarded
-guarded_at ts = after (id_at ts) (λ id ts. after (target_at ts) (λ target ts. after (count_at ts) (λ count ts.
-    after (handed_at (is_task_start target.1) ts) (λ passed ts. after (closing_at ts) (λ _ ts.
-    Some (record { id = id; signature = target.0; callee = target.1; count = count; passed = passed }, ts))))))
+-- `ptr` stands in the type and among the arguments of `task_start` alone
+abbrev pub takes_own : List ℕ → List TypeWord → List Given → Bool
+takes_own callee parameters passed = is_task_start callee || not (list_any is_plain parameters || list_any is_function passed)
 
 -- ---- live entries
 

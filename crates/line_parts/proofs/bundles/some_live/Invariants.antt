@@ -1,10 +1,10 @@
 use Rattle.std.proofs.Common.{length}
 use Rattle.std.specs.Prelude.{map}
 use Rattle.line_parts.specs.Lists.{comma}
-use Rattle.group_parts.specs.Statepoints.{live_entry_at}
+use Rattle.line_parts.specs.Groups.{live_entry_at}
 use Rattle.line_parts.specs.Seen.{seen_value}
 use Rattle.line_parts.proofs.Listing.{Reached}
-use Rattle.group_parts.proofs.bundles.some_live.Given as goal
+use Rattle.line_parts.proofs.bundles.some_live.Given as goal
 
 abbrev pub invariant-loop-live : goal.invariant-loop-live
 invariant-loop-live l = Reached live_entry_at comma l.initial.cursor (map seen_value l.live.items) l.cursor

@@ -4,10 +4,12 @@ ghost use Rattle.std.specs.Prelude.{◌≡◌};
 ghost use Rattle.line_tokens.specs.Families.{statepoint_name, relocate_name};
 ghost use Rattle.line_tokens.specs.Marks.{is_global, stands};
 ghost use Rattle.line_parts.specs.Gives.{Gives, one_at};
-ghost use Rattle.group_parts.specs.Statepoints.{suffix_of, result_at};
+ghost use Rattle.line_parts.specs.Groups.{suffix_of, result_at};
 
+use crate::cursor::Cursor;
+use crate::faults::Stop;
 use crate::marks::function_named;
-use line_parts::{Cursor, Stop, TypeWord};
+use crate::readings::TypeWord;
 use line_tokens::{is_result_of, relocate_name, statepoint_name};
 
 // The end of a result's name, where a type begins here.
@@ -24,7 +26,7 @@ fn suffix<'a>(cursor: &Cursor<'a>, ty: TypeWord) -> &'a [u8]
 }
 
 /// The type of a result, and its name behind it.
-#[tactic(auto, unfolding(crate::specs::Statepoints::result_at, line_parts::specs::Gives::after))]
+#[tactic(auto, unfolding(crate::specs::Groups::result_at, crate::specs::Gives::after))]
 pub fn result_type(cursor: &mut Cursor) -> Result<TypeWord, Stop>
     ensures { Gives (λ ty. ty) result cursor.new (result_at cursor.old) }
 {

@@ -3,7 +3,7 @@ use Rattle.line_parts.specs.Lists.{comma, is_argument_type}
 use Rattle.std.specs.Prelude.{true}
 use Rattle.line_parts.specs.Parts.{allowed_type_at}
 use Rattle.line_parts.proofs.Listing.{Reached}
-use Rattle.group_parts.proofs.targets.some_parameters.Given as goal
+use Rattle.line_parts.proofs.signatures.some_parameters.Given as goal
 
 abbrev pub invariant-loop-parameters : goal.invariant-loop-parameters
 invariant-loop-parameters l = Reached (allowed_type_at (is_argument_type true)) comma l.initial.cursor l.parameters.items l.cursor

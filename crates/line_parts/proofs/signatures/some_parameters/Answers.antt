@@ -6,7 +6,7 @@ use Rattle.line_tokens.specs.Marks.{is_mark}
 use Rattle.line_parts.specs.Parts.{allowed_type_at}
 use Rattle.line_parts.proofs.Dropping.{past-le}
 use Rattle.line_parts.proofs.Listing.{reached_first, reached_end, reached_next, reached_stop, shorter_is, allowed_type_at-shorter}
-use Rattle.group_parts.proofs.targets.some_parameters.Goals as goal
+use Rattle.line_parts.proofs.signatures.some_parameters.Goals as goal
 
 pub loop-parameters-init : goal.loop-parameters-init
 loop-parameters-init c = rw c.new-parameters.ensures.items (reached_first (allowed_type_at (is_argument_type true)) comma c.args.cursor.now)

@@ -1,0 +1,94 @@
+//! What a statepoint passes, and whether its callee may take it.
+
+ghost use Rattle.std.specs.Prelude.{◌≡◌, map, true};
+ghost use Rattle.std.specs.List.{list_any};
+ghost use Rattle.line_parts.specs.Gives.{Gives};
+ghost use Rattle.line_parts.specs.Lists.{listed_at, passed_at};
+ghost use Rattle.line_parts.specs.Seen.{seen_passed};
+ghost use Rattle.line_parts.specs.Groups.{begins_argument, handed_at, is_function, is_plain, takes_own};
+
+use crate::cursor::Cursor;
+use crate::faults::Stop;
+use crate::marks::takes_closing;
+use crate::readings::{AllPassed, Passed, TypeWord};
+use line_tokens::is_text;
+use smallvec::SmallVec;
+use std::alloc::Global;
+
+fn begins_argument(cursor: &Cursor) -> bool
+    ensures { result ≡ begins_argument cursor.now }
+{
+    if !cursor.begins_mark(b",") {
+        return false;
+    }
+    let mut rest = cursor.copied();
+    !takes_closing(&mut rest)
+}
+
+fn some_handed<'a>(cursor: &mut Cursor<'a>, alloc: Global) -> Result<AllPassed<'a>, Stop>
+    ensures { Gives (λ passed. map seen_passed passed.items) result cursor.new (listed_at (passed_at true) begins_argument cursor.old) }
+{
+    let mut all = SmallVec::new(alloc);
+    loop {
+        let passed = cursor.passed(true)?;
+        all.push(passed)?;
+        if !begins_argument(cursor) {
+            return Ok(all);
+        }
+        cursor.pass_comma();
+    }
+}
+
+/// The arguments of what a statepoint calls, a comma before each.
+#[tactic(auto, unfolding(crate::specs::Groups::handed_at))]
+pub fn handed<'a>(cursor: &mut Cursor<'a>, alloc: Global) -> Result<AllPassed<'a>, Stop>
+    ensures { Gives (λ passed. map seen_passed passed.items) result cursor.new (handed_at cursor.old) }
+{
+    if !begins_argument(cursor) {
+        return Ok(SmallVec::new(alloc));
+    }
+    cursor.pass_comma();
+    some_handed(cursor, alloc)
+}
+
+fn is_plain(ty: TypeWord) -> bool
+    ensures { result ≡ is_plain ty }
+{
+    match ty {
+        TypeWord::Plain => true,
+        _ => false,
+    }
+}
+
+fn names_plain(types: &[TypeWord]) -> bool
+    ensures { result ≡ list_any is_plain types.now }
+{
+    types.iter().any(|ty| is_plain(*ty))
+}
+
+fn is_function(passed: &Passed) -> bool
+    ensures { result ≡ is_function (seen_passed passed.now) }
+{
+    match passed {
+        Passed::Function(_) => true,
+        Passed::Value(..) => false,
+    }
+}
+
+fn passes_function(all: &[Passed]) -> bool
+    ensures { result ≡ list_any is_function (map seen_passed all.now) }
+{
+    for passed in all {
+        if is_function(passed) {
+            return true;
+        }
+    }
+    false
+}
+
+/// Whether a function of this name may have these parameters, and take these arguments.
+pub fn takes_own(name: &[u8], types: &[TypeWord], passed: &[Passed]) -> bool
+    ensures { result ≡ takes_own name.now types.now (map seen_passed passed.now) }
+{
+    is_text(name, b"task_start") || !(names_plain(types) || passes_function(passed))
+}
