@@ -79,7 +79,7 @@ module _ {P Y : Type 0} (n : List ℕ) (is : is_name n ≡ true) {id answer call
       all = local n is refl (space (mark 61 refl refl refl (space (drop_at (drops.Words flags.Calling) (λ more. refl) (word (codes "call") refl refl refl refl (spaced (drop_at drops.Groups (λ more. refl) (over_blank
           (word (codes "token") refl refl refl refl (space (mark 40 refl refl refl (word (codes "i64") refl refl refl refl (mark 44 refl refl refl (space (word (codes "i32") refl refl refl refl (mark 44 refl refl refl (space
           (word (codes "ptr") refl refl refl refl (mark 44 refl refl refl (space (word (codes "i32") refl refl refl refl (mark 44 refl refl refl (space (word (codes "i32") refl refl refl refl (mark 44 refl refl refl (space
-          (word (codes "...") refl refl refl refl (mark 41 refl refl refl (space (global_step (codes "llvm.experimental.gc.statepoint.p0") refl refl refl (mark 40 refl refl refl (call_step c r)))))))))))))))))))))))))))))
+          (word (codes "...") refl refl refl refl (mark 41 refl refl refl (space (global_step (codes "llvm.experimental.gc.statepoint.p0") refl refl refl (mark 40 refl refl refl (call_step c r))))))))))))))))))))))))))))))))
 
       form_is : form_in text_forms.Rewritten (tokens (spelled rest)) ≡ Some forms.Statepoint
       form_is = rw (result_tokens n (statepoint_front body) is) (rw (statepoint_tokens body)

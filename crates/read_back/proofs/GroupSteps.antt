@@ -220,16 +220,16 @@ open_comma : (text : List ℕ) → mark_at (codes ")") (tokens (44 ∷ 32 ∷ te
 unfolding one_at
 open_comma text = rw (comma_spelled text) refl
 
+abbrev given_of : Bool → Found TypeWord → Found Given
+given_of plain found = after (after found (λ ty rest. cond (is_argument_type plain ty) (Some (ty, rest)) None)) (λ ty rest. given_behind ty (past_all drops.Groups rest))
+
 -- what is read where no function may stand is read where one may
 passed_more : (plain : Bool) (x : Given) (ts us : List Tok) → passed_at plain ts ≡ Some (x, us) → passed_at true ts ≡ Some (x, us)
 unfolding passed_at allowed_type_at after
 passed_more true x ts us e = e
 passed_more false x ts us e = by (spelled_type_at ts) e
   where
-    abbrev read : Bool → Found TypeWord → Found Given
-    read plain found = after (after found (λ ty rest. cond (is_argument_type plain ty) (Some (ty, rest)) None)) (λ ty rest. given_behind ty (past_all drops.Groups rest))
-
-    by : (found : Found TypeWord) → read false found ≡ Some (x, us) → read true found ≡ Some (x, us)
+    by : (found : Found TypeWord) → given_of false found ≡ Some (x, us) → given_of true found ≡ Some (x, us)
     by None e = e
     by (Some (types.Void, rest)) e = e
     by (Some (types.Int width, rest)) e = e
@@ -326,7 +326,7 @@ call_step {callee = callee} {ptext = ptext} {psaid = psaid} {ps = ps} {text = te
     (answer_step c.answers c.allowed_answer refl (space (mark 40 refl refl refl (types_step ptext psaid ps c.parameters c.parameters_open (mark 41 refl refl refl (mark 41 refl refl refl
     (spaced (drop_at drops.BesideElementType (λ more. refl) (over_blank (callee_step callee c.named refl
     (mark 44 refl refl refl (space (number_step (codes "i32") refl refl refl c.counted refl (mark 44 refl refl refl (space (zero_step (others_stop text ys rest)
-    (handed_step (is_task_start callee) text said ys c.arguments (closing_step r))))))))))))))))))))))))))
+    (handed_step (is_task_start callee) text said ys c.arguments (closing_step r)))))))))))))))))))))))))))))
 
 -- ---- live entries
 
