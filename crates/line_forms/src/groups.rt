@@ -40,7 +40,8 @@ fn first_types(cursor: &mut Cursor) -> Result<(), Stop>
     cursor.mark(b",")?;
     cursor.word(b"i32")?;
     cursor.mark(b",")?;
-    cursor.word(b"ptr")
+    cursor.word(b"ptr")?;
+    Ok(())
 }
 
 // Passes `, i32, i32, ...)`.
@@ -53,7 +54,8 @@ fn last_types(cursor: &mut Cursor) -> Result<(), Stop>
     cursor.word(b"i32")?;
     cursor.mark(b",")?;
     cursor.word(b"...")?;
-    cursor.mark(b")")
+    cursor.mark(b")")?;
+    Ok(())
 }
 
 // The id of a statepoint, behind its name.
