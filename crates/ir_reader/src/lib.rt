@@ -13,10 +13,11 @@ mod text;
 
 pub use faults::ReadFault;
 pub use laws::{fitting_line, judged_text};
-pub use line_forms::{FunctionType, Reading, StatepointCall, one_form, one_reading, own_form};
+pub use line_forms::{
+    FunctionType, LiveEntries, Reading, StatepointCall, one_form, one_reading, own_form,
+};
 pub use line_parts::{
-    AllPassed, Argument, Arguments, Entries, Entry, Fields, LiveEntries, Parameters, Passed,
-    TypeWord, Value,
+    AllPassed, Argument, Arguments, Entries, Entry, Fields, Parameters, Passed, TypeWord, Value,
 };
 pub use line_tokens::{Binary, Cast, Conversion, Literal};
 pub use raw::{NumberedReading, Raw};

@@ -8,12 +8,14 @@ ghost use Rattle.line_forms.specs.Forms.{result_is, calling, first_types, last_t
 ghost use Rattle.line_forms.specs.Seen.{seen, of_form, line_at, dropped_says};
 ghost use Rattle.line_forms.specs.Slots.{name, ty, types, literal, handed, live, parse};
 
+use crate::bundles::{LiveEntries, live_if_any};
+use crate::families::{bracketing, family_answer, family_name};
 use crate::forms::{DroppedLine, Form};
 use crate::readings::{FunctionType, Reading, StatepointCall};
+use crate::results::{relocate_function, result_type, statepoint_function};
 use line_parts::{
-    AllPassed, Cursor, LiveEntries, Stop, TypeWord, bracketing, closing, family_answer,
-    family_name, handed, live_if_any, number_of, parameters, relocate_function, result_type,
-    statepoint_function, takes_own, token_name, zero,
+    AllPassed, Cursor, Stop, TypeWord, closing, handed, number_of, parameters, takes_own,
+    token_name, zero,
 };
 use line_tokens::{Dropped, Flags, Literal};
 use std::alloc::Global;

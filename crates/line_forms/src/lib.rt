@@ -2,8 +2,10 @@
 #![tactic(auto)]
 
 mod accesses;
+mod bundles;
 mod computing;
 mod control;
+mod families;
 mod forms;
 mod groups;
 mod heads;
@@ -11,7 +13,9 @@ mod laws;
 mod lines;
 mod opening;
 mod readings;
+mod results;
 
+pub use bundles::LiveEntries;
 pub use forms::{DroppedLine, Form};
 pub use laws::{one_form, one_reading, own_form};
 pub use lines::{whole_dropped, whole_kept};

@@ -1,5 +1,6 @@
+use crate::bundles::LiveEntries;
 use ir_ast::Pred;
-use line_parts::{AllPassed, Arguments, Entries, Fields, LiveEntries, Parameters, TypeWord, Value};
+use line_parts::{AllPassed, Arguments, Entries, Fields, Parameters, TypeWord, Value};
 use line_tokens::{Binary, Cast, Conversion, Literal};
 
 /// The type of a function, `R (A, ..)`.

@@ -2,29 +2,23 @@
 //! Contracts see a place as the tokens from there on.
 #![tactic(auto)]
 
-mod bundles;
 mod choices;
 mod cursor;
 mod drops;
-mod families;
 mod faults;
 mod lists;
 mod marks;
 mod parts;
 mod passing;
 mod readings;
-mod results;
 mod signatures;
 mod types;
 
-pub use bundles::{LiveEntries, live_if_any};
 pub use cursor::Cursor;
-pub use families::{bracketing, family_answer, family_name};
 pub use faults::Stop;
 pub use marks::{closing, number_of, token_name, zero};
 pub use passing::{handed, takes_own};
 pub use readings::{
     AllPassed, Argument, Arguments, Entries, Entry, Fields, Passed, TypeWord, Value,
 };
-pub use results::{relocate_function, result_type, statepoint_function};
 pub use signatures::{Parameters, parameters};

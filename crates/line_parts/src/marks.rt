@@ -1,16 +1,16 @@
-//! Marks and numbers of the lines of statepoint groups.
+//! Numbers of a type in lines of statepoint groups, and the end of what a statepoint passes.
 
 ghost use Rattle.std.specs.Prelude.{◌≡◌};
 ghost use Rattle.sp_text.specs.Tokens.{tok};
-ghost use Rattle.line_tokens.specs.Marks.{is_global, stands};
+ghost use Rattle.line_tokens.specs.Marks.{stands};
 ghost use Rattle.line_tokens.specs.Numbers.{literal_of};
 ghost use Rattle.line_parts.specs.Gives.{Gives, Takes, one_at};
 ghost use Rattle.line_parts.specs.Parts.{mark_at, word_at};
-ghost use Rattle.line_parts.specs.Groups.{number_at, is_zero, zero_at, token_at, closing_at, is_live_tag};
+ghost use Rattle.line_parts.specs.Groups.{number_at, is_zero, zero_at, token_at, closing_at};
 
 use crate::cursor::Cursor;
 use crate::faults::Stop;
-use line_tokens::{Dropped, Literal, global, is_mark, is_text, is_word};
+use line_tokens::{Dropped, Literal, is_mark, is_text, is_word};
 use sp_text::{Kind, Token};
 
 fn is_zero(token: &Token) -> bool
@@ -19,25 +19,6 @@ fn is_zero(token: &Token) -> bool
     match token.kind {
         Kind::Number => is_text(token.bytes, b"0"),
         _ => false,
-    }
-}
-
-/// Whether the token is `"gc-live"`.
-pub fn is_live_tag(token: &Token) -> bool
-    ensures { result ≡ is_live_tag (tok token.now.kind token.now.bytes.now) }
-{
-    match token.kind {
-        Kind::Quoted => is_text(token.bytes, b"\"gc-live\""),
-        _ => false,
-    }
-}
-
-fn names_function(token: &Token, name: &[u8]) -> bool
-    ensures { result ≡ is_global name.now (tok token.now.kind token.now.bytes.now) }
-{
-    match global(token) {
-        Some(found) => is_text(found, name),
-        None => false,
     }
 }
 
@@ -120,21 +101,6 @@ pub fn zero(cursor: &mut Cursor) -> Result<(), Stop>
     ensures { Gives (λ _. tt) result cursor.new (zero_at cursor.old) }
 {
     if takes_zero(cursor) {
-        Ok(())
-    } else {
-        Err(Stop::NoReading)
-    }
-}
-
-/// Passes the function of this name.
-#[tactic(auto, unfolding(crate::specs::Gives::one_at))]
-pub fn function_named(cursor: &mut Cursor, name: &[u8]) -> Result<(), Stop>
-    ensures { Gives (λ _. tt) result cursor.new (one_at (stands (is_global name.now)) cursor.old) }
-{
-    let Some(token) = cursor.token() else {
-        return Err(Stop::NoReading);
-    };
-    if names_function(&token, name) {
         Ok(())
     } else {
         Err(Stop::NoReading)

@@ -6,9 +6,7 @@ ghost use Rattle.line_tokens.specs.Marks.{stands};
 ghost use Rattle.line_parts.specs.Gives.{Gives, one_at};
 ghost use Rattle.line_parts.specs.Groups.{declares_family, family_answer_at, bracketing_at};
 
-use crate::cursor::Cursor;
-use crate::faults::Stop;
-use crate::readings::TypeWord;
+use line_parts::{Cursor, Stop, TypeWord};
 use line_tokens::{global, is_family_name};
 use sp_text::Token;
 
@@ -22,7 +20,7 @@ fn declares_family(token: &Token) -> bool
 }
 
 /// Passes a name of one of the three families.
-#[tactic(auto, unfolding(crate::specs::Gives::one_at))]
+#[tactic(auto, unfolding(line_parts::specs::Gives::one_at))]
 pub fn family_name(cursor: &mut Cursor) -> Result<(), Stop>
     ensures { Gives (λ _. tt) result cursor.new (one_at (stands declares_family) cursor.old) }
 {
@@ -37,7 +35,7 @@ pub fn family_name(cursor: &mut Cursor) -> Result<(), Stop>
 }
 
 /// What a function of the three families answers: a type or `void`, or nothing of these where it is `token`.
-#[tactic(auto, unfolding(crate::specs::Groups::family_answer_at, crate::specs::Gives::after))]
+#[tactic(auto, unfolding(line_parts::specs::Groups::family_answer_at, line_parts::specs::Gives::after))]
 pub fn family_answer(cursor: &mut Cursor) -> Result<Option<TypeWord>, Stop>
     ensures { Gives (λ answer. answer) result cursor.new (family_answer_at cursor.old) }
 {
@@ -50,7 +48,7 @@ pub fn family_answer(cursor: &mut Cursor) -> Result<Option<TypeWord>, Stop>
 }
 
 /// Passes parentheses, with any tokens between them.
-#[tactic(auto, unfolding(crate::specs::Groups::bracketing_at, crate::specs::Gives::after))]
+#[tactic(auto, unfolding(line_parts::specs::Groups::bracketing_at, line_parts::specs::Gives::after))]
 pub fn bracketing(cursor: &mut Cursor) -> Result<(), Stop>
     ensures { Gives (λ _. tt) result cursor.new (bracketing_at cursor.old) }
 {

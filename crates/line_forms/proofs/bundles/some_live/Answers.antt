@@ -8,7 +8,7 @@ use Rattle.std.proofs.lemmas.List.{map_push}
 use Rattle.line_parts.specs.Seen.{seen_value}
 use Rattle.line_parts.proofs.Dropping.{past-le}
 use Rattle.line_parts.proofs.Listing.{reached_first, reached_end, reached_next, reached_stop, shorter_is, live_entry_at-shorter}
-use Rattle.line_parts.proofs.bundles.some_live.Goals as goal
+use Rattle.line_forms.proofs.bundles.some_live.Goals as goal
 
 pub loop-live-init : goal.loop-live-init
 loop-live-init c = rw c.new-live.ensures.items (reached_first live_entry_at comma c.args.cursor.now)
