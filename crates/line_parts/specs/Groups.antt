@@ -1,6 +1,6 @@
 -- The parts of lines of statepoint groups: numbers, what a statepoint takes, its live entries, results, declarations.
 use Rattle.std.specs.Prelude.{ℕ, Bool, true, false, ◌&&◌, ◌||◌, not, List, [], ◌∷◌, Option, Some, None, drop, is_some, option_map, codes, if◌then◌else◌}
-use Rattle.std.specs.List.{list_any}
+use Rattle.std.specs.List.{list_all}
 use Rattle.std.specs.Str.{bytes_eq}
 use Rattle.sp_text.specs.Tokens.{Tok, tok}
 use Rattle.sp_text.specs.declared.tokens.Kind.TheVariants as kinds
@@ -41,10 +41,6 @@ token_at ts = after (word_at (codes "token") ts) (λ _ ts. local_at (past_all dr
 abbrev pub types_at : List Tok → Found (List TypeWord)
 types_at ts = list_to (allowed_type_at (is_argument_type true)) (codes ")") ts
 
-abbrev pub is_plain : TypeWord → Bool
-is_plain types.Plain = true
-is_plain _ = false
-
 -- ---- what a statepoint passes
 
 -- `, i32 0, i32 0)`, the end
@@ -60,13 +56,14 @@ begins_argument ts = comma ts && not (is_some (closing_at ts))
 unfoldable pub handed_at : List Tok → Found (List Given)
 handed_at ts = if begins_argument ts then listed_at (passed_at true) begins_argument (past (is_mark (codes ",")) ts) else Some ([], ts)
 
-abbrev pub is_function : Given → Bool
-is_function (function name) = true
-is_function _ = false
+-- no function
+abbrev pub is_value_given : Given → Bool
+is_value_given (function name) = false
+is_value_given _ = true
 
 -- `ptr` stands in the type and among the arguments of `task_start` alone
 abbrev pub takes_own : List ℕ → List TypeWord → List Given → Bool
-takes_own callee parameters passed = is_task_start callee || not (list_any is_plain parameters || list_any is_function passed)
+takes_own callee parameters passed = is_task_start callee || (list_all (is_argument_type false) parameters && list_all is_value_given passed)
 
 -- ---- live entries
 

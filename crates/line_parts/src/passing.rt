@@ -1,11 +1,11 @@
 //! What a statepoint passes, and whether its callee may take it.
 
-ghost use Rattle.std.specs.Prelude.{◌≡◌, map, true};
-ghost use Rattle.std.specs.List.{list_any};
+ghost use Rattle.std.specs.Prelude.{◌≡◌, map, false, true};
+ghost use Rattle.std.specs.List.{list_all};
 ghost use Rattle.line_parts.specs.Gives.{Gives};
-ghost use Rattle.line_parts.specs.Lists.{listed_at, passed_at};
+ghost use Rattle.line_parts.specs.Lists.{is_argument_type, listed_at, passed_at};
 ghost use Rattle.line_parts.specs.Seen.{seen_passed};
-ghost use Rattle.line_parts.specs.Groups.{begins_argument, handed_at, is_function, is_plain, takes_own};
+ghost use Rattle.line_parts.specs.Groups.{begins_argument, handed_at, is_value_given, takes_own};
 
 use crate::cursor::Cursor;
 use crate::faults::Stop;
@@ -51,44 +51,46 @@ pub fn handed<'a>(cursor: &mut Cursor<'a>, alloc: Global) -> Result<AllPassed<'a
     some_handed(cursor, alloc)
 }
 
-fn is_plain(ty: TypeWord) -> bool
-    ensures { result ≡ is_plain ty }
+fn is_value_type(ty: TypeWord) -> bool
+    ensures { result ≡ is_argument_type false ty }
 {
     match ty {
-        TypeWord::Plain => true,
-        _ => false,
+        TypeWord::Int(_) => true,
+        TypeWord::Managed => true,
+        TypeWord::Void => false,
+        TypeWord::Plain => false,
     }
 }
 
-fn names_plain(types: &[TypeWord]) -> bool
-    ensures { result ≡ list_any is_plain types.now }
+fn are_value_types(types: &[TypeWord]) -> bool
+    ensures { result ≡ list_all (is_argument_type false) types.now }
 {
-    types.iter().any(|ty| is_plain(*ty))
+    types.iter().all(|ty| is_value_type(*ty))
 }
 
-fn is_function(passed: &Passed) -> bool
-    ensures { result ≡ is_function (seen_passed passed.now) }
+fn is_value(passed: &Passed) -> bool
+    ensures { result ≡ is_value_given (seen_passed passed.now) }
 {
     match passed {
-        Passed::Function(_) => true,
-        Passed::Value(..) => false,
+        Passed::Function(_) => false,
+        Passed::Value(..) => true,
     }
 }
 
-fn passes_function(all: &[Passed]) -> bool
-    ensures { result ≡ list_any is_function (map seen_passed all.now) }
+fn are_values(all: &[Passed]) -> bool
+    ensures { result ≡ list_all is_value_given (map seen_passed all.now) }
 {
     for passed in all {
-        if is_function(passed) {
-            return true;
+        if !is_value(passed) {
+            return false;
         }
     }
-    false
+    true
 }
 
 /// Whether a function of this name may have these parameters, and take these arguments.
 pub fn takes_own(name: &[u8], types: &[TypeWord], passed: &[Passed]) -> bool
     ensures { result ≡ takes_own name.now types.now (map seen_passed passed.now) }
 {
-    is_text(name, b"task_start") || !(names_plain(types) || passes_function(passed))
+    is_text(name, b"task_start") || (are_value_types(types) && are_values(passed))
 }

@@ -10,7 +10,7 @@ use Rattle.line_parts.specs.Gives.{Found, after, one_at}
 use Rattle.line_tokens.specs.declared.words.Dropped.TheVariants as drops
 use Rattle.line_tokens.specs.declared.literals.Literal.{Literal}
 use Rattle.line_tokens.specs.Families.{is_result_of}
-use Rattle.line_parts.specs.Groups.{is_plain, is_function, takes_own, types_at, begins_argument, handed_at, closing_at, zero_at, suffix_of, named_result, result_at, number_at, token_at, live_at, declares_family, family_answer_at, bracketing_at}
+use Rattle.line_parts.specs.Groups.{is_value_given, takes_own, types_at, begins_argument, handed_at, closing_at, zero_at, suffix_of, named_result, result_at, number_at, token_at, live_at, declares_family, family_answer_at, bracketing_at}
 use Rattle.line_tokens.specs.Marks.{is_mark, is_quoted, is_hash, is_global, stands, begins}
 use Rattle.line_tokens.specs.Numbers.{width_of}
 use Rattle.line_parts.specs.Drops.{past, past_all}
@@ -222,16 +222,10 @@ called-types ts call rest e =
 
 -- ---- statepoints
 
-none-plain : (ps : List TypeWord) → list_all (is_argument_type true) ps ≡ true → not (list_any is_plain ps) ≡ true → list_all (is_argument_type false) ps ≡ true
-none-plain [] e f = refl
-none-plain (types.Plain ∷ ps) e f = absurd (let bad : false ≡ true = f in cc)
-none-plain (types.Void ∷ ps) e f = absurd (let bad : false ≡ true = e in cc)
-none-plain (types.Managed ∷ ps) e f = none-plain ps e f
-none-plain (types.Int width ∷ ps) e f = none-plain ps e f
-
-plain-given : (b : Bool) (ps : List TypeWord) → list_all (is_argument_type true) ps ≡ true → (b || not (list_any is_plain ps)) ≡ true → list_all (is_argument_type b) ps ≡ true
-plain-given true ps e f = e
-plain-given false ps e f = none-plain ps e f
+-- the parameters that its name allows
+own-types : (b : Bool) (ps : List TypeWord) → list_all (is_argument_type true) ps ≡ true → (b || list_all (is_argument_type false) ps) ≡ true → list_all (is_argument_type b) ps ≡ true
+own-types true ps e f = e
+own-types false ps e f = f
 
 both : (x y : Bool) → (x && y) ≡ true → (x ≡ true) × (y ≡ true)
 both true y e = (refl, e)
@@ -248,12 +242,11 @@ handed-types : (ts : List Tok) (xs : List Given) (rest : List Tok) → handed_at
 unfolding handed_at
 handed-types ts xs rest e = handed-by (begins_argument ts) ts xs rest e
 
-own-parts : (b p f : Bool) → (b || not (p || f)) ≡ true → ((b || not p) ≡ true) × ((b || not f) ≡ true)
+own-parts : (b p f : Bool) → (b || (p && f)) ≡ true → ((b || p) ≡ true) × ((b || f) ≡ true)
 own-parts true p f e = (refl, refl)
-own-parts false false f e = (refl, e)
-own-parts false true f e = absurd (let bad : false ≡ true = e in cc)
+own-parts false p f e = both p f e
 
-given-own : (callee : List ℕ) (b : Bool) → is_task_start callee ≡ b → (ps : List Given) → list_all (passes true) ps ≡ true → (b || not (list_any is_function ps)) ≡ true
+given-own : (callee : List ℕ) (b : Bool) → is_task_start callee ≡ b → (ps : List Given) → list_all (passes true) ps ≡ true → (b || list_all is_value_given ps) ≡ true
     → list_all (given_is_formed callee) ps ≡ true
 given-own callee b is [] e f = refl
 given-own callee b is (given ty value ∷ ps) e f =
@@ -272,9 +265,9 @@ statepoint-formed made e own =
     let all = list_all (given_is_formed made.callee) made.passed in
     let a = both (is_answer_type made.signature.answer) (list_all (is_argument_type true) made.signature.parameters && (list_all (passes true) made.passed && true)) e in
     let b = both (list_all (is_argument_type true) made.signature.parameters) (list_all (passes true) made.passed && true) a.1 in
-    let o = own-parts starts (list_any is_plain made.signature.parameters) (list_any is_function made.passed) own in
+    let o = own-parts starts (list_all (is_argument_type false) made.signature.parameters) (list_all is_value_given made.passed) own in
     and_from (is_answer_type made.signature.answer) (taken && all) a.0
-    (and_from taken all (plain-given starts made.signature.parameters b.0 o.0)
+    (and_from taken all (own-types starts made.signature.parameters b.0 o.0)
     (given-own made.callee starts refl made.passed (both (list_all (passes true) made.passed) true b.1).0 o.1))
 
 same-if : {A : Type 0} (b : Bool) (x y : A) (r s : List Tok) → (if b then found x r else None) ≡ found y s → x ≡ y

@@ -1,5 +1,5 @@
 -- Each instruction of a module is printed on lines that are read.
-use Rattle.std.proofs.Common.{◌≡◌, refl, ap, sym, ◌∙◌, subst, ℕ, zero, suc, ◌-◌, ◌<◌, ◌≤◌, ◌^◌, Bool, true, false, not, ◌||◌, ◌==◌, if◌then◌else◌, List, [], ◌∷◌, map, length, drop, replicate, Option, Some, None, arith}
+use Rattle.std.proofs.Common.{◌≡◌, refl, ap, sym, ◌∙◌, subst, ℕ, zero, suc, ◌-◌, ◌<◌, ◌≤◌, ◌^◌, Bool, true, false, not, ◌&&◌, ◌||◌, ◌==◌, if◌then◌else◌, List, [], ◌∷◌, map, length, drop, replicate, Option, Some, None, arith}
 use Rattle.std.specs.Prelude.{is_some, flat_map, take}
 use Rattle.std.specs.List.{All, AllByRecursion, AllZip, list_all, list_any, zip}
 use Rattle.std.proofs.lemmas.Bool.{and_parts, or_right}
@@ -33,7 +33,7 @@ use Rattle.ir_printer.specs.Calls.{callee_name}
 use Rattle.ir_printer.specs.Lines.{operator_text, arithmetic_text, conversion_text}
 use Rattle.ir_ast.specs.declared.modules.Form.{Form as TextForm}
 use Rattle.ir_ast.specs.declared.modules.Form.TheVariants as text_forms
-use Rattle.line_parts.specs.Groups.{is_plain, is_function, takes_own}
+use Rattle.line_parts.specs.Groups.{is_value_given, takes_own}
 use Rattle.ir_reader.specs.declared.states.Counted.TheVariants as kinds
 use Rattle.line_parts.specs.declared.readings.TypeWord.TheVariants as types
 use Rattle.line_tokens.specs.declared.words.Binary.{Binary}
@@ -41,7 +41,7 @@ use Rattle.line_tokens.specs.declared.words.Binary.TheVariants as binaries
 use Rattle.line_tokens.specs.declared.words.Conversion.{Conversion}
 use Rattle.line_tokens.specs.declared.words.Conversion.TheVariants as conversions
 use Rattle.line_tokens.specs.Words.{binary_word, conversion_word}
-use Rattle.line_parts.specs.Lists.{is_task_start}
+use Rattle.line_parts.specs.Lists.{is_argument_type, is_task_start}
 use Rattle.line_parts.specs.Parts.{is_scalar_type}
 use Rattle.read_back.specs.Said.{width_in, result_of, parameter_says, operator_says, binary_says, convert_says}
 use Rattle.read_back.proofs.Fronts.{FunctionsOf, later_functions, front_fit, zip_take, front_functions}
@@ -459,30 +459,30 @@ all_taken callee (o ∷ os) (t ∷ ts) arguments widths =
     let w = split_all IsWidth (type_widths t) (flat_map type_widths ts) widths in
     (taken_is callee o t arguments.0 (narrow_of t (All-from_recursion IsWidth (type_widths t) w.0)), all_taken callee os ts arguments.1 w.1)
 
-first_other : (ty : Ty) → is_first_class ty ≡ true → is_plain (parameter_says ty) ≡ false
+first_other : (ty : Ty) → is_first_class ty ≡ true → is_argument_type false (parameter_says ty) ≡ true
 first_other tys.Void first = absurd (let bad : false ≡ true = first in cc)
 first_other (tys.Int width) first = refl
 first_other tys.Ptr first = refl
-first_other tys.Token first = refl
+first_other tys.Token first = absurd (let bad : false ≡ true = first in cc)
 
-none_plain : (callee : Callee) (os : List Operand) (ts : List Ty) → ¬ (callee ≡ callees.TaskStart) → Arguments callee os ts → list_any is_plain (map parameter_says ts) ≡ false
-none_plain callee [] [] other arguments = refl
-none_plain callee [] (t ∷ ts) other arguments = absurd arguments
-none_plain callee (o ∷ os) [] other arguments = refl
-none_plain callee (o ∷ os) (t ∷ ts) other arguments = rw (first_other t (argument_first callee o t arguments.0 other)) (none_plain callee os ts other arguments.1)
+value_types_alone : (callee : Callee) (os : List Operand) (ts : List Ty) → ¬ (callee ≡ callees.TaskStart) → Arguments callee os ts → list_all (is_argument_type false) (map parameter_says ts) ≡ true
+value_types_alone callee [] [] other arguments = refl
+value_types_alone callee [] (t ∷ ts) other arguments = absurd arguments
+value_types_alone callee (o ∷ os) [] other arguments = refl
+value_types_alone callee (o ∷ os) (t ∷ ts) other arguments = rw (first_other t (argument_first callee o t arguments.0 other)) (value_types_alone callee os ts other arguments.1)
 
-none_function : (names : Names) (callee : Callee) (os : List Operand) (ts : List Ty) → ¬ (callee ≡ callees.TaskStart) → Arguments callee os ts → list_any is_function (map (passed_given names) (zip ts os)) ≡ false
-none_function names callee [] [] other arguments = refl
-none_function names callee [] (t ∷ ts) other arguments = refl
-none_function names callee (o ∷ os) [] other arguments = refl
-none_function names callee (operands.Fun f ∷ os) (t ∷ ts) other arguments = absurd (other (function_is callee f t arguments.0).0)
-none_function names callee (operands.Value v ∷ os) (t ∷ ts) other arguments = none_function names callee os ts other arguments.1
-none_function names callee (operands.Int n ∷ os) (t ∷ ts) other arguments = none_function names callee os ts other arguments.1
-none_function names callee (operands.Null ∷ os) (t ∷ ts) other arguments = none_function names callee os ts other arguments.1
+values_alone : (names : Names) (callee : Callee) (os : List Operand) (ts : List Ty) → ¬ (callee ≡ callees.TaskStart) → Arguments callee os ts → list_all is_value_given (map (passed_given names) (zip ts os)) ≡ true
+values_alone names callee [] [] other arguments = refl
+values_alone names callee [] (t ∷ ts) other arguments = refl
+values_alone names callee (o ∷ os) [] other arguments = refl
+values_alone names callee (operands.Fun f ∷ os) (t ∷ ts) other arguments = absurd (other (function_is callee f t arguments.0).0)
+values_alone names callee (operands.Value v ∷ os) (t ∷ ts) other arguments = values_alone names callee os ts other arguments.1
+values_alone names callee (operands.Int n ∷ os) (t ∷ ts) other arguments = values_alone names callee os ts other arguments.1
+values_alone names callee (operands.Null ∷ os) (t ∷ ts) other arguments = values_alone names callee os ts other arguments.1
 
 no_pointers : (names : Names) (callee : Callee) (os : List Operand) (ts : List Ty) → ¬ (callee ≡ callees.TaskStart) → Arguments callee os ts
-    → not (list_any is_plain (map parameter_says ts) || list_any is_function (map (passed_given names) (zip ts os))) ≡ true
-no_pointers names callee os ts other arguments = rw (none_plain callee os ts other arguments, none_function names callee os ts other arguments) refl
+    → (list_all (is_argument_type false) (map parameter_says ts) && list_all is_value_given (map (passed_given names) (zip ts os))) ≡ true
+no_pointers names callee os ts other arguments = rw (value_types_alone callee os ts other arguments, values_alone names callee os ts other arguments) refl
 
 takes_its_own : (names : Names) (callee : Callee) (os : List Operand) (ts : List Ty) → Arguments callee os ts → takes_own (callee_name names callee) (map parameter_says ts) (map (passed_given names) (zip ts os)) ≡ true
 takes_its_own names callees.TaskStart os ts arguments = refl

@@ -1,5 +1,5 @@
 use Rattle.std.proofs.Common.{sym, ◌∙◌, arith}
-use Rattle.std.specs.Prelude.{codes, map}
+use Rattle.std.specs.Prelude.{codes, map, true}
 use Rattle.std.proofs.lemmas.Result.{err_from_is_err_and}
 use Rattle.line_parts.specs.Lists.{passed_at}
 use Rattle.line_parts.specs.Groups.{begins_argument}

@@ -1,5 +1,5 @@
 use Rattle.std.proofs.Common.{length}
-use Rattle.std.specs.Prelude.{map}
+use Rattle.std.specs.Prelude.{true, map}
 use Rattle.line_parts.specs.Lists.{passed_at}
 use Rattle.line_parts.specs.Groups.{begins_argument}
 use Rattle.line_parts.specs.Seen.{seen_passed}
