@@ -19,7 +19,8 @@ use Rattle.line_parts.specs.Gives.{Found, after}
 use Rattle.line_parts.specs.Groups.{takes_own}
 use Rattle.line_tokens.specs.Families.{statepoint_name, relocate_name, is_result_name, is_family_name}
 use Rattle.line_tokens.specs.Words.{spelled_by, binary_word, binary_flags, conversion_word, conversion_flags, cast_word, all_binaries, all_conversions, all_casts}
-use Rattle.line_forms.specs.Slots.{Slot, Item, parse, name, called, declared, types, handed, blank, m, w, g, dropped, a_managed, a_quoted, a_hash, to_brace, a_local, a_layout_name, a_width, a_type, an_answer, a_cast_type, a_value, a_case, a_pred, a_scalar, a_layout, a_place, some_fields, some_entries, a_declared, a_defined, a_called, a_strategy, a_zero, a_closing, a_family_answer, a_family, a_bracketing, a_token, a_global, some_types, some_handed, some_live, a_result, a_number}
+use Rattle.line_forms.specs.Slots as items
+use Rattle.line_forms.specs.Slots.{Slot, Item, parse, called, declared, blank, m, w, g, dropped, a_managed, a_quoted, a_hash, to_brace, a_local, a_layout_name, a_width, a_type, an_answer, a_cast_type, a_value, a_case, a_pred, a_scalar, a_layout, a_place, some_fields, some_entries, a_declared, a_defined, a_called, a_strategy, a_zero, a_closing, a_family_answer, a_family, a_bracketing, a_token, a_global, some_types, some_handed, some_live, a_result, a_number}
 
 -- ---- the slots of each form
 
@@ -102,12 +103,12 @@ slots (forms.Cast op) = result_is (w (cast_word op) ∷ blank ∷ a_cast_type �
 
 -- what stands at the slots belongs together: `ptr` stands in what `task_start` takes alone
 abbrev pub agree : Form → List Item → Bool
-agree forms.Statepoint (token ∷ id ∷ answer ∷ types parameters ∷ name callee ∷ count ∷ handed passed ∷ more) = takes_own callee parameters passed
+agree forms.Statepoint (token ∷ id ∷ answer ∷ items.types parameters ∷ items.name callee ∷ count ∷ items.handed passed ∷ more) = takes_own callee parameters passed
 agree _ _ = true
 
 -- what a front of this form says
 unfoldable pub fit : Form → List Tok → Found (List Item)
-fit form ts = after (parse (slots form) ts) (λ items rest. if agree form items then Some (items, rest) else None)
+fit form ts = after (parse (slots form) ts) (λ said rest. if agree form said then Some (said, rest) else None)
 
 -- ---- which form a line can have, by the tokens that it begins with
 
