@@ -77,11 +77,11 @@ fn is_value(passed: &Passed) -> bool
     }
 }
 
-fn are_values(all: &[Passed]) -> bool
-    ensures { result ≡ list_all is_value_given (map seen_passed all.now) }
+fn are_values(passed: &[Passed]) -> bool
+    ensures { result ≡ list_all is_value_given (map seen_passed passed.now) }
 {
-    for passed in all {
-        if !is_value(passed) {
+    for one in passed {
+        if !is_value(one) {
             return false;
         }
     }
