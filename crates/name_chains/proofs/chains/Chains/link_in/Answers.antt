@@ -4,7 +4,7 @@ use Rattle.std.proofs.lemmas.List.{length-map}
 use Rattle.name_chains.specs.Chains.{bucket_of, IsLinked}
 use Rattle.name_chains.specs.Places.{place_in}
 use Rattle.name_chains.proofs.ChainLemmas.{in-range, some-if-old, none-if-new, linked-again, linked-new}
-use Rattle.name_chains.proofs.chains.Chains.link.Goals as goal
+use Rattle.name_chains.proofs.chains.Chains.link_in.Goals as goal
 use denote.Bor.{Bor}
 
 abbrev names_now : List (Bor (List ℕ)) → List (List ℕ)
@@ -23,16 +23,14 @@ returns-clause-ok c =
     let count : length (names_now c.args.names.now) ≡ length c.args.names.now = length-map c.args.names.now (λ (one : Bor (List ℕ)). one.now) in
     let room : length (names_now c.args.names.now) < length c.args.self.now.last.items
     = subst (λ (n : ℕ). n < length c.args.self.now.last.items) (sym count) c.requires.room in
-    let buckets : c.len.result ≡ length c.args.self.now.last.items = search rules in
-    let below : c.bucket_of-bucket.result < length c.args.self.now.last.items
-    = subst (λ (n : ℕ). c.bucket_of-bucket.result < n) buckets c.bucket_of-bucket.ensures.below in
-    let here : c.index.result.now ≡ get_or c.args.self.now.last.items c.bucket_of-bucket.result None
-    = c.index.ensures ∙ in-range c.args.self.now.last.items c.bucket_of-bucket.result c.index.result.now None below in
-    let pushed : c.push-2.new.self.items ≡ c.args.self.now.before.items ++ get_or c.args.self.now.last.items c.bucket_of-bucket.result None ∷ []
+    let below = c.requires.below in
+    let here : c.index.result.now ≡ get_or c.args.self.now.last.items c.args.bucket None
+    = c.index.ensures ∙ in-range c.args.self.now.last.items c.args.bucket c.index.result.now None below in
+    let pushed : c.push-2.new.self.items ≡ c.args.self.now.before.items ++ get_or c.args.self.now.last.items c.args.bucket None ∷ []
     = c.in_ok-push-2.ensures.items ∙ ap (λ (x : Option ℕ). c.args.self.now.before.items ++ x ∷ []) here in
-    subst (λ (n : ℕ). IsLinked (names_now c.args.names.now ++ c.args.name.now ∷ []) (set c.args.self.now.last.items c.bucket_of-bucket.result (Some n)) c.push-2.new.self.items) count
+    subst (λ (n : ℕ). IsLinked (names_now c.args.names.now ++ c.args.name.now ∷ []) (set c.args.self.now.last.items c.args.bucket (Some n)) c.push-2.new.self.items) count
     (subst (λ (links : List (Option ℕ)). IsLinked (names_now c.args.names.now ++ c.args.name.now ∷ [])
-    (set c.args.self.now.last.items c.bucket_of-bucket.result (Some (length (names_now c.args.names.now)))) links) (sym pushed)
-    (linked-new (names_now c.args.names.now) c.args.self.now.last.items c.args.self.now.before.items c.args.name.now c.bucket_of-bucket.result c.requires.chained room
+    (set c.args.self.now.last.items c.args.bucket (Some (length (names_now c.args.names.now)))) links) (sym pushed)
+    (linked-new (names_now c.args.names.now) c.args.self.now.last.items c.args.self.now.before.items c.args.name.now c.args.bucket c.requires.chained room
     (none-if-new (place_in (names_now c.args.names.now) c.args.name.now) c.args.is_new c.requires.is_new c.if-not-is_new.false)
-    (c.bucket_of-bucket.ensures.is ∙ ap (λ (n : ℕ). bucket_of n c.args.name.now) buckets) below))
+    c.requires.bucket below))
