@@ -20,7 +20,7 @@ use Rattle.ir_reader.specs.Raws.{Readings}
 use Rattle.ir_types.specs.FaultSet.{HasNoFault, plain, not_definite}
 use Rattle.module_laws.specs.TextFunctions.{IsTextFunction}
 use Rattle.module_laws.proofs.TypedTexts.{whole_functions, whole_typed}
-use Rattle.read_back.specs.AcceptedTexts.{AcceptedIsOf, Needs}
+use Rattle.read_back.specs.AcceptedTexts.{AcceptedIsOf}
 use Rattle.read_back.proofs.accepted_texts.Decided.{meets_or_not}
 use Rattle.read_back.proofs.accepted_texts.Reading.{was_read}
 
@@ -50,10 +50,10 @@ module _ (form : Form) (lines : List Line) (none : HasNoFault form lines) where
   all_definite : All UsesAreDefinite (module_of form lines).content.funcs
   all_definite = all_from_at UsesAreDefinite (module_of form lines).content.funcs definite
 
-pub accepted_is_of : (form : Form) → Needs form → AcceptedIsOf form
-accepted_is_of form needs text readings small read none =
+pub accepted_is_of : (form : Form) → AcceptedIsOf form
+accepted_is_of form text readings small read none =
     let lines = lines_of readings in
-    let was = was_read form needs text readings small read in
+    let was = was_read form text readings small read in
     let whole = module_of form lines in
     let raw : Readings = record { text = text; form = form; lines = was.found } in
     let is : whole ≡ module_of form (seen_lines was.found) = ap (λ (now : List Line). module_of form now) (sym was.lines) in
@@ -63,4 +63,4 @@ accepted_is_of form needs text readings small read none =
     )
 
 pub accepted_is_source : AcceptedIsOf Source
-accepted_is_source = accepted_is_of Source tt
+accepted_is_source = accepted_is_of Source

@@ -18,7 +18,9 @@ use Rattle.line_parts.specs.Gives.{Found, after}
 use Rattle.line_parts.specs.Parts.{Val, local, number, truth, null}
 use Rattle.line_parts.specs.Lists.{Named, Given, given, function}
 use Rattle.line_parts.specs.Seen.{seen_value, seen_argument, seen_passed, seen_entry}
+use Rattle.group_parts.specs.Seen.{seen_guarded}
 use Rattle.group_parts.specs.Statepoints.{Guarded}
+use Rattle.group_parts.specs.declared.readings.StatepointCall.{StatepointCall}
 use Rattle.line_forms.specs.Slots.{Item, Slot, part, parse, says, says_nothing, blank, m, w, g, dropped, a_managed, a_quoted, a_hash, to_brace, a_statepoint_type, a_family, a_bracketing, a_family_answer, a_local, a_layout_name, a_width, a_type, an_answer, a_cast_type, a_value, a_case, a_pred, a_scalar, a_layout, a_place, some_fields, some_entries, a_declared, a_defined, a_called, a_strategy, a_token, a_guarded, a_live, a_result, a_number}
 use Rattle.line_forms.specs.Slots as items
 use Rattle.line_forms.specs.Forms.{slots, is_dropped_form}
@@ -29,10 +31,10 @@ use Rattle.line_forms.specs.declared.readings.Reading.{Reading}
 use Rattle.line_forms.specs.declared.readings.Reading.TheVariants as readings
 use Rattle.module_laws.proofs.Formed.{went}
 
-pub pair_first : {A B : Type 0} (one other : A × B) → Some one ≡ Some other → one.0 ≡ other.0
+pair_first : {A B : Type 0} (one other : A × B) → Some one ≡ Some other → one.0 ≡ other.0
 pair_first {A} {B} one other e = (let same : one ≡ other = cc in ap (λ (both : A × B). both.0) same)
 
-pub pair_rest : {A B : Type 0} (one other : A × B) → Some one ≡ Some other → one.1 ≡ other.1
+pair_rest : {A B : Type 0} (one other : A × B) → Some one ≡ Some other → one.1 ≡ other.1
 pair_rest {A} {B} one other e = (let same : one ≡ other = cc in ap (λ (both : A × B). both.1) same)
 
 -- ---- parts of readings for what they say
@@ -40,13 +42,13 @@ pair_rest {A} {B} one other e = (let same : one ≡ other = cc in ap (λ (both :
 abbrev pub lent : {A : Type 0} → A → Bor A
 lent x = record { ref_ptr = (0, 0); now = x }
 
-abbrev pub value_for : Val → Value
+abbrev value_for : Val → Value
 value_for (local name) = values.Local (lent name)
 value_for (number n) = values.Number n
 value_for (truth b) = values.Truth b
 value_for null = values.Null
 
-pub value_back : (v : Val) → seen_value (value_for v) ≡ v
+value_back : (v : Val) → seen_value (value_for v) ≡ v
 value_back (local name) = refl
 value_back (number n) = refl
 value_back (truth b) = refl
@@ -58,11 +60,11 @@ entry_for e = record { value = value_for e.0; label = lent e.1 }
 entry_back : (e : Val × List ℕ) → seen_entry (entry_for e) ≡ e
 entry_back e = ap (λ (v : Val). (let now : Val × List ℕ = (v, e.1) in now)) (value_back e.0)
 
-abbrev pub passed_for : Given → Passed
+abbrev passed_for : Given → Passed
 passed_for (given ty v) = all_passed.Value ty (value_for v)
 passed_for (function name) = all_passed.Function (lent name)
 
-pub passed_back : (p : Given) → seen_passed (passed_for p) ≡ p
+passed_back : (p : Given) → seen_passed (passed_for p) ≡ p
 passed_back (given ty v) = ap (given ty) (value_back v)
 passed_back (function name) = refl
 
@@ -77,12 +79,27 @@ argument_back ty (Some name) = refl
 abbrev argument_for : Named → Argument
 argument_for n = argument_named n.ty n.name
 
-pub all_back : {A B : Type 0} (view : B → A) (for : A → B) → ((x : A) → view (for x) ≡ x) → (xs : List A) → map view (map for xs) ≡ xs
+all_back : {A B : Type 0} (view : B → A) (for : A → B) → ((x : A) → view (for x) ≡ x) → (xs : List A) → map view (map for xs) ≡ xs
 all_back view for back [] = refl
 all_back view for back (x ∷ xs) = ap (λ y. y ∷ map view (map for xs)) (back x) ∙ ap (λ ys. x ∷ ys) (all_back view for back xs)
 
-abbrev pub small : {A : Type 0} → List A → SmallVec A
+abbrev small : {A : Type 0} → List A → SmallVec A
 small xs = record { items = xs; capacity = 0 }
+
+abbrev guarded_for : Guarded → StatepointCall
+guarded_for made = record {
+  id = made.id;
+  function_type = record { answer = made.signature.answer; parameters = small made.signature.parameters };
+  callee = lent made.callee;
+  count = made.count;
+  passed = small (map passed_for made.passed);
+}
+
+guarded_back : (made : Guarded) → seen_guarded (guarded_for made) ≡ made
+guarded_back made = ap (λ passed. record made { passed = passed }) (all_back seen_passed passed_for passed_back made.passed)
+
+values_back : (vs : List Val) → map seen_value (map value_for vs) ≡ vs
+values_back vs = all_back seen_value value_for value_back vs
 
 -- ---- what stands at slots, as parts of readings
 
@@ -107,13 +124,13 @@ At a_defined rest = (List ℕ × List Argument) × rest
 At a_called rest = (List ℕ × List Passed) × rest
 At a_strategy rest = Option (List ℕ) × rest
 At a_token rest = List ℕ × rest
-At a_guarded rest = Guarded × rest
-At a_live rest = List Val × rest
+At a_guarded rest = StatepointCall × rest
+At a_live rest = List Value × rest
 At a_result rest = TypeWord × rest
 At (a_number of_type) rest = Literal × rest
 At _ rest = rest
 
-abbrev pub Parts : List Slot → Type 0
+abbrev Parts : List Slot → Type 0
 Parts [] = Unit {0}
 Parts (s ∷ f) = At s (Parts f)
 
@@ -138,8 +155,8 @@ saying a_defined f rest a = items.defined a.0.0 (map seen_argument a.0.1) ∷ re
 saying a_called f rest a = items.called a.0.0 (map seen_passed a.0.1) ∷ rest a.1
 saying a_strategy f rest a = items.strategy a.0 ∷ rest a.1
 saying a_token f rest a = items.name a.0 ∷ rest a.1
-saying a_guarded f rest a = items.guarded a.0 ∷ rest a.1
-saying a_live f rest a = items.live a.0 ∷ rest a.1
+saying a_guarded f rest a = items.guarded (seen_guarded a.0) ∷ rest a.1
+saying a_live f rest a = items.live (map seen_value a.0) ∷ rest a.1
 saying a_result f rest a = items.ty a.0 ∷ rest a.1
 saying (a_number of_type) f rest a = items.literal a.0 ∷ rest a.1
 saying blank f rest a = rest a
@@ -155,7 +172,7 @@ saying a_statepoint_type f rest a = rest a
 saying a_family f rest a = rest a
 saying a_bracketing f rest a = rest a
 
-abbrev pub items_of : (f : List Slot) → Parts f → List Item
+abbrev items_of : (f : List Slot) → Parts f → List Item
 items_of [] a = []
 items_of (s ∷ f) a = saying s (Parts f) (items_of f) a
 
@@ -242,8 +259,8 @@ part_spoken a_called f ts here more behind e a is =
     spoken (items_of f) a here more behind is (λ (call : List ℕ × List Given). items.called call.0 call.1) call_said call_for call_back _ e
 part_spoken a_strategy f ts here more behind e a is = same_spoken (items_of f) a here more behind is items.strategy _ e
 part_spoken a_token f ts here more behind e a is = same_spoken (items_of f) a here more behind is items.name _ e
-part_spoken a_guarded f ts here more behind e a is = same_spoken (items_of f) a here more behind is items.guarded _ e
-part_spoken a_live f ts here more behind e a is = same_spoken (items_of f) a here more behind is items.live _ e
+part_spoken a_guarded f ts here more behind e a is = spoken (items_of f) a here more behind is items.guarded seen_guarded guarded_for guarded_back _ e
+part_spoken a_live f ts here more behind e a is = spoken (items_of f) a here more behind is items.live (map seen_value) (map value_for) values_back _ e
 part_spoken a_result f ts here more behind e a is = same_spoken (items_of f) a here more behind is items.ty _ e
 part_spoken (a_number of_type) f ts here more behind e a is = same_spoken (items_of f) a here more behind is items.literal _ e
 part_spoken blank f ts here more behind e a is = quiet (items_of f) a here more behind is (sym (pair_first ([], ts) (here, behind) e))
@@ -259,7 +276,7 @@ part_spoken a_statepoint_type f ts here more behind e a is = passed_over (items_
 part_spoken a_family f ts here more behind e a is = passed_over (items_of f) a here more behind is _ e
 part_spoken a_bracketing f ts here more behind e a is = passed_over (items_of f) a here more behind is _ e
 
-pub parse_spoken : (f : List Slot) (ts : List Tok) (whole : List Item) (behind : List Tok) → parse f ts ≡ Some (whole, behind) → Spoken (Parts f) (items_of f) whole
+parse_spoken : (f : List Slot) (ts : List Tok) (whole : List Item) (behind : List Tok) → parse f ts ≡ Some (whole, behind) → Spoken (Parts f) (items_of f) whole
 unfolding parse
 parse_spoken [] ts whole behind e = (tt, pair_first ([], ts) (whole, behind) e)
 parse_spoken (s ∷ f) ts whole behind e =
@@ -280,49 +297,44 @@ strategy_back : (s : Option (List ℕ)) → (named : Option (Bor (List ℕ))) ×
 strategy_back None = (None, refl)
 strategy_back (Some name) = (Some (lent name), refl)
 
--- but a statepoint, whose reading has vectors
-abbrev pub is_statepoint : Form → Bool
-is_statepoint forms.Statepoint = true
-is_statepoint _ = false
-
-form_spoken : (form : Form) → is_dropped_form form ≡ false → is_statepoint form ≡ false → (a : Parts (slots form)) → Readable (of_form form (items_of (slots form) a))
-form_spoken (forms.Dropped which) kept own a = absurd (let bad : true ≡ false = kept in cc)
-form_spoken forms.Layout kept own a = record { reading = readings.Layout (lent a.0) (small a.1.0); is = refl }
-form_spoken forms.Declare kept own a = record { reading = readings.Declare a.0 (lent a.1.0.0) (small a.1.0.1); is = refl }
-form_spoken forms.Define kept own a =
+form_spoken : (form : Form) → is_dropped_form form ≡ false → (a : Parts (slots form)) → Readable (of_form form (items_of (slots form) a))
+form_spoken (forms.Dropped which) kept a = absurd (let bad : true ≡ false = kept in cc)
+form_spoken forms.Layout kept a = record { reading = readings.Layout (lent a.0) (small a.1.0); is = refl }
+form_spoken forms.Declare kept a = record { reading = readings.Declare a.0 (lent a.1.0.0) (small a.1.0.1); is = refl }
+form_spoken forms.Define kept a =
     let named = strategy_back a.1.1.0 in
     record {
       reading = readings.Define a.0 (lent a.1.0.0) (small a.1.0.1) named.0;
       is = ap (λ (s : Option (List ℕ)). of_form forms.Define (items.ty a.0 ∷ items.defined a.1.0.0 (map seen_argument a.1.0.1) ∷ items.strategy s ∷ [])) named.1;
     }
-form_spoken forms.Close kept own a = record { reading = readings.Close; is = refl }
-form_spoken (forms.Binary op) kept own a = record { reading = readings.Binary (lent a.0) op a.1.0 a.1.1.0 a.1.1.1.0; is = refl }
-form_spoken forms.Compare kept own a = record { reading = readings.Compare (lent a.0) a.1.0 a.1.1.0 a.1.1.1.0 a.1.1.1.1.0; is = refl }
-form_spoken (forms.Convert op) kept own a = record { reading = readings.Convert (lent a.0) op a.1.0 a.1.1.0 a.1.1.1.0; is = refl }
-form_spoken forms.Select kept own a = record { reading = readings.Select (lent a.0) a.1.0 a.1.1.0 a.1.1.1.0 a.1.1.1.1.0 a.1.1.1.1.1.0; is = refl }
-form_spoken forms.Phi kept own a = record { reading = readings.Phi (lent a.0) a.1.0 (small a.1.1.0); is = refl }
-form_spoken forms.ScalarElement kept own a = record { reading = readings.ScalarElement (lent a.0) a.1.0 a.1.1.0 a.1.1.1.0 a.1.1.1.1.0; is = refl }
-form_spoken forms.LayoutElement kept own a =
+form_spoken forms.Close kept a = record { reading = readings.Close; is = refl }
+form_spoken (forms.Binary op) kept a = record { reading = readings.Binary (lent a.0) op a.1.0 a.1.1.0 a.1.1.1.0; is = refl }
+form_spoken forms.Compare kept a = record { reading = readings.Compare (lent a.0) a.1.0 a.1.1.0 a.1.1.1.0 a.1.1.1.1.0; is = refl }
+form_spoken (forms.Convert op) kept a = record { reading = readings.Convert (lent a.0) op a.1.0 a.1.1.0 a.1.1.1.0; is = refl }
+form_spoken forms.Select kept a = record { reading = readings.Select (lent a.0) a.1.0 a.1.1.0 a.1.1.1.0 a.1.1.1.1.0 a.1.1.1.1.1.0; is = refl }
+form_spoken forms.Phi kept a = record { reading = readings.Phi (lent a.0) a.1.0 (small a.1.1.0); is = refl }
+form_spoken forms.ScalarElement kept a = record { reading = readings.ScalarElement (lent a.0) a.1.0 a.1.1.0 a.1.1.1.0 a.1.1.1.1.0; is = refl }
+form_spoken forms.LayoutElement kept a =
     record { reading = readings.LayoutElement (lent a.0) (lent a.1.0) a.1.1.0 a.1.1.1.0 a.1.1.1.1.0 a.1.1.1.1.1.0; is = refl }
-form_spoken forms.Load kept own a = record { reading = readings.Load (lent a.0) a.1.0 a.1.1.0; is = refl }
-form_spoken forms.Store kept own a = record { reading = readings.Store a.0 a.1.0 a.1.1.0; is = refl }
-form_spoken forms.ValueCall kept own a = record { reading = readings.ValueCall (lent a.0) a.1.0 (lent a.1.1.0.0) (small a.1.1.0.1); is = refl }
-form_spoken forms.VoidCall kept own a = record { reading = readings.VoidCall (lent a.0.0) (small a.0.1); is = refl }
-form_spoken forms.Jump kept own a = record { reading = readings.Jump (lent a.0); is = refl }
-form_spoken forms.Branch kept own a = record { reading = readings.Branch a.0 (lent a.1.0) (lent a.1.1.0); is = refl }
-form_spoken forms.Switch kept own a = record { reading = readings.Switch a.0 a.1.0 (lent a.1.1.0); is = refl }
-form_spoken forms.Case kept own a = record { reading = readings.Case a.0 a.1.0 (lent a.1.1.0); is = refl }
-form_spoken forms.SwitchEnd kept own a = record { reading = readings.SwitchEnd; is = refl }
-form_spoken forms.ReturnVoid kept own a = record { reading = readings.ReturnVoid; is = refl }
-form_spoken forms.Return kept own a = record { reading = readings.Return a.0 a.1.0; is = refl }
-form_spoken forms.Unreachable kept own a = record { reading = readings.Unreachable; is = refl }
-form_spoken (forms.Cast op) kept own a = record { reading = readings.Cast (lent a.0) op a.1.0 a.1.1.0 a.1.1.1.0; is = refl }
-form_spoken forms.Statepoint kept own a = absurd (let bad : true ≡ false = own in cc)
-form_spoken forms.GcResult kept own a = record { reading = readings.GcResult (lent a.0) a.1.0 (lent a.1.1.0); is = refl }
-form_spoken forms.GcRelocate kept own a = record { reading = readings.GcRelocate (lent a.0) (lent a.1.0) a.1.1.0 a.1.1.1.0; is = refl }
+form_spoken forms.Load kept a = record { reading = readings.Load (lent a.0) a.1.0 a.1.1.0; is = refl }
+form_spoken forms.Store kept a = record { reading = readings.Store a.0 a.1.0 a.1.1.0; is = refl }
+form_spoken forms.ValueCall kept a = record { reading = readings.ValueCall (lent a.0) a.1.0 (lent a.1.1.0.0) (small a.1.1.0.1); is = refl }
+form_spoken forms.VoidCall kept a = record { reading = readings.VoidCall (lent a.0.0) (small a.0.1); is = refl }
+form_spoken forms.Jump kept a = record { reading = readings.Jump (lent a.0); is = refl }
+form_spoken forms.Branch kept a = record { reading = readings.Branch a.0 (lent a.1.0) (lent a.1.1.0); is = refl }
+form_spoken forms.Switch kept a = record { reading = readings.Switch a.0 a.1.0 (lent a.1.1.0); is = refl }
+form_spoken forms.Case kept a = record { reading = readings.Case a.0 a.1.0 (lent a.1.1.0); is = refl }
+form_spoken forms.SwitchEnd kept a = record { reading = readings.SwitchEnd; is = refl }
+form_spoken forms.ReturnVoid kept a = record { reading = readings.ReturnVoid; is = refl }
+form_spoken forms.Return kept a = record { reading = readings.Return a.0 a.1.0; is = refl }
+form_spoken forms.Unreachable kept a = record { reading = readings.Unreachable; is = refl }
+form_spoken (forms.Cast op) kept a = record { reading = readings.Cast (lent a.0) op a.1.0 a.1.1.0 a.1.1.1.0; is = refl }
+form_spoken forms.Statepoint kept a = record { reading = readings.Statepoint (lent a.0) a.1.0 (small a.1.1.0); is = refl }
+form_spoken forms.GcResult kept a = record { reading = readings.GcResult (lent a.0) a.1.0 (lent a.1.1.0); is = refl }
+form_spoken forms.GcRelocate kept a = record { reading = readings.GcRelocate (lent a.0) (lent a.1.0) a.1.1.0 a.1.1.1.0; is = refl }
 
-pub line_is_read : (form : Form) (whole : List Item) (ts behind : List Tok) → is_dropped_form form ≡ false → is_statepoint form ≡ false
+pub line_is_read : (form : Form) (whole : List Item) (ts behind : List Tok) → is_dropped_form form ≡ false
     → parse (slots form) ts ≡ Some (whole, behind) → Readable (of_form form whole)
-line_is_read form whole ts behind kept own e =
+line_is_read form whole ts behind kept e =
     let parts = parse_spoken (slots form) ts whole behind e in
-    subst (λ (now : List Item). Readable (of_form form now)) parts.1 (form_spoken form kept own parts.0)
+    subst (λ (now : List Item). Readable (of_form form now)) parts.1 (form_spoken form kept parts.0)
