@@ -1,13 +1,14 @@
 //! The lines of a block, each beside what a line that computes numbers needs of its type and its operands.
 
-ghost use Rattle.std.specs.Prelude.{◌≡◌, ◌∷◌, ◌≤◌, [], take, drop, length, map, MatchOption, IfOk, IfSome, slice_get, slice_index_or};
+ghost use Rattle.std.specs.Prelude.{◌≡◌, ◌==◌, ◌∷◌, ◌≤◌, false, [], take, drop, length, map, MatchOption, IfOk, IfSome, slice_get};
+ghost use Rattle.std.specs.Option.{option_map_or};
 ghost use Rattle.ir_ast.specs.Insts.{Instruction};
 ghost use Rattle.ir_ast.specs.Objects.{number};
 ghost use Rattle.object_meaning.specs.Frames.{index_in};
 ghost use Rattle.object_meaning.specs.Jumps.{incoming};
 ghost use Rattle.object_meaning.specs.Registers.{operand};
 ghost use Rattle.machine_meaning.specs.Words.{worded_operand};
-ghost use Rattle.machine_lines.specs.Decoding.{decoded_of, label_in, source_at, source_of, found_word, stays};
+ghost use Rattle.machine_lines.specs.Decoding.{decoded_of, source_at, source_of, found_word, stays};
 ghost use Rattle.machine_lines.specs.Lines.{line_of};
 
 use crate::computing::is_plain;
@@ -16,11 +17,11 @@ use ir_ast::{Block, Inst, Op, Operand};
 use sp_ids::{BlockId, Memory};
 use std::alloc::Global;
 
-/// Where an operand is found: in a register, or where the frame has no such register, as a literal.
+/// Where an operand is found: in a register, or as a literal.
 #[derive(Clone, Copy, Debug)]
-pub struct Source {
-    pub register: usize,
-    pub literal: u64,
+pub enum Source {
+    Register(usize),
+    Literal(u64),
 }
 
 /// Whether a line may stay in its frame, has a result, and computes it as a number of numbers; the bits of its type, its first
@@ -34,8 +35,8 @@ pub struct Decoded {
     pub first: Source,
     pub second: Source,
     pub third: Source,
-    pub label: usize,
-    pub other: usize,
+    pub label: Option<BlockId>,
+    pub other: Option<BlockId>,
 }
 
 /// Instructions that follow one another, and each decoded.
@@ -134,9 +135,9 @@ impl Decoded {
     pub fn incoming(&self, registers: &[u64], from: u32) -> Option<u64>
         ensures { IfSome result (λ word. (phi : Instruction) → self.now ≡ decoded_of phi → incoming from (map number registers.now) (line_of 0 phi).inst ≡ number word) }
     {
-        if self.label == from as usize {
+        if is_from(self.label, from) {
             Some(self.first.word(registers))
-        } else if self.other == from as usize {
+        } else if is_from(self.other, from) {
             Some(self.second.word(registers))
         } else {
             None
@@ -148,20 +149,22 @@ impl Decoded {
     pub fn index(&self) -> u64
         ensures { (member : Instruction) → self.now ≡ decoded_of member → index_in (slice_get (map worded_operand member.operands) 2) ≡ result }
     {
-        self.third.literal
+        match self.third {
+            Source::Register(_) => 0,
+            Source::Literal(index) => index,
+        }
     }
 }
 
 impl Source {
-    /// The word that it is in a frame with these registers, which are never as many as a word can count.
+    /// The word that it is in a frame with these registers, of which those that aren't there are 0.
+    #[inline(always)]
     pub fn word(self, registers: &[u64]) -> u64
-        ensures value { result ≡ found_word registers.now self }
-        ensures few { length registers.now ≤ 18446744073709551615 }
+        ensures { result ≡ found_word registers.now self }
     {
-        if self.register < registers.len() {
-            registers[self.register]
-        } else {
-            self.literal
+        match self {
+            Source::Register(place) => registers.get(place).copied().unwrap_or(0),
+            Source::Literal(word) => word,
         }
     }
 }
@@ -198,8 +201,8 @@ fn decoded_of(inst: &Inst) -> Decoded
         first: source_at(inst.operands(), 0),
         second: source_at(inst.operands(), 1),
         third: source_at(inst.operands(), 2),
-        label: label_in(inst.labels(), 0),
-        other: label_in(inst.labels(), 1),
+        label: inst.labels().first().copied(),
+        other: inst.labels().get(1).copied(),
     }
 }
 
@@ -216,13 +219,14 @@ fn stays(op: &Op) -> bool
     }
 }
 
-// The block of a label, or what is none.
-fn label_in(labels: &[BlockId], place: usize) -> usize
-    ensures { result ≡ label_in labels.now place }
+// Whether there is a label, and it is this block.
+#[inline(always)]
+fn is_from(label: Option<BlockId>, from: u32) -> bool
+    ensures { result ≡ option_map_or (λ label. label.0 == from) label false }
 {
-    match labels.get(place) {
-        None => usize::MAX,
-        Some(label) => label.0 as usize,
+    match label {
+        None => false,
+        Some(label) => label.0 == from,
     }
 }
 
@@ -230,7 +234,7 @@ fn source_at(operands: &[Operand], place: usize) -> Source
     ensures { result ≡ source_at operands.now place }
 {
     match operands.get(place) {
-        None => literal(0),
+        None => Source::Literal(0),
         Some(operand) => source_of(*operand),
     }
 }
@@ -239,22 +243,9 @@ fn source_of(operand: Operand) -> Source
     ensures { result ≡ source_of operand }
 {
     match operand {
-        Operand::Value(id) => Source {
-            register: id.0 as usize,
-            literal: 0,
-        },
-        Operand::Int(number) => literal(number),
-        Operand::Null => literal(0),
-        Operand::Fun(_) => literal(0),
-    }
-}
-
-// No frame has so many registers.
-fn literal(number: u64) -> Source
-    ensures { result ≡ record { register = 18446744073709551615; literal = number } }
-{
-    Source {
-        register: usize::MAX,
-        literal: number,
+        Operand::Value(id) => Source::Register(id.0 as usize),
+        Operand::Int(number) => Source::Literal(number),
+        Operand::Null => Source::Literal(0),
+        Operand::Fun(_) => Source::Literal(0),
     }
 }
