@@ -58,8 +58,6 @@ decoded_of inst = record {
   first = source_at inst.operands 0;
   second = source_at inst.operands 1;
   third = source_at inst.operands 2;
-  label = slice_get inst.labels 0;
-  other = slice_get inst.labels 1;
 }
 
 -- the word at a source; a register that isn't there is 0

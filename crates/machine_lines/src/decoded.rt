@@ -1,6 +1,6 @@
 //! The lines of a block, each beside what a line that computes numbers needs of its type and its operands.
 
-ghost use Rattle.std.specs.Prelude.{◌≡◌, ◌==◌, ◌∷◌, ◌≤◌, false, [], take, drop, length, map, MatchOption, IfOk, IfSome, slice_get};
+ghost use Rattle.std.specs.Prelude.{◌≡◌, ◌==◌, ◌∷◌, ◌≤◌, ℕ, List, false, [], take, drop, length, map, MatchOption, IfOk, IfSome, slice_get};
 ghost use Rattle.std.specs.Option.{option_map_or};
 ghost use Rattle.ir_ast.specs.Insts.{Instruction};
 ghost use Rattle.ir_ast.specs.Objects.{number};
@@ -13,7 +13,7 @@ ghost use Rattle.machine_lines.specs.Lines.{line_of};
 
 use crate::computing::is_plain;
 use flat_code::width_of;
-use ir_ast::{Block, Inst, Op, Operand};
+use ir_ast::{Inst, Op, Operand};
 use sp_ids::{BlockId, Memory};
 use std::alloc::Global;
 
@@ -24,8 +24,8 @@ pub enum Source {
     Literal(u64),
 }
 
-/// Whether a line may stay in its frame, has a result, and computes it as a number of numbers; the bits of its type, its first
-/// three operands, and the blocks of its first two labels, where it has them.
+/// Whether a line may stay in its frame, has a result, and computes it as a number of numbers; the bits of its type, and its first
+/// three operands.
 #[derive(Clone, Copy, Debug)]
 pub struct Decoded {
     pub stays: bool,
@@ -35,8 +35,6 @@ pub struct Decoded {
     pub first: Source,
     pub second: Source,
     pub third: Source,
-    pub label: Option<BlockId>,
-    pub other: Option<BlockId>,
 }
 
 /// Instructions that follow one another, and each decoded.
@@ -130,20 +128,6 @@ impl Decoded {
         self.third.word(registers)
     }
 
-    /// The word of a phi that is decoded so on the edge from a block, where that is among the blocks of its first two entries.
-    #[inline(always)]
-    pub fn incoming(&self, registers: &[u64], from: u32) -> Option<u64>
-        ensures { IfSome result (λ word. (phi : Instruction) → self.now ≡ decoded_of phi → incoming from (map number registers.now) (line_of 0 phi).inst ≡ number word) }
-    {
-        if is_from(self.label, from) {
-            Some(self.first.word(registers))
-        } else if is_from(self.other, from) {
-            Some(self.second.word(registers))
-        } else {
-            None
-        }
-    }
-
     /// The index that a relocate names which is decoded so.
     #[inline(always)]
     pub fn index(&self) -> u64
@@ -169,18 +153,31 @@ impl Source {
     }
 }
 
-/// The instructions of each block, decoded.
-pub fn decoded_blocks(alloc: Global, blocks: &[Block]) -> Result<Vec<Vec<Decoded>>, Memory>
-    ensures { IfOk result (λ all. map (λ block. block.items) all.items ≡ map (λ block. map decoded_of block.insts) blocks.now) }
+/// Where a phi finds its word on the edge from a block, where that is among the blocks of its first two entries.
+pub fn incoming_source(phi: &Inst, from: u32) -> Option<Source>
+    ensures { IfSome result (λ source. (registers : List ℕ) → incoming from (map number registers) (line_of 0 phi.now).inst ≡ number (found_word registers source)) }
 {
-    let mut all = Vec::with_capacity(alloc, blocks.len())?;
-    for block in blocks {
-        all.push(decoded_all(alloc, block.insts())?)?;
+    if is_from(phi.labels(), 0, from) {
+        Some(source_at(phi.operands(), 0))
+    } else if is_from(phi.labels(), 1, from) {
+        Some(source_at(phi.operands(), 1))
+    } else {
+        None
     }
-    Ok(all)
 }
 
-fn decoded_all(alloc: Global, insts: &[Inst]) -> Result<Vec<Decoded>, Memory>
+// Whether there is a label at this place, and it is this block.
+fn is_from(labels: &[BlockId], place: usize, from: u32) -> bool
+    ensures { result ≡ option_map_or (λ label. label.0 == from) (slice_get labels.now place) false }
+{
+    match labels.get(place) {
+        None => false,
+        Some(label) => label.0 == from,
+    }
+}
+
+/// These instructions, decoded.
+pub fn decoded_all(alloc: Global, insts: &[Inst]) -> Result<Vec<Decoded>, Memory>
     ensures { IfOk result (λ list. list.items ≡ map decoded_of insts.now) }
 {
     let mut list = Vec::with_capacity(alloc, insts.len())?;
@@ -201,8 +198,6 @@ fn decoded_of(inst: &Inst) -> Decoded
         first: source_at(inst.operands(), 0),
         second: source_at(inst.operands(), 1),
         third: source_at(inst.operands(), 2),
-        label: inst.labels().first().copied(),
-        other: inst.labels().get(1).copied(),
     }
 }
 
@@ -216,17 +211,6 @@ fn stays(op: &Op) -> bool
         Op::Store => true,
         Op::Call { .. } => true,
         _ => is_plain(op),
-    }
-}
-
-// Whether there is a label, and it is this block.
-#[inline(always)]
-fn is_from(label: Option<BlockId>, from: u32) -> bool
-    ensures { result ≡ option_map_or (λ label. label.0 == from) label false }
-{
-    match label {
-        None => false,
-        Some(label) => label.0 == from,
     }
 }
 
