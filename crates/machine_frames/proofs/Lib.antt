@@ -1,4 +1,4 @@
 pub mod LineLemmas
 pub mod CodeLemmas
 pub mod FrameLemmas
-pub mod DecodeLemmas
+pub mod LandingLemmas
