@@ -18,7 +18,7 @@ ghost use Rattle.ir_machine.specs.Executors.{machinery, seen, DoesSo, GoesOnTo, 
 
 use crate::executor::{Did, Executor, Program};
 use ir_ast::{Callee, Inst, Op, Operand};
-use machine_frames::{keep, write_over};
+use machine_frames::keep;
 use machine_lines::{
     Decoded, Lines, branch_taken, case_taken, computed, go_over, is_plain, label_at, word_at,
 };
@@ -149,12 +149,11 @@ impl<'m, 'i> Executor<'m, 'i> {
             return Ok(false);
         }
         keep(
-            &mut self.words,
+            &mut self.run.stack,
             self.run.frame.registers.as_slice(),
             inst,
             arguments,
         )?;
-        write_over(&mut self.run.stack, self.words.as_slice())?;
         self.pass_poll(program, inst, rest)?;
         Ok(true)
     }
@@ -178,12 +177,11 @@ impl<'m, 'i> Executor<'m, 'i> {
             return Ok(false);
         }
         keep(
-            &mut self.words,
+            &mut self.run.stack,
             self.run.frame.registers.as_slice(),
             inst,
             arguments,
         )?;
-        write_over(&mut self.run.stack, self.words.as_slice())?;
         self.go_in(program, inst, rest, func, front(inst.operands(), arguments))?;
         Ok(true)
     }
@@ -378,12 +376,11 @@ impl<'m, 'i> Executor<'m, 'i> {
         ensures { IfOk result (DoesSo (calls_kept (machinery program.now) self.old inst.now rest.entry.insts.now callee arguments) self.new) }
     {
         keep(
-            &mut self.words,
+            &mut self.run.stack,
             self.run.frame.registers.as_slice(),
             inst,
             arguments,
         )?;
-        write_over(&mut self.run.stack, self.words.as_slice())?;
         self.call(
             program,
             inst,

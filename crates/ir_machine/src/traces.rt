@@ -14,7 +14,7 @@ ghost use Rattle.ir_machine.specs.Traces.{CallForeseen, IsForeseen, StepForeseen
 use crate::events::flip_of;
 use crate::executor::{Executor, Program};
 use ir_ast::{Callee, Inst, Op};
-use machine_frames::{Task, keep, write_over};
+use machine_frames::{Task, keep};
 use moving_heap::Moves;
 use run_traces::{Happening, Room, SlotChange, add_changes, add_moves};
 use sp_ids::Memory;
@@ -71,12 +71,11 @@ impl<'m, 'i> Executor<'m, 'i> {
         ensures heap { self.new.heap ≡ self.old.heap }
     {
         keep(
-            &mut self.words,
+            &mut self.run.stack,
             self.run.frame.registers.as_slice(),
             inst,
             arguments,
-        )?;
-        write_over(&mut self.run.stack, self.words.as_slice())
+        )
     }
 
     fn foresee_call(

@@ -5,7 +5,7 @@ ghost use Rattle.std.specs.Option.{option_map_or};
 ghost use Rattle.std.specs.List.{position};
 ghost use Rattle.ir_ast.specs.Objects.{number};
 ghost use Rattle.object_meaning.specs.Lines.{following, after_all};
-ghost use Rattle.object_meaning.specs.Registers.{put, put_all, value};
+ghost use Rattle.object_meaning.specs.Registers.{nothing, put, put_all, value};
 ghost use Rattle.object_meaning.specs.Jumps.{arrived, incoming, phi_write};
 ghost use Rattle.map_bytes.specs.Maps.{StackMap};
 ghost use Rattle.move_plan.specs.declared.plan_lines.PlanLine.{PlanLine};
@@ -66,6 +66,7 @@ impl<'m> Frame<'m> {
     }
 
     /// The same of a call whose arguments are what these operands are in the frame that calls.
+    #[inline(always)]
     pub(crate) fn called(
         room: Vec<u64>,
         code: &'m Code<'_>,
@@ -75,8 +76,7 @@ impl<'m> Frame<'m> {
     ) -> Result<Frame<'m>, Memory>
         ensures { IfOk result (λ frame. frame_of frame ≡ entered_in code.now func (map (value (map number from.now)) (map worded_operand operands.now))) }
     {
-        let arguments = words_of(room, from, operands)?;
-        let registers = filled(arguments, code.registers(func))?;
+        let registers = filled(room, code.registers(func), from, operands)?;
         Ok(Frame {
             func,
             block: 0,
@@ -229,26 +229,34 @@ fn registers_of(room: Vec<u64>, arguments: &[u64], count: usize) -> Result<Vec<u
     Ok(registers)
 }
 
-// What these operands are in a frame with the registers `from`.
-fn words_of(room: Vec<u64>, from: &[u64], operands: &[Operand]) -> Result<Vec<u64>, Memory>
-    ensures { IfOk result (λ words. map number words.items ≡ map (value (map number from.now)) (map worded_operand operands.now)) }
+// What these operands are in a frame with the registers `from`, and 0 in so many registers at least.
+#[inline(always)]
+fn filled(
+    room: Vec<u64>,
+    count: usize,
+    from: &[u64],
+    operands: &[Operand],
+) -> Result<Vec<u64>, Memory>
+    ensures { IfOk result (λ registers. map number registers.items ≡ map (value (map number from.now)) (map worded_operand operands.now) ++ replicate (count - length operands.now) nothing) }
 {
-    let mut words = room;
-    words.clear();
-    for operand in operands {
-        words.push(word(from, *operand))?;
-    }
-    Ok(words)
+    let mut registers = room;
+    registers.resize(count.max(operands.len()), 0)?;
+    fill(registers.as_mut_slice(), from, operands);
+    Ok(registers)
 }
 
-// These arguments, and 0 in so many registers at least.
-fn filled(arguments: Vec<u64>, count: usize) -> Result<Vec<u64>, Memory>
-    ensures { IfOk result (λ registers. registers.items ≡ arguments.items ++ replicate (count - length arguments.items) 0) }
+// What these operands are in a frame with the registers `from`, and 0 in all registers behind them.
+#[inline(always)]
+fn fill(registers: &mut [u64], from: &[u64], operands: &[Operand])
+    requires { length operands.now ≤ length registers.old }
+    ensures { map number registers.new ≡ map (value (map number from.now)) (map worded_operand operands.now) ++ replicate (length registers.old - length operands.now) nothing }
 {
-    let mut registers = arguments;
-    let given = registers.len();
-    registers.resize(count.max(given), 0)?;
-    Ok(registers)
+    for (place, operand) in operands.iter().enumerate() {
+        registers[place] = word(from, *operand);
+    }
+    for place in operands.len()..registers.len() {
+        registers[place] = 0;
+    }
 }
 
 // The members of a group get their values, of which the first goes to the register `first`. The register of the next result

@@ -72,6 +72,7 @@ impl<'m> Task<'m> {
     }
 
     /// The same of a call whose arguments are what these operands are in the frame that runs.
+    #[inline(always)]
     pub fn call(
         &mut self,
         alloc: Global,
@@ -109,6 +110,7 @@ impl<'m> Task<'m> {
     }
 
     /// The newest of the frames that wait runs again, and the running one is gone. Whether there was one.
+    #[inline(always)]
     pub fn leave(&mut self, code: &Code) -> Result<bool, Memory>
         ensures { IfOk result (λ left. Leaves code.now self.old left self.new) }
     {

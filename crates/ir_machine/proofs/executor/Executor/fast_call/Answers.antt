@@ -19,9 +19,7 @@ returns c =
     let callee : Callee = Fun (record { 0 = c.args.func }) in
     let operands : map worded_operand c.front.result.now ≡ take c.args.arguments (map worded_operand inst.operands) =
     ap (map worded_operand) (c.front.ensures ∙ ap (take c.args.arguments) c.operands.ensures) ∙ sym (take-map worded_operand c.args.arguments inst.operands) in
-    let kept_so : c.keep.new.words.items ≡ kept_in (map number now.run.frame.registers.items) inst c.args.arguments = rw c.as_slice.ensures.value at c.in_ok-keep.ensures in
-    let stack : c.write_over.new.stack ≡ over (kept_in (map number now.run.frame.registers.items) inst c.args.arguments) now.run.stack =
-    c.in_ok-write_over.ensures ∙ ap (λ (ws : List ℕ). over ws now.run.stack) (c.as_slice-2.ensures.value ∙ kept_so) in
+    let stack : c.keep.new.stack ≡ over (kept_in (map number now.run.frame.registers.items) inst c.args.arguments) now.run.stack = rw c.as_slice.ensures.value at c.in_ok-keep.ensures in
     sym (ap (calls all (spilled (seen now) line.inst c.args.arguments) line lines callee) operands)
     ∙ sym (ap (λ (words : List ℕ). calls all (record (seen now) { stack = words }) line lines callee (map worded_operand c.front.result.now)) stack)
     ∙ c.in_ok-go_in.ensures

@@ -17,9 +17,7 @@ returns c =
     let now = c.args.self.now in let inst = c.args.inst.now in let next = now.run.frame.next in let all = machinery c.args.program.now in
     let line = line_of next inst in let lines = lines_left (following next inst) c.args.rest.insts.now in
     let front : List Operand = take c.args.arguments inst.operands in
-    let kept_so : c.keep.new.words.items ≡ kept_in (map number now.run.frame.registers.items) inst c.args.arguments = rw c.as_slice.ensures.value at c.in_ok-keep.ensures in
-    let stack : c.write_over.new.stack ≡ over (kept_in (map number now.run.frame.registers.items) inst c.args.arguments) now.run.stack =
-    c.in_ok-write_over.ensures ∙ ap (λ (ws : List ℕ). over ws now.run.stack) (c.as_slice-2.ensures.value ∙ kept_so) in
+    let stack : c.keep.new.stack ≡ over (kept_in (map number now.run.frame.registers.items) inst c.args.arguments) now.run.stack = rw c.as_slice.ensures.value at c.in_ok-keep.ensures in
     ap (calls all (spilled (seen now) line.inst c.args.arguments) line lines Poll) (take-map worded_operand c.args.arguments inst.operands)
     ∙ sym (ap (λ (words : List ℕ). calls all (record (seen now) { stack = words }) line lines Poll (map worded_operand front)) stack)
     ∙ c.in_ok-pass_poll.ensures front
