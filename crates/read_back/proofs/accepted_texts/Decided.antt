@@ -1,7 +1,7 @@
 -- Whether a path to a place meets a definition is decided.
 use Rattle.std.proofs.Common.{◌≡◌, ◌∙◌, ◌⊎◌, ℕ, zero, suc, ◌<◌, ◌≤◌, inl, inr, refl, sym, ap, subst, Bool, true, false, List, [], ◌∷◌, ◌++◌, length, Option, Some, None, arith}
 use Rattle.std.specs.Prelude.{slice_get, is_some}
-use Rattle.std.proofs.lemmas.Bool.{cases_eq}
+use Rattle.std.proofs.lemmas.Bool.{cases_eq, cases_order}
 use Rattle.std.proofs.lemmas.Option.{slice_get_within}
 use Rattle.ir_ast.specs.Blocks.{BasicBlock}
 use Rattle.ir_ast.specs.Faults.GroupShape.{number_at}
@@ -10,10 +10,17 @@ use Rattle.ir_ast.specs.Insts.{Instruction}
 use Rattle.ir_cfg.specs.DefiniteUses.{Defines, Meets, in_arguments, in_earlier, in_last, text_place}
 use Rattle.ir_cfg.specs.Graphs.{Graph, graph_of}
 use Rattle.ir_cfg.specs.Paths.{Path, at_entry, along}
-use Rattle.read_back.proofs.accepted_texts.ShortLines.{less_or_not}
 
 abbrev Decided : Type 0 → Type 0
 Decided P = P ⊎ (¬ P)
+
+less_or_not : (n m : ℕ) → (n < m) ⊎ (m ≤ n)
+less_or_not n m = by (cases_order n m)
+  where
+    by : (n ≡ m) ⊎ ((n < m) ⊎ (m < n)) → (n < m) ⊎ (m ≤ n)
+    by (inl same) = inr (omega (arith, same))
+    by (inr (inl below)) = inl below
+    by (inr (inr above)) = inr (omega (arith, above))
 
 same_one : {A : Type 0} (x y : A) → Some x ≡ Some y → x ≡ y
 same_one x y e = cc
