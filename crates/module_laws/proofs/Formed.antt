@@ -3,7 +3,7 @@ use Rattle.std.proofs.Common.{◌≡◌, ◌∙◌, ℕ, zero, suc, refl, sym, a
 use Rattle.std.specs.Prelude.{nat_le, codes, if◌then◌else◌, Option, Some, None}
 use Rattle.std.specs.List.{list_all}
 use Rattle.std.proofs.lemmas.Bool.{and_from, le-leb}
-use Rattle.sp_text.specs.Tokens.{Tok, tokens}
+use Rattle.sp_text.specs.Tokens.{Tok}
 use Rattle.ir_ast.specs.declared.ops.Pred.{Pred}
 use Rattle.line_parts.specs.declared.readings.TypeWord.{TypeWord}
 use Rattle.line_parts.specs.declared.readings.TypeWord.TheVariants as types
@@ -15,7 +15,7 @@ use Rattle.group_parts.specs.Statepoints.{Signature, Guarded, signature_at, elem
 use Rattle.line_tokens.specs.Marks.{is_mark, begins}
 use Rattle.line_parts.specs.Drops.{past, past_all}
 use Rattle.line_parts.specs.Parts.{Val, word_at, mark_at, name_if_any, global_at, value_at, spelled_type_at, allowed_type_at, case_value_at, is_value_type, is_answer_type, is_scalar_type, is_case_value}
-use Rattle.line_parts.specs.Lists.{Named, Given, given, function, at_most_at, listed_at, list_to, comma, is_argument_type, argument_at, arguments_at, is_task_start, head_at, given_behind, passed_at, all_passed_at, called_at, entry_at, begins_entry, entries_at}
+use Rattle.line_parts.specs.Lists.{Named, Given, given, function, at_most_at, listed_at, list_to, comma, is_argument_type, argument_at, arguments_at, is_task_start, head_at, given_behind, passed_at, all_passed_at, called_at, entry_at, begins_entry}
 use Rattle.line_forms.specs.Slots.{Item, Slot, part, parse, says, says_nothing, blank, m, w, g, dropped, a_managed, a_quoted, a_hash, to_brace, a_local, a_layout_name, a_width, a_type, an_answer, a_cast_type, a_value, a_case, a_pred, a_scalar, a_layout, a_place, some_fields, some_entries, a_declared, a_defined, a_called, a_strategy, a_statepoint_type, a_family_answer, a_family, a_bracketing, a_token, a_guarded, a_live, a_result, a_number}
 use Rattle.line_forms.specs.Slots as items
 
@@ -52,7 +52,7 @@ tells test x y r s e h = sym (ap test (first-is x y r s e)) ∙ h
 
 chosen-by : {A : Type 0} (allows : A → Bool) (b : Bool) (x y : A) (r s : List Tok) → allows x ≡ b
     → (if b then found x r else None) ≡ found y s → allows y ≡ true
-chosen-by allows true x y r s c e = sym (ap allows (first-is x y r s e)) ∙ c
+chosen-by allows true x y r s c e = tells allows x y r s e c
 chosen-by {A} allows false x y r s c e = absurd (let bad : None ≡ found y s = e in cc)
 
 chosen : {A : Type 0} (allows : A → Bool) (what : Found A) (y : A) (s : List Tok)
@@ -135,8 +135,7 @@ argument-type plain ts one rest e =
     let h = went (allowed_type_at (is_argument_type plain) ts) (λ ty ts.
     let named = name_if_any (past_all drops.Groups ts) in Some (record { ty = ty; name = named.0 }, named.1)) (one, rest) e in
     let named = name_if_any (past_all drops.Groups h.rest) in
-    let is : record { ty = h.x; name = named.0 } ≡ one = first-is (record { ty = h.x; name = named.0 }) one named.1 rest h.more in
-    ap (λ (a : Named). is_argument_type plain a.ty) (sym is) ∙ allowed-type (is_argument_type plain) ts h.x h.rest h.is
+    tells (λ (a : Named). is_argument_type plain a.ty) (record { ty = h.x; name = named.0 }) one named.1 rest h.more (allowed-type (is_argument_type plain) ts h.x h.rest h.is)
 
 abbrev takes : List ℕ × List Named → Bool
 takes head = list_all (λ one. is_argument_type false one.ty) head.1
@@ -232,9 +231,9 @@ element-answer ts s rest e =
     let d = went (mark_at (codes ")") c.rest) (λ _ ts. Some (c.x, ts)) (s, rest) c.more in
     tells answers c.x s d.rest rest d.more (signature-answer b.rest c.x c.rest c.is)
 
-same-if : {A : Type 0} (b : Bool) (x y : A) (r s : List Tok) → (if b then found x r else None) ≡ found y s → x ≡ y
-same-if true x y r s e = first-is x y r s e
-same-if {A} false x y r s e = absurd (let bad : None ≡ found y s = e in cc)
+tells-if : {A : Type 0} (test : A → Bool) (b : Bool) (x y : A) (r s : List Tok) → (if b then found x r else None) ≡ found y s → test x ≡ true → test y ≡ true
+tells-if test true x y r s e h = tells test x y r s e h
+tells-if {A} test false x y r s e h = absurd (let bad : None ≡ found y s = e in cc)
 
 target-answer : (ts : List Tok) (t : Signature × List ℕ) (rest : List Tok) → target_at ts ≡ Some (t, rest) → is_answer_type t.0.answer ≡ true
 unfolding target_at
@@ -244,8 +243,8 @@ target-answer ts t rest e =
     let b = went (element_at (past_all drops.BesideElementType a.rest)) (λ s ts.
     after (global_at (past_all drops.BesideElementType ts)) (λ name ts. named_target s name ts)) (t, rest) a.more in
     let c = went (global_at (past_all drops.BesideElementType b.rest)) (λ name ts. named_target b.x name ts) (t, rest) b.more in
-    let same : (b.x, c.x) ≡ t = same-if (is_type_of c.x b.x) (b.x, c.x) t c.rest rest c.more in
-    sym (ap (λ (one : Signature × List ℕ). is_answer_type one.0.answer) same) ∙ element-answer (past_all drops.BesideElementType a.rest) b.x b.rest b.is
+    tells-if (λ (one : Signature × List ℕ). answers one.0) (is_type_of c.x b.x) (b.x, c.x) t c.rest rest c.more
+    (element-answer (past_all drops.BesideElementType a.rest) b.x b.rest b.is)
 
 handed-by : (plain b : Bool) (ts : List Tok) (xs : List Given) (rest : List Tok)
     → (if b then listed_at (passed_at plain) begins_argument (past (is_mark (codes ",")) ts) else Some ([], ts)) ≡ Some (xs, rest) → list_all passes xs ≡ true
@@ -282,8 +281,7 @@ unfolding result_at
 result-type ts ty rest e =
     let a = went (allowed_type_at is_value_type ts) (λ ty rest. after (global_at rest) (λ name end. named_result ty (suffix_of ty ts) name end)) (ty, rest) e in
     let b = went (global_at a.rest) (λ name end. named_result a.x (suffix_of a.x ts) name end) (ty, rest) a.more in
-    let same = same-if (is_result_of (suffix_of a.x ts) b.x) a.x ty b.rest rest b.more in
-    ap is_value_type (sym same) ∙ allowed-type is_value_type ts a.x a.rest a.is
+    tells-if is_value_type (is_result_of (suffix_of a.x ts) b.x) a.x ty b.rest rest b.more (allowed-type is_value_type ts a.x a.rest a.is)
 
 -- ---- what stands at slots
 

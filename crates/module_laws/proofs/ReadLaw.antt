@@ -1,5 +1,5 @@
 -- The lines of a text that has readings are as a reader gives them.
-use Rattle.std.proofs.Common.{ℕ, Ok, ◌≡◌, ◌+◌, ◌≤◌, refl, Bool, true, false, not, List, [], ◌∷◌, map, length, arith}
+use Rattle.std.proofs.Common.{ℕ, Ok, ◌≡◌, ◌+◌, ◌≤◌, refl, Bool, true, false, not, List, [], ◌∷◌, length, arith}
 use Rattle.std.specs.List.{All, AllByRecursion, Contains, sum_by}
 use Rattle.std.proofs.lemmas.List.{length-map}
 use Rattle.std.proofs.lemmas.List.Sums.{count_by-le-length}

@@ -16,7 +16,7 @@ use Rattle.line_tokens.specs.declared.words.Dropped.TheVariants as drops
 use Rattle.line_parts.specs.Gives.{Found, after, one_at, with_rest}
 use Rattle.line_tokens.specs.Marks.{is_mark, is_word, is_number, is_quoted, local_of, global_of, stands, begins}
 use Rattle.line_tokens.specs.Numbers.{width_of}
-use Rattle.line_parts.specs.Drops.{past, past_all, past_at_most, past_dropped, past_group, past_word, past_quoted_value, past_bracketing, after_bracket, is_attribute_word}
+use Rattle.line_parts.specs.Drops.{past, past_all, past_at_most, past_group, past_word, past_quoted_value, past_bracketing, after_bracket, is_attribute_word}
 use Rattle.line_parts.specs.Parts.{word_at, mark_at, local_at, global_at, addrspace_at, is_one, pointer_at, other_type_at, type_behind, spelled_type_at, allowed_type_at, name_if_any, is_answer_type}
 use Rattle.line_parts.specs.Lists.{Named, at_most_at, listed_at, list_to, comma, is_argument_type, argument_at, arguments_at, is_task_start, head_at}
 use Rattle.line_forms.specs.Slots.{Item, Slot, says, part, parse, blank, w, dropped, a_local, a_layout_name, an_answer, a_defined}

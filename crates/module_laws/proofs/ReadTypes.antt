@@ -1,5 +1,5 @@
 -- What a line of a text says, by what stands at its slots, its limits and its names.
-use Rattle.std.proofs.Common.{◌≡◌, ℕ, refl, subst, Bool, true, false, ◌&&◌, List, [], ◌∷◌, length, Some}
+use Rattle.std.proofs.Common.{◌≡◌, ℕ, refl, subst, true, false, ◌&&◌, List, [], ◌∷◌, length, Some}
 use Rattle.std.specs.Prelude.{nat_le, slice_get}
 use Rattle.std.specs.List.{AllByRecursion, list_all}
 use Rattle.std.proofs.lemmas.Bool.{leb-true}
@@ -9,7 +9,7 @@ use Rattle.sp_text.specs.Tokens.{tokens}
 use Rattle.ir_ast.specs.Widths.{IsWidth}
 use Rattle.line_parts.specs.declared.readings.TypeWord.{TypeWord}
 use Rattle.line_parts.specs.declared.readings.TypeWord.TheVariants.{Void, Int, Managed, Plain}
-use Rattle.line_parts.specs.Parts.{Val, is_value_type, is_answer_type}
+use Rattle.line_parts.specs.Parts.{is_value_type, is_answer_type}
 use Rattle.line_parts.specs.Lists.{Named, Given, given, function, is_argument_type}
 use Rattle.line_forms.specs.declared.forms.Form.{Form}
 use Rattle.line_forms.specs.declared.forms.Form.TheVariants as forms
