@@ -8,7 +8,9 @@ ghost use Rattle.line_parts.specs.Seen.{seen_value};
 ghost use Rattle.group_parts.specs.Statepoints.{live_entry_at, is_live_tag, bundle_at, live_at};
 
 use crate::marks::is_live_tag;
+use crate::readings::LiveEntries;
 use line_parts::{Cursor, Stop, Value};
+use smallvec::SmallVec;
 use std::alloc::Global;
 
 #[tactic(auto, unfolding(crate::specs::Statepoints::live_entry_at, line_parts::specs::Gives::after))]
@@ -19,10 +21,10 @@ fn live_entry<'a>(cursor: &mut Cursor<'a>) -> Result<Value<'a>, Stop>
     cursor.value()
 }
 
-fn some_live<'a>(cursor: &mut Cursor<'a>, alloc: Global) -> Result<Vec<Value<'a>>, Stop>
+fn some_live<'a>(cursor: &mut Cursor<'a>, alloc: Global) -> Result<LiveEntries<'a>, Stop>
     ensures { Gives (λ live. map seen_value live.items) result cursor.new (listed_at live_entry_at comma cursor.old) }
 {
-    let mut live = Vec::new(alloc);
+    let mut live = SmallVec::new(alloc);
     loop {
         let entry = live_entry(cursor)?;
         live.push(entry)?;
@@ -34,11 +36,11 @@ fn some_live<'a>(cursor: &mut Cursor<'a>, alloc: Global) -> Result<Vec<Value<'a>
 }
 
 #[tactic(auto, unfolding(line_parts::specs::Lists::list_to))]
-fn live_entries<'a>(cursor: &mut Cursor<'a>, alloc: Global) -> Result<Vec<Value<'a>>, Stop>
+fn live_entries<'a>(cursor: &mut Cursor<'a>, alloc: Global) -> Result<LiveEntries<'a>, Stop>
     ensures { Gives (λ live. map seen_value live.items) result cursor.new (list_to live_entry_at (codes ")") cursor.old) }
 {
     if cursor.begins_mark(b")") {
-        return Ok(Vec::new(alloc));
+        return Ok(SmallVec::new(alloc));
     }
     some_live(cursor, alloc)
 }
@@ -59,7 +61,7 @@ fn live_tag(cursor: &mut Cursor) -> Result<(), Stop>
 }
 
 #[tactic(auto, unfolding(crate::specs::Statepoints::bundle_at, line_parts::specs::Gives::after))]
-fn bundle<'a>(cursor: &mut Cursor<'a>, alloc: Global) -> Result<Vec<Value<'a>>, Stop>
+fn bundle<'a>(cursor: &mut Cursor<'a>, alloc: Global) -> Result<LiveEntries<'a>, Stop>
     ensures { Gives (λ live. map seen_value live.items) result cursor.new (bundle_at cursor.old) }
 {
     cursor.mark(b"[")?;
@@ -73,11 +75,11 @@ fn bundle<'a>(cursor: &mut Cursor<'a>, alloc: Global) -> Result<Vec<Value<'a>>, 
 
 /// The live entries of a statepoint: none, where no bundle stands there.
 #[tactic(auto, unfolding(crate::specs::Statepoints::live_at))]
-pub fn live_if_any<'a>(cursor: &mut Cursor<'a>, alloc: Global) -> Result<Vec<Value<'a>>, Stop>
+pub fn live_if_any<'a>(cursor: &mut Cursor<'a>, alloc: Global) -> Result<LiveEntries<'a>, Stop>
     ensures { Gives (λ live. map seen_value live.items) result cursor.new (live_at cursor.old) }
 {
     if !cursor.begins_mark(b"[") {
-        return Ok(Vec::new(alloc));
+        return Ok(SmallVec::new(alloc));
     }
     bundle(cursor, alloc)
 }

@@ -14,6 +14,6 @@ pub use bundles::live_if_any;
 pub use declarations::{bracketing, family_answer, family_name};
 pub use marks::{number_of, token_name};
 pub use passing::guarded;
-pub use readings::{FunctionType, StatepointCall};
+pub use readings::{FunctionType, LiveEntries, Parameters, StatepointCall};
 pub use results::{relocate_function, result_type, statepoint_function};
 pub use targets::statepoint_type;

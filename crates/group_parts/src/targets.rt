@@ -8,9 +8,10 @@ ghost use Rattle.line_parts.specs.Lists.{is_argument_type, listed_at, list_to, c
 ghost use Rattle.group_parts.specs.Statepoints.{first_types_at, last_types_at, statepoint_type_at, signature_at, is_plain, is_type_of, element_at, target_at};
 ghost use Rattle.group_parts.specs.Seen.{seen_type};
 
-use crate::readings::FunctionType;
+use crate::readings::{FunctionType, Parameters};
 use line_parts::{Cursor, Stop, TypeWord};
 use line_tokens::{Dropped, is_text};
+use smallvec::SmallVec;
 use std::alloc::Global;
 
 fn is_plain(ty: TypeWord) -> bool
@@ -70,10 +71,10 @@ pub fn statepoint_type(cursor: &mut Cursor) -> Result<(), Stop>
     last_types(cursor)
 }
 
-fn some_parameters(cursor: &mut Cursor, alloc: Global) -> Result<Vec<TypeWord>, Stop>
+fn some_parameters(cursor: &mut Cursor, alloc: Global) -> Result<Parameters, Stop>
     ensures { Gives (λ types. types.items) result cursor.new (listed_at (allowed_type_at (is_argument_type true)) comma cursor.old) }
 {
-    let mut parameters = Vec::new(alloc);
+    let mut parameters = SmallVec::new(alloc);
     loop {
         let parameter = cursor.argument_type(true)?;
         parameters.push(parameter)?;
@@ -85,11 +86,11 @@ fn some_parameters(cursor: &mut Cursor, alloc: Global) -> Result<Vec<TypeWord>, 
 }
 
 #[tactic(auto, unfolding(line_parts::specs::Lists::list_to))]
-fn parameters(cursor: &mut Cursor, alloc: Global) -> Result<Vec<TypeWord>, Stop>
+fn parameters(cursor: &mut Cursor, alloc: Global) -> Result<Parameters, Stop>
     ensures { Gives (λ types. types.items) result cursor.new (list_to (allowed_type_at (is_argument_type true)) (codes ")") cursor.old) }
 {
     if cursor.begins_mark(b")") {
-        return Ok(Vec::new(alloc));
+        return Ok(SmallVec::new(alloc));
     }
     some_parameters(cursor, alloc)
 }

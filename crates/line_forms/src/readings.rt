@@ -1,4 +1,4 @@
-use group_parts::StatepointCall;
+use group_parts::{LiveEntries, StatepointCall};
 use ir_ast::Pred;
 use line_parts::{AllPassed, Arguments, Entries, Fields, TypeWord, Value};
 use line_tokens::{Binary, Cast, Conversion, Literal};
@@ -156,7 +156,7 @@ pub enum Reading<'a> {
     Statepoint {
         result: &'a [u8],
         call: StatepointCall<'a>,
-        live: Vec<Value<'a>>,
+        live: LiveEntries<'a>,
     },
     /// `%x = call T @llvm.experimental.gc.result.S(token %t)`, in the rewritten form
     GcResult {

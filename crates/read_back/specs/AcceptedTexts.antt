@@ -1,9 +1,7 @@
 -- What a text that is accepted stands for.
 use Rattle.std.specs.Prelude.{◌≡◌, ◌≤◌, ℕ, List, length, Ok}
 use Rattle.std.specs.List.{All}
-use Rattle.std.specs.declared.alloc.Global.{Global}
 use Rattle.ir_ast.specs.declared.modules.Form.{Form}
-use Rattle.ir_ast.specs.declared.modules.Form.TheVariants.{Rewritten, Source}
 use Rattle.ir_ast.specs.Bundles.{HasNoBundle}
 use Rattle.ir_cfg.specs.TypedModules.{IsModuleOf}
 use Rattle.ir_lines.specs.Modules.{module_of}
@@ -16,8 +14,3 @@ abbrev pub AcceptedIsOf : Form → Type 0
 AcceptedIsOf form = (text : List ℕ) (readings : List Numbered) → length text ≤ 16777216 → readings_in form text ≡ Ok readings
     → HasNoFault form (lines_of readings)
     → IsModuleOf form (module_of form (lines_of readings)).content × All HasNoBundle (module_of form (lines_of readings)).content.funcs
-
--- the readings of statepoints hold vectors, so that for a text in the rewritten form there must be an allocator
-abbrev pub Needs : Form → Type 0
-Needs Source = Unit {0}
-Needs Rewritten = Global

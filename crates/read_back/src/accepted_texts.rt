@@ -2,15 +2,12 @@
 ghost use Rattle.ir_ast.specs.declared.modules.Form.{Form};
 ghost use Rattle.read_back.specs.AcceptedTexts.{AcceptedIsOf};
 
-use std::alloc::Global;
-
 /// The module of each text in the source form that has readings, and these no fault, is a source module without bundles.
 pub fn accepted_is_source()
     ensures { AcceptedIsOf Form.Source }
 {}
 
-/// And that of a text in the rewritten form is a target module without bundles. The readings of statepoints hold vectors, so that it
-/// takes an allocator.
-pub fn accepted_is_target(_alloc: Global)
+/// And that of a text in the rewritten form is a target module without bundles.
+pub fn accepted_is_target()
     ensures { AcceptedIsOf Form.Rewritten }
 {}

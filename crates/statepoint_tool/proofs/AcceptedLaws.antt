@@ -9,7 +9,6 @@ use Rattle.ir_lines.specs.Statements.{Line}
 use Rattle.ir_types.specs.FaultSet.{HasNoFault}
 use Rattle.moves_unseen.specs.Waits.{IsSound}
 use Rattle.pair_facts.specs.Faults.{IsVerified}
-use Rattle.read_back.specs.AcceptedTexts.{Needs}
 use Rattle.read_back.proofs.accepted_texts.Accepted.{accepted_is_of}
 use Rattle.statepoint_tool.specs.Causes.{IsAccepted}
 use Rattle.statepoint_tool.specs.Complete.{IsTold}
@@ -31,14 +30,14 @@ abbrev pub IsBareModule : TextForm → List Line → Type 0
 IsBareModule form lines = IsModuleOf form (content_of form lines) × All HasNoBundle (content_of form lines).funcs
 
 -- it is a source module, or of a rewritten text a target module, without bundles
-pub module_of_accepted : (form : TextForm) → Needs form → (text : List ℕ) (lines : List Line) → length text ≤ 16777216 → IsAccepted form text lines → IsBareModule form lines
-module_of_accepted form needs text lines within accepted =
+pub module_of_accepted : (form : TextForm) (text : List ℕ) (lines : List Line) → length text ≤ 16777216 → IsAccepted form text lines → IsBareModule form lines
+module_of_accepted form text lines within accepted =
     subst (IsBareModule form) (sym accepted.read.are)
-    (accepted_is_of form needs text accepted.read.readings within accepted.read.read (subst (HasNoFault form) accepted.read.are accepted.faultless))
+    (accepted_is_of form text accepted.read.readings within accepted.read.read (subst (HasNoFault form) accepted.read.are accepted.faultless))
 
 -- and sound where the verifier finds no fault
 pub sound_of_accepted : Global → (text : List ℕ) (lines : List Line) → length text ≤ 16777216 → IsAccepted text_forms.Rewritten text lines
     → IsVerified (content_of text_forms.Rewritten lines) → IsSound (content_of text_forms.Rewritten lines)
 sound_of_accepted alloc text lines within accepted none =
-    let is = module_of_accepted text_forms.Rewritten alloc text lines within accepted in
+    let is = module_of_accepted text_forms.Rewritten text lines within accepted in
     record { target = is.0; bundles = is.1; verified = none }

@@ -146,7 +146,7 @@ module _ (words : List (List ℕ)) (given : Given) (places trace : Bool) (run : 
   as_meant : (files : FilesSeen) (out notes : SinkSeen) (status : Status) → IsAnswer words files out notes status → length run.text ≤ 16777216
       → AllTold files (command_of words) given → ¬ SinkFailed out → IsRunAsMeant run status out notes
   as_meant files out notes status answer within told sure =
-      let is = module_of_accepted text_forms.Source tt run.text run.lines within run.accepted in
+      let is = module_of_accepted text_forms.Source run.text run.lines within run.accepted in
       let found = gives_some (source_setting source (go run.plan) run.request.steps) run.input in
       let moved : IsRunOnMachine source run.input run.plan run.request.steps found.outcome =
       sources_run_on_machine source run.known.reached is.0 is.1 run.known.drops run.input run.plan run.request.steps found.outcome found.gives in

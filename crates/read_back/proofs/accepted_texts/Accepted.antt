@@ -18,7 +18,7 @@ use Rattle.ir_lines.specs.Statements.{Line, lines_of}
 use Rattle.ir_types.specs.FaultSet.{HasNoFault, plain, not_definite}
 use Rattle.module_laws.specs.TextFunctions.{IsTextFunction}
 use Rattle.module_laws.proofs.TypedTexts.{text_made, text_typed}
-use Rattle.read_back.specs.AcceptedTexts.{AcceptedIsOf, Needs}
+use Rattle.read_back.specs.AcceptedTexts.{AcceptedIsOf}
 use Rattle.read_back.proofs.accepted_texts.Decided.{meets_or_not}
 
 -- ---- uses are definite where no path misses a definition
@@ -47,12 +47,12 @@ module _ (form : Form) (lines : List Line) (none : HasNoFault form lines) where
   all_definite : All UsesAreDefinite (module_of form lines).content.funcs
   all_definite = all_from_at UsesAreDefinite (module_of form lines).content.funcs definite
 
-pub accepted_is_of : (form : Form) → Needs form → AcceptedIsOf form
-accepted_is_of form needs text readings small read none =
+pub accepted_is_of : (form : Form) → AcceptedIsOf form
+accepted_is_of form text readings small read none =
     let clean : HasNoResolvedFault form (lines_of readings) = no_plain form (lines_of readings) none in (
       record { typed = text_typed form text readings small read clean; definite = all_definite form (lines_of readings) none },
       All-weaker IsTextFunction HasNoBundle (λ func own. own.no_bundle) (module_of form (lines_of readings)).content.funcs (text_made form text readings small read clean),
     )
 
 pub accepted_is_source : AcceptedIsOf Source
-accepted_is_source = accepted_is_of Source tt
+accepted_is_source = accepted_is_of Source

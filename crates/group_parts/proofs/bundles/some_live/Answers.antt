@@ -22,7 +22,7 @@ returns-in_err-entry c =
 pub returns-then-not-begins_mark : goal.returns-then-not-begins_mark
 returns-then-not-begins_mark c =
     let lt = shorter_is _ (live_entry_at c.loop-live.cursor) (seen_value c.in_ok-entry.entry) c.live_entry.new.cursor (live_entry_at-shorter c.loop-live.cursor) c.in_ok-entry.ensures in
-    rw (c.in_ok-push.ensures.items, map_push seen_value c.loop-live.live.items c.in_ok-entry.entry) (reached_end live_entry_at comma c.args.cursor.now (map seen_value c.loop-live.live.items) c.loop-live.cursor (seen_value c.in_ok-entry.entry) c.live_entry.new.cursor
+    rw (c.in_ok-push.ensures.ok, map_push seen_value c.loop-live.live.items c.in_ok-entry.entry) (reached_end live_entry_at comma c.args.cursor.now (map seen_value c.loop-live.live.items) c.loop-live.cursor (seen_value c.in_ok-entry.entry) c.live_entry.new.cursor
     c.loop-live.invariant c.in_ok-entry.ensures lt (sym c.begins_mark.ensures ∙ c.if-not-begins_mark.true))
 
 pub loop-live-smaller : goal.loop-live-smaller
@@ -33,5 +33,5 @@ loop-live-smaller c =
 pub loop-live-preserved : goal.loop-live-preserved
 loop-live-preserved c =
     let lt = shorter_is _ (live_entry_at c.loop-live.cursor) (seen_value c.in_ok-entry.entry) c.live_entry.new.cursor (live_entry_at-shorter c.loop-live.cursor) c.in_ok-entry.ensures in
-    rw (c.pass_comma.ensures, c.in_ok-push.ensures.items, map_push seen_value c.loop-live.live.items c.in_ok-entry.entry) (reached_next live_entry_at comma c.args.cursor.now (map seen_value c.loop-live.live.items) c.loop-live.cursor (seen_value c.in_ok-entry.entry) c.live_entry.new.cursor
+    rw (c.pass_comma.ensures, c.in_ok-push.ensures.ok, map_push seen_value c.loop-live.live.items c.in_ok-entry.entry) (reached_next live_entry_at comma c.args.cursor.now (map seen_value c.loop-live.live.items) c.loop-live.cursor (seen_value c.in_ok-entry.entry) c.live_entry.new.cursor
     c.loop-live.invariant c.in_ok-entry.ensures lt (sym c.begins_mark.ensures ∙ c.if-not-begins_mark.false))

@@ -19,7 +19,7 @@ returns-in_err-parameter c =
 pub returns-then-not-begins_mark : goal.returns-then-not-begins_mark
 returns-then-not-begins_mark c =
     let lt = shorter_is _ (allowed_type_at (is_argument_type true) c.loop-parameters.cursor) c.in_ok-parameter.parameter c.argument_type.new.self (allowed_type_at-shorter (is_argument_type true) c.loop-parameters.cursor) c.in_ok-parameter.ensures in
-    rw c.in_ok-push.ensures.items (reached_end (allowed_type_at (is_argument_type true)) comma c.args.cursor.now c.loop-parameters.parameters.items c.loop-parameters.cursor c.in_ok-parameter.parameter c.argument_type.new.self
+    rw c.in_ok-push.ensures.ok (reached_end (allowed_type_at (is_argument_type true)) comma c.args.cursor.now c.loop-parameters.parameters.items c.loop-parameters.cursor c.in_ok-parameter.parameter c.argument_type.new.self
     c.loop-parameters.invariant c.in_ok-parameter.ensures lt (sym c.begins_mark.ensures ∙ c.if-not-begins_mark.true))
 
 pub loop-parameters-smaller : goal.loop-parameters-smaller
@@ -30,5 +30,5 @@ loop-parameters-smaller c =
 pub loop-parameters-preserved : goal.loop-parameters-preserved
 loop-parameters-preserved c =
     let lt = shorter_is _ (allowed_type_at (is_argument_type true) c.loop-parameters.cursor) c.in_ok-parameter.parameter c.argument_type.new.self (allowed_type_at-shorter (is_argument_type true) c.loop-parameters.cursor) c.in_ok-parameter.ensures in
-    rw (c.pass_comma.ensures, c.in_ok-push.ensures.items) (reached_next (allowed_type_at (is_argument_type true)) comma c.args.cursor.now c.loop-parameters.parameters.items c.loop-parameters.cursor c.in_ok-parameter.parameter c.argument_type.new.self
+    rw (c.pass_comma.ensures, c.in_ok-push.ensures.ok) (reached_next (allowed_type_at (is_argument_type true)) comma c.args.cursor.now c.loop-parameters.parameters.items c.loop-parameters.cursor c.in_ok-parameter.parameter c.argument_type.new.self
     c.loop-parameters.invariant c.in_ok-parameter.ensures lt (sym c.begins_mark.ensures ∙ c.if-not-begins_mark.false))
