@@ -101,12 +101,11 @@ pub fn opened_form<'a>(cursor: &mut Cursor<'a>, text: TextForm) -> Option<(Form,
     }
 }
 
-// What a line of the source form is in a text of this form, where no operator stands.
+// What a line of the source form is in a text of this form.
 #[tactic(auto, unfolding(crate::specs::Forms::form_in))]
 fn text_form(cursor: &Cursor, text: TextForm, form: Form) -> Option<Form>
-    requires { is_operator_form form ≡ false }
     ensures form { form_of cursor.now ≡ Some form → result ≡ form_in text cursor.now }
-    ensures plain { IfSome result (λ form. is_operator_form form ≡ false) }
+    ensures plain { is_operator_form form ≡ false → IfSome result (λ found. is_operator_form found ≡ false) }
 {
     match text {
         TextForm::Source => Some(form),
@@ -117,9 +116,8 @@ fn text_form(cursor: &Cursor, text: TextForm, form: Form) -> Option<Form>
 // What a line of the source form is in the rewritten form.
 #[tactic(auto, unfolding(crate::specs::Forms::group_form))]
 fn group_form(cursor: &Cursor, form: Form) -> Option<Form>
-    requires { is_operator_form form ≡ false }
     ensures form { result ≡ group_form cursor.now form }
-    ensures plain { IfSome result (λ form. is_operator_form form ≡ false) }
+    ensures plain { is_operator_form form ≡ false → IfSome result (λ grouped. is_operator_form grouped ≡ false) }
 {
     match form {
         Form::ValueCall => Some(called_form(result_callee(cursor))),
