@@ -1,2 +1,3 @@
 pub mod FamilyLines
 pub mod Openings
+pub mod Operators
