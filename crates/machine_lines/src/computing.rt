@@ -156,6 +156,7 @@ fn compared(pred: Pred, ty: &Ty, left: u64, right: u64) -> Result<u64, Trap>
     Ok(compared_word(pred, ty, left, right))
 }
 
+#[inline(always)]
 fn compared_word(pred: Pred, ty: &Ty, left: u64, right: u64) -> u64
     ensures { result ≡ bit (numbers_compare pred (width_of (worded_type (Op.Icmp pred) ty.now)) left right) }
 {
