@@ -57,6 +57,7 @@ impl<'m, 'i> Executor<'m, 'i> {
         }
     }
 
+    #[inline(always)]
     fn go_over_lines(&mut self, program: &'m Program<'_, '_>)
         ensures over { GoesOver (machinery program.now) (seen self.old) (seen self.new) }
         ensures stands { self.new.heap.stands ≡ self.old.heap.stands }
@@ -83,7 +84,7 @@ impl<'m, 'i> Executor<'m, 'i> {
     {
         match self.run.frame.rest.front() {
             None => Ok(false),
-            Some(parts) => self.fast_step_at(program, parts.0, parts.2),
+            Some(parts) => self.fast_step_at(program, parts.0, parts.1, parts.2),
         }
     }
 
@@ -92,15 +93,17 @@ impl<'m, 'i> Executor<'m, 'i> {
         &mut self,
         program: &'m Program<'_, '_>,
         inst: &Inst,
+        one: &Decoded,
         rest: Lines<'m>,
     ) -> Result<bool, Memory>
         requires stands { self.old.run.frame.rest.insts.now ≡ inst.now ∷ rest.insts.now }
+        requires decoded { one.now ≡ decoded_of inst.now }
         ensures { IfOk result (λ went. GoesOnTo (acts_at (machinery program.now) self.old inst.now rest.entry.insts.now inst.now.op) (seen self.old) went (seen self.new)) }
     {
         match inst.op() {
             Op::Br => self.fast_jump(program, label_at(inst.labels(), 0)),
             Op::CondBr => {
-                let taken = branch_taken(self.word(inst, 0));
+                let taken = branch_taken(self.first(inst, one));
                 self.fast_jump(program, label_at(inst.labels(), taken))
             }
             Op::Statepoint { callee, types, .. } => match callee {
@@ -110,7 +113,7 @@ impl<'m, 'i> Executor<'m, 'i> {
                 }
                 _ => Ok(false),
             },
-            Op::Ret => self.fast_return(program, inst, rest),
+            Op::Ret => self.fast_return(program, inst, one, rest),
             _ => Ok(false),
         }
     }
@@ -212,9 +215,11 @@ impl<'m, 'i> Executor<'m, 'i> {
         &mut self,
         program: &'m Program<'_, '_>,
         inst: &Inst,
+        one: &Decoded,
         rest: Lines<'m>,
     ) -> Result<bool, Memory>
         requires is { inst.now.op ≡ Op.Ret }
+        requires decoded { one.now ≡ decoded_of inst.now }
         ensures { IfOk result (λ went. GoesOnTo (acts_at (machinery program.now) self.old inst.now rest.entry.insts.now inst.now.op) (seen self.old) went (seen self.new)) }
     {
         if self.steps >= program.bound {
@@ -224,7 +229,7 @@ impl<'m, 'i> Executor<'m, 'i> {
             return Ok(false);
         }
         self.steps += 1;
-        let answer = self.word(inst, 0);
+        let answer = self.first(inst, one);
         let left = self.run.leave(&program.code)?;
         if !left {
             return Err(Memory);

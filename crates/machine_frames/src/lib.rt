@@ -2,7 +2,9 @@
 #![tactic(auto)]
 
 mod code;
+mod copies;
 mod frames;
+mod landings;
 mod numbering;
 mod slots;
 mod tasks;

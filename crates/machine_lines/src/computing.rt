@@ -1,6 +1,6 @@
 //! What the lines on integers compute, on words.
 
-ghost use Rattle.std.specs.Prelude.{◌≡◌, ◌≤◌, true, [], Ok, IfSome, length};
+ghost use Rattle.std.specs.Prelude.{◌≡◌, ◌≤◌, true, [], Ok, IfSome};
 ghost use Rattle.ir_ast.specs.Objects.{number};
 ghost use Rattle.object_meaning.specs.Comparisons.{bit, numbers_compare};
 ghost use Rattle.object_meaning.specs.Computing.{computed, with_number};
@@ -62,7 +62,6 @@ pub(crate) fn outcome(op: &Op, ty: &Ty, decoded: &Decoded, registers: &[u64]) ->
     requires word { decoded.now.width ≤ 64 }
     requires width { decoded.now.width ≡ width_of ty.now }
     ensures plain { IfSome result (λ word. decoded.now.plain ≡ true) }
-    ensures few { IfSome result (λ word. length registers.now ≤ 18446744073709551615) }
     ensures value { IfSome result (λ word. computed [] op.now (worded_type op.now ty.now) (number (found_word registers.now decoded.now.first)) (number (found_word registers.now decoded.now.second)) (number (found_word registers.now decoded.now.third)) ≡ Ok (number word)) }
 {
     if !decoded.plain {
