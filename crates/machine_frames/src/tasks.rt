@@ -94,6 +94,7 @@ impl<'m> Task<'m> {
     }
 
     /// The frame that runs and stands at a call goes on behind it with the answer.
+    #[inline(always)]
     pub fn go_on(&mut self, answer: u64) -> Result<(), Memory>
         ensures frame { OnOk result (frame_of self.new.frame ≡ gone_from self.old.stack (frame_of self.old.frame) (frame_of self.old.frame).rest (number answer)) }
         ensures others { self.new ≡ record self.old { frame = self.new.frame } }
@@ -102,6 +103,7 @@ impl<'m> Task<'m> {
     }
 
     /// The same of a frame that stands at this call.
+    #[inline(always)]
     pub fn go_behind(&mut self, inst: &Inst, rest: Lines<'m>, answer: u64) -> Result<(), Memory>
         ensures frame { OnOk result (frame_of self.new.frame ≡ gone_behind self.old.stack (frame_of self.old.frame) (line_of self.old.frame.next inst.now) (lines_left (following self.old.frame.next inst.now) rest.entry.insts.now) (number answer) inst.now.op) }
         ensures others { self.new ≡ record self.old { frame = self.new.frame } }

@@ -57,6 +57,7 @@ pub fn computed(op: &Op, ty: &Ty, first: u64, second: u64, third: u64) -> Result
 }
 
 /// The number that a line with this operator and type gives which computes one, unless it traps; none, for any other line.
+#[inline(always)]
 pub(crate) fn outcome(op: &Op, ty: &Ty, decoded: &Decoded, registers: &[u64]) -> Option<u64>
     requires some_bits { 1 ≤ decoded.now.width }
     requires word { decoded.now.width ≤ 64 }
@@ -155,6 +156,7 @@ fn compared(pred: Pred, ty: &Ty, left: u64, right: u64) -> Result<u64, Trap>
     Ok(compared_word(pred, ty, left, right))
 }
 
+#[inline(always)]
 fn compared_word(pred: Pred, ty: &Ty, left: u64, right: u64) -> u64
     ensures { result ≡ bit (numbers_compare pred (width_of (worded_type (Op.Icmp pred) ty.now)) left right) }
 {
