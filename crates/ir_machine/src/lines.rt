@@ -18,7 +18,6 @@ ghost use Rattle.ir_machine.specs.Executors.{machinery, seen, DoesSo, GoesOnTo, 
 
 use crate::executor::{Did, Executor, Program};
 use ir_ast::{Callee, Inst, Op, Operand};
-use machine_frames::keep;
 use machine_lines::{
     Decoded, Lines, branch_taken, case_taken, computed, go_over, is_plain, label_at, word_at,
 };
@@ -148,12 +147,7 @@ impl<'m, 'i> Executor<'m, 'i> {
         if !program.plan.is_empty() {
             return Ok(false);
         }
-        keep(
-            &mut self.run.stack,
-            self.run.frame.registers.as_slice(),
-            inst,
-            arguments,
-        )?;
+        self.run.keep(inst, arguments)?;
         self.pass_poll(program, inst, rest)?;
         Ok(true)
     }
@@ -176,12 +170,7 @@ impl<'m, 'i> Executor<'m, 'i> {
         if self.run.below.len() >= FRAMES as usize - 1 {
             return Ok(false);
         }
-        keep(
-            &mut self.run.stack,
-            self.run.frame.registers.as_slice(),
-            inst,
-            arguments,
-        )?;
+        self.run.keep(inst, arguments)?;
         self.go_in(program, inst, rest, func, front(inst.operands(), arguments))?;
         Ok(true)
     }
@@ -375,12 +364,7 @@ impl<'m, 'i> Executor<'m, 'i> {
         requires decoded { one.now ≡ decoded_of inst.now }
         ensures { IfOk result (DoesSo (calls_kept (machinery program.now) self.old inst.now rest.entry.insts.now callee arguments) self.new) }
     {
-        keep(
-            &mut self.run.stack,
-            self.run.frame.registers.as_slice(),
-            inst,
-            arguments,
-        )?;
+        self.run.keep(inst, arguments)?;
         self.call(
             program,
             inst,

@@ -1,5 +1,5 @@
 pub mod LineLemmas
 pub mod CodeLemmas
 pub mod FrameLemmas
-pub mod LandingLemmas
 pub mod SlotLemmas
+pub mod LandingLemmas

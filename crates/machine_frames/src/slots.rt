@@ -26,7 +26,7 @@ pub fn is_statepoint(op: &Op) -> bool
 /// A statepoint with so many arguments writes what it keeps over the newest words of its stack: its live entries, then the
 /// integers that its bundle names, sign-extended.
 #[inline(always)]
-pub fn keep(
+pub(crate) fn keep(
     stack: &mut Stack,
     registers: &[u64],
     inst: &Inst,

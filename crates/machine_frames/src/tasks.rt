@@ -5,14 +5,15 @@ ghost use Rattle.ir_ast.specs.Objects.{number};
 ghost use Rattle.object_meaning.specs.Registers.{value};
 ghost use Rattle.machine_meaning.specs.Code.{words_in};
 ghost use Rattle.machine_meaning.specs.Words.{worded_operand};
-ghost use Rattle.machine_meaning.specs.Machines.{gone_behind, gone_from};
+ghost use Rattle.machine_meaning.specs.Machines.{gone_behind, gone_from, over};
 ghost use Rattle.machine_lines.specs.Lines.{line_of, lines_left};
 ghost use Rattle.object_meaning.specs.Lines.{following};
-ghost use Rattle.machine_frames.specs.Frames.{frame_of, entered_in, below_of};
+ghost use Rattle.machine_frames.specs.Frames.{frame_of, entered_in, below_of, kept_in};
 ghost use Rattle.machine_frames.specs.Tasks.{Begins, Enters, Leaves};
 
 use crate::code::Code;
 use crate::frames::Frame;
+use crate::slots::keep;
 use frame_walk::Stack;
 use ir_ast::{Inst, Operand};
 use machine_lines::Lines;
@@ -91,6 +92,15 @@ impl<'m> Task<'m> {
         let waits = mem::replace(&mut self.frame, frame);
         self.below.push(waits)?;
         Ok(())
+    }
+
+    /// The frame that runs stands at a statepoint with so many arguments, which writes what it keeps into its slots.
+    #[inline(always)]
+    pub fn keep(&mut self, inst: &Inst, arguments: usize) -> Result<(), Memory>
+        ensures { OnOk result (self.new ≡ record self.old { stack = over (kept_in (map number self.old.frame.registers.items) inst.now arguments) self.old.stack }) }
+    {
+        let registers = self.frame.registers.as_slice();
+        keep(&mut self.stack, registers, inst, arguments)
     }
 
     /// The frame that runs and stands at a call goes on behind it with the answer.
