@@ -1,4 +1,4 @@
-use Rattle.std.proofs.Common.{◌≡◌, arith, List, ℕ, codes, OnOk, OnErr, sym, subst}
+use Rattle.std.proofs.Common.{◌≡◌, arith, List, ℕ, OnOk, OnErr, sym, subst}
 use Rattle.std.proofs.lemmas.Bool.Decides.{nat_tests}
 use Rattle.ir_printer.proofs.OperandLemmas.{type_text-i64}
 use Rattle.ir_printer.proofs.words.TypeWordPiece.put_into.Goals as goal
